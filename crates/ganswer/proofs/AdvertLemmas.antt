@@ -1,15 +1,12 @@
 -- The capabilities that are advertised have their form.
-use Rattle.std.proofs.Common.{◌≡◌, [], ◌∷◌, All, true, None, refl, arith}
+use Rattle.std.proofs.Common.{◌≡◌, All, true, None, refl, arith}
 use Rattle.std.specs.Prelude.{codes}
-use Rattle.std.proofs.lemmas.List.Elements.{All-cons, All-nil}
-use Rattle.gname.specs.Formats.{format_name}
-use Rattle.gname.specs.declared.formats.Format.{Format}
+use Rattle.std.proofs.lemmas.List.Elements.{All-from_recursion}
 use Rattle.gname.specs.declared.formats.Format.TheVariants.{Sha1, Sha256}
-use Rattle.ggrammar.specs.Capabilities.{Capability, IsWellFormed, is_key, is_value}
-use Rattle.ghello.specs.Adverts.{is_capability}
-use Rattle.ghello.specs.Offers.{check_fault, has_feature}
-use Rattle.ganswer.specs.Adverts.{advertised, key, key_with}
-use Rattle.ganswer.specs.Laws.{AdvertsWelcome}
+use Rattle.gname.specs.{Formats.format_name, declared.formats.Format.Format}
+use Rattle.ggrammar.specs.Capabilities.{IsWellFormed, is_key, is_value}
+use Rattle.ghello.specs.{Adverts.is_capability, Offers.check_fault, Offers.has_feature}
+use Rattle.ganswer.specs.{Adverts.advertised, Adverts.key, Adverts.key_with, Laws.AdvertsWelcome}
 
 pub agent : is_capability (key_with (codes "agent") (codes "gitv2/1")) ≡ true
 unfolding is_key is_value
@@ -30,32 +27,18 @@ object_format Sha256 = refl
 
 -- ---- the law
 
-agent_form : IsWellFormed (key_with (codes "agent") (codes "gitv2/1"))
-unfolding is_key is_value
-agent_form = record { key = refl; value = refl }
-
-ls_refs_form : IsWellFormed (key_with (codes "ls-refs") (codes "unborn"))
-unfolding is_key is_value
-ls_refs_form = record { key = refl; value = refl }
-
-fetch_form : IsWellFormed (key (codes "fetch"))
-unfolding is_key is_value
-fetch_form = record { key = refl; value = tt }
-
 format_form : (format : Format) → IsWellFormed (key_with (codes "object-format") (format_name format))
 unfolding is_key is_value
 format_form Sha1 = record { key = refl; value = refl }
 format_form Sha256 = record { key = refl; value = refl }
 
 all_well_formed : (format : Format) → All IsWellFormed (advertised format)
+unfolding is_key is_value
 all_well_formed format =
-    let last : Capability = key_with (codes "object-format") (format_name format) in
-    let third : Capability = key (codes "fetch") in
-    let second : Capability = key_with (codes "ls-refs") (codes "unborn") in
-    let first : Capability = key_with (codes "agent") (codes "gitv2/1") in
-    All-cons IsWellFormed first (second ∷ third ∷ last ∷ []) agent_form
-    (All-cons IsWellFormed second (third ∷ last ∷ []) ls_refs_form
-    (All-cons IsWellFormed third (last ∷ []) fetch_form (All-cons IsWellFormed last [] (format_form format) (All-nil IsWellFormed))))
+    All-from_recursion IsWellFormed (advertised format) (
+      record { key = refl; value = refl },
+      (record { key = refl; value = refl }, (record { key = refl; value = tt }, (format_form format, tt))),
+    )
 
 goes_on : (format : Format) → check_fault format (advertised format) ≡ None
 goes_on Sha1 = refl

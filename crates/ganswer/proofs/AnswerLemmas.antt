@@ -1,18 +1,22 @@
--- Each request for refs has one answer.
-use Rattle.std.proofs.Common.{◌≡◌, inl, inr, ℕ, Bool, true, false, List, [], ◌∷◌, ◌++◌, Option, Some, None, refl, sym, ap, ◌∙◌}
+-- Each request has one answer.
+use Rattle.std.proofs.Common.{◌≡◌, inl, inr, ℕ, Bool, true, false, List, [], ◌∷◌, ◌++◌, Option, Some, None, refl, sym}
+use Rattle.std.proofs.Common.{ap, ◌∙◌, ap₂, subst}
+use Rattle.gobject.specs.Packs.{AreEntries, Indexes, IndexFails, LosesNothing, PackFails, Packs}
 use Rattle.gobject.specs.declared.node.Entry.{Entry}
 use Rattle.gdag.proofs.IdLists.{either_way}
-use Rattle.gdag.specs.Laws.{PeelsToOne}
-use Rattle.gdag.specs.Peeling.{IsTagOf}
+use Rattle.gdag.specs.{Laws.PeelsToOne, Laws.OneListToSend, Laws.SentAreEntries, Peeling.IsTagOf}
 use Rattle.grefs.specs.RefLists.{RefList}
+use Rattle.grequest.specs.Asked.{LsRefsAsked, ls_has, FetchAsked, Empty, Ls as LsAsked, Fetches}
 use Rattle.grequest.specs.declared.flag.LsRefsFlag.TheVariants.{Peel}
-use Rattle.grequest.specs.Asked.{LsRefsAsked, ls_has}
-use Rattle.glsreply.specs.LsReplies.{LsReply}
-use Rattle.glsreply.specs.RefTexts.{RefLine}
-use Rattle.ganswer.specs.LsAnswers.{IsPeeled, IsPeeledIf, LsAnswer, ShowsLines, all_refs, is_shown, symref_of, unborn_of}
-use Rattle.ganswer.specs.Servers.{Server}
+use Rattle.glsreply.specs.{LsReplies.LsReply, RefTexts.RefLine}
+use Rattle.ganswer.specs.LsAnswers.{IsPeeled, IsPeeledIf, LsAnswer, ShowsLines, all_refs, is_shown, symref_of}
+use Rattle.ganswer.specs.LsAnswers.{unborn_of}
+use Rattle.ganswer.specs.FetchAnswers.{FetchAnswer, SendsPack, commons_of, tag_tips}
+use Rattle.ganswer.specs.{Answers.Nothing, Answers.Ls, Answers.Fetch, Servers.Server, Servers.IsServer}
+use Rattle.ganswer.specs.Laws.{AnswersAreOne}
 use Rattle.ganswer.proofs.LsLemmas.{one_list, shows_hidden, shows_join, shows_line, shows_none}
 use Rattle.ganswer.proofs.PeelLemmas.{PeelsOrNot, TagOrNot, peels_or_not, tag_or_not}
+use Rattle.gfetchreply.specs.FetchReplies.{FetchReply, Acks, Ready, Pack}
 
 module _ {A : Type 0} (g : List (Entry A)) where
   -- each id has a peeled id or has none
@@ -57,3 +61,40 @@ module _ {A : Type 0} (server : Server A) (asked : LsRefsAsked) where
       let lines = one_list server asked law (all_refs server) a.lines b.lines x.lines y.lines in
       ap (λ (u : Option (List ℕ)). record { unborn = u; lines = a.lines }) (x.unborn ∙ sym y.unborn)
       ∙ ap (λ (l : List RefLine). record { unborn = b.unborn; lines = l }) lines
+
+-- ---- a server that packs by a faithful packer has one answer to each request
+
+module _ {A : Type 0} (one_sent : OneListToSend A) (sent : SentAreEntries A) (packs : Packs A) (fails : PackFails A) (indexes : Indexes A)
+    (index_fails : IndexFails) (image : List (Entry A) → List ℕ) (law : LosesNothing packs fails indexes index_fails image) where
+  -- each pack is the image of the one list of objects to send
+  one_pack : (server : Server A) (asked : FetchAsked) (a b : List ℕ) → IsServer server
+      → SendsPack server packs asked a → SendsPack server packs asked b → a ≡ b
+  one_pack server asked a b is x y =
+      let commons = commons_of server asked in
+      let tips = tag_tips server asked in
+      let entries : AreEntries x.list = (sent server.graph x.list asked.wants commons tips is.graph x.sent).1 in
+      let same : x.list ≡ y.list = one_sent server.graph.entries x.list y.list asked.wants commons tips x.sent y.sent in
+      law.packs_image x.list a entries x.packed.packed
+      ∙ (ap image same ∙ sym (law.packs_image y.list b (subst AreEntries same entries) y.packed.packed))
+
+  one_reply : (server : Server A) (asked : FetchAsked) (one other : FetchReply) → IsServer server
+      → FetchAnswer server packs asked one → FetchAnswer server packs asked other → one ≡ other
+  one_reply server asked (Pack a) (Pack b) is h k = ap Pack (one_pack server asked a b is h.replies.1 k.replies.1)
+  one_reply server asked (Ready ids a) (Ready commons b) is h k =
+      ap₂ Ready (h.replies.1 ∙ sym k.replies.1) (one_pack server asked a b is h.replies.3 k.replies.3)
+  one_reply server asked (Acks ids) (Acks commons) is h k = ap Acks (h.replies.1 ∙ sym k.replies.1)
+  one_reply server asked (Ready ids a) (Acks commons) is h k = absurd (k.replies.2 h.replies.2)
+  one_reply server asked (Acks ids) (Ready commons b) is h k = absurd (h.replies.2 k.replies.2)
+  one_reply server asked one other is h k =
+      let first = h.replies.0 in
+      let second = k.replies.0 in
+      absurd cc
+
+  pub answers_are_one : PeelsToOne A → AnswersAreOne A packs
+  answers_are_one peels server Empty Nothing Nothing is h k = refl
+  answers_are_one peels server (LsAsked asked) (Ls a) (Ls b) is h k = ap Ls (one_answer server asked peels a b h k)
+  answers_are_one peels server (Fetches asked) (Fetch a) (Fetch b) is h k = ap Fetch (one_reply server asked a b is h k)
+  answers_are_one peels server Empty Nothing other is h k = absurd k
+  answers_are_one peels server (LsAsked asked) (Ls a) other is h k = absurd k
+  answers_are_one peels server (Fetches asked) (Fetch a) other is h k = absurd k
+  answers_are_one peels server asked one other is h k = absurd h

@@ -4,28 +4,19 @@ use Rattle.std.specs.List.{IsDistinct}
 use Rattle.std.specs.Str.{bytes_eq}
 use Rattle.std.proofs.lemmas.List.Elements.{All-contains, All-contains_itself, All-nil, All-weaker, Contains-append_right, Contains-get_or}
 use Rattle.std.proofs.lemmas.Option.{none-some}
-use Rattle.gname.specs.declared.formats.Format.{Format}
-use Rattle.gobject.specs.declared.node.Entry.{Entry}
-use Rattle.gobject.specs.Packs.{PackFails, Packs}
-use Rattle.gobject.specs.Objects.{node_at}
-use Rattle.gdag.specs.Graphs.{Holds, IsFirstAbsent}
-use Rattle.gdag.specs.Insert.{ComesIn}
-use Rattle.gdag.specs.Laws.{CommonsAreHeld, SendingIsEnough, SentAreEntries}
-use Rattle.gdag.specs.Reach.{Grows, IsFull}
+use Rattle.gobject.specs.{declared.node.Entry.Entry, Packs.PackFails, Packs.Packs}
+use Rattle.gdag.specs.{Laws.CommonsAreHeld, Laws.SendingIsEnough, Laws.SentAreEntries, Reach.Grows, Reach.IsFull}
+use Rattle.gdag.specs.{Graphs.Holds, Graphs.IsFirstAbsent}
 use Rattle.grefs.specs.declared.head.Head.{Head}
 use Rattle.grequest.specs.Asked.{FetchAsked}
 use Rattle.gfetchreply.specs.FetchReplies.{Acks, Ready, Pack}
-use Rattle.ganswer.specs.Changes.{Adds, Sets, SetsHead}
-use Rattle.ganswer.specs.FetchAnswers.{commons_of, tag_tips}
 use Rattle.ganswer.specs.Laws.{AcksAreCommon, AreCommon, LsAnswersAreHeld, PacksAreEnough, ServersGrow, ServesWhatIsHeld}
-use Rattle.ganswer.specs.LsAnswers.{all_refs}
-use Rattle.ganswer.specs.Servers.{Server}
-use Rattle.ganswer.specs.declared.fault.BuildFault.{BuildFault}
+use Rattle.ganswer.specs.{Changes.Adds, Changes.Sets, Changes.SetsHead, FetchAnswers.commons_of, FetchAnswers.tag_tips}
+use Rattle.ganswer.specs.{LsAnswers.all_refs, Servers.Server, declared.fault.BuildFault.BuildFault}
 use Rattle.ganswer.specs.declared.fault.BuildFault.TheVariants as build
 use Rattle.ganswer.specs.declared.fault.ServeFault.TheVariants as serve
-use Rattle.gdag.proofs.Growing.{comes_grows}
-use Rattle.gdag.proofs.Holding.{held_node}
-use Rattle.ganswer.proofs.FormatLemmas.{all_held, lines_held}
+use Rattle.gdag.proofs.{Growing.comes_grows, Holding.held_node}
+use Rattle.ganswer.proofs.FitLemmas.{all_held, lines_held}
 
 pub ls_answers_are_held : {A : Type 0} → LsAnswersAreHeld A
 ls_answers_are_held server asked reply is answers =
@@ -96,8 +87,7 @@ held_wants_are_served sent fails server asked (serve.Pack why) is can refused =
     inr (failed.list, why, refl, list.1, failed.failed)
 held_wants_are_served sent fails server asked serve.NoWants is can refused = absurd (can.some refused)
 held_wants_are_served sent fails server asked (serve.NotOurs id) is can refused = absurd (none_absent server.graph.entries asked.wants id can.held refused)
-held_wants_are_served sent fails server asked (serve.Reader cause) is can refused = absurd refused
-held_wants_are_served sent fails server asked (serve.Request cause) is can refused = absurd refused
+held_wants_are_served sent fails server asked _ is can refused = absurd refused
 
 -- ---- changes
 
@@ -117,12 +107,7 @@ module _ {A : Type 0} where
   setting_head : (old new : Server A) (head : Head A) (result : Result (Unit {0}) (BuildFault A)) → SetsHead old head new result → new.graph ≡ old.graph
   setting_head old new head (Ok done) sets = ap (λ (s : Server A). s.graph) sets.1
   setting_head old new head (Err build.HeadMissing) sets = ap (λ (s : Server A). s.graph) sets.0
-  setting_head old new head (Err (build.Graph cause)) sets = absurd sets
-  setting_head old new head (Err (build.Refs cause)) sets = absurd sets
-  setting_head old new head (Err (build.NotClosed id)) sets = absurd sets
-  setting_head old new head (Err (build.RefMissing name)) sets = absurd sets
-  setting_head old new head (Err (build.MissingParent id)) sets = absurd sets
-  setting_head old new head (Err build.Memory) sets = absurd sets
+  setting_head old new head (Err fault) sets = absurd sets
 
   pub servers_grow : ServersGrow A
   servers_grow = record { adding = adding; setting = setting; setting_head = setting_head }

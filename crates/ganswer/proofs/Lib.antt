@@ -1,14 +1,7 @@
 pub mod AdvertLemmas
 pub mod AnswerLemmas
-pub mod ChangeLemmas
-pub mod FetchLemmas
 pub mod FitLemmas
-pub mod FormatLemmas
-pub mod KnownPeels
 pub mod LawLemmas
-pub mod LsBuilding
 pub mod LsLemmas
-pub mod LsWriting
-pub mod OneAnswer
 pub mod PeelLemmas
 pub mod ServerLemmas

@@ -1,33 +1,24 @@
 -- Lines of refs: one list after the other, each list in two parts, and that there is one list.
-use Rattle.std.proofs.Common.{◌≡◌, ℕ, Bool, true, false, cond, List, [], ◌∷◌, ◌++◌, length, map, All, Option, Some, None, refl, sym, ap, ap₂, ◌∙◌, subst, arith}
-use Rattle.std.specs.Prelude.{filter}
-use Rattle.std.proofs.lemmas.List.{map-append}
-use Rattle.std.proofs.lemmas.List.Elements.{All-append, All-cons, All-head, All-nil, All-tail, filter-append}
-use Rattle.gdag.proofs.IdLists.{either_way}
+use Rattle.std.proofs.Common.{◌≡◌, ℕ, Bool, true, false, cond, List, [], ◌∷◌, ◌++◌, length, map, take, drop, All}
+use Rattle.std.proofs.Common.{Option, Some, None, refl, sym, ap, ap₂, ◌∙◌, subst, ◌+◌, ◌<◌, get_or, Result, Ok, Err}
+use Rattle.std.proofs.Common.{append_assoc, suc, add-one, drop-cons}
+use Rattle.std.specs.Prelude.{filter, OnOk}
+use Rattle.std.proofs.lemmas.List.{map-append, take-append-drop, take-map, drop-map, take_at, drop_at, take_more}
+use Rattle.std.proofs.lemmas.List.Elements.{All-append, All-cons, All-drop, All-head, All-nil, All-tail, All-take}
+use Rattle.std.proofs.lemmas.List.Elements.{filter-append}
+use Rattle.gdag.proofs.Growing.{at_front}
 use Rattle.gdag.specs.Laws.{PeelsToOne}
 use Rattle.grefs.specs.RefLists.{RefList}
-use Rattle.grequest.specs.declared.flag.LsRefsFlag.TheVariants.{Peel}
-use Rattle.grequest.specs.Asked.{LsRefsAsked, ls_has}
+use Rattle.grequest.specs.{declared.flag.LsRefsFlag.TheVariants.Peel, Asked.LsRefsAsked, Asked.ls_has}
+use Rattle.glsreply.specs.LsReplies.{LsReply, canonical_reply, ref_packet, unborn_packets}
 use Rattle.glsreply.specs.RefTexts.{RefLine}
 use Rattle.ganswer.specs.LsAnswers.{HasAttributes, IsPeeled, IsPeeledIf, ShowsLines, is_shown, name_and_id, symref_of}
+use Rattle.ganswer.specs.LsAnswers.{head_id, head_ref, unborn_of}
+use Rattle.ganswer.specs.{steps.Answers.IsAnswering, steps.Answers.IsNextRef, declared.fault.ServeFault.ServeFault}
 use Rattle.ganswer.specs.Servers.{Server}
-
-abbrev rest_of : {X : Type 0} → List X → List X
-rest_of [] = []
-rest_of (x ∷ xs) = xs
-
-abbrev first_or : {X : Type 0} → X → List X → X
-first_or d [] = d
-first_or d (x ∷ xs) = x
-
-same_first : {X : Type 0} (x y : X) (xs ys : List X) → x ∷ xs ≡ y ∷ ys → x ≡ y
-same_first x y xs ys e = ap (first_or x) e
-
-same_rest : {X : Type 0} (x y : X) (xs ys : List X) → x ∷ xs ≡ y ∷ ys → xs ≡ ys
-same_rest x y xs ys e = ap rest_of e
-
-none_is_more : {X : Type 0} (x : X) (xs : List X) → [] ≡ x ∷ xs → ⊥
-none_is_more x xs e = let long = ap length e in omega (arith, long)
+use Rattle.gname.specs.Names.{head_name}
+use Rattle.ggrammar.specs.{Endings.ends_with, declared.ends.Ends.Ends}
+use Rattle.gpkt.specs.Packets.{Packet, Flush}
 
 module _ {A : Type 0} (server : Server A) (asked : LsRefsAsked) where
   pub shows_none : ShowsLines server asked [] []
@@ -61,57 +52,25 @@ module _ {A : Type 0} (server : Server A) (asked : LsRefsAsked) where
     pub left : ShowsLines server asked a first
     pub right : ShowsLines server asked b second
 
-  -- the lines of a ref and more, where the ref is hidden, are those of the others
-  without : (ref : List ℕ × List ℕ) (refs : RefList) (lines : List RefLine) → is_shown asked.prefixes ref ≡ false → ShowsLines server asked (ref ∷ refs) lines → ShowsLines server asked refs lines
-  without ref refs lines hidden s = record {
-    shown = s.shown ∙ ap (λ (v : Bool). cond v (ref ∷ filter (is_shown asked.prefixes) refs) (filter (is_shown asked.prefixes) refs)) hidden;
-    attributes = s.attributes;
-  }
-
-  with_hidden : (ref : List ℕ × List ℕ) (refs : RefList) (lines : List RefLine) → is_shown asked.prefixes ref ≡ false → ShowsLines server asked refs lines → ShowsLines server asked (ref ∷ refs) lines
-  with_hidden ref refs lines hidden s = shows_join (ref ∷ []) refs [] lines (shows_hidden ref hidden) s
-
-  after_shown : (ref : List ℕ × List ℕ) (refs : RefList) (lines : List RefLine) → is_shown asked.prefixes ref ≡ true → ShowsLines server asked (ref ∷ refs) lines
-      → map name_and_id lines ≡ ref ∷ filter (is_shown asked.prefixes) refs
-  after_shown ref refs lines shown s = s.shown ∙ ap (λ (v : Bool). cond v (ref ∷ filter (is_shown asked.prefixes) refs) (filter (is_shown asked.prefixes) refs)) shown
-
   pub split : (a b : RefList) (lines : List RefLine) → ShowsLines server asked (a ++ b) lines → Splits a b lines
-  split [] b lines s = record { first = []; second = lines; parts = refl; left = shows_none; right = s }
-  split (ref ∷ a) b [] s =
-      either_way (is_shown asked.prefixes ref) (λ shown. absurd (none_is_more ref _ (after_shown ref (a ++ b) [] shown s)))
-      (λ hidden.
-      let rest = split a b [] (without ref (a ++ b) [] hidden s) in record {
-        first = rest.first;
-        second = rest.second;
-        parts = rest.parts;
-        left = with_hidden ref a rest.first hidden rest.left;
-        right = rest.right;
-      })
-  split (ref ∷ a) b (line ∷ lines) s =
-      either_way (is_shown asked.prefixes ref)
-      (λ shown.
-      let e = after_shown ref (a ++ b) (line ∷ lines) shown s in
-      let has = All-head (HasAttributes server asked) line lines s.attributes in
-      let more : ShowsLines server asked (a ++ b) lines = record {
-        shown = same_rest (name_and_id line) ref (map name_and_id lines) (filter (is_shown asked.prefixes) (a ++ b)) e;
-        attributes = All-tail (HasAttributes server asked) line lines s.attributes;
-      } in
-      let here = shows_line ref line shown (same_first (name_and_id line) ref (map name_and_id lines) (filter (is_shown asked.prefixes) (a ++ b)) e) has in
-      let rest = split a b lines more in record {
-        first = line ∷ rest.first;
-        second = rest.second;
-        parts = ap (λ (l : List RefLine). line ∷ l) rest.parts;
-        left = shows_join (ref ∷ []) a (line ∷ []) rest.first here rest.left;
-        right = rest.right;
-      })
-      (λ hidden.
-      let rest = split a b (line ∷ lines) (without ref (a ++ b) (line ∷ lines) hidden s) in record {
-        first = rest.first;
-        second = rest.second;
-        parts = rest.parts;
-        left = with_hidden ref a rest.first hidden rest.left;
-        right = rest.right;
-      })
+  split a b lines s =
+      let left = filter (is_shown asked.prefixes) a in
+      let n = length left in
+      let shown : map name_and_id lines ≡ left ++ filter (is_shown asked.prefixes) b =
+      s.shown ∙ filter-append (is_shown asked.prefixes) a b in
+      record {
+        first = take n lines;
+        second = drop n lines;
+        parts = sym (take-append-drop n lines);
+        left = record {
+          shown = sym (take-map name_and_id n lines) ∙ ap (take n) shown ∙ take_at left _ n refl;
+          attributes = All-take (HasAttributes server asked) n lines s.attributes;
+        };
+        right = record {
+          shown = sym (drop-map name_and_id n lines) ∙ ap (drop n) shown ∙ drop_at left _ n refl;
+          attributes = All-drop (HasAttributes server asked) n lines s.attributes;
+        };
+      }
 
   -- ---- one list
 
@@ -139,13 +98,109 @@ module _ {A : Type 0} (server : Server A) (asked : LsRefsAsked) where
 
     same_lines : (xs ys : List RefLine) → map name_and_id xs ≡ map name_and_id ys → All (HasAttributes server asked) xs → All (HasAttributes server asked) ys → xs ≡ ys
     same_lines [] [] e a b = refl
-    same_lines [] (y ∷ ys) e a b = absurd (none_is_more (name_and_id y) (map name_and_id ys) e)
-    same_lines (x ∷ xs) [] e a b = absurd (none_is_more (name_and_id x) (map name_and_id xs) (sym e))
+    same_lines [] (y ∷ ys) e a b = absurd cc
+    same_lines (x ∷ xs) [] e a b = absurd cc
     same_lines (x ∷ xs) (y ∷ ys) e a b =
         let Has = HasAttributes server asked in
         ap₂ (λ (l : RefLine) (ls : List RefLine). l ∷ ls)
-        (one_line x y (same_first (name_and_id x) (name_and_id y) (map name_and_id xs) (map name_and_id ys) e) (All-head Has x xs a) (All-head Has y ys b))
-        (same_lines xs ys (same_rest (name_and_id x) (name_and_id y) (map name_and_id xs) (map name_and_id ys) e) (All-tail Has x xs a) (All-tail Has y ys b))
+        (one_line x y (cc) (All-head Has x xs a) (All-head Has y ys b))
+        (same_lines xs ys (cc) (All-tail Has x xs a) (All-tail Has y ys b))
 
     pub one_list : (refs : RefList) (xs ys : List RefLine) → ShowsLines server asked refs xs → ShowsLines server asked refs ys → xs ≡ ys
     one_list refs xs ys a b = same_lines xs ys (a.shown ∙ sym b.shown) a.attributes b.attributes
+
+-- ---- a reply gets its lines one by one
+
+module _ {A : Type 0} (server : Server A) (asked : LsRefsAsked) where
+  -- one line more, or none where the ref is hidden
+  pub with_lines : (front : RefList) (ref : List ℕ × List ℕ) (old new : LsReply) (lines : List RefLine) → new ≡ record old { lines = old.lines ++ lines } → ShowsLines server asked (ref ∷ []) lines
+      → IsAnswering server asked front old → IsAnswering server asked (front ++ ref ∷ []) new
+  with_lines front ref old new lines is shows so_far =
+      subst (IsAnswering server asked (front ++ ref ∷ [])) (sym is)
+      (record { lines = shows_join server asked front (ref ∷ []) old.lines lines so_far.lines shows; unborn = so_far.unborn })
+
+  -- ---- HEAD
+
+  pub nothing_yet : (reply : LsReply) → reply ≡ record { unborn = unborn_of server asked; lines = [] } → IsAnswering server asked [] reply
+  nothing_yet reply is = subst (IsAnswering server asked []) (sym is) (record { lines = shows_none server asked; unborn = refl })
+
+  pub head_next : (name id : List ℕ) (reply : LsReply) → name ≡ head_name → Some id ≡ head_id server.head server.refs → reply ≡ record { unborn = unborn_of server asked; lines = [] }
+      → IsNextRef server asked (name, id) reply
+  head_next name id reply is_head stands is = record {
+    front = [];
+    back = server.refs;
+    parts = ap (λ (o : Option (List ℕ)). head_ref o ++ server.refs) (sym stands) ∙ ap (λ (n : List ℕ). (n, id) ∷ server.refs) (sym is_head);
+    so_far = nothing_yet reply is;
+  }
+
+  pub head_added : (name id : List ℕ) (old new : LsReply) (result : Result Unit ServeFault) → name ≡ head_name → Some id ≡ head_id server.head server.refs
+      → old ≡ record { unborn = unborn_of server asked; lines = [] }
+      → OnOk result ((front : RefList) → IsAnswering server asked front old → IsAnswering server asked (front ++ (name, id) ∷ []) new)
+      → OnOk result (IsAnswering server asked (head_ref (head_id server.head server.refs)) new)
+  head_added name id old new (Err fault) is_head stands is added = tt
+  head_added name id old new (Ok done) is_head stands is added =
+      subst (λ (refs : RefList). IsAnswering server asked refs new)
+      (ap (λ (n : List ℕ). (n, id) ∷ []) is_head ∙ ap head_ref stands)
+      (added [] (nothing_yet old is))
+
+  -- ---- the refs
+
+  pub ref_next : (k : ℕ) (ref : List ℕ × List ℕ) (reply : LsReply) → k < length server.refs → ref ≡ get_or server.refs k ref
+      → IsAnswering server asked (head_ref (head_id server.head server.refs) ++ take k server.refs) reply → IsNextRef server asked ref reply
+  ref_next k ref reply inside is so_far =
+      let head = head_ref (head_id server.head server.refs) in
+      record {
+        front = head ++ take k server.refs;
+        back = drop (k + 1) server.refs;
+        parts = ap (λ (refs : RefList). head ++ refs) (at_front server.refs k ref inside is) ∙ sym (append_assoc head (take k server.refs) (ref ∷ drop (k + 1) server.refs));
+        so_far = so_far;
+      }
+
+  pub refs_more : (k : ℕ) (ref : List ℕ × List ℕ) (reply : LsReply) → k < length server.refs → ref ≡ get_or server.refs k ref
+      → IsAnswering server asked ((head_ref (head_id server.head server.refs) ++ take k server.refs) ++ ref ∷ []) reply
+      → IsAnswering server asked (head_ref (head_id server.head server.refs) ++ take (k + 1) server.refs) reply
+  refs_more k ref reply inside is so_far =
+      let head = head_ref (head_id server.head server.refs) in
+      let more : take (k + 1) server.refs ≡ take k server.refs ++ ref ∷ [] = take_more server.refs k ref inside ∙ ap (λ (r : List ℕ × List ℕ). take k server.refs ++ r ∷ []) (sym is) in
+      subst (λ (refs : RefList). IsAnswering server asked refs reply) (append_assoc head (take k server.refs) (ref ∷ []) ∙ ap (λ (refs : RefList). head ++ refs) (sym more)) so_far
+
+-- ---- writing the lines of refs one after the other
+
+abbrev pub ending : Ends → List Packet
+ending ends = Flush ∷ ends_with ends
+
+abbrev pub lines_and_ending : Ends → List RefLine → List Packet
+lines_and_ending ends lines = map ref_packet lines ++ ending ends
+
+-- an answer is its unborn HEAD, and then its lines and its ending
+pub answer_parts : (ends : Ends) (reply : LsReply) (unborn : Option (List ℕ)) → reply.unborn ≡ unborn → canonical_reply ends reply ≡ unborn_packets unborn ++ lines_and_ending ends reply.lines
+unfolding canonical_reply
+answer_parts ends reply unborn is =
+    append_assoc (unborn_packets reply.unborn) (map ref_packet reply.lines) (ending ends) ∙ ap (λ (o : Option (List ℕ)). unborn_packets o ++ lines_and_ending ends reply.lines) is
+
+-- lines in two parts
+pub two_parts : (ends : Ends) (lines first second : List RefLine) → lines ≡ first ++ second → lines_and_ending ends lines ≡ map ref_packet first ++ lines_and_ending ends second
+two_parts ends lines first second is =
+    ap (lines_and_ending ends) is ∙ ap (λ (l : List Packet). l ++ ending ends) (map-append ref_packet first second) ∙ append_assoc (map ref_packet first) (map ref_packet second) (ending ends)
+
+pub mapped_parts : (lines first second : List RefLine) → lines ≡ first ++ second → map ref_packet lines ≡ map ref_packet first ++ map ref_packet second
+mapped_parts lines first second is = ap (map ref_packet) is ∙ map-append ref_packet first second
+
+module _ {A : Type 0} (server : Server A) (asked : LsRefsAsked) where
+  -- the lines of the refs from a position on are those of the ref there, and those of the refs after it
+  pub split_at : (refs : RefList) (k : ℕ) (ref : List ℕ × List ℕ) (lines : List RefLine) → k < length refs → ref ≡ get_or refs k ref → ShowsLines server asked (drop k refs) lines
+      → Splits server asked (ref ∷ []) (drop (k + 1) refs) lines
+  split_at refs k ref lines inside is shows =
+      let rest : drop k refs ≡ ref ∷ drop (k + 1) refs = rw add-one (drop-cons refs k ref inside ∙ ap (λ (r : List ℕ × List ℕ). r ∷ drop (suc k) refs) (sym is)) in
+      split server asked (ref ∷ []) (drop (k + 1) refs) lines (subst (λ (r : RefList). ShowsLines server asked r lines) rest shows)
+
+  -- so the packets of these lines are those of the line of the ref there, which is its own one, and the packets of the lines after it
+  pub next_line : PeelsToOne A → (refs : RefList) → refs ≡ server.refs → (k : ℕ) (ref : List ℕ × List ℕ) (lines : List RefLine) → k < length refs → ref ≡ get_or refs k ref
+      → ShowsLines server asked (drop k server.refs) lines → (line own : List RefLine) → line ≡ own → ShowsLines server asked (ref ∷ []) own
+      → (rest : List RefLine) × (map ref_packet lines ≡ map ref_packet line ++ map ref_packet rest) × ShowsLines server asked (drop (k + 1) server.refs) rest
+  next_line law refs same k ref lines inside is shows line own is_own has =
+      let here : k < length server.refs = subst (λ (r : RefList). k < length r) same inside in
+      let there : ref ≡ get_or server.refs k ref = is ∙ ap (λ (r : RefList). get_or r k ref) same in
+      let parts = split_at server.refs k ref lines here there shows in
+      let one : parts.first ≡ line = one_list server asked law (ref ∷ []) parts.first own parts.left has ∙ sym is_own in
+      (parts.second, mapped_parts lines line parts.second (parts.parts ∙ ap (λ (l : List RefLine). l ++ parts.second) one), parts.right)

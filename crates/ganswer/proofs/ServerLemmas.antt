@@ -1,23 +1,26 @@
--- What is missing of a server's parts.
-use Rattle.std.proofs.Common.{◌≡◌, ℕ, ◌+◌, ◌<◌, zero, suc, List, [], ◌∷◌, ◌++◌, length, get_or, take, drop, sym, ap, ◌∙◌, subst, append_assoc, append-nil, Some, None, All, Contains}
-use Rattle.std.specs.List.{slice_get}
-use Rattle.std.specs.Option.{option_map}
+-- What is missing of a server's parts, and how a server changes.
+use Rattle.std.proofs.Common.{◌≡◌, ℕ, ◌+◌, ◌<◌, zero, suc, List, [], ◌∷◌, ◌++◌, length, get_or, take, drop, sym, ap}
+use Rattle.std.proofs.Common.{◌∙◌, subst, append_assoc, append-nil, Some, None, All, Contains, ◌⊎◌, inl, inr, Bool}
+use Rattle.std.proofs.Common.{Result, Ok, Err}
 use Rattle.std.proofs.lemmas.List.{take_more}
 use Rattle.std.proofs.lemmas.List.Concat.{flat_map-append}
-use Rattle.std.proofs.lemmas.List.Elements.{All-append, All-contains, All-map, Contains-append_left, Contains-append_right}
+use Rattle.std.proofs.lemmas.List.Elements.{All-append, All-contains, All-map, Contains-append_left}
+use Rattle.std.proofs.lemmas.List.Elements.{Contains-append_right, All-weaker}
 use Rattle.std.proofs.lemmas.Option.{none-some, same_Some, slice_get_within, get_or_from_slice_get}
-use Rattle.gobject.specs.declared.node.Entry.{Entry}
-use Rattle.gobject.specs.Objects.{node_at, entry_of, IdsDiffer}
-use Rattle.gdag.proofs.ClosedLemmas.{parents_entry}
-use Rattle.gdag.proofs.Growing.{at_front}
-use Rattle.gdag.specs.Graphs.{Holds, IsFirstAbsent}
-use Rattle.gdag.specs.Laws.{PlacesAreNodes}
-use Rattle.gdag.specs.Reach.{IsClosed}
-use Rattle.grefs.specs.RefLists.{RefList}
-use Rattle.ganswer.specs.Servers.{HoldsRefs, IsFirstDangling, parents_in}
-use Rattle.ganswer.specs.steps.Answers.{MissesRef, ReportsRef}
-use Rattle.ganswer.specs.declared.fault.BuildFault.{BuildFault}
+use Rattle.gobject.specs.{declared.node.Entry.Entry, Objects.node_at, Objects.entry_of, Objects.IdsDiffer}
+use Rattle.gdag.proofs.{ClosedLemmas.parents_entry, Growing.at_front, Growing.keeps_held}
+use Rattle.gdag.specs.Graphs.{Holds, IsFirstAbsent, History, HoldsParents, IsGraph}
+use Rattle.gdag.specs.{Laws.PlacesAreNodes, Laws.ClosedStays, declared.fault.GraphFault.GraphFault, Insert.AddsOne}
+use Rattle.gdag.specs.Reach.{IsClosed, Keeps}
+use Rattle.grefs.specs.{RefLists.RefList, RefLists.IsRefs, RefLists.SetsRef, declared.fault.RefsFault.RefsFault}
+use Rattle.grefs.specs.declared.head.Head.{Head}
+use Rattle.ganswer.specs.Servers.{HoldsRefs, IsFirstDangling, parents_in, HoldsHead, IsServer, served}
+use Rattle.ganswer.specs.{steps.Answers.MissesRef, steps.Answers.ReportsRef, declared.fault.BuildFault.BuildFault}
 use Rattle.ganswer.specs.declared.fault.BuildFault.TheVariants as build
+use Rattle.std.specs.Prelude.{OnErr, OnOk, slice_get, option_map}
+use Rattle.std.specs.Map.{values_of}
+use Rattle.grefs.specs.declared.head.Head.TheVariants as heads
+use Rattle.ganswer.proofs.FitLemmas.{unmap}
 
 -- ---- parents
 
@@ -87,8 +90,47 @@ module _ {A : Type 0} where
   pub dangling : (g : List (Entry A)) (refs : RefList) (name : List ℕ) (cause : BuildFault A) → IsFirstDangling g refs name → ReportsRef name cause → MissesRef g refs cause
   dangling g refs name (build.RefMissing missing) first is = subst (IsFirstDangling g refs) (sym is) first
   dangling g refs name build.Memory first is = (name, first)
-  dangling g refs name (build.Graph other) first is = absurd is
-  dangling g refs name (build.Refs other) first is = absurd is
-  dangling g refs name (build.NotClosed id) first is = absurd is
-  dangling g refs name build.HeadMissing first is = absurd is
-  dangling g refs name (build.MissingParent id) first is = absurd is
+  dangling g refs name _ first is = absurd is
+
+-- ---- a server to which an object came, or of which a ref was set, is one
+
+module _ {A : Type 0} where
+  head_stays : (g h : List (Entry A)) → Keeps g h → (head : Head A) → HoldsHead g head → HoldsHead h head
+  head_stays g h keeps heads.None held = held
+  head_stays g h keeps (heads.Id id) held = keeps_held g h keeps id held
+  head_stays g h keeps (heads.Symref target) held = held
+
+  from_each : (g : List (Entry A)) (old : RefList) (name id : List ℕ) → HoldsRefs g old → Holds g id → (new : RefList)
+      → All (λ ref. (ref ≡ (name, id)) ⊎ Contains old ref) new → HoldsRefs g new
+  from_each g old name id held is_held new each =
+      let H : List ℕ × List ℕ → Type 0 = λ ref. Holds g ref.1 in
+      All-map (Holds g) (λ (ref : List ℕ × List ℕ). ref.1) new
+      (All-weaker (λ (ref : List ℕ × List ℕ). (ref ≡ (name, id)) ⊎ Contains old ref) H
+      (λ ref side. elim side [
+        | inl same ↦ subst H (sym same) is_held
+        | inr there ↦ All-contains H old ref (unmap (Holds g) (λ (r : List ℕ × List ℕ). r.1) old held) there
+      ]) new each)
+
+  pub grown_or_same : ClosedStays A → (old new : History A) (refs : RefList) (head : Head A) (entry : Entry A) → IsServer (served old refs head) → HoldsParents old.entries entry
+      → (result : Result Bool GraphFault) → AddsOne old entry new result → Keeps old.entries new.entries → IsGraph new → IsServer (served new refs head)
+  grown_or_same law old new refs head entry is parents (Ok is_new) adds keeps graph = record {
+    graph = graph;
+    refs = is.refs;
+    closed = law old.format old.entries entry new.entries is.closed parents adds.1;
+    held = All-weaker (Holds old.entries) (Holds new.entries) (keeps_held old.entries new.entries keeps) (values_of refs) is.held;
+    head = head_stays old.entries new.entries keeps head is.head;
+    target = is.target;
+  }
+  grown_or_same law old new refs head entry is parents (Err fault) adds keeps graph = subst (λ (g : History A). IsServer (served g refs head)) (sym adds.0) is
+
+  pub with_ref_or_same : (graph : History A) (old new : RefList) (head : Head A) (name id : List ℕ) → IsServer (served graph old head) → Holds graph.entries id
+      → (result : Result Unit RefsFault) → OnOk result (SetsRef old new name id) → OnErr result (new ≡ old) → IsRefs new → IsServer (served graph new head)
+  with_ref_or_same graph old new head name id is held (Ok done) sets same refs = record {
+    graph = is.graph;
+    refs = refs;
+    closed = is.closed;
+    held = from_each graph.entries old name id is.held held new sets.each;
+    head = is.head;
+    target = is.target;
+  }
+  with_ref_or_same graph old new head name id is held (Err fault) sets same refs = subst (λ (r : RefList). IsServer (served graph r head)) (sym same) is

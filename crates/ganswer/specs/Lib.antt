@@ -3,7 +3,6 @@ pub mod Answers
 pub mod Changes
 pub mod Faults
 pub mod FetchAnswers
-pub mod KnownPeels
 pub mod Laws
 pub mod LsAnswers
 pub mod OnePack

@@ -1,21 +1,17 @@
 -- What ls-refs answers (gitprotocol-v2(5), "ls-refs"): HEAD first, then the refs in the byte order of their names, of
 -- these those that are asked for, each with the attributes that are asked for.
 use Rattle.std.specs.Prelude.{◌≡◌, Bool, true, false, ◌&&◌, List, [], ◌∷◌, ◌++◌, All, filter, map, nat_eq}
-use Rattle.std.specs.Prelude.{if◌then◌else◌, is_none, MatchOption, Option, Some, None}
+use Rattle.std.specs.Prelude.{if◌then◌else◌, is_none, MatchOption, Option, Some, None, ℕ, slice_get, bytes_eq}
 use Rattle.std.specs.List.{list_any, starts_with}
-use Rattle.std.specs.Str.{bytes_eq}
-use Rattle.gname.specs.Names.{Name, head_name}
-use Rattle.gname.specs.Ids.{Id}
+use Rattle.gname.specs.{Names.Name, Names.head_name, Ids.Id}
 use Rattle.gpkt.specs.Packets.{Bytes}
 use Rattle.gobject.specs.declared.node.Entry.{Entry}
 use Rattle.gdag.specs.Peeling.{IsTagOf, PeelsTo}
-use Rattle.grefs.specs.RefLists.{RefList, ref_at}
-use Rattle.grefs.specs.declared.head.Head.{Head}
+use Rattle.grefs.specs.{RefLists.RefList, RefLists.ref_at, declared.head.Head.Head}
 use Rattle.grefs.specs.declared.head.Head.TheVariants as heads
 use Rattle.grequest.specs.declared.flag.LsRefsFlag.TheVariants.{Peel, Symrefs, Unborn}
 use Rattle.grequest.specs.Asked.{LsRefsAsked, ls_has}
-use Rattle.glsreply.specs.RefTexts.{RefLine}
-use Rattle.glsreply.specs.LsReplies.{LsReply}
+use Rattle.glsreply.specs.{RefTexts.RefLine, LsReplies.LsReply}
 use Rattle.ganswer.specs.Servers.{Server}
 
 -- ---- which refs are shown
@@ -104,3 +100,11 @@ unborn_of server asked =
 pub record LsAnswer {A : Type 0} (server : Server A) (asked : LsRefsAsked) (reply : LsReply) : Type 0 where
   pub lines : ShowsLines server asked (all_refs server) reply.lines
   pub unborn : reply.unborn ≡ unborn_of server asked
+
+-- ---- what a server knows of the refs before it is asked
+
+-- what the ids of the refs peel to where they are those of tags: what stands at a position is of the ref there
+abbrev pub KnowsPeels : {A : Type 0} → List (Entry A) → RefList → List (Option Id) → Type 0
+KnowsPeels g refs peels =
+    (k : ℕ) (ref : Name × Id) (peeled : Option Id)
+    → slice_get refs k ≡ Some ref → slice_get peels k ≡ Some peeled → IsPeeled g ref.1 peeled

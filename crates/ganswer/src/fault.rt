@@ -4,7 +4,7 @@ ghost use Rattle.std.specs.Prelude.{◌≡◌, Some};
 ghost use Rattle.gpkt.specs.Faults.{line_fault_row};
 ghost use Rattle.ggrammar.specs.Faults.{line_phrase, row_of};
 ghost use Rattle.ganswer.specs.Faults.{build_fault_row, build_fault_text, lacks_memory, serve_fault_row, serve_fault_text, why_lacks_memory};
-ghost use Rattle.ganswer.specs.steps.FaultViews.{row_view};
+ghost use Rattle.ganswer.specs.steps.Answers.{row_view};
 ghost use Rattle.ganswer.specs.declared.fault.BuildFault.TheVariants as build;
 ghost use Rattle.ganswer.specs.declared.fault.ServeFault.TheVariants as serve;
 

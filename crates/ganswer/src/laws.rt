@@ -34,6 +34,7 @@ pub fn ls_answers_fit<A: Allocator + Copy>()
 }
 
 /// Each line of an answer to a request for refs stands at an id that the server holds.
+#[tactic(auto, using(crate::proofs::LawLemmas::ls_answers_are_held))]
 pub fn ls_answers_are_held<A: Allocator + Copy>()
     ensures { LsAnswersAreHeld A }
 {}
@@ -84,6 +85,7 @@ pub fn answers_are_one<A: Allocator + Copy, K: Faithful<A>>(packer: &K)
 }
 
 /// Objects only come to a server, and only by [`Server::add`](crate::Server::add).
+#[tactic(auto, using(crate::proofs::LawLemmas::servers_grow))]
 pub fn servers_grow<A: Allocator + Copy>()
     ensures { ServersGrow A }
 {}

@@ -7,7 +7,7 @@ ghost use Rattle.ggrammar.specs.declared.fault.Why.TheVariants as why;
 ghost use Rattle.glsreply.specs.LentViews.{lent_view};
 ghost use Rattle.grefs.specs.RefLists.{RefList};
 ghost use Rattle.ganswer.specs.LsAnswers.{IsPeeled, LsAnswer, ShowsLines, all_refs, head_id, head_ref, is_asked, missing_target, symref_of, target_of, unborn_of};
-ghost use Rattle.ganswer.specs.steps.LsBuilding.{IsAnswering, IsNextRef, line_list};
+ghost use Rattle.ganswer.specs.steps.Answers.{IsAnswering, IsNextRef, line_list};
 ghost use Rattle.ganswer.specs.declared.fault.ServeFault.TheVariants.{Memory};
 
 use crate::fault::ServeFault;

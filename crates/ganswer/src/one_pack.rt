@@ -3,7 +3,7 @@
 ghost use Rattle.std.specs.Prelude.{◌≡◌, false, MatchResult};
 ghost use Rattle.gobject.specs.Packs.{MayPack};
 ghost use Rattle.ganswer.specs.OnePack.{has_failed};
-ghost use Rattle.ganswer.specs.steps.OnePack.{packing_of};
+ghost use Rattle.ganswer.specs.steps.Answers.{packing_of};
 ghost use Rattle.ganswer.specs.declared.one_pack.Packing.TheVariants as packing;
 
 use ggraph::{Entry, PackFault, Packer};

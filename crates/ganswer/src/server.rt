@@ -7,7 +7,7 @@ ghost use Rattle.gdag.specs.Graphs.{Holds, IsFirstAbsent};
 ghost use Rattle.gdag.specs.Reach.{Grows, IsClosed};
 ghost use Rattle.grefs.specs.RefLists.{IsRefs};
 ghost use Rattle.ganswer.specs.Changes.{Adds, Sets, SetsHead};
-ghost use Rattle.ganswer.specs.KnownPeels.{KnowsPeels};
+ghost use Rattle.ganswer.specs.LsAnswers.{KnowsPeels};
 ghost use Rattle.ganswer.specs.LsAnswers.{IsPeeled};
 ghost use Rattle.ganswer.specs.Servers.{HoldsHead, HoldsRefs, IsServer, IsUnserved, Makes, PointsBelowRefs, parents_in, served};
 ghost use Rattle.ganswer.specs.steps.Answers.{MissesRef, ReportsRef};
@@ -38,7 +38,7 @@ pub struct Server<A: Allocator + Copy = Global> {
 impl<A: Allocator + Copy> Model for Server<A> {
     ghost use Rattle.std.specs.Prelude.{◌≡◌};
     ghost use Rattle.gname.specs.Names.{head_name};
-    ghost use Rattle.ganswer.specs.KnownPeels.{KnowsPeels};
+    ghost use Rattle.ganswer.specs.LsAnswers.{KnowsPeels};
     ghost use Rattle.ganswer.specs.Servers.{Server, IsServer};
 
     ghost Value = { Server A };

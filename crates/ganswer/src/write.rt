@@ -8,7 +8,7 @@ ghost use Rattle.ggrammar.specs.Writing.{WritesLines, WritesPart};
 ghost use Rattle.glsreply.specs.LsReplies.{LsReply, canonical_reply, ref_packet};
 ghost use Rattle.glsreply.specs.RefTexts.{RefLine};
 ghost use Rattle.ganswer.specs.LsAnswers.{LsAnswer, ShowsLines, all_refs, head_id, head_ref};
-ghost use Rattle.ganswer.specs.steps.LsBuilding.{line_list};
+ghost use Rattle.ganswer.specs.steps.Answers.{line_list};
 
 use crate::server::Server;
 use ggrammar::Ends;

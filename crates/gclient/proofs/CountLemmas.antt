@@ -1,29 +1,32 @@
--- How often a conversation asks for objects.
+-- How often a conversation asks for objects, also where it fails.
 use Rattle.std.proofs.Common.{◌≡◌, ℕ, ◌+◌, ◌≤◌, List, [], ◌∷◌, ◌++◌, length, None, Some, Ok, refl, sym, ap, subst, ◌∙◌}
-use Rattle.std.proofs.Common.{append-nil, arith}
-use Rattle.gpkt.specs.Change.{Change}
-use Rattle.gpkt.specs.Packets.{Packet}
+use Rattle.std.proofs.Common.{append-nil, arith, Option, Err, append_assoc}
+use Rattle.gpkt.specs.{Change.Change, Packets.Packet, Sending.Input, Sending.Output, Sending.IsUnwritten}
 use Rattle.ggrammar.specs.Capabilities.{Capability}
 use Rattle.gfetchreply.specs.FetchReplies.{FetchReply}
-use Rattle.gdag.specs.Reach.{Grows}
+use Rattle.gdag.specs.{Reach.Grows, Walks.CountsReached}
 use Rattle.gdag.proofs.Growing.{grows_on}
-use Rattle.gdag.specs.Walks.{CountsReached}
 use Rattle.gobject.specs.Packs.{Indexes, IndexFails}
 use Rattle.gclientrepo.specs.Repos.{IsWhole, RepoState}
 use Rattle.grequest.specs.Asked.{Asked, Empty, Ls, Fetches}
 use Rattle.gsession.specs.Bounds.{BeganOn, BeganStaysOn, BeginsCounted, BeganBegins, CountedAreFew, CountedStays}
 use Rattle.gsession.specs.Bounds.{IsCounted}
 use Rattle.gsession.specs.Calls.{HasCalled, heard as heard_call, requested, took_refs, took_reply}
-use Rattle.gsession.specs.Laws.{EachGoesOn}
-use Rattle.gsession.specs.Requesting.{waiting_for}
-use Rattle.gsession.specs.Sessions.{SessionState, max_specs, tips_of}
-use Rattle.gsession.specs.TakingReplies.{TakesHead}
-use Rattle.gsession.specs.declared.taken.Taken.{Taken}
 use Rattle.gsession.specs.declared.taken.Taken.TheVariants.{Round, PackTaken}
-use Rattle.gclient.specs.Conversations.{Start, begun, heard}
-use Rattle.gclient.specs.Laws.{NextIsFew, RoundsAreAsked, TalksAreFew, asked_in, count_of, objects_asked}
+use Rattle.gsession.specs.{Sessions.SessionState, Sessions.max_specs, Sessions.tips_of, declared.taken.Taken.Taken}
+use Rattle.gsession.specs.{Laws.EachGoesOn, Requesting.waiting_for, TakingReplies.TakesHead}
+use Rattle.gclient.specs.Conversations.{Start, begun, heard, Converses, Fails, cannot_ask, cannot_begin, cannot_hear}
+use Rattle.gclient.specs.Conversations.{cannot_send, cannot_settle, cannot_take, no_buffer, HasFetched, FailsToAsk}
+use Rattle.gclient.specs.Conversations.{HasAsked, IsDue, request, ending, request_bytes, requests_bytes}
+use Rattle.gclient.specs.Laws.{NextIsFew, RoundsAreAsked, TalksAreFew, asked_in, count_of, objects_asked, AsksAtMost}
+use Rattle.gclient.specs.Laws.{EndsAreFew}
 use Rattle.gclient.specs.Turns.{AreTurns, AsksNext, ClientState, IsTurn, Takes, Turn}
+use Rattle.gclient.specs.{declared.fault.FetchFault.FetchFault, declared.fetched.Fetched.Fetched}
 use Rattle.gclient.proofs.TurnLemmas.{turn_kept, waits}
+use Rattle.std.specs.List.{flat_map}
+use Rattle.std.specs.Io.KnownBytes.{Appends}
+use Rattle.std.proofs.lemmas.Grind.{flat_map-append}
+use Rattle.gname.specs.declared.formats.Format.{Format}
 
 -- ---- a turn's calls
 
@@ -138,80 +141,72 @@ module _ {A : Type 0} (indexes : Indexes A) (index_fails : IndexFails) where
   still : (start : Start A) → Grows start.repo.graph.entries start.repo.graph.entries
   still start = ([], sym (append-nil start.repo.graph.entries))
 
-  -- a call more
-  called : CountLaws indexes index_fails
-      → (start : Start A) (old new : SessionState A) (repo after : RepoState A) → IsGoing start old repo
-      → HasCalled indexes index_fails repo old new → Grows start.repo.graph.entries after.graph.entries
-      → IsGoing start new after
-  called laws start old new repo after was call grows = record {
-    counted = laws.counted repo old new was.counted call;
-    began = laws.stays_on start.repo.graph.entries repo old new was.grows was.began call;
-    grows = grows;
-    tips = (laws.goes_on repo old new call).tips ∙ was.tips;
-  }
+  module _ (laws : CountLaws indexes index_fails) (start : Start A) where
+    -- a call more
+    called : (old new : SessionState A) (repo after : RepoState A) → IsGoing start old repo
+        → HasCalled indexes index_fails repo old new → Grows start.repo.graph.entries after.graph.entries
+        → IsGoing start new after
+    called old new repo after was call grows = record {
+      counted = laws.counted repo old new was.counted call;
+      began = laws.stays_on start.repo.graph.entries repo old new was.grows was.began call;
+      grows = grows;
+      tips = (laws.goes_on repo old new call).tips ∙ was.tips;
+    }
 
-  begun_going : CountLaws indexes index_fails → (start : Start A) → IsWhole start.repo
-      → length start.refspecs ≤ max_specs → IsGoing start (begun start) start.repo
-  begun_going laws start whole few = record {
-    counted = laws.begins start.repo start.refspecs start.limit start.ends (begun start) (few, refl);
-    began = laws.begins_on start.repo start.refspecs start.limit start.ends (begun start) whole (few, refl);
-    grows = still start;
-    tips = refl;
-  }
+    begun_going : IsWhole start.repo → length start.refspecs ≤ max_specs → IsGoing start (begun start) start.repo
+    begun_going whole few = record {
+      counted = laws.begins start.repo start.refspecs start.limit start.ends (begun start) (few, refl);
+      began = laws.begins_on start.repo start.refspecs start.limit start.ends (begun start) whole (few, refl);
+      grows = still start;
+      tips = refl;
+    }
 
-  heard_going : CountLaws indexes index_fails → (start : Start A) (capabilities : List Capability) → IsWhole start.repo
-      → length start.refspecs ≤ max_specs
-      → IsGoing start (heard start capabilities).session start.repo
-  heard_going laws start capabilities whole few =
-      called laws start (begun start) (heard start capabilities).session start.repo start.repo
-      (begun_going laws start whole few)
-      (heard_call capabilities (Ok tt) ((refl, refl), refl)) (still start)
+    heard_going : (capabilities : List Capability) → IsWhole start.repo → length start.refspecs ≤ max_specs
+        → IsGoing start (heard start capabilities).session start.repo
+    heard_going capabilities whole few =
+        called (begun start) (heard start capabilities).session start.repo start.repo
+        (begun_going whole few)
+        (heard_call capabilities (Ok tt) ((refl, refl), refl)) (still start)
 
-  -- the next request is made
-  asked_going : CountLaws indexes index_fails
-      → (start : Start A) (old : ClientState A) (asked : Asked) (waiting : SessionState A)
-      → IsGoing start old.session old.repo → AsksNext old asked waiting → IsGoing start waiting old.repo
-  asked_going laws start old asked waiting was made =
-      called laws start old.session waiting old.repo old.repo was (requested (Ok asked) made) was.grows
+    -- the next request is made
+    asked_going : (old : ClientState A) (asked : Asked) (waiting : SessionState A)
+        → IsGoing start old.session old.repo → AsksNext old asked waiting → IsGoing start waiting old.repo
+    asked_going old asked waiting was made =
+        called old.session waiting old.repo old.repo was (requested (Ok asked) made) was.grows
 
-  turn_going : CountLaws indexes index_fails
-      → (start : Start A) (old : ClientState A) (turn : Turn) (new : ClientState A)
-      → IsGoing start old.session old.repo → IsTurn indexes index_fails old turn new
-      → IsGoing start new.session new.repo
-  turn_going laws start old turn new was is =
-      called laws start is.waiting new.session old.repo new.repo
-      (asked_going laws start old turn.asked is.waiting was is.asks)
-      (taken_called old is.waiting turn.asked turn.reply new
-      (waits old.repo.graph.entries old.session is.waiting turn.asked is.asks) is.takes)
-      (grows_on start.repo.graph.entries old.repo.graph.entries new.repo.graph.entries was.grows
-      (turn_kept indexes index_fails old turn new is).grows)
+    turn_going : (old : ClientState A) (turn : Turn) (new : ClientState A)
+        → IsGoing start old.session old.repo → IsTurn indexes index_fails old turn new
+        → IsGoing start new.session new.repo
+    turn_going old turn new was is =
+        called is.waiting new.session old.repo new.repo
+        (asked_going old turn.asked is.waiting was is.asks)
+        (taken_called old is.waiting turn.asked turn.reply new
+        (waits old.repo.graph.entries old.session is.waiting turn.asked is.asks) is.takes)
+        (grows_on start.repo.graph.entries old.repo.graph.entries new.repo.graph.entries was.grows
+        (turn_kept indexes index_fails old turn new is).grows)
 
-  turns_going : CountLaws indexes index_fails
-      → (start : Start A) (first : ClientState A) (talk : List Turn) (last : ClientState A)
-      → IsGoing start first.session first.repo → AreTurns indexes index_fails first talk last
-      → IsGoing start last.session last.repo
-  turns_going laws start first [] last was is =
-      subst (λ (c : ClientState A). IsGoing start c.session c.repo) (sym is) was
-  turns_going laws start first (turn ∷ talk) last was (next, is, rest) =
-      turns_going laws start next talk last (turn_going laws start first turn next was is) rest
+    turns_going : (first : ClientState A) (talk : List Turn) (last : ClientState A)
+        → IsGoing start first.session first.repo → AreTurns indexes index_fails first talk last
+        → IsGoing start last.session last.repo
+    turns_going first [] last was is =
+        subst (λ (c : ClientState A). IsGoing start c.session c.repo) (sym is) was
+    turns_going first (turn ∷ talk) last was (next, is, rest) =
+        turns_going next talk last (turn_going first turn next was is) rest
 
-  talk_going : CountLaws indexes index_fails
-      → (start : Start A) (capabilities : List Capability) (talk : List Turn) (last : ClientState A)
-      → IsWhole start.repo
-      → length start.refspecs ≤ max_specs → AreTurns indexes index_fails (heard start capabilities) talk last
-      → IsGoing start last.session last.repo
-  talk_going laws start capabilities talk last whole few are =
-      turns_going laws start (heard start capabilities) talk last
-      (heard_going laws start capabilities whole few) are
+    talk_going : (capabilities : List Capability) (talk : List Turn) (last : ClientState A)
+        → IsWhole start.repo → length start.refspecs ≤ max_specs
+        → AreTurns indexes index_fails (heard start capabilities) talk last
+        → IsGoing start last.session last.repo
+    talk_going capabilities talk last whole few are =
+        turns_going (heard start capabilities) talk last
+        (heard_going capabilities whole few) are
 
-  going_few : CountLaws indexes index_fails
-      → (start : Start A) (session : SessionState A) (repo : RepoState A) (held parents : ℕ)
-      → IsGoing start session repo
-      → CountsReached start.repo.graph.entries (tips_of start.repo) held parents → session.rounds ≤ held + 1
-  going_few laws start session repo held parents going counts =
-      laws.few start.repo.graph.entries session held parents going.counted going.began
-      (subst (λ (ids : List (List ℕ)). CountsReached start.repo.graph.entries ids held parents)
-      (sym going.tips) counts)
+    going_few : (session : SessionState A) (repo : RepoState A) (held parents : ℕ) → IsGoing start session repo
+        → CountsReached start.repo.graph.entries (tips_of start.repo) held parents → session.rounds ≤ held + 1
+    going_few session repo held parents going counts =
+        laws.few start.repo.graph.entries session held parents going.counted going.began
+        (subst (λ (ids : List (List ℕ)). CountsReached start.repo.graph.entries ids held parents)
+        (sym going.tips) counts)
 
   pub talks_are_few : CountLaws indexes index_fails → TalksAreFew indexes index_fails
   talks_are_few laws start capabilities talk last held parents whole few are counts =
@@ -226,3 +221,145 @@ module _ {A : Type 0} (indexes : Indexes A) (index_fails : IndexFails) where
       let most = going_few laws start waiting last.repo held parents going counts in
       let rounds = rounds_are_asked start capabilities talk last are in
       omega (arith, most, rounds, next_rounds last asked waiting made, one_more (asked_in talk) asked)
+
+-- ---- what was written, at every end of a conversation: bytes of requests
+
+turns_bytes : (format : Format) (talk : List Turn)
+    → flat_map (request_bytes format) (asked_in talk) ≡ requests_bytes format talk
+turns_bytes format [] = refl
+turns_bytes format (turn ∷ talk) = ap (λ (l : List ℕ). request_bytes format turn.asked ++ l) (turns_bytes format talk)
+
+with_next : (format : Format) (talk : List Turn) (asked : Asked)
+    → flat_map (request_bytes format) (asked_in talk ++ asked ∷ [])
+    ≡ requests_bytes format talk ++ request_bytes format asked
+with_next format talk asked =
+    flat_map-append (request_bytes format) (asked_in talk) (asked ∷ [])
+    ∙ ap (λ (l : List ℕ). flat_map (request_bytes format) (asked_in talk) ++ l)
+    (append-nil (request_bytes format asked))
+    ∙ ap (λ (l : List ℕ). l ++ request_bytes format asked) (turns_bytes format talk)
+
+appends_none : (old new : Option (List ℕ)) → new ≡ old → Appends old new []
+appends_none None new same = tt
+appends_none (Some bytes) new same =
+    subst (λ (n : Option (List ℕ)). Appends (Some bytes) n []) (sym same) (sym (append-nil bytes))
+
+-- ---- what was written
+
+no_fewer : (most : ℕ) → 0 ≤ most
+no_fewer most = omega arith
+
+none_asked : (format : Format) (output : Output) (most : ℕ) → IsUnwritten output → AsksAtMost format output most
+none_asked format output most unwritten = record {
+  requests = [];
+  few = no_fewer most;
+  front = [];
+  rest = [];
+  parts = refl;
+  written = appends_none output.written.old output.written.new unwritten.written;
+}
+
+all_asked : (format : Format) (output : Output) (most : ℕ) (requests : List Asked) (bytes : List ℕ)
+    → objects_asked requests ≤ most
+    → flat_map (request_bytes format) requests ≡ bytes → Appends output.written.old output.written.new bytes
+    → AsksAtMost format output most
+all_asked format output most requests bytes few same written = record {
+  requests = requests;
+  few = few;
+  front = bytes;
+  rest = [];
+  parts = same ∙ sym (append-nil bytes);
+  written = written;
+}
+
+so_far_asked : (format : Format) (output : Output) (most : ℕ) (talk : List Turn) → objects_asked (asked_in talk) ≤ most
+    → HasAsked format output talk
+    → AsksAtMost format output most
+so_far_asked format output most [] few asked = none_asked format output most asked
+so_far_asked format output most (turn ∷ talk) few asked =
+    all_asked format output most (asked_in (turn ∷ talk)) (requests_bytes format (turn ∷ talk)) few
+    (turns_bytes format (turn ∷ talk)) asked.written
+
+some_asked : (format : Format) (output : Output) (most : ℕ) (talk : List Turn) (asked : Asked)
+    → objects_asked (asked_in talk ++ asked ∷ []) ≤ most
+    → FailsToAsk format output talk (request_bytes format asked) → AsksAtMost format output most
+some_asked format output most [] asked few failed = record {
+  requests = asked ∷ [];
+  few = few;
+  front = failed.0.front;
+  rest = failed.0.rest;
+  parts = with_next format [] asked ∙ failed.0.parts;
+  written = failed.0.written;
+}
+some_asked format output most (turn ∷ talk) asked few failed =
+    let sent : List ℕ = requests_bytes format (turn ∷ talk) in
+    record {
+      requests = asked_in (turn ∷ talk) ++ asked ∷ [];
+      few = few;
+      front = sent ++ failed.front;
+      rest = failed.rest;
+      parts = with_next format (turn ∷ talk) asked ∙ ap (λ (l : List ℕ). sent ++ l) failed.parts
+          ∙ sym (append_assoc sent failed.front failed.rest);
+      written = failed.written;
+    }
+
+-- the lone flush asks for nothing
+flush_few : (talk : List Turn) (most : ℕ) → objects_asked (asked_in talk) ≤ most
+    → objects_asked (asked_in talk ++ Empty ∷ []) ≤ most
+flush_few talk most few =
+    let none : count_of Empty ≡ 0 = refl in
+    omega (arith, few, one_more (asked_in talk) Empty)
+
+module _ {A : Type 0} (indexes : Indexes A) (index_fails : IndexFails) where
+  module _ (talks : TalksAreFew indexes index_fails) (next : NextIsFew indexes index_fails) (start : Start A)
+      (whole : IsWhole start.repo) (held parents : ℕ)
+      (counts : CountsReached start.repo.graph.entries (tips_of start.repo) held parents) where
+    talk_few : (input : Input) (talk : List Turn) (last : ClientState A) (Rest : Input → Type 0)
+        → Converses indexes index_fails start input talk last Rest
+        → objects_asked (asked_in talk) ≤ held + 1
+    talk_few input talk last Rest so_far =
+        talks start so_far.capabilities talk last held parents whole so_far.few so_far.each counts
+
+    due_few : (input : Input) (talk : List Turn) (last : ClientState A) (Rest : Input → Type 0) (asked : Asked)
+        → Converses indexes index_fails start input talk last Rest
+        → IsDue indexes index_fails start last asked → objects_asked (asked_in talk ++ asked ∷ []) ≤ held + 1
+    due_few input talk last Rest asked so_far (request also waiting made) =
+        next start so_far.capabilities talk last also waiting held parents whole so_far.few so_far.each made counts
+    due_few input talk last Rest asked so_far (ending stage) =
+        flush_few talk (held + 1) (talk_few input talk last Rest so_far)
+
+    fails_few : (input : Input) (output : Output) (new : RepoState A) (fault : FetchFault A)
+        → Fails indexes index_fails start input output new fault
+        → AsksAtMost start.repo.graph.format output (held + 1)
+    fails_few input output new fault (cannot_begin cause begins unread unwritten same) =
+        none_asked start.repo.graph.format output (held + 1) unwritten
+    fails_few input output new fault (no_buffer few unread unwritten same) =
+        none_asked start.repo.graph.format output (held + 1) unwritten
+    fails_few input output new fault (cannot_hear cause few refuses unwritten same) =
+        none_asked start.repo.graph.format output (held + 1) unwritten
+    fails_few input output new fault (cannot_ask talk last after so_far made asked same) =
+        so_far_asked start.repo.graph.format output (held + 1) talk (talk_few input talk last _ so_far) asked
+    fails_few input output new fault (cannot_send talk last asked so_far due failed same) =
+        some_asked start.repo.graph.format output (held + 1) talk asked (due_few input talk last _ asked so_far due)
+        failed
+    fails_few input output new fault (cannot_take talk last asked waiting cause made so_far passed same) =
+        all_asked start.repo.graph.format output (held + 1) (asked_in talk ++ asked ∷ []) _
+        (due_few input talk last _ asked so_far (request asked waiting made))
+        (with_next start.repo.graph.format talk asked) passed.written
+    fails_few input output new fault (cannot_settle talk last cause so_far stage passed settles) =
+        all_asked start.repo.graph.format output (held + 1) (asked_in talk ++ Empty ∷ []) _
+        (due_few input talk last _ Empty so_far (ending stage)) (with_next start.repo.graph.format talk Empty)
+        passed.written
+
+    fetches_few : (input : Input) (output : Output) (new : RepoState A) (fetched : Fetched A)
+        → HasFetched indexes index_fails start input output new fetched
+        → AsksAtMost start.repo.graph.format output (held + 1)
+    fetches_few input output new fetched is =
+        all_asked start.repo.graph.format output (held + 1) (asked_in is.talk ++ Empty ∷ []) _
+        (due_few input is.talk is.last _ Empty is.converses (ending is.settles_next))
+        (with_next start.repo.graph.format is.talk Empty) is.passed.written
+
+  pub ends_are_few : TalksAreFew indexes index_fails → NextIsFew indexes index_fails → EndsAreFew indexes index_fails
+  ends_are_few talks next start input output new (Ok fetched) held parents whole is counts =
+      fetches_few talks next start whole held parents counts input output new fetched is
+  ends_are_few talks next start input output new (Err fault) held parents whole is counts =
+      fails_few talks next start whole held parents counts input output new fault is

@@ -1,33 +1,33 @@
--- A conversation, turn by turn.
+-- A conversation, turn by turn, and what it keeps.
 use Rattle.std.proofs.Common.{◌≡◌, ℕ, ◌≤◌, Bool, false, List, [], ◌∷◌, ◌++◌, length, Option, None, Ok, Err, refl, sym}
-use Rattle.std.proofs.Common.{ap, subst, ◌∙◌, append_assoc, append-nil}
+use Rattle.std.proofs.Common.{ap, subst, ◌∙◌, append_assoc, append-nil, Result}
 use Rattle.std.proofs.lemmas.Grind.{flat_map-append}
-use Rattle.std.specs.List.{flat_map}
 use Rattle.gname.specs.declared.formats.Format.{Format}
-use Rattle.gpkt.specs.Laws.{ReadsJoin}
-use Rattle.gpkt.specs.LineReading.{ReadsLines}
-use Rattle.gpkt.specs.Packets.{Packet}
-use Rattle.gpkt.specs.Sending.{Input, input_of, output_of, IsUnread, Passes, SendsSome}
+use Rattle.gpkt.specs.Sending.{Input, input_of, output_of, IsUnread, Passes, SendsSome, Output}
+use Rattle.gpkt.specs.{Laws.ReadsJoin, LineReading.ReadsLines, Packets.Packet}
 use Rattle.gobject.specs.Packs.{Indexes, IndexFails}
-use Rattle.gclientrepo.specs.Changes.{SettlesAsks}
-use Rattle.gclientrepo.specs.Repos.{RepoState}
-use Rattle.grequest.specs.Asked.{Empty}
+use Rattle.gclientrepo.specs.{Changes.SettlesAsks, Repos.RepoState, Repos.IsWhole, declared.ask.Ask.Ask}
+use Rattle.gclientrepo.specs.Settling.{Settles}
+use Rattle.grequest.specs.Asked.{Empty, Asked}
 use Rattle.gsession.specs.Sessions.{SessionState, max_specs, tells_unborn, tips_of}
+use Rattle.gsession.specs.{declared.stage.Stage.TheVariants.Settling, Bounds.BeganOn, Bounds.BeganStays}
+use Rattle.gsession.specs.{declared.taken.Settled.Settled, Requesting.Requests, declared.taken.LsTaken.LsTaken}
+use Rattle.gsession.specs.TakingRefs.{TakesLs}
 use Rattle.gsession.specs.declared.fault.ClientFault.TheVariants as client
-use Rattle.gsession.specs.declared.stage.Stage.TheVariants.{Settling}
-use Rattle.gsession.specs.declared.taken.Settled.{Settled}
 use Rattle.gclient.specs.Conversations.{Start, Converses, Fails, cannot_ask, cannot_hear, cannot_send, cannot_settle}
 use Rattle.gclient.specs.Conversations.{cannot_take, HasFetched, request, ending, IsLeft, begun, heard, rest_of}
-use Rattle.gclient.specs.Conversations.{request_bytes}
+use Rattle.gclient.specs.Conversations.{request_bytes, cannot_begin, no_buffer, FetchesOver}
 use Rattle.gclient.specs.steps.Conversations.{Closes, FailsTurn, unasked, unsent, untaken, HasTalked, HasTurned}
-use Rattle.gclient.specs.steps.Conversations.{HearsServer}
-use Rattle.gclient.specs.steps.Conversations.{client_of}
+use Rattle.gclient.specs.steps.Conversations.{HearsServer, client_of, HasBegun, start_with}
 use Rattle.gclient.specs.Turns.{AreTurns, ClientState, Refuses, Turn}
-use Rattle.gclient.specs.declared.fault.FetchFault.{FetchFault}
+use Rattle.gclient.specs.{declared.fault.FetchFault.FetchFault, declared.fetched.Fetched.Fetched}
 use Rattle.gclient.specs.declared.fault.FetchFault.TheVariants as fetch
-use Rattle.gclient.specs.declared.fetched.Fetched.{Fetched}
-use Rattle.gclient.proofs.SendingLemmas.{asked_fails, asked_more, asked_passes, asked_still}
-use Rattle.gclient.proofs.TurnLemmas.{turns_kept, turns_more}
+use Rattle.gclient.proofs.StepLemmas.{asked_fails, asked_more, asked_passes, asked_still, is_heard}
+use Rattle.gclient.proofs.TurnLemmas.{kept_still, listed, turn_began, turns_kept, turns_more, begins_on}
+use Rattle.gdag.specs.{Laws.DistinctAreOnce, Graphs.History, Reach.Grows}
+use Rattle.std.specs.Prelude.{IfOk, OnErr, flat_map}
+use Rattle.grefs.specs.RefLists.{RefList}
+use Rattle.gclientrepo.proofs.Refusals.{refusals_change_nothing}
 
 reads_more : ReadsJoin → (old mid new : Option (List ℕ)) (packets : List Packet) (talk : List Turn) (turn : Turn)
     → ReadsLines (record { old = old; new = mid }) (packets ++ flat_map (λ t. t.reply) talk)
@@ -200,14 +200,7 @@ module _ {A S W : Type 0} (indexes : Indexes A) (index_fails : IndexFails) (star
       (output_of contents passed_on sink_down a a) start.repo cause
   not_heard r s a old new (fetch.Client (client.Message cause)) few refuses =
       cannot_hear cause few refuses (record { written = refl; passed_on = refl; down = refl }) refl
-  not_heard r s a old new (fetch.Client (client.Index cause)) few refuses = absurd refuses
-  not_heard r s a old new (fetch.Client client.TooManySpecs) few refuses = absurd refuses
-  not_heard r s a old new (fetch.Client client.NoOpenRequest) few refuses = absurd refuses
-  not_heard r s a old new (fetch.Client (client.StrangeAck id)) few refuses = absurd refuses
-  not_heard r s a old new (fetch.Client client.TooManyWants) few refuses = absurd refuses
-  not_heard r s a old new (fetch.Client (client.Repo cause)) few refuses = absurd refuses
-  not_heard r s a old new fetch.NoBuffer few refuses = absurd refuses
-  not_heard r s a old new fetch.WriteFailed few refuses = absurd refuses
+  not_heard r s a old new cause few refuses = absurd refuses
 
   -- ---- the end
 
@@ -254,13 +247,6 @@ module _ {A S W : Type 0} (indexes : Indexes A) (index_fails : IndexFails) (star
       (request_bytes start.repo.graph.format Empty) before.asked
       (subst (λ (f : Format). Passes (output_of contents passed_on sink_down b c) (request_bytes f Empty)) same passed))
       settles
-  not_closed r s a b c last new (fetch.Client (client.Message cause)) before next closes = absurd closes
-  not_closed r s a b c last new (fetch.Client (client.Index cause)) before next closes = absurd closes
-  not_closed r s a b c last new (fetch.Client client.TooManySpecs) before next closes = absurd closes
-  not_closed r s a b c last new (fetch.Client client.NoOpenRequest) before next closes = absurd closes
-  not_closed r s a b c last new (fetch.Client (client.StrangeAck id)) before next closes = absurd closes
-  not_closed r s a b c last new (fetch.Client client.TooManyWants) before next closes = absurd closes
-  not_closed r s a b c last new fetch.NoBuffer before next closes = absurd closes
   not_closed r s a b c last new fetch.WriteFailed before next ((some, kept), still) =
       let same : last.repo.graph.format ≡ start.repo.graph.format =
       same_format (input_of remaining source_down r s) before.talk last IsLeft before.converses in
@@ -269,3 +255,123 @@ module _ {A S W : Type 0} (indexes : Indexes A) (index_fails : IndexFails) (star
       (request_bytes start.repo.graph.format Empty) before.asked
       (subst (λ (f : Format). SendsSome (output_of contents passed_on sink_down b c) (request_bytes f Empty)) same some)
       kept) still
+  not_closed r s a b c last new cause before next closes = absurd closes
+
+-- ---- the refs
+
+-- a conversation that came so far, in one format, and on what its session began
+pub record HasListed {A : Type 0} (indexes : Indexes A) (index_fails : IndexFails) (start : Start A) (input : Input)
+    (output : Output) (now : ClientState A) : Type 0 where
+  pub talked : HasTalked indexes index_fails start input output now
+  pub format : now.session.format ≡ now.repo.graph.format
+  pub began : BeganOn start.repo.graph.entries now.session
+
+module _ {A S W : Type 0} (indexes : Indexes A) (index_fails : IndexFails)
+    (remaining : S → Option (List ℕ)) (source_down : S → Bool)
+    (contents passed_on : W → Option (List ℕ)) (sink_down : W → Bool) where
+  -- the server is heard, refs are asked for, and the reply is taken
+  pub has_listed : ReadsJoin → DistinctAreOnce → BeganStays A → (repo : RepoState A) → IsWhole repo
+      → (r s t : S) (a b : W) (old heard waiting new : SessionState A) (asked : Asked) (taken : LsTaken A)
+      → length old.refspecs ≤ max_specs → HasBegun old repo
+      → HearsServer {A = A} repo.graph.format old (input_of remaining source_down r s) heard (Ok tt)
+      → Requests heard repo.graph.entries waiting (Ok asked)
+      → Passes (output_of contents passed_on sink_down a b) (request_bytes repo.graph.format asked)
+      → TakesLs waiting repo.graph.entries (record { old = remaining s; new = remaining t }) new (Ok taken)
+      → source_down t ≡ false
+      → HasListed indexes index_fails (start_with old repo) (input_of remaining source_down r t)
+      (output_of contents passed_on sink_down a b) (client_of new repo taken.unborn)
+  has_listed join once stays repo whole r s t a b old heard waiting new asked taken few begun hears made passed takes up =
+      let start = start_with old repo in
+      let first = client_of heard repo None in
+      let last = client_of new repo taken.unborn in
+      let none = talked_none indexes index_fails start remaining source_down contents passed_on sink_down r s a old heard
+      few begun hears in
+      let is = is_heard repo.graph.format repo old heard (input_of remaining source_down r s) begun hears in
+      let turned = listed indexes index_fails first waiting new asked (input_of remaining source_down s t)
+      (output_of contents passed_on sink_down a b) taken made passed takes up in
+      let talked = talked_more indexes index_fails start remaining source_down contents passed_on sink_down join r s t a a b
+      first last none turned in
+      record {
+        talked = talked;
+        format = same_own indexes index_fails start remaining source_down contents passed_on sink_down
+            (input_of remaining source_down r t) talked.talk last IsLeft talked.converses;
+        began = turn_began indexes index_fails stays repo.graph.entries first turned.turn last (kept_still first).grows
+            (begins_on once repo heard whole is.tips is.sent) turned.is_turn;
+      }
+
+-- ---- what a conversation keeps: the refs where it fails, and the objects
+
+-- the refs are as they were, and objects only came
+pub record IsKeptRepo {A : Type 0} (old new : RepoState A) : Type 0 where
+  pub refs : new.refs ≡ old.refs
+  pub grows : Grows old.graph.entries new.graph.entries
+
+module _ {A : Type 0} where
+  kept_is : (old mid new : RepoState A) → IsKeptRepo old mid → new ≡ mid → IsKeptRepo old new
+  kept_is old mid new kept is = subst (IsKeptRepo old) (sym is) kept
+
+  same_is_kept : (old new : RepoState A) → new ≡ old → IsKeptRepo old new
+  same_is_kept old new is =
+      kept_is old old new (record { refs = refl; grows = ([], sym (append-nil old.graph.entries)) }) is
+
+module _ {A : Type 0} (indexes : Indexes A) (index_fails : IndexFails) (start : Start A) where
+  kept_so_far : (input : Input) (talk : List Turn) (now : ClientState A) (Rest : Input → Type 0)
+      → Converses indexes index_fails start input talk now Rest → IsKeptRepo start.repo now.repo
+  kept_so_far input talk now Rest converses =
+      let kept = turns_kept indexes index_fails (heard start converses.capabilities) talk now converses.each in
+      record { refs = kept.refs; grows = kept.grows }
+
+  fails_keep : (input : Input) (output : Output) (new : RepoState A) (cause : FetchFault A)
+      → Fails indexes index_fails start input output new cause → IsKeptRepo start.repo new
+  fails_keep input output new cause (cannot_begin why begins unread unwritten still) = same_is_kept start.repo new still
+  fails_keep input output new cause (no_buffer few unread unwritten still) = same_is_kept start.repo new still
+  fails_keep input output new cause (cannot_hear why few refuses unwritten still) = same_is_kept start.repo new still
+  fails_keep input output new cause (cannot_ask talk last after converses made so_far still) =
+      kept_is start.repo last.repo new (kept_so_far input talk last _ converses) still
+  fails_keep input output new cause (cannot_send talk last asked converses due failed still) =
+      kept_is start.repo last.repo new (kept_so_far input talk last _ converses) still
+  fails_keep input output new cause (cannot_take talk last asked waiting why made converses passed still) =
+      kept_is start.repo last.repo new (kept_so_far input talk last _ converses) still
+  fails_keep input output new cause (cannot_settle talk last why converses next passed settles) =
+      kept_is start.repo last.repo new (kept_so_far input talk last _ converses)
+      (refusals_change_nothing.settling last.repo new last.session.asks why settles)
+
+  fetches_grow : (input : Input) (output : Output) (new : RepoState A) (fetched : Fetched A)
+      → HasFetched indexes index_fails start input output new fetched → Grows start.repo.graph.entries new.graph.entries
+  fetches_grow input output new fetched fetches =
+      subst (λ (h : History A). Grows start.repo.graph.entries h.entries) (sym fetches.settles.0.graph)
+      (kept_so_far input fetches.talk fetches.last _ fetches.converses).grows
+
+  fetches_settle : (input : Input) (output : Output) (new : RepoState A) (fetched : Fetched A)
+      → HasFetched indexes index_fails start input output new fetched
+      → Settles new.graph.entries start.repo.refs fetched.settled.asks fetched.settled.updates.items new.refs
+  fetches_settle input output new fetched fetches =
+      let last = fetches.last.repo in
+      let kept = kept_so_far input fetches.talk fetches.last _ fetches.converses in
+      let updates = fetched.settled.updates.items in
+      let settled : Settles last.graph.entries last.refs fetched.settled.asks updates new.refs =
+      subst (λ (asks : List (Ask A)). Settles last.graph.entries last.refs asks updates new.refs)
+      (sym fetches.asks) fetches.settles.1 in
+      subst (λ (h : History A). Settles h.entries start.repo.refs fetched.settled.asks updates new.refs)
+      (sym fetches.settles.0.graph)
+      (subst (λ (l : RefList). Settles last.graph.entries l fetched.settled.asks updates new.refs) kept.refs settled)
+
+  -- whatever a conversation answers
+
+  pub over_settles : (input : Input) (output : Output) (new : RepoState A) (result : Result (Fetched A) (FetchFault A))
+      → FetchesOver indexes index_fails start input output new result
+      → IfOk result (λ fetched. Settles new.graph.entries start.repo.refs fetched.settled.asks
+      fetched.settled.updates.items new.refs)
+  over_settles input output new (Ok fetched) h = fetches_settle input output new fetched h
+  over_settles input output new (Err cause) h = tt
+
+  pub over_keeps_refs : (input : Input) (output : Output) (new : RepoState A)
+      (result : Result (Fetched A) (FetchFault A))
+      → FetchesOver indexes index_fails start input output new result → OnErr result (new.refs ≡ start.repo.refs)
+  over_keeps_refs input output new (Ok fetched) h = tt
+  over_keeps_refs input output new (Err cause) h = (fails_keep input output new cause h).refs
+
+  pub over_grows : (input : Input) (output : Output) (new : RepoState A) (result : Result (Fetched A) (FetchFault A))
+      → FetchesOver indexes index_fails start input output new result → Grows start.repo.graph.entries new.graph.entries
+  over_grows input output new (Ok fetched) h = fetches_grow input output new fetched h
+  over_grows input output new (Err cause) h = (fails_keep input output new cause h).grows

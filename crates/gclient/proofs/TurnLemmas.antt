@@ -1,35 +1,39 @@
 -- From a request that is made and sent, and a reply that is taken, to a turn; and what turns keep.
 use Rattle.std.proofs.Common.{◌≡◌, ℕ, Bool, false, List, [], ◌∷◌, ◌++◌, Some, None, Ok, Err, refl, sym, ap, subst, ◌∙◌}
-use Rattle.gpkt.specs.Change.{Change}
-use Rattle.gpkt.specs.LineReading.{Reader}
-use Rattle.gpkt.specs.Packets.{Packet}
+use Rattle.std.proofs.Common.{◌+◌, ◌≤◌, length, All, Contains, bytes_eq, Option, arith}
 use Rattle.gpkt.specs.Sending.{Input, Output, IsUnread, IsUp, Passes}
+use Rattle.gpkt.specs.{Change.Change, LineReading.Reader, LineReading.ReadsLines, Packets.Packet}
 use Rattle.ggrammar.specs.MessageReading.{IsReadFailure}
 use Rattle.gfetchreply.specs.FetchReplies.{FetchReply}
-use Rattle.gobject.specs.Packs.{Indexes, IndexFails}
-use Rattle.gobject.specs.declared.node.Entry.{Entry}
-use Rattle.gdag.specs.Reach.{Grows}
-use Rattle.gdag.proofs.Growing.{grows_none, grows_on, inserts_grows}
-use Rattle.gclientrepo.specs.Repos.{RepoState}
+use Rattle.gobject.specs.{Packs.Indexes, Packs.IndexFails, declared.node.Entry.Entry, Objects.has_id}
+use Rattle.gdag.specs.{Reach.Grows, Reach.IsFull, Reach.SomeReaches, Graphs.Holds, Laws.DistinctAreOnce}
+use Rattle.gdag.proofs.{Growing.grows_none, Growing.grows_on, Growing.inserts_grows, Holding.node_there}
+use Rattle.gdag.proofs.{Counting.ids_of, IdLists.either_way}
+use Rattle.gclientrepo.specs.Repos.{RepoState, IsWhole}
 use Rattle.grequest.specs.Asked.{Asked, Empty, Ls, Fetches, LsRefsAsked, FetchAsked}
-use Rattle.gsession.specs.Bounds.{BeganOn, BeganStays}
-use Rattle.gsession.specs.Requesting.{Requests, waiting_for}
-use Rattle.gsession.specs.Sessions.{LeavesReplies, SessionState}
-use Rattle.gsession.specs.TakingRefs.{AwaitsRefs, IsLsFault, TakesLs}
+use Rattle.gsession.specs.Sessions.{LeavesReplies, SessionState, IsSession, FitsStage, tips_of}
 use Rattle.gsession.specs.TakingReplies.{Awaits, IsTakeFault, TakesHead, TakesReply}
-use Rattle.gsession.specs.declared.fault.ClientFault.{ClientFault}
-use Rattle.gsession.specs.declared.fault.ClientFault.TheVariants as client
-use Rattle.gsession.specs.declared.stage.Stage.TheVariants.{Listing, Fetching}
-use Rattle.gsession.specs.declared.taken.LsTaken.{LsTaken}
-use Rattle.gsession.specs.declared.taken.Taken.{Taken}
+use Rattle.gsession.specs.declared.stage.Stage.TheVariants.{Listing, Fetching, Settling}
 use Rattle.gsession.specs.declared.taken.Taken.TheVariants.{Round, PackTaken}
-use Rattle.gclient.specs.Conversations.{request_bytes}
+use Rattle.gsession.specs.{TakingRefs.AwaitsRefs, TakingRefs.IsLsFault, TakingRefs.TakesLs, declared.taken.Taken.Taken}
+use Rattle.gsession.specs.{Requesting.Requests, Requesting.waiting_for, declared.fault.ClientFault.ClientFault}
+use Rattle.gsession.specs.{Bounds.BeganOn, Bounds.BeganStays, declared.taken.LsTaken.LsTaken}
+use Rattle.gsession.specs.declared.stage.Stage.{Stage}
+use Rattle.gsession.specs.declared.fault.ClientFault.TheVariants as client
 use Rattle.gclient.specs.steps.Conversations.{AsksServer, FailsTurn, unasked, unsent, untaken, HasTurned, TakesTurn}
-use Rattle.gclient.specs.steps.Conversations.{client_of}
-use Rattle.gclient.specs.steps.Conversations.{stage_after}
+use Rattle.gclient.specs.steps.Conversations.{client_of, stage_after}
 use Rattle.gclient.specs.Turns.{ClientState, FitsSource, IsTurn, IsUntaken, AreTurns, Takes, Turn}
-use Rattle.gclient.specs.declared.fault.FetchFault.{FetchFault}
+use Rattle.gclient.specs.{Conversations.request_bytes, declared.fault.FetchFault.FetchFault}
 use Rattle.gclient.specs.declared.fault.FetchFault.TheVariants as fetch
+use Rattle.std.specs.Prelude.{IsSome}
+use Rattle.std.specs.List.{IsDistinct}
+use Rattle.std.proofs.lemmas.Bool.{false≢true}
+use Rattle.std.proofs.lemmas.Cmp.{nat_list_eq_equiv}
+use Rattle.std.proofs.lemmas.List.{length-map}
+use Rattle.std.proofs.lemmas.List.Elements.{All-contains, All-nil, Contains-append_right}
+use Rattle.std.proofs.lemmas.Map.Made.{is_member-Decides, length-le_from_is_member}
+use Rattle.std.proofs.lemmas.Slice.Eq.{bytes_eq-Decides}
+use Rattle.gsession.proofs.{NextLaws.tips_are_full, SessionLemmas.listing_fetches, SessionLemmas.settling_fetches}
 
 -- ---- the request
 
@@ -59,12 +63,6 @@ module _ {A : Type 0} (g : List (Entry A)) (old waiting : SessionState A) where
   asks_refs listing (Ls asked) made = (asked, refl)
   asks_refs listing (Fetches asked) made = absurd (no_listing made.1.1.0 listing)
 
-some_is : {x y : Asked} → Some x ≡ Some y → x ≡ y
-some_is same = cc
-
-fetches_is : {x y : FetchAsked} → Fetches x ≡ Fetches y → x ≡ y
-fetches_is same = cc
-
 -- ---- the source
 
 module _ {A S : Type 0} (is_down : S → Bool) (old new : Reader S) where
@@ -74,13 +72,47 @@ module _ {A S : Type 0} (is_down : S → Bool) (old new : Reader S) where
   fits_source T (client.Message cause) well due left =
       subst (λ (b : Bool). IsReadFailure b (is_down new.source) cause.why) well left.0
   fits_source T client.NoOpenRequest well due left = absurd (due refl)
-  fits_source T (client.Index cause) well due left = left.2
-  fits_source T client.TooManySpecs well due left = left.2
-  fits_source T (client.StrangeAck id) well due left = left.2
-  fits_source T client.TooManyWants well due left = left.2
-  fits_source T (client.Repo cause) well due left = left.2
+  fits_source T cause well due left = left.2
 
 module _ {A : Type 0} (indexes : Indexes A) (index_fails : IndexFails) where
+  -- the reply to what waits is taken
+  taken_turn : (old : ClientState A) (waiting : SessionState A) (new : ClientState A) (asked due : Asked)
+      (reply : List Packet) (input : Input) (output : Output)
+      → Requests old.session old.repo.graph.entries waiting (Ok asked)
+      → Passes output (request_bytes old.repo.graph.format asked) → waiting.pending ≡ Some due
+      → Takes indexes index_fails waiting due old reply new → ReadsLines input.read reply → IsUp input
+      → HasTurned indexes index_fails old input output new
+  taken_turn old waiting new asked due reply input output made passed awaits takes lines up =
+      let both = sym (waits old.repo.graph.entries old.session waiting asked made) ∙ awaits in
+      let same : asked ≡ due = cc in
+      record {
+        turn = record { asked = due; reply = reply };
+        is_turn = record {
+          waiting = waiting;
+          asks = subst (λ (a : Asked). Requests old.session old.repo.graph.entries waiting (Ok a)) same made;
+          takes = takes;
+        };
+        lines = lines;
+        passed = subst (λ (a : Asked). Passes output (request_bytes old.repo.graph.format a)) same passed;
+        up = up;
+      }
+
+  -- it is refused
+  refused_turn : {S : Type 0} (is_down : S → Bool) (before after : Reader S) (old : ClientState A)
+      (waiting : SessionState A) (asked due : Asked) (T : Type 0) (input : Input) (output : Output)
+      (cause : ClientFault A) → asked ≡ due → Requests old.session old.repo.graph.entries waiting (Ok asked)
+      → Passes output (request_bytes old.repo.graph.format asked)
+      → IsUntaken indexes index_fails waiting due old.repo input.read cause → (cause ≡ client.NoOpenRequest → ⊥)
+      → before.failed ≡ false → LeavesReplies {A = A} {T = T} is_down before after (Err cause)
+      → input.is_down ≡ is_down after.source → FailsTurn indexes index_fails old input output (fetch.Client cause)
+  refused_turn is_down before after old waiting asked due T input output cause is made passed why owed well left down =
+      untaken asked waiting cause made
+      (record {
+        untaken = subst (λ (a : Asked). IsUntaken indexes index_fails waiting a old.repo input.read cause) (sym is) why;
+        source = subst (λ (b : Bool). FitsSource b cause) (sym down)
+            (fits_source {A = A} is_down before after T cause well owed left);
+      }) passed
+
   -- ---- a reply to fetch
 
   -- it was due
@@ -89,9 +121,7 @@ module _ {A : Type 0} (indexes : Indexes A) (index_fails : IndexFails) where
       → Awaits waiting asked → IsTakeFault indexes index_fails waiting repo change cause → cause ≡ client.NoOpenRequest
       → ⊥
   objects_due waiting asked repo change cause awaits why is =
-      let none : IsTakeFault indexes index_fails waiting repo change client.NoOpenRequest =
-      subst (λ (f : ClientFault A). IsTakeFault indexes index_fails waiting repo change f) is why in
-      none.0 (asked, awaits)
+      (subst (λ (f : ClientFault A). IsTakeFault indexes index_fails waiting repo change f) is why).0 (asked, awaits)
 
   -- objects were asked for, and the reply is taken
   pub turned : (old : ClientState A) (waiting new : SessionState A) (asked : Asked) (repo : RepoState A) (input : Input)
@@ -101,19 +131,8 @@ module _ {A : Type 0} (indexes : Indexes A) (index_fails : IndexFails) where
       → TakesReply indexes index_fails waiting old.repo input.read new repo (Ok taken) → IsUp input
       → HasTurned indexes index_fails old input output (client_of new repo old.unborn)
   turned old waiting new asked repo input output taken made passed (fetched, awaits, (reply, read, takes)) up =
-      let same : asked ≡ Fetches fetched =
-      some_is (sym (waits old.repo.graph.entries old.session waiting asked made) ∙ awaits) in
-      record {
-        turn = record { asked = Fetches fetched; reply = read.lines };
-        is_turn = record {
-          waiting = waiting;
-          asks = subst (λ (a : Asked). Requests old.session old.repo.graph.entries waiting (Ok a)) same made;
-          takes = record { reply = reply; says = read.says; taken = taken; takes = takes; unborn = refl };
-        };
-        lines = read.read.bytes;
-        passed = subst (λ (a : Asked). Passes output (request_bytes old.repo.graph.format a)) same passed;
-        up = up;
-      }
+      taken_turn old waiting (client_of new repo old.unborn) asked (Fetches fetched) read.lines input output made passed
+      awaits (record { reply = reply; says = read.says; taken = taken; takes = takes; unborn = refl }) read.read.bytes up
 
   stage_of_taken : (waiting new : SessionState A) (old repo : RepoState A) (reply : FetchReply) (taken : Taken)
       → TakesHead indexes index_fails waiting old reply new repo taken → (new.stage ≡ stage_after taken)
@@ -147,23 +166,15 @@ module _ {A : Type 0} (indexes : Indexes A) (index_fails : IndexFails) where
       let is = asks_objects old.repo.graph.entries old.session waiting fetching asked made in
       let awaits : Awaits waiting is.0 =
       waits old.repo.graph.entries old.session waiting asked made ∙ ap (λ (a : Asked). Some a) is.1 in
-      untaken asked waiting cause made
-      (record {
-        untaken = subst (λ (a : Asked). IsUntaken indexes index_fails waiting a old.repo input.read cause)
-            (sym is.1) why;
-        source = subst (λ (b : Bool). FitsSource b cause) (sym down)
-            (fits_source {A = A} is_down before after Taken cause well
-            (objects_due waiting is.0 old.repo input.read cause awaits why) left);
-      }) passed
+      refused_turn is_down before after old waiting asked (Fetches is.0) Taken input output cause is.1 made passed why
+      (objects_due waiting is.0 old.repo input.read cause awaits why) well left down
 
   -- ---- a reply to ls-refs
 
   refs_due : (waiting : SessionState A) (g : List (Entry A)) (change : Change) (cause : ClientFault A)
       → AwaitsRefs waiting → IsLsFault waiting g change cause → cause ≡ client.NoOpenRequest → ⊥
   refs_due waiting g change cause awaits why is =
-      let none : IsLsFault waiting g change client.NoOpenRequest =
-      subst (λ (f : ClientFault A). IsLsFault waiting g change f) is why in
-      none.0 awaits
+      (subst (λ (f : ClientFault A). IsLsFault waiting g change f) is why).0 awaits
 
   -- refs were asked for, and the reply is taken
   pub listed : (old : ClientState A) (waiting new : SessionState A) (asked : Asked) (input : Input) (output : Output)
@@ -173,19 +184,9 @@ module _ {A : Type 0} (indexes : Indexes A) (index_fails : IndexFails) where
       → TakesLs waiting old.repo.graph.entries input.read new (Ok taken) → IsUp input
       → HasTurned indexes index_fails old input output (client_of new old.repo taken.unborn)
   listed old waiting new asked input output taken made passed (awaits, (reply, read, takes)) up =
-      let same : asked ≡ Ls awaits.0 =
-      some_is (sym (waits old.repo.graph.entries old.session waiting asked made) ∙ awaits.1) in
-      record {
-        turn = record { asked = Ls awaits.0; reply = read.lines };
-        is_turn = record {
-          waiting = waiting;
-          asks = subst (λ (a : Asked). Requests old.session old.repo.graph.entries waiting (Ok a)) same made;
-          takes = record { reply = reply; says = read.says; taken = taken; takes = takes; unborn = refl; stays = refl };
-        };
-        lines = read.read.bytes;
-        passed = subst (λ (a : Asked). Passes output (request_bytes old.repo.graph.format a)) same passed;
-        up = up;
-      }
+      taken_turn old waiting (client_of new old.repo taken.unborn) asked (Ls awaits.0) read.lines input output made passed
+      awaits.1 (record { reply = reply; says = read.says; taken = taken; takes = takes; unborn = refl; stays = refl })
+      read.read.bytes up
 
   -- refs were asked for, and the reply is refused
   pub not_listed : {S : Type 0} (is_down : S → Bool) (before after : Reader S) (old : ClientState A)
@@ -201,14 +202,8 @@ module _ {A : Type 0} (indexes : Indexes A) (index_fails : IndexFails) where
       let is = asks_refs old.repo.graph.entries old.session waiting listing asked made in
       let awaits : AwaitsRefs waiting =
       (is.0, waits old.repo.graph.entries old.session waiting asked made ∙ ap (λ (a : Asked). Some a) is.1) in
-      untaken asked waiting cause made
-      (record {
-        untaken = subst (λ (a : Asked). IsUntaken indexes index_fails waiting a old.repo input.read cause)
-            (sym is.1) why;
-        source = subst (λ (b : Bool). FitsSource b cause) (sym down)
-            (fits_source {A = A} is_down before after (LsTaken A) cause well
-            (refs_due waiting old.repo.graph.entries input.read cause awaits why) left);
-      }) passed
+      refused_turn is_down before after old waiting asked (Ls is.0) (LsTaken A) input output cause is.1 made passed why
+      (refs_due waiting old.repo.graph.entries input.read cause awaits why) well left down
 
   -- ---- a request that is not made or not sent
 
@@ -252,8 +247,7 @@ module _ {A : Type 0} where
   kept_still client = record {
     refs = refl;
     format = refl;
-    grows =
-        grows_none client.repo.graph.entries client.repo.graph.entries refl;
+    grows = grows_none client.repo.graph.entries client.repo.graph.entries refl;
     own = refl;
     tips = refl;
   }
@@ -350,3 +344,101 @@ module _ {A : Type 0} (indexes : Indexes A) (index_fails : IndexFails) where
   turn_began stays g old turn new grows began is =
       taken_began g old is.waiting turn.asked turn.reply new
       (stays g old.repo.graph.entries old.session is.waiting turn.asked grows began is.asks.1) is.takes
+
+-- ---- how often objects are asked for: distinct held ids are at most as many as there are objects
+
+held_among : {A : Type 0} (g : List (Entry A)) (a : List ℕ) → Holds g a → Contains (ids_of g) a
+held_among [] a held = absurd (false≢true held)
+held_among (entry ∷ g) a held =
+    either_way (has_id a entry)
+    (λ same. (0, omega arith, (bytes_eq-Decides entry.id a).0 same))
+    (λ other. Contains-append_right (entry.id ∷ []) (ids_of g) a
+    (held_among g a (subst IsSome (node_there entry g a other) held)))
+
+pub sent_are_few : {A : Type 0} (g : List (Entry A)) (s : SessionState A) → IsDistinct bytes_eq s.sent → BeganOn g s
+    → length s.sent ≤ length g
+sent_are_few {A} g s once began =
+    let within = length-le_from_is_member nat_list_eq_equiv s.sent (ids_of g) once
+    (λ q h. (is_member-Decides bytes_eq-Decides (ids_of g) q).1
+    (held_among g q (All-contains (λ a. Holds g a × SomeReaches g s.tips a) s.sent q began.sent
+    ((is_member-Decides bytes_eq-Decides s.sent q).0 h)).0)) in
+    let same = length-map g (λ (entry : Entry A). entry.id) in
+    omega (arith, within, same)
+
+-- ---- a round
+
+stage_is : {x y : Stage} {A : Type 0} (s : SessionState A) → s.stage ≡ x → s.stage ≡ y → x ≡ y
+stage_is s one other = sym one ∙ other
+
+module _ {A : Type 0} (indexes : Indexes A) (index_fails : IndexFails) where
+  -- where only acknowledgments came, the repository stays
+  head_round : (old : RepoState A) (waiting new : SessionState A) (reply : FetchReply) (repo : RepoState A)
+      (taken : Taken)
+      → new.stage ≡ Fetching → TakesHead indexes index_fails waiting old reply new repo taken
+      → (repo ≡ old) × (new.rounds ≡ waiting.rounds) × (new.sent ≡ waiting.sent)
+  head_round old waiting new reply repo (Round common) stage takes =
+      (takes.3, ap (λ (s : SessionState A). s.rounds) takes.1, ap (λ (s : SessionState A). s.sent) takes.1)
+  head_round old waiting new reply repo (PackTaken added) stage takes =
+      let same : Settling ≡ Fetching = stage_is new (ap (λ (s : SessionState A). s.stage) takes.1) stage in
+      absurd (settling_fetches same)
+
+  round_of : (old : ClientState A) (waiting : SessionState A) (asked : Asked) (reply : List Packet)
+      (new : ClientState A)
+      → old.session.stage ≡ Fetching → new.session.stage ≡ Fetching
+      → Requests old.session old.repo.graph.entries waiting (Ok asked)
+      → Takes indexes index_fails waiting asked old reply new
+      → (new.repo ≡ old.repo) × (new.session.rounds ≡ old.session.rounds + 1)
+  round_of old waiting Empty reply new before after made takes = absurd takes
+  round_of old waiting (Ls asked) reply new before after made takes =
+      absurd (listing_fetches (stage_is old.session made.1.1.0 before))
+  round_of old waiting (Fetches asked) reply new before after made takes =
+      let head = head_round old.repo waiting new.session takes.reply new.repo takes.taken after takes.takes.1 in
+      (head.0, head.1 ∙ ap (λ (s : SessionState A). s.rounds) made.1.2)
+
+  pub round_more : (old : ClientState A) (turn : Turn) (new : ClientState A) → old.session.stage ≡ Fetching
+      → new.session.stage ≡ Fetching
+      → IsTurn indexes index_fails old turn new → (new.repo ≡ old.repo) × (new.session.rounds ≡ old.session.rounds + 1)
+  round_more old turn new before after is =
+      round_of old is.waiting turn.asked turn.reply new before after is.asks is.takes
+
+  -- only acknowledgments came
+  pub round_taken : (old : ClientState A) (input : Input) (output : Output) (new : ClientState A) (taken : Taken)
+      (common : ℕ)
+      → old.session.stage ≡ Fetching → taken ≡ Round common
+      → TakesTurn indexes index_fails old input output new (Ok taken)
+      → (new.session.stage ≡ Fetching) × (new.repo ≡ old.repo) × (new.session.rounds ≡ old.session.rounds + 1)
+  round_taken old input output new taken common before is h =
+      let after : new.session.stage ≡ Fetching = h.1 ∙ ap stage_after is in
+      let more = round_more old h.0.turn new before after h.0.is_turn in
+      (after, more.0, more.1)
+
+  -- after a reply more, a session is still one that began on a repository that stayed
+  pub round_began : BeganStays A → (first : RepoState A) (old : ClientState A) (turn : Turn) (new : ClientState A)
+      → old.repo ≡ first → BeganOn first.graph.entries old.session → IsTurn indexes index_fails old turn new
+      → BeganOn first.graph.entries new.session
+  round_began stays first old turn new same began is =
+      turn_began indexes index_fails stays first.graph.entries old turn new
+      (grows_none first.graph.entries old.repo.graph.entries (ap (λ (r : RepoState A). r.graph.entries) same)) began is
+
+-- between rounds there were at most as many as there are objects
+pub rounds_within : {A : Type 0} (g : List (Entry A)) (s : SessionState A) → IsSession s → s.stage ≡ Fetching
+    → s.pending ≡ None → BeganOn g s
+    → s.rounds ≤ length g
+rounds_within {A} g s is stage pending began =
+    let fits : FitsStage s Fetching None =
+    subst (λ (p : Option Asked). FitsStage s Fetching p) pending
+    (subst (λ (x : Stage). FitsStage s x s.pending) stage is.stage) in
+    let few = sent_are_few g s is.sent began in
+    omega (arith, fits, few)
+
+-- ---- the beginning
+
+-- a session begins on the graph of its repository
+pub begins_on : {A : Type 0} → DistinctAreOnce → (repo : RepoState A) (s : SessionState A) → IsWhole repo
+    → s.tips ≡ tips_of repo → s.sent ≡ []
+    → BeganOn repo.graph.entries s
+begins_on once repo s whole tips sent = record {
+  full = subst (All (IsFull repo.graph.entries)) (sym tips) (tips_are_full once repo whole);
+  sent = subst (All (λ a. Holds repo.graph.entries a × SomeReaches repo.graph.entries s.tips a)) (sym sent)
+      (All-nil (λ a. Holds repo.graph.entries a × SomeReaches repo.graph.entries s.tips a));
+}

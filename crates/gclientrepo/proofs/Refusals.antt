@@ -3,12 +3,9 @@ use Rattle.std.proofs.Common.{◌≡◌, ℕ, List, Err}
 use Rattle.gobject.specs.declared.node.Entry.{Entry}
 use Rattle.gdag.specs.declared.fault.GraphFault.TheVariants as graph
 use Rattle.grefs.specs.declared.fault.RefsFault.TheVariants as refs
-use Rattle.gclientrepo.specs.declared.ask.Ask.{Ask}
-use Rattle.gclientrepo.specs.declared.fault.RepoFault.{RepoFault}
+use Rattle.gclientrepo.specs.{Changes.{AddsLocal, SetsLocal, SettlesAsks}, Laws.RefusalsChangeNothing}
+use Rattle.gclientrepo.specs.{Repos.RepoState, declared.ask.Ask.Ask, declared.fault.RepoFault.RepoFault}
 use Rattle.gclientrepo.specs.declared.fault.RepoFault.TheVariants.{NotHeld, NotConnected, MissingParent, Graph, Refs}
-use Rattle.gclientrepo.specs.Changes.{AddsLocal, SetsLocal, SettlesAsks}
-use Rattle.gclientrepo.specs.Laws.{RefusalsChangeNothing}
-use Rattle.gclientrepo.specs.Repos.{RepoState}
 
 module _ {A : Type 0} where
   adding : (old new : RepoState A) (entry : Entry A) (fault : RepoFault A) → AddsLocal old entry new (Err fault) → new ≡ old

@@ -1,11 +1,9 @@
 -- What is asked of refs (git-fetch(1), "<refspec>"): each ask is that a ref come to stand at an id, perhaps by force.
-use Rattle.std.specs.Prelude.{◌≡◌, ◌≢◌, ℕ, Bool, List, [], ◌∷◌, ◌++◌, map, slice_get, AllPairs, Some, if◌then◌else◌}
 use Rattle.std.specs.List.{list_any}
+use Rattle.std.specs.Prelude.{◌≡◌, ◌≢◌, ℕ, Bool, List, [], ◌∷◌, ◌++◌, map, slice_get, AllPairs, Some, if◌then◌else◌}
 use Rattle.std.specs.Str.{bytes_eq}
-use Rattle.gname.specs.Ids.{Id}
-use Rattle.gname.specs.Names.{Name}
-use Rattle.gclientrepo.specs.declared.ask.Ask.{Ask}
-use Rattle.gclientrepo.specs.declared.asks.Aim.{Aim}
+use Rattle.gname.specs.{Ids.Id, Names.Name}
+use Rattle.gclientrepo.specs.declared.{ask.Ask.Ask, asks.Aim.Aim}
 
 -- no two asks are for one ref
 abbrev pub NamesDiffer : {A : Type 0} → List (Ask A) → Type 0

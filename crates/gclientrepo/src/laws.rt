@@ -21,6 +21,7 @@ pub fn whole_stays<A: Allocator + Copy>()
 }
 
 /// A repository stays connected where asks are settled.
+#[tactic(auto, using(crate::proofs::KeepingWhole::settling_stays_whole))]
 pub fn settling_stays_whole<A: Allocator + Copy>()
     ensures { SettlingStaysWhole A }
 {
@@ -29,6 +30,7 @@ pub fn settling_stays_whole<A: Allocator + Copy>()
 }
 
 /// A repository stays connected where a ref is set.
+#[tactic(auto, using(crate::proofs::KeepingWhole::setting_stays_whole))]
 pub fn setting_stays_whole<A: Allocator + Copy>()
     ensures { SettingStaysWhole A }
 {
@@ -36,16 +38,19 @@ pub fn setting_stays_whole<A: Allocator + Copy>()
 }
 
 /// A fault of adding an object, of setting a ref or of settling asks leaves the repository as it was.
+#[tactic(auto, using(crate::proofs::Refusals::refusals_change_nothing))]
 pub fn refusals_change_nothing<A: Allocator + Copy>()
     ensures { RefusalsChangeNothing A }
 {}
 
 /// Nothing is missing of connected ids.
+#[tactic(auto, using(crate::proofs::RepoLemmas::not_all_held))]
 pub fn held_is_not_missing<A: Allocator + Copy>()
     ensures { HeldIsNotMissing A }
 {}
 
 /// There is one settling of some asks: what becomes of each, and where each ref stands afterwards.
+#[tactic(auto, using(crate::proofs::OneSettling::one_settling))]
 pub fn one_settling<A: Allocator + Copy>()
     ensures { OneSettling A }
 {

@@ -1,8 +1,8 @@
 -- Choosing from a list.
-use Rattle.std.proofs.Common.{◌≡◌, ◌⊎◌, inl, inr, ℕ, zero, suc, ◌≤◌, Bool, true, false, true≢false, cond, List, [], ◌∷◌, ◌++◌, length, filter, All, Contains, Some, refl, sym, ap, subst, ◌∙◌, arith}
+use Rattle.std.proofs.Common.{◌≡◌, ◌⊎◌, inl, inr, ℕ, zero, suc, ◌≤◌, Bool, true, false, true≢false, cond, List, [], ◌∷◌, ◌++◌, length, filter, get_or, All, Contains, Some, refl, sym, ap, subst, ◌∙◌, arith}
 use Rattle.std.specs.List.{slice_get, IsDistinct, AllByRecursion}
 use Rattle.std.proofs.lemmas.Option.{same_Some, none-some}
-use Rattle.std.proofs.lemmas.List.Elements.{All-head, All-tail, All-cons, All-nil, Contains-append_right}
+use Rattle.std.proofs.lemmas.List.Elements.{All-contains, Contains-append_right, Contains-get_or}
 use Rattle.gdag.specs.Selecting.{Selects, none, keep, skip}
 use Rattle.gdag.proofs.IdLists.{either_way, nothing_in_nil, contains_head, contains_tail, contains_cases}
 
@@ -18,13 +18,6 @@ chosen_or_not {X} P xs ys (suc k) x (keep {x = first} {xs = others} {ys = more} 
     ]
 chosen_or_not {X} P xs ys zero x (skip {x = first} left_out rest) at = inr (subst (λ y. ¬ (P y)) (same_Some first x at) left_out)
 chosen_or_not {X} P xs ys (suc k) x (skip {x = first} {xs = others} left_out rest) at = chosen_or_not P others ys k x rest at
-
--- what holds of each element holds of each that is chosen
-pub chosen_all : {X : Type 0} (P Q : X → Type 0) (xs ys : List X) → Selects P xs ys → All Q xs → All Q ys
-chosen_all P Q xs ys none all = All-nil Q
-chosen_all P Q xs ys (keep {x = x} {xs = others} {ys = more} p rest) all =
-    All-cons Q x more (All-head Q x others all) (chosen_all P Q others more rest (All-tail Q x others all))
-chosen_all P Q xs ys (skip {x = x} {xs = others} left_out rest) all = chosen_all P Q others ys rest (All-tail Q x others all)
 
 -- one list is chosen
 pub one_choice : {X : Type 0} (P : X → Type 0) (xs ys zs : List X) → Selects P xs ys → Selects P xs zs → ys ≡ zs
@@ -74,6 +67,11 @@ module _ {X : Type 0} (P : X → Type 0) where
         | inl same ↦ absurd (p (subst P (sym same) holds))
         | inr later ↦ select_has s a holds later
       ]
+
+  -- what holds of each element holds of each that is chosen
+  pub chosen_all : (Q : X → Type 0) (xs ys : List X) → Selects P xs ys → All Q xs → All Q ys
+  chosen_all Q xs ys chosen all k d inside =
+      All-contains Q xs (get_or ys k d) all (select_from chosen (get_or ys k d) (Contains-get_or ys k d inside)).1
 
   select_each : (Q : X → Type 0) → {xs ys : List X} → Selects P xs ys → AllByRecursion Q xs → AllByRecursion Q ys
   select_each Q none h = tt

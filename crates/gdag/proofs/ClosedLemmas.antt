@@ -1,5 +1,5 @@
 -- A graph is closed where each entry's parents are held.
-use Rattle.std.proofs.Common.{◌≡◌, inl, inr, ℕ, ◌+◌, take, Option, List, [], ◌∷◌, Some, None, refl, sym, ap, ◌∙◌, subst, All}
+use Rattle.std.proofs.Common.{◌≡◌, inl, inr, ℕ, ◌+◌, take, List, [], ◌∷◌, Some, refl, sym, ap, ◌∙◌, subst, All}
 use Rattle.std.specs.List.{slice_get}
 use Rattle.std.specs.Option.{option_map}
 use Rattle.std.proofs.lemmas.Option.{none-some, same_Some, get_or_from_slice_get, slice_get_within}
@@ -9,7 +9,7 @@ use Rattle.gobject.specs.declared.node.Entry.{Entry}
 use Rattle.gobject.specs.Objects.{node_at, IdsDiffer}
 use Rattle.gdag.specs.Graphs.{Holds, HoldsParents, IsNode}
 use Rattle.gdag.specs.Reach.{IsClosed}
-use Rattle.gdag.proofs.Holding.{has_id_is, is_has_id, id_cases, node_here, node_there}
+use Rattle.gdag.proofs.Holding.{mapped_from, has_id_is, is_has_id, id_cases, node_here, node_there}
 
 module _ {A : Type 0} (P : Node A → Type 0) where
   -- what holds of each entry's node holds of a node that is found
@@ -43,11 +43,7 @@ each_from_closed {A} g differ closed =
 -- ---- the parents of the entry at a position
 
 pub parents_entry : {A : Type 0} (g : List (Entry A)) (p : ℕ) (parents : List (List ℕ)) → option_map (λ entry. entry.node.parents) (slice_get g p) ≡ Some parents → (entry : Entry A) × (slice_get g p ≡ Some entry) × (entry.node.parents ≡ parents)
-parents_entry {A} g p parents at = by (slice_get g p) refl
-  where
-    by : (o : Option (Entry A)) → slice_get g p ≡ o → (entry : Entry A) × (slice_get g p ≡ Some entry) × (entry.node.parents ≡ parents)
-    by None none = absurd (none-some parents (ap (option_map (λ (entry : Entry A). entry.node.parents)) (sym none) ∙ at))
-    by (Some entry) here = (entry, here, same_Some entry.node.parents parents (ap (option_map (λ (entry : Entry A). entry.node.parents)) (sym here) ∙ at))
+parents_entry g p parents at = mapped_from (λ entry. entry.node.parents) (slice_get g p) parents at
 
 -- where each entry's parents are held, those at a position are
 pub holds_at : {A : Type 0} (g : List (Entry A)) (p : ℕ) (parents : List (List ℕ)) → option_map (λ entry. entry.node.parents) (slice_get g p) ≡ Some parents → All (HoldsParents g) g → All (Holds g) parents

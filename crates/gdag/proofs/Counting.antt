@@ -1,5 +1,5 @@
 -- How many held ids some ids reach.
-use Rattle.std.proofs.Common.{◌≡◌, inl, inr, ℕ, ◌≤◌, false, List, [], ◌∷◌, ◌++◌, length, map, All, Contains, bytes_eq, None, refl, sym, ap, ◌∙◌, subst, arith}
+use Rattle.std.proofs.Common.{◌≡◌, inl, inr, ℕ, ◌≤◌, false, List, [], ◌∷◌, ◌++◌, length, All, Contains, bytes_eq, None, refl, sym, ap, ◌∙◌, subst, arith}
 use Rattle.std.specs.List.{IsDistinct}
 use Rattle.std.specs.Option.{is_some}
 use Rattle.std.proofs.lemmas.Bool.{false≢true}
@@ -18,12 +18,10 @@ use Rattle.gdag.proofs.Growing.{grows_keeps, keeps_reaching, other_id}
 use Rattle.gdag.proofs.Holding.{node_there, absent_head, absent_tail}
 use Rattle.gdag.proofs.IdLists.{nothing_in_nil, contains_head, contains_tail, contains_cases, any_from_contains, contains_from_any}
 use Rattle.gdag.proofs.Reaching.{place_at}
+pub use Rattle.gdag.proofs.Reaching.{ids_of}
 use Rattle.gdag.proofs.Sharing.{reached_already}
 
 -- ---- distinct ids that are reached are counted
-
-abbrev pub ids_of : {A : Type 0} → List (Entry A) → List (List ℕ)
-ids_of list = map (λ entry. entry.id) list
 
 id_among : {A : Type 0} (list : List (Entry A)) (entry : Entry A) → Contains list entry → Contains (ids_of list) entry.id
 id_among [] entry among = nothing_in_nil entry among

@@ -1,5 +1,5 @@
 -- What a graph keeps as entries come in.
-use Rattle.std.proofs.Common.{◌≡◌, ◌⊎◌, inl, inr, ℕ, zero, suc, ◌+◌, ◌<◌, ◌≤◌, false, List, [], ◌∷◌, ◌++◌, length, get_or, take, All, Contains, Some, None, refl, sym, ap, ◌∙◌, subst, arith, append_assoc, drop, add-one}
+use Rattle.std.proofs.Common.{◌≡◌, inl, inr, ℕ, zero, suc, ◌+◌, ◌<◌, ◌≤◌, false, List, [], ◌∷◌, ◌++◌, length, get_or, take, All, Some, None, refl, sym, ap, ◌∙◌, subst, arith, append_assoc, drop, add-one}
 use Rattle.std.specs.List.{slice_get}
 use Rattle.std.specs.Option.{is_some}
 use Rattle.std.proofs.lemmas.List.{length-append, append-nil, take_more, take-append-drop, length-take}
@@ -60,16 +60,14 @@ graph_push {A} format g entry graph absent ids shaped room = record {
 }
 
 absent_take : {A : Type 0} (g : List (Entry A)) (n : ℕ) (a : List ℕ) → node_at g a ≡ None → node_at (take n g) a ≡ None
-absent_take [] zero a absent = refl
+absent_take g zero a absent = refl
 absent_take [] (suc n) a absent = refl
-absent_take (entry ∷ g) zero a absent = refl
 absent_take (entry ∷ g) (suc n) a absent =
     node_there entry (take n g) a (absent_head entry g a absent) ∙ absent_take g n a (absent_tail entry g a absent)
 
 differ_take : {A : Type 0} (g : List (Entry A)) (n : ℕ) → IdsDiffer g → IdsDiffer (take n g)
-differ_take [] zero differ = tt
+differ_take g zero differ = tt
 differ_take [] (suc n) differ = tt
-differ_take (entry ∷ g) zero differ = tt
 differ_take (entry ∷ g) (suc n) differ = (absent_take g n entry.id differ.0, differ_take g n differ.1)
 
 -- the first entries of a graph are a graph's
@@ -85,8 +83,7 @@ graph_take {A} format g n graph = record {
 
 pub grows_keeps : {A : Type 0} (g h : List (Entry A)) → Grows g h → Keeps g h
 grows_keeps {A} g h grows a node is =
-    let P : List (Entry A) → Type 0 = λ x. IsNode x a node in
-    subst P (sym grows.1) (node_in_front g grows.0 a node is)
+    rw grows.1 (node_in_front g grows.0 a node is)
 
 pub keeps_held : {A : Type 0} (g h : List (Entry A)) → Keeps g h → (a : List ℕ) → Holds g a → Holds h a
 keeps_held g h keeps a held = let n = held_node g a held in ap is_some (keeps a n.0 n.1)
@@ -101,8 +98,7 @@ pub reached_before : {A : Type 0} (g h : List (Entry A)) → Keeps g h → (a : 
 reached_before {A} g h keeps a full b c r p =
     let n = held_node g b (full b r) in
     let same : n.0 ≡ p.0 = same_Some n.0 p.0 (sym (keeps b n.0 n.1) ∙ p.1) in
-    let P : Node A → Type 0 = λ node. Contains node.parents c in
-    reaches_parent g a b c r (n.0, n.1, subst P (sym same) p.2)
+    reaches_parent g a b c r (n.0, n.1, rw (← same) at p.2)
 
 pub keeps_full : {A : Type 0} (g h : List (Entry A)) → Keeps g h → (a : List ℕ) → IsFull g a → IsFull h a
 keeps_full g h keeps a full b r =
@@ -116,12 +112,9 @@ keeps_full g h keeps a full b r =
 pub grows_none : {A : Type 0} (g h : List (Entry A)) → h ≡ g → Grows g h
 grows_none g h same = ([], same ∙ sym (append-nil g))
 
-pub comes_grows_by : {A : Type 0} (old : List (Entry A)) (entry : Entry A) (new : List (Entry A)) → (IsNode old entry.id entry.node × (new ≡ old)) ⊎ ((node_at old entry.id ≡ None) × (new ≡ old ++ entry ∷ [])) → Grows old new
-comes_grows_by old entry new (inl c) = grows_none old new c.1
-comes_grows_by old entry new (inr c) = (entry ∷ [], c.1)
-
 pub comes_grows : {A : Type 0} (format : Format) (old : List (Entry A)) (entry : Entry A) (new : List (Entry A)) → ComesIn format old entry new → Grows old new
-comes_grows format old entry new c = comes_grows_by old entry new c.comes
+comes_grows format old entry new c =
+    elim c.comes [ inl same ↦ grows_none old new same.1 | inr more ↦ (entry ∷ [], more.1) ]
 
 pub grows_on : {A : Type 0} (g h k : List (Entry A)) → Grows g h → Grows h k → Grows g k
 grows_on g h k a b = (a.0 ++ b.0, b.1 ∙ ap (λ x. x ++ b.0) a.1 ∙ append_assoc g a.0 b.0)
@@ -131,14 +124,13 @@ inserts_grows format old [] new is = grows_none old new is
 inserts_grows format old (entry ∷ entries) new (next, c, rest) =
     grows_on old next new (comes_grows format old entry next c) (inserts_grows format next entries new rest)
 
-comes_held_by : {A : Type 0} (old : List (Entry A)) (entry : Entry A) (new : List (Entry A)) → (IsNode old entry.id entry.node × (new ≡ old)) ⊎ ((node_at old entry.id ≡ None) × (new ≡ old ++ entry ∷ [])) → IsNode new entry.id entry.node
-comes_held_by {A} old entry new (inl c) =
-    let P : List (Entry A) → Type 0 = λ x. IsNode x entry.id entry.node in subst P (sym c.1) c.0
-comes_held_by {A} old entry new (inr c) =
-    let P : List (Entry A) → Type 0 = λ x. IsNode x entry.id entry.node in subst P (sym c.1) (node_at_end old entry c.0)
-
-comes_held : {A : Type 0} (format : Format) (old : List (Entry A)) (entry : Entry A) (new : List (Entry A)) → ComesIn format old entry new → IsNode new entry.id entry.node
-comes_held format old entry new c = comes_held_by old entry new c.comes
+pub comes_held : {A : Type 0} (format : Format) (old : List (Entry A)) (entry : Entry A) (new : List (Entry A)) → ComesIn format old entry new → IsNode new entry.id entry.node
+comes_held {A} format old entry new c =
+    let P : List (Entry A) → Type 0 = λ x. IsNode x entry.id entry.node in
+    elim c.comes [
+      | inl same ↦ subst P (sym same.1) same.0
+      | inr more ↦ subst P (sym more.1) (node_at_end old entry more.0)
+    ]
 
 pub inserts_held : {A : Type 0} (format : Format) (old entries new : List (Entry A)) → Inserts format old entries new → All (λ entry. IsNode new entry.id entry.node) entries
 inserts_held {A} format old [] new is = All-nil (λ (entry : Entry A). IsNode new entry.id entry.node)

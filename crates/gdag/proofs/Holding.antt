@@ -1,6 +1,7 @@
 -- Which node stands under an id, entry by entry.
 use Rattle.std.proofs.Common.{◌≡◌, ◌⊎◌, inl, inr, ℕ, zero, suc, ◌<◌, true, false, List, [], ◌∷◌, length, IsSome, Option, Some, None, refl, sym, ap, ◌∙◌, arith}
 use Rattle.std.specs.List.{position_or_len, slice_get}
+use Rattle.std.specs.Option.{option_map}
 use Rattle.std.proofs.lemmas.Slice.Eq.{bytes_eq-Decides}
 use Rattle.std.proofs.lemmas.Option.{none-some, same_Some}
 use Rattle.std.proofs.lemmas.Bool.{cases_Bool, false≢true}
@@ -70,6 +71,12 @@ some_is (Some x) is = (x, refl)
 -- an id that is held has a node
 pub held_node : {A : Type 0} (g : List (Entry A)) (a : List ℕ) → Holds g a → (node : Node A) × IsNode g a node
 held_node g a held = some_is (node_at g a) held
+
+-- what a map gives comes from a value
+pub mapped_from : {X Y : Type 0} (f : X → Y) (o : Option X) (y : Y) → option_map f o ≡ Some y
+    → (x : X) × (o ≡ Some x) × (f x ≡ y)
+mapped_from f None y e = absurd (none-some y e)
+mapped_from f (Some x) y e = (x, refl, same_Some (f x) y e)
 
 pub none_is : {X : Type 0} (o : Option X) → ¬ (IsSome o) → o ≡ None
 none_is None out = refl

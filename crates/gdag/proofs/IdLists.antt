@@ -1,5 +1,5 @@
 -- Lists of ids: which ids they have, and which of others are new to them.
-use Rattle.std.proofs.Common.{◌≡◌, ◌⊎◌, ℕ, zero, suc, ◌<◌, Bool, true, false, true≢false, cond, ◌||◌, List, [], ◌∷◌, ◌++◌, length, get_or, Contains, flat_map, bytes_eq, refl, sym, ap, ap₂, subst, ◌∙◌, inl, inr, append_assoc, append-nil, if◌then◌else◌, arith}
+use Rattle.std.proofs.Common.{◌≡◌, ◌⊎◌, ℕ, zero, suc, Bool, true, false, true≢false, cond, ◌||◌, List, [], ◌∷◌, ◌++◌, Contains, flat_map, bytes_eq, refl, sym, ap, ap₂, subst, ◌∙◌, inl, inr, append_assoc, append-nil, if◌then◌else◌, arith}
 use Rattle.std.specs.List.{list_any, IsDistinct}
 use Rattle.std.proofs.lemmas.Cmp.{nat_list_eq_equiv}
 use Rattle.std.proofs.lemmas.Slice.Eq.{bytes_eq-Decides}
@@ -30,12 +30,9 @@ pub only_one : {X : Type 0} → (x a : X) → Contains (x ∷ []) a → a ≡ x
 only_one x a (zero, inside, is) = sym is
 only_one x a (suc k, inside, is) = absurd (omega (arith, inside))
 
-contains_at : {X : Type 0} → (x : X) (xs : List X) (a : X) (k : ℕ) → k < length (x ∷ xs) → get_or (x ∷ xs) k a ≡ a → (x ≡ a) ⊎ Contains xs a
-contains_at x xs a zero h e = inl e
-contains_at x xs a (suc k) h e = inr (k, omega arith, e)
-
 pub contains_cases : {X : Type 0} → (x : X) (xs : List X) (a : X) → Contains (x ∷ xs) a → (x ≡ a) ⊎ Contains xs a
-contains_cases x xs a h = contains_at x xs a h.0 h.1 h.2
+contains_cases x xs a (zero, h, e) = inl e
+contains_cases x xs a (suc k, h, e) = inr (k, omega (arith, h), e)
 
 is_in-any : (ids : List (List ℕ)) (a : List ℕ) → is_in ids a ≡ list_any (bytes_eq a) ids
 is_in-any [] a = refl

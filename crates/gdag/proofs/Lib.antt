@@ -1,9 +1,6 @@
-pub mod Causes
 pub mod Choosing
 pub mod ClosedLemmas
-pub mod CommonLaws
 pub mod Counting
-pub mod DistinctLaws
 pub mod Growing
 pub mod Holding
 pub mod IdLists
@@ -18,4 +15,3 @@ pub mod Places
 pub mod Reaching
 pub mod Refusing
 pub mod Sharing
-pub mod Storing

@@ -1,14 +1,18 @@
--- There is one offer, and what is in it.
-use Rattle.std.proofs.Common.{◌≡◌, ℕ, zero, suc, ◌≤◌, Bool, false, List, [], ◌∷◌, ◌++◌, length, take, drop, Contains, bytes_eq, sym, ap, subst, ◌∙◌, inl, inr, eq-or-lt_of_le, append-nil, length-take, take-append-drop, take_all, leb-true, leb-false, leb, arith}
+-- There is one offer, and what is in it; common ids and distinct ids.
+use Rattle.std.proofs.Common.{◌≡◌, ◌↔◌, is_some, ℕ, zero, suc, ◌≤◌, Bool, false, List, [], ◌∷◌, ◌++◌, length, take, drop, Contains, bytes_eq, sym, ap, subst, ◌∙◌, inl, inr, eq-or-lt_of_le, append-nil, length-take, take-append-drop, take_all, leb-true, leb-false, leb, arith}
 use Rattle.std.specs.List.{IsDistinct, AllByRecursion}
 use Rattle.std.proofs.lemmas.List.Elements.{Contains-append_left}
 use Rattle.gobject.specs.declared.node.Entry.{Entry}
-use Rattle.gdag.specs.Levels.{level, levels_below, AreLevels}
+use Rattle.gobject.specs.Objects.{node_at}
+use Rattle.gdag.specs.Graphs.{Holds}
+use Rattle.gdag.specs.Laws.{AreDistinct}
+use Rattle.gdag.specs.Levels.{distinct_of, level, levels_below, new_ids, AreLevels}
 use Rattle.gdag.specs.Selecting.{Selects}
 use Rattle.gdag.specs.Offer.{MayBeOffered, IsExact}
 use Rattle.gdag.specs.Reach.{SomeReaches}
-use Rattle.gdag.proofs.Choosing.{one_choice, select_from, select_has, select_distinct}
-use Rattle.gdag.proofs.IdLists.{either_way}
+use Rattle.gdag.specs.Walks.{common_of}
+use Rattle.gdag.proofs.Choosing.{filter_selects, one_choice, select_from, select_has, select_distinct}
+use Rattle.gdag.proofs.IdLists.{either_way, nothing_in_nil, new_ids-append, new_ids-from, new_ids-has, with_new-distinct}
 use Rattle.gdag.proofs.LevelLaws.{levels_once, levels_stay}
 use Rattle.gdag.proofs.LevelReach.{in_reached, reached_in}
 
@@ -77,3 +81,30 @@ module _ {A : Type 0} (g : List (Entry A)) (tips : List (List ℕ)) where
         subst (λ (l : List (List ℕ)). Contains l a) (sym whole)
         (select_has P x.chosen a may (reached_levels x.ids a x.levels reach));
   }
+
+-- ---- the common ids are the haves that are held, each once
+
+module _ {A : Type 0} (g : List (Entry A)) (haves : List (List ℕ)) where
+  chosen : Selects (Holds g) (new_ids [] haves) (common_of g haves)
+  chosen = filter_selects (Holds g) (λ a. is_some (node_at g a)) (λ a held. held) (λ a held. held) (new_ids [] haves)
+
+  each : (a : List ℕ) → Contains (common_of g haves) a → Contains haves a × Holds g a
+  each a h = let r = select_from (Holds g) chosen a h in ((new_ids-from [] haves a r.1).0, r.0)
+
+  all : (a : List ℕ) → Contains haves a → Holds g a → Contains (common_of g haves) a
+  all a h held = select_has (Holds g) chosen a held (new_ids-has [] haves a h (λ c. nothing_in_nil a c))
+
+  pub commons_are_held : IsDistinct bytes_eq (common_of g haves) × ((a : List ℕ) → Contains (common_of g haves) a ↔ (Contains haves a × Holds g a))
+  unfolding IsDistinct
+  commons_are_held =
+      (select_distinct (Holds g) bytes_eq chosen (with_new-distinct [] haves tt), λ a. (each a, λ h. all a h.0 h.1))
+
+-- ---- the distinct ids of a list are its ids, each once
+
+pub distinct_are_once : (ids : List (List ℕ)) → AreDistinct ids
+unfolding IsDistinct
+distinct_are_once ids = record {
+  once = with_new-distinct [] ids tt;
+  same = λ a. (λ h. (new_ids-from [] ids a h).0, λ h. new_ids-has [] ids a h (λ c. nothing_in_nil a c));
+  order = λ front back parts. (new_ids (distinct_of front) back, ap distinct_of parts ∙ new_ids-append [] front back);
+}

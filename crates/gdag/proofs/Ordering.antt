@@ -1,7 +1,6 @@
 -- Graphs in which parents come first.
-use Rattle.std.proofs.Common.{◌≡◌, ◌⊎◌, inl, inr, ℕ, zero, suc, ◌<◌, ◌≤◌, List, [], ◌∷◌, ◌++◌, length, take, All, Contains, Option, Some, None, refl, sym, ap, ◌∙◌, subst, arith}
+use Rattle.std.proofs.Common.{◌≡◌, ◌⊎◌, inl, inr, ℕ, zero, suc, ◌<◌, ◌≤◌, List, [], ◌∷◌, ◌++◌, length, take, All, Contains, Some, refl, sym, ◌∙◌, subst, arith}
 use Rattle.std.specs.List.{slice_get}
-use Rattle.std.specs.Option.{option_map}
 use Rattle.std.proofs.lemmas.List.{take-append-le}
 use Rattle.std.proofs.lemmas.List.Elements.{All-contains}
 use Rattle.std.proofs.Math.Seq.{take-append_seam}
@@ -12,7 +11,7 @@ use Rattle.gobject.specs.Objects.{place_of, IdsDiffer}
 use Rattle.gdag.specs.Graphs.{IsNode, Holds, HasParent, IsOrdered}
 use Rattle.gdag.specs.Reach.{Reaches, here, onward, IsClosed}
 use Rattle.gdag.proofs.Reaching.{node_at_place, held_at_place, place_at, place_of_node}
-use Rattle.gdag.proofs.Holding.{own_place}
+use Rattle.gdag.proofs.Holding.{mapped_from, own_place}
 
 -- ---- one entry more
 
@@ -35,41 +34,33 @@ at_end : {X : Type 0} (xs : List X) (x : X) → slice_get (xs ++ x ∷ []) (leng
 at_end [] x = refl
 at_end (first ∷ xs) x = at_end xs x
 
-pub ordered_none : {A : Type 0} → IsOrdered {A = A} []
-ordered_none place entry at = absurd (none-some entry at)
-
 module _ {A : Type 0} (g : List (Entry A)) (entry : Entry A) where
   pub ordered_push : IsOrdered g → All (Holds g) entry.node.parents → IsOrdered (g ++ entry ∷ [])
   ordered_push ordered held p e at =
       elim (at_more g entry e p at) [
         | inl h ↦ (
             let inside : p ≤ length g = let l = h.0 in omega arith in
-            let P : List (Entry A) → Type 0 = λ xs. All (Holds xs) e.node.parents in
-            subst P (sym (take-append-le p g (entry ∷ []) inside)) (ordered p e h.1))
+            rw (take-append-le p g (entry ∷ []) inside) (ordered p e h.1))
         | inr h ↦ (
             let P : ℕ → Entry A → Type 0 = λ n x. All (Holds (take n (g ++ entry ∷ []))) x.node.parents in
-            let Q : List (Entry A) → Type 0 = λ xs. All (Holds xs) entry.node.parents in
-            let last : P (length g) entry = subst Q (sym (take-append_seam g (entry ∷ []))) held in
+            let last : P (length g) entry = rw (take-append_seam g (entry ∷ [])) held in
             subst (λ x. P p x) (sym h.1) (subst (λ n. P n entry) (sym h.0) last))
       ]
 
   pub ordered_before : IsOrdered (g ++ entry ∷ []) → IsOrdered g
   ordered_before ordered p e at =
       let inside : p ≤ length g = let l = slice_get_within g p e at in omega arith in
-      let P : List (Entry A) → Type 0 = λ xs. All (Holds xs) e.node.parents in
-      subst P (take-append-le p g (entry ∷ []) inside) (ordered p e (at_front g (entry ∷ []) e p at))
+      rw (← take-append-le p g (entry ∷ []) inside) (ordered p e (at_front g (entry ∷ []) e p at))
 
   pub ordered_last : IsOrdered (g ++ entry ∷ []) → All (Holds g) entry.node.parents
   ordered_last ordered =
-      let P : List (Entry A) → Type 0 = λ xs. All (Holds xs) entry.node.parents in
-      subst P (take-append_seam g (entry ∷ [])) (ordered (length g) entry (at_end g entry))
+      rw (take-append_seam g (entry ∷ [])) at (ordered (length g) entry (at_end g entry))
 
 -- ---- positions
 
 in_take : {X : Type 0} (xs : List X) (n p : ℕ) (x : X) → slice_get (take n xs) p ≡ Some x → (slice_get xs p ≡ Some x) × (p < n)
-in_take [] zero p x at = absurd (none-some x at)
+in_take xs zero p x at = absurd (none-some x at)
 in_take [] (suc n) p x at = absurd (none-some x at)
-in_take (first ∷ xs) zero p x at = absurd (none-some x at)
 in_take (first ∷ xs) (suc n) zero x at = (at, omega arith)
 in_take (first ∷ xs) (suc n) (suc p) x at = let h = in_take xs n p x at in (h.0, let l = h.1 in omega arith)
 
@@ -78,16 +69,12 @@ pub place_before : {A : Type 0} (g : List (Entry A)) (p : ℕ) (a : List ℕ) �
 place_before {A} g p a differ held =
     let at = place_at (take p g) a held in
     let inside = in_take g p at.0 at.1 at.2 in
-    let P : List ℕ → Type 0 = λ x. place_of g x ≡ Some at.0 in
-    (at.0, subst P at.3 (own_place g at.0 at.1 differ inside.0), inside.1)
+    (at.0, (rw at.3 at (own_place g at.0 at.1 differ inside.0)), inside.1)
 
 -- an id's node is that of the entry at its position
 pub entry_at_place : {A : Type 0} (g : List (Entry A)) (a : List ℕ) (p : ℕ) (node : Node A) → place_of g a ≡ Some p → IsNode g a node → (entry : Entry A) × (slice_get g p ≡ Some entry) × (entry.node ≡ node)
-entry_at_place {A} g a p node place is = by (slice_get g p) refl (sym (node_at_place g a p place) ∙ is)
-  where
-    by : (o : Option (Entry A)) → slice_get g p ≡ o → option_map (λ (entry : Entry A). entry.node) (slice_get g p) ≡ Some node → (entry : Entry A) × (slice_get g p ≡ Some entry) × (entry.node ≡ node)
-    by None at e = absurd (none-some node (ap (option_map (λ (entry : Entry A). entry.node)) (sym at) ∙ e))
-    by (Some entry) at e = (entry, at, same_Some entry.node node (ap (option_map (λ (entry : Entry A). entry.node)) (sym at) ∙ e))
+entry_at_place g a p node place is =
+    mapped_from (λ entry. entry.node) (slice_get g p) node (sym (node_at_place g a p place) ∙ is)
 
 -- the parents of the entry at a position have smaller positions
 pub parent_place : {A : Type 0} (g : List (Entry A)) (p : ℕ) (entry : Entry A) (b : List ℕ) → IdsDiffer g → IsOrdered g → slice_get g p ≡ Some entry → Contains entry.node.parents b → (q : ℕ) × (place_of g b ≡ Some q) × (q < p)
@@ -97,8 +84,7 @@ parent_place g p entry b differ ordered at among =
 pub step_down : {A : Type 0} (g : List (Entry A)) (a b : List ℕ) (p : ℕ) → IdsDiffer g → IsOrdered g → HasParent g a b → place_of g a ≡ Some p → (q : ℕ) × (place_of g b ≡ Some q) × (q < p)
 step_down {A} g a b p differ ordered parent place =
     let at = entry_at_place g a p parent.0 place parent.1 in
-    let P : Node A → Type 0 = λ node. Contains node.parents b in
-    parent_place g p at.0 b differ ordered at.1 (subst P (sym at.2) parent.2)
+    parent_place g p at.0 b differ ordered at.1 (rw (← at.2) at parent.2)
 
 -- reaching goes down
 pub reaching_down : {A : Type 0} (g : List (Entry A)) (a b : List ℕ) (p : ℕ) → IdsDiffer g → IsOrdered g → Reaches g a b → place_of g a ≡ Some p → (q : ℕ) × (place_of g b ≡ Some q) × (q ≤ p)

@@ -1,5 +1,5 @@
--- A graph's entries, and the pairs of its map.
-use Rattle.std.proofs.Common.{◌≡◌, ℕ, zero, suc, ◌≤◌, Bool, true, false, cond, nat_eq, List, [], ◌∷◌, length, Option, Some, None, refl, sym, ap, ◌∙◌, arith}
+-- A graph's entries and the pairs of its map, also as the map grows and is cut back.
+use Rattle.std.proofs.Common.{◌≡◌, ℕ, zero, suc, ◌≤◌, Bool, true, false, cond, nat_eq, List, [], ◌∷◌, length, Option, Some, None, refl, sym, ap, ◌∙◌, arith, ◌↔◌, ◌<◌, ◌++◌, take, All, IsTrue}
 use Rattle.std.specs.List.{find, position, position_or_len, slice_get}
 use Rattle.std.specs.Cmp.Lexicographic.{pointwise}
 use Rattle.std.specs.Borrow.{Bor}
@@ -10,8 +10,14 @@ use Rattle.std.proofs.lemmas.Cmp.{nat_list_eq_equiv}
 use Rattle.std.proofs.lemmas.Option.{slice_get-map, none-some}
 use Rattle.gobject.specs.declared.node.Node.{Node}
 use Rattle.gobject.specs.declared.node.Entry.{Entry}
-use Rattle.gobject.specs.Objects.{has_id, node_at, place_of, entry_of}
-use Rattle.gdag.specs.Graphs.{entries_of, pairs_of}
+use Rattle.gobject.specs.Objects.{has_id, node_at, place_of, entry_of, IsShaped}
+use Rattle.gdag.specs.Graphs.{entries_of, pairs_of, IsGraph, IsOrdered, Holds, HasIdsOf, max_nodes}
+use Rattle.std.proofs.lemmas.List.{map-append, take-map}
+use Rattle.indexmap.specs.IndexMap.{IndexMap, insert_entry}
+use Rattle.indexmap.proofs.CallerLemmas.{insert_entry-new}
+use Rattle.gname.specs.declared.formats.Format.{Format}
+use Rattle.gdag.proofs.Growing.{graph_push, graph_take}
+use Rattle.gdag.proofs.Ordering.{ordered_push, ordered_before, ordered_last}
 
 same_test : (a b : List ℕ) → pointwise nat_eq a b ≡ pointwise nat_eq b a
 same_test a b = nat_list_eq_equiv.symm a b
@@ -52,13 +58,7 @@ pairs_again (pair ∷ pairs) = ap (λ rest. pair ∷ rest) (pairs_again pairs)
 pub entry_at_pair : {A : Type 0} (pairs : List (List ℕ × Node A)) (k : ℕ) → slice_get (entries_of pairs) k ≡ option_map (λ pair. entry_of pair.0 pair.1) (slice_get pairs k)
 entry_at_pair pairs k = slice_get-map (λ pair. entry_of pair.0 pair.1) pairs k
 
--- and has the value there as its node
-pub node_at_value : {A : Type 0} (pairs : List (List ℕ × Node A)) (k : ℕ) → option_map (λ entry. entry.node) (slice_get (entries_of pairs) k) ≡ slice_get (values_of pairs) k
-node_at_value [] k = refl
-node_at_value (pair ∷ pairs) zero = refl
-node_at_value (pair ∷ pairs) (suc k) = node_at_value pairs k
-
--- so the parents there are the value's
+-- and has the parents of the value there
 pub parents_at_value : {A : Type 0} (pairs : List (List ℕ × Node A)) (k : ℕ) (node : Node A) → slice_get (values_of pairs) k ≡ Some node → option_map (λ (entry : Entry A). entry.node.parents) (slice_get (entries_of pairs) k) ≡ Some node.parents
 parents_at_value {A} [] k node at = absurd (none-some node at)
 parents_at_value {A} (pair ∷ pairs) zero node at = ap (λ (o : Option (Node A)). option_map (λ (n : Node A). n.parents) o) at
@@ -73,3 +73,28 @@ past (x ∷ xs) (suc k) none = let h = past xs k none in omega arith
 pub at_pair : {A : Type 0} (pairs : List (List ℕ × Node A)) (k : ℕ) (found : Option (Bor (List ℕ) × Bor (Node A))) → option_map deref_pair found ≡ slice_get pairs k → MatchOption found (length (entries_of pairs) ≤ k) (λ pair. slice_get (entries_of pairs) k ≡ Some (entry_of pair.0.now pair.1.now))
 at_pair pairs k None is = let n = length_pairs pairs in let h = past pairs k is in omega arith
 at_pair pairs k (Some pair) is = entry_at_pair pairs k ∙ ap (option_map (λ pair. entry_of pair.0 pair.1)) (sym is)
+
+-- ---- as the map grows and is cut back
+
+-- a new pair goes last
+pub pushed_pairs : {A S : Type 0} (m : IndexMap (List ℕ) (Node A) S) (new : List (List ℕ × Node A)) (entry : Entry A) → node_at (entries_of m.entries) entry.id ≡ None → new ≡ insert_entry (pointwise nat_eq) m.entries entry.id entry.node → entries_of new ≡ entries_of m.entries ++ entry ∷ []
+pushed_pairs m new entry absent is =
+    ap entries_of (is ∙ insert_entry-new (pointwise nat_eq) m entry.id entry.node (node_at_pairs m.entries entry.id ∙ absent))
+    ∙ map-append (λ pair. entry_of pair.0 pair.1) m.entries ((entry.id, entry.node) ∷ [])
+
+-- the first pairs are the first entries
+pub taken_pairs : {A : Type 0} (pairs new : List (List ℕ × Node A)) (n : ℕ) → new ≡ take n pairs → entries_of new ≡ take n (entries_of pairs)
+taken_pairs pairs new n is = ap entries_of is ∙ sym (take-map (λ pair. entry_of pair.0 pair.1) n pairs)
+
+-- what a graph keeps as an entry comes
+pub pushed : {A : Type 0} (format : Format) (g new : List (Entry A)) (entry : Entry A) (ordered : Bool) → new ≡ g ++ entry ∷ [] → IsGraph (record { format = format; entries = g }) → node_at g entry.id ≡ None → HasIdsOf format entry → IsShaped entry.node → length g < max_nodes → IsTrue ordered ↔ (IsOrdered g × All (Holds g) entry.node.parents) → IsGraph (record { format = format; entries = new }) × (IsTrue ordered ↔ IsOrdered new)
+pushed {A} format g new entry ordered is graph absent ids shaped room flag =
+    rw is (
+      graph_push format g entry graph absent ids shaped room,
+      (λ t. ordered_push g entry (flag.0 t).0 (flag.0 t).1, λ o. flag.1 (ordered_before g entry o, ordered_last g entry o)),
+    )
+
+-- and as it is cut back
+pub cut : {A : Type 0} (format : Format) (g new : List (Entry A)) (n : ℕ) (ordered : Bool) → new ≡ take n g → IsGraph (record { format = format; entries = g }) → IsTrue ordered ↔ IsOrdered (take n g) → IsGraph (record { format = format; entries = new }) × (IsTrue ordered ↔ IsOrdered new)
+cut {A} format g new n ordered is graph flag =
+    rw is (graph_take format g n graph, flag)

@@ -1,19 +1,20 @@
 -- Chains of tags: that they have one end, and that one which ends is no longer than the graph.
-use Rattle.std.proofs.Common.{◌≡◌, ℕ, zero, suc, ◌+◌, ◌-◌, ◌<◌, ◌≤◌, List, [], ◌∷◌, length, map, Bool, true, false, cond, ◌||◌, Some, None, refl, sym, ◌∙◌, ap, subst, arith}
+use Rattle.std.proofs.Common.{◌≡◌, ◌⊎◌, inl, inr, ℕ, zero, suc, ◌+◌, ◌-◌, ◌<◌, ◌≤◌, List, [], ◌∷◌, length, Bool, true, false, is_some, Some, None, refl, sym, ◌∙◌, ap, subst, arith}
 use Rattle.std.specs.Str.{bytes_eq}
-use Rattle.std.specs.List.{AllByRecursion, IsDistinct, slice_get, find}
-use Rattle.std.specs.Set.{is_member}
-use Rattle.std.specs.Option.{option_map}
+use Rattle.std.specs.List.{AllByRecursion, IsDistinct, slice_get}
 use Rattle.std.proofs.lemmas.Cmp.{nat_list_eq_equiv}
+use Rattle.std.proofs.lemmas.List.{length-map}
+use Rattle.std.proofs.lemmas.List.Elements.{All-contains, All-from_recursion}
 use Rattle.std.proofs.lemmas.Map.Made.{length-le_from_is_member}
 use Rattle.std.proofs.lemmas.Slice.Eq.{bytes_eq-Decides}
 use Rattle.gobject.specs.declared.node.Kind.TheVariants.{Tag}
 use Rattle.gobject.specs.declared.node.Node.{Node}
 use Rattle.gobject.specs.declared.node.Entry.{Entry}
-use Rattle.gobject.specs.Objects.{has_id}
-use Rattle.gdag.specs.Graphs.{IsNode}
-use Rattle.gdag.proofs.Holding.{one_node}
+use Rattle.gdag.specs.Graphs.{Holds, IsNode}
 use Rattle.gdag.specs.Peeling.{IsTagOf, IsCommit, Tags, PeelsTo}
+use Rattle.gdag.proofs.Holding.{one_node}
+use Rattle.gdag.proofs.IdLists.{any_from_contains, contains_from_any}
+use Rattle.gdag.proofs.Reaching.{held_among, ids_of}
 
 module _ {A : Type 0} (g : List (Entry A)) where
   pub no_tag : (a b : List ℕ) → IsCommit g a → IsTagOf g a b → ⊥
@@ -35,34 +36,33 @@ module _ {A : Type 0} (g : List (Entry A)) where
       let more = onward m i next b c rest commit (subst (λ (x : List ℕ). Tags g i x b) same rest') in
       (more.0, omega (arith, more.1), more.2)
 
-  pub peel_stuck : (a b c : List ℕ) (i : ℕ) → Tags g i a b → ((node : Node A) → IsNode g b node → ⊥) → PeelsTo g a c → ⊥
-  peel_stuck a b c i here missing (m, chain, commit) =
-      stuck (onward m i a b c chain commit here) commit missing
+  -- where a chain that ends has come, there is its commit or one more tag
+  pub peel_cases : (a b c : List ℕ) (i : ℕ) → Tags g i a b → PeelsTo g a c
+      → ((b ≡ c) × IsCommit g b) ⊎ ((next : List ℕ) × IsTagOf g b next)
+  peel_cases a b c i here (m, chain, commit) = by (onward m i a b c chain commit here)
     where
-      stuck : (j : ℕ) × (m ≡ i + j) × Tags g j b c → IsCommit g c → ((node : Node A) → IsNode g b node → ⊥) → ⊥
-      stuck (zero, e, end) commit missing = missing commit.node (subst (λ (x : List ℕ). IsNode g x commit.node) (sym end) commit.held)
-      stuck (suc j, e, (next, tag, rest)) commit missing = missing tag.node tag.held
+      by : (j : ℕ) × (m ≡ i + j) × Tags g j b c → ((b ≡ c) × IsCommit g b) ⊎ ((next : List ℕ) × IsTagOf g b next)
+      by (zero, e, end) = inl (end, subst (λ (x : List ℕ). IsCommit g x) (sym end) commit)
+      by (suc j, e, (next, tag, rest)) = inr (next, tag)
+
+  pub peel_stuck : (a b c : List ℕ) (i : ℕ) → Tags g i a b → ((node : Node A) → IsNode g b node → ⊥) → PeelsTo g a c → ⊥
+  peel_stuck a b c i here missing peels =
+      elim (peel_cases a b c i here peels) [ inl r ↦ missing r.1.node r.1.held | inr t ↦ missing t.1.node t.1.held ]
 
   pub peel_ends : (a b c : List ℕ) (i : ℕ) → Tags g i a b → IsCommit g b → PeelsTo g a c → b ≡ c
-  peel_ends a b c i here last (m, chain, commit) =
-      ends (onward m i a b c chain commit here)
-    where
-      ends : (j : ℕ) × (m ≡ i + j) × Tags g j b c → b ≡ c
-      ends (zero, e, end) = end
-      ends (suc j, e, (next, tag, rest)) = absurd (no_tag b next last tag)
+  peel_ends a b c i here last peels =
+      elim (peel_cases a b c i here peels) [ inl r ↦ r.0 | inr t ↦ absurd (no_tag b t.0 last t.1) ]
 
   pub peel_nameless : (a b c : List ℕ) (i : ℕ) (node : Node A) → Tags g i a b → IsNode g b node → node.kind ≡ Tag → slice_get node.parents 0 ≡ None → PeelsTo g a c → ⊥
-  peel_nameless a b c i node here held tag none (m, chain, commit) =
-      ends (onward m i a b c chain commit here)
-    where
-      ends : (j : ℕ) × (m ≡ i + j) × Tags g j b c → ⊥
-      ends (zero, e, end) =
-          let at_b = subst (λ (x : List ℕ). IsNode g x commit.node) (sym end) commit.held in
-          let same = one_node g b commit.node node at_b held in
-          let kinds = sym commit.commit ∙ ap (λ (n : Node A). n.kind) same ∙ tag in cc
-      ends (suc j, e, (next, one, rest)) =
-          let same = one_node g b one.node node one.held held in
-          let clash = sym one.names ∙ ap (λ (n : Node A). slice_get n.parents 0) same ∙ none in cc
+  peel_nameless a b c i node here held tag none peels =
+      elim (peel_cases a b c i here peels) [
+        | inl r ↦
+            let same = one_node g b r.1.node node r.1.held held in
+            let kinds = sym r.1.commit ∙ ap (λ (n : Node A). n.kind) same ∙ tag in cc
+        | inr t ↦
+            let same = one_node g b t.1.node node t.1.held held in
+            let clash = sym t.1.names ∙ ap (λ (n : Node A). slice_get n.parents 0) same ∙ none in cc
+      ]
 
   pub tags_more : (m : ℕ) (a b c : List ℕ) → Tags g m a b → IsTagOf g b c → Tags g (suc m) a c
   tags_more zero a b c here tag = (c, subst (λ (x : List ℕ). IsTagOf g x c) (sym here) tag, refl)
@@ -132,56 +132,21 @@ module _ {A : Type 0} (g : List (Entry A)) where
     trail_distinct m next c rest commit,
   )
 
--- ---- members of a graph
+-- ---- a chain that ends has fewer tags than the graph has entries
 
-ids_of : {A : Type 0} → List (Entry A) → List (List ℕ)
-ids_of g = map (λ entry. entry.id) g
+chain_held : {A : Type 0} → (g : List (Entry A)) (m k : ℕ) (a c y : List ℕ) → Tags g m a c → IsCommit g c → Tags g k a y → Holds g y
+chain_held g m k a c y chain commit here =
+    elim (peel_cases g a y c k here (m, chain, commit)) [ inl r ↦ ap is_some r.1.held | inr t ↦ ap is_some t.1.held ]
 
-swap_eq : (a b : List ℕ) → bytes_eq a b ≡ bytes_eq b a
-swap_eq a b = nat_list_eq_equiv.symm a b
-
-length-ids : {A : Type 0} → (g : List (Entry A)) → length (ids_of g) ≡ length g
-unfolding ids_of
-length-ids [] = refl
-length-ids (entry ∷ g) = omega (arith, length-ids g)
-
-member_first : (x a : List ℕ) (rest : Bool) → bytes_eq x a ≡ true → (bytes_eq a x || rest) ≡ true
-member_first x a rest h = ap (λ v. v || rest) (swap_eq a x ∙ h)
-
-member_later : (v rest : Bool) → rest ≡ true → (v || rest) ≡ true
-member_later true rest h = refl
-member_later false rest h = h
-
-held_step : {A : Type 0} → (entry : Entry A) (g : List (Entry A)) (a : List ℕ) (node : Node A) (v : Bool) → bytes_eq entry.id a ≡ v → option_map (λ (e : Entry A). e.node) (cond v (Some entry) (find (has_id a) g)) ≡ Some node → (IsNode g a node → is_member bytes_eq (ids_of g) a ≡ true) → is_member bytes_eq (ids_of (entry ∷ g)) a ≡ true
-unfolding ids_of
-held_step entry g a node true h held more = member_first entry.id a (is_member bytes_eq (ids_of g) a) h
-held_step entry g a node false h held more = member_later (bytes_eq a entry.id) (is_member bytes_eq (ids_of g) a) (more held)
-
-held_member : {A : Type 0} → (g : List (Entry A)) (a : List ℕ) (node : Node A) → IsNode g a node → is_member bytes_eq (ids_of g) a ≡ true
-held_member [] a node held = cc
-held_member (entry ∷ g) a node held = held_step entry g a node (bytes_eq entry.id a) refl held (held_member g a node)
-
-member_step : (P : List ℕ → Type 0) (x : List ℕ) (xs : List (List ℕ)) (q : List ℕ) → AllByRecursion P (x ∷ xs) → (v : Bool) → bytes_eq q x ≡ v → (v || is_member bytes_eq xs q) ≡ true → (is_member bytes_eq xs q ≡ true → P q) → P q
-member_step P x xs q all true e h more = subst P (sym ((bytes_eq-Decides q x).0 e)) all.0
-member_step P x xs q all false e h more = more h
-
-member_holds : (P : List ℕ → Type 0) (xs : List (List ℕ)) (q : List ℕ) → AllByRecursion P xs → is_member bytes_eq xs q ≡ true → P q
-member_holds P [] q all h = cc
-member_holds P (x ∷ xs) q all h = member_step P x xs q all (bytes_eq q x) refl h (member_holds P xs q all.1)
-
-on_chain_held : {A : Type 0} → (g : List (Entry A)) (m k : ℕ) (a c y : List ℕ) → Tags g m a c → IsCommit g c → Tags g k a y → is_member bytes_eq (ids_of g) y ≡ true
-on_chain_held {A} g m k a c y chain commit here = held_there (onward g m k a y c chain commit here)
-  where
-    held_there : (j : ℕ) × (m ≡ k + j) × Tags g j y c → is_member bytes_eq (ids_of g) y ≡ true
-    held_there (zero, e, end) = held_member g y commit.node (subst (λ (x : List ℕ). IsNode g x commit.node) (sym end) commit.held)
-    held_there (suc j, e, (next, tag, rest)) = held_member g y tag.node tag.held
-
--- a chain that ends has fewer tags than the graph has entries
 chain_short : {A : Type 0} → (g : List (Entry A)) (m : ℕ) (a c : List ℕ) → Tags g m a c → IsCommit g c → suc m ≤ length g
-chain_short g m a c chain commit =
-    let held = all_trail g (λ (y : List ℕ). is_member bytes_eq (ids_of g) y ≡ true) m a c chain (λ k y here. on_chain_held g m k a c y chain commit here) in
-    let short = length-le_from_is_member nat_list_eq_equiv (trail g m a c chain) (ids_of g) (trail_distinct g m a c chain commit) (λ q h. member_holds (λ (y : List ℕ). is_member bytes_eq (ids_of g) y ≡ true) (trail g m a c chain) q held h) in
-    omega (arith, short, length-trail g m a c chain, length-ids g)
+chain_short {A} g m a c chain commit =
+    let ids = trail g m a c chain in
+    let held = All-from_recursion (Holds g) ids
+    (all_trail g (Holds g) m a c chain (λ k y here. chain_held g m k a c y chain commit here)) in
+    let within = length-le_from_is_member nat_list_eq_equiv ids (ids_of g) (trail_distinct g m a c chain commit)
+    (λ q h. any_from_contains (ids_of g) q
+    (held_among g q (All-contains (Holds g) ids q held (contains_from_any ids q h)))) in
+    omega (arith, within, length-trail g m a c chain, length-map g (λ (entry : Entry A). entry.id))
 
 pub peel_long : {A : Type 0} → (g : List (Entry A)) (i : ℕ) (a b c : List ℕ) → length g ≤ i → Tags g i a b → PeelsTo g a c → ⊥
 peel_long g i a b c long here (m, chain, commit) =

@@ -1,10 +1,10 @@
 -- Reachability, and positions of ids.
-use Rattle.std.proofs.Common.{◌≡◌, ℕ, ◌<◌, ◌≤◌, List, [], ◌∷◌, length, get_or, Option, Some, None, refl, sym, ap, ◌∙◌, arith}
+use Rattle.std.proofs.Common.{◌≡◌, ℕ, ◌<◌, ◌≤◌, List, [], ◌∷◌, length, map, get_or, Contains, Option, Some, None, refl, sym, ap, ◌∙◌, arith}
 use Rattle.std.specs.List.{position_or_len, slice_get}
 use Rattle.std.specs.Option.{option_map}
 use Rattle.std.proofs.lemmas.List.Quantifiers.{position-Some}
 use Rattle.std.proofs.lemmas.List.Folds.{find_at}
-use Rattle.std.proofs.lemmas.Option.{slice_get-get_or, slice_get_past, cond_some, none-some}
+use Rattle.std.proofs.lemmas.Option.{get_or_from_slice_get, slice_get-get_or, slice_get-map, slice_get_past, slice_get_within, cond_some, none-some}
 use Rattle.std.proofs.lemmas.Bool.{false≢true}
 use Rattle.std.proofs.lemmas.Bool.Decides.{nat_tests}
 use Rattle.gobject.specs.declared.node.Node.{Node}
@@ -88,3 +88,17 @@ place_at {A} (first ∷ g) a held =
     let inside = place_inside (first ∷ g) a place.0 place.1 in
     let entry = get_or (first ∷ g) place.0 first in
     (place.0, entry, slice_get-get_or (first ∷ g) place.0 first inside, has_id_is a entry (position-Some (has_id a) (first ∷ g) place.0 first place.1).1)
+
+abbrev pub ids_of : {A : Type 0} → List (Entry A) → List (List ℕ)
+ids_of list = map (λ entry. entry.id) list
+
+-- what stands at a position is in the list
+pub standing_among : {X : Type 0} (xs : List X) (k : ℕ) (x : X) → slice_get xs k ≡ Some x → Contains xs x
+standing_among xs k x at = (k, slice_get_within xs k x at, get_or_from_slice_get xs k x x at)
+
+-- an id that is held is one of the entries'
+pub held_among : {A : Type 0} (g : List (Entry A)) (a : List ℕ) → Holds g a → Contains (ids_of g) a
+held_among {A} g a held =
+    let at = place_at g a held in
+    let id : Entry A → List ℕ = λ entry. entry.id in
+    rw (← at.3) (standing_among (ids_of g) at.0 at.1.id (slice_get-map id g at.0 ∙ ap (option_map id) at.2))

@@ -2,7 +2,7 @@
 use Rattle.std.proofs.Common.{◌≡◌, ◌⊎◌, inl, inr, ℕ, zero, suc, List, [], ◌∷◌, ◌++◌, get_or, All, Contains, Option, Some, None, refl, sym, ap, ◌∙◌, subst, arith}
 use Rattle.std.specs.List.{slice_get}
 use Rattle.std.specs.Option.{is_some, option_map}
-use Rattle.std.proofs.lemmas.Option.{same_Some, none-some, slice_get-get_or, slice_get_within, get_or_from_slice_get}
+use Rattle.std.proofs.lemmas.Option.{same_Some, none-some, slice_get-get_or}
 use Rattle.std.proofs.lemmas.Bool.{cases_Bool, false≢true}
 use Rattle.std.proofs.lemmas.List.Elements.{All-contains, Contains-append_right, Contains-get_or}
 use Rattle.gobject.specs.declared.node.Node.{Node}
@@ -18,7 +18,7 @@ use Rattle.gdag.specs.Peeling.{IsTagOf, IsCommit, Tags, PeelsTo}
 use Rattle.gdag.specs.Selecting.{Selects, none, keep, skip}
 use Rattle.gdag.specs.Sending.{IsToSend, IsListToSend}
 use Rattle.gdag.specs.Laws.{AgreesWith, HasAll}
-use Rattle.gdag.proofs.Reaching.{kept_along, reaches_parent, full_in_closed, place_at, node_at_place}
+use Rattle.gdag.proofs.Reaching.{kept_along, reaches_parent, full_in_closed, place_at, node_at_place, standing_among}
 use Rattle.gdag.proofs.PeelLemmas.{peel_ends}
 use Rattle.gdag.proofs.Holding.{one_node, held_node, own_place, has_id_is, id_cases, node_here, node_there, absent_head, absent_tail}
 use Rattle.gdag.proofs.IdLists.{nothing_in_nil, contains_cases}
@@ -44,8 +44,7 @@ pub parent_shared : {A : Type 0} (g h : List (Entry A)) (a b : List ℕ) → Agr
 parent_shared {A} g h a b agree held parent =
     let there = held_node h a held in
     let same : parent.0 ≡ there.0 = agree a parent.0 there.0 parent.1 there.1 in
-    let P : Node A → Type 0 = λ node. Contains node.parents b in
-    (there.0, there.1, subst P same parent.2)
+    (there.0, there.1, rw same at parent.2)
 
 pub path_shared : {A : Type 0} (g h : List (Entry A)) (a b : List ℕ) → Agree g h → IsFull h a → Reaches g a b → Reaches h a b
 path_shared g h a b agree full r =
@@ -239,8 +238,7 @@ peels_by g (suc steps) a c (next, tag, rest) commit = inr (next, tag, (steps, re
 -- a tag's id has that id as its parent
 pub names_parent : {A : Type 0} (g : List (Entry A)) (a b : List ℕ) → IsTagOf g a b → HasParent g a b
 names_parent g a b tag =
-    let inside = slice_get_within tag.node.parents 0 b tag.names in
-    (tag.node, tag.held, (0, inside, get_or_from_slice_get tag.node.parents 0 b b tag.names))
+    (tag.node, tag.held, standing_among tag.node.parents 0 b tag.names)
 
 tags_reach : {A : Type 0} (g : List (Entry A)) (steps : ℕ) (a c : List ℕ) → Tags g steps a c → Reaches g a c
 tags_reach g zero a c same = subst (Reaches g a) same here

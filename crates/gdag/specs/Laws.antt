@@ -11,11 +11,10 @@ use Rattle.gdag.specs.declared.fault.GraphFault.TheVariants.{TooMany, Memory}
 use Rattle.gdag.specs.Graphs.{History, Holds, HoldsParents, IsNode, IsGraph, IsOrdered, HasIdsOf, max_nodes}
 use Rattle.gobject.specs.declared.node.Node.{Node}
 use Rattle.gobject.specs.Packs.{AreEntries}
-use Rattle.gdag.specs.Reach.{Reaches, IsFull, IsClosed, Agree, Grows, Keeps}
+use Rattle.gdag.specs.Reach.{Reaches, IsFull, IsClosed, Agree, Grows, Keeps, SomeReaches}
 use Rattle.gdag.specs.Insert.{ComesIn, Inserts, IsCause, IsRefused}
 use Rattle.gdag.specs.Peeling.{IsTagOf, PeelsTo}
 use Rattle.gdag.specs.Sending.{IsListToSend}
-use Rattle.gdag.specs.Reach.{SomeReaches}
 use Rattle.gdag.specs.Levels.{distinct_of, level, AreDistances}
 use Rattle.gdag.specs.Offer.{IsExact}
 use Rattle.gdag.specs.Walks.{CountsReached, common_of}

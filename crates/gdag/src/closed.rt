@@ -20,6 +20,7 @@ impl<A: Allocator + Copy> Graph<A> {
     }
 
     // Whether the graph holds the parents of each of its nodes.
+    #[tactic(auto, using(crate::proofs::ClosedLemmas::holds_at, crate::proofs::ClosedLemmas::holds_more))]
     fn holds_parents(&self) -> bool
         ensures graph { IsGraph self.now }
         ensures answer { IsTrue result ↔ All (HoldsParents self.now.entries) self.now.entries }

@@ -106,6 +106,7 @@ impl<A: Allocator + Copy> Graph<A> {
     }
 
     /// Whether the id is held. It takes no memory.
+    #[tactic(auto, using(crate::proofs::Pairs::node_at_pairs))]
     pub fn contains(&self, id: &Oid) -> bool
         ensures { IsTrue result ↔ Holds self.now.entries id.now }
     {
@@ -133,6 +134,7 @@ impl<A: Allocator + Copy> Graph<A> {
     }
 
     /// The node under the id; `None` where it is not held.
+    #[tactic(auto, using(crate::proofs::Pairs::node_at_pairs))]
     pub fn node(&self, id: &Oid) -> Option<&Node<A>>
         ensures { option_copied result ≡ node_at self.now.entries id.now }
     {
@@ -140,6 +142,7 @@ impl<A: Allocator + Copy> Graph<A> {
     }
 
     /// The position of the id in store order, counted from 0; `None` where it is not held.
+    #[tactic(auto, using(crate::proofs::Pairs::place_of_pairs))]
     pub fn number(&self, id: &Oid) -> Option<usize>
         ensures { result ≡ place_of self.now.entries id.now }
     {
@@ -147,6 +150,7 @@ impl<A: Allocator + Copy> Graph<A> {
     }
 
     /// The id and the node at a position in store order, counted from 0; `None` past the end.
+    #[tactic(auto, using(crate::proofs::Pairs::at_pair))]
     pub fn at(&self, place: usize) -> Option<(&Oid, &Node<A>)>
         ensures at { MatchOption result (length self.now.entries ≤ place) (λ pair.
             slice_get self.now.entries place ≡ Some (entry_of pair.0.now pair.1.now)) }
@@ -156,6 +160,7 @@ impl<A: Allocator + Copy> Graph<A> {
     }
 
     /// The map from ids to nodes. Its pairs are the graph's in store order.
+    #[tactic(auto, using(crate::proofs::Pairs::pairs_again))]
     pub fn as_map(&self) -> &IndexMap<Oid, Node<A>, IdHasher, A>
         ensures { result.now.entries ≡ pairs_of self.now.entries }
     {
@@ -168,6 +173,7 @@ impl<A: Allocator + Copy> Graph<A> {
     }
 
     /// The parents of the node at a position in store order, in the order of the object.
+    #[tactic(auto, using(crate::proofs::Pairs::parents_at_value))]
     pub fn parents(&self, place: usize) -> &[Oid]
         requires { place < length self.now.entries }
         ensures { option_map (λ entry. entry.node.parents) (slice_get self.now.entries place)
@@ -224,6 +230,7 @@ impl<A: Allocator + Copy> Graph<A> {
     /// no memory the graph stays as it was.
     ///
     /// It fails with `Memory` alone.
+    #[tactic(auto, using(crate::proofs::Pairs::pushed_pairs))]
     pub fn push_after(&mut self, entry: Entry<A>, parents_held: bool) -> Result<(), GraphFault>
         requires new { node_at self.old.entries entry.id ≡ None }
         requires ids { HasIdsOf self.old.format entry }
@@ -243,6 +250,7 @@ impl<A: Allocator + Copy> Graph<A> {
     }
 
     /// Keeps the first entries, as many as `count`, which came with their parents first as `ordered` says.
+    #[tactic(auto, using(crate::proofs::Pairs::taken_pairs))]
     pub(crate) fn cut_back(&mut self, count: usize, ordered: bool)
         requires { IsTrue ordered ↔ IsOrdered (take count self.old.entries) }
         ensures { self.new ≡ record {

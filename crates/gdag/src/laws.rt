@@ -19,6 +19,7 @@ pub fn entries_come_in_order<A: Allocator + Copy>()
 {}
 
 /// An entry that is refused has one cause: the first in the order of `Graph::insert_all`.
+#[tactic(auto, using(crate::proofs::Refusing::one_cause))]
 pub fn one_cause<A: Allocator + Copy>()
     ensures { OneCause A }
 {}
@@ -39,6 +40,7 @@ pub fn closed_is_full<A: Allocator + Copy>()
 {}
 
 /// What is reached from what is reached is reached.
+#[tactic(auto, using(crate::proofs::Reaching::reaches_on))]
 pub fn reaching_goes_on<A: Allocator + Copy>()
     ensures { ReachingGoesOn A }
 {}
@@ -50,42 +52,50 @@ pub fn full_stays_full<A: Allocator + Copy>()
 
 /// Where two graphs agree, a path in the one from an id that is connected in the other is a path
 /// there.
+#[tactic(auto, using(crate::proofs::Sharing::path_shared))]
 pub fn paths_are_shared<A: Allocator + Copy>()
     ensures { PathsAreShared A }
 {}
 
 /// A graph to which objects only came holds what it held, with the same nodes.
+#[tactic(auto, using(crate::proofs::Growing::grows_keeps))]
 pub fn growing_keeps<A: Allocator + Copy>()
     ensures { GrowingKeeps A }
 {}
 
 /// A graph that grew from one that grew from a third grew from the third.
+#[tactic(auto, using(crate::proofs::Growing::grows_on))]
 pub fn growing_goes_on<A: Allocator + Copy>()
     ensures { GrowingGoesOn A }
 {}
 
 /// A graph grows as an entry comes in.
+#[tactic(auto, using(crate::proofs::Growing::comes_grows))]
 pub fn coming_grows<A: Allocator + Copy>()
     ensures { ComingGrows A }
 {}
 
 /// An id that is held has a node.
+#[tactic(auto, using(crate::proofs::Holding::held_node))]
 pub fn holding_is_a_node<A: Allocator + Copy>()
     ensures { HoldingIsANode A }
 {}
 
 /// Where a graph keeps what it held, an id that was held is held.
+#[tactic(auto, using(crate::proofs::Growing::keeps_held))]
 pub fn keeping_holds<A: Allocator + Copy>()
     ensures { KeepingHolds A }
 {}
 
 /// Where a graph keeps what it held, what an id reached it still reaches.
+#[tactic(auto, using(crate::proofs::Growing::keeps_reaching))]
 pub fn keeping_reaches<A: Allocator + Copy>()
     ensures { KeepingReaches A }
 {}
 
 /// Two graphs that agree still do once entries are inserted into the one: each entry whose id the other holds has
 /// the node that stands there.
+#[tactic(auto, using(crate::proofs::Sharing::agree_inserted))]
 pub fn agreeing_stays<A: Allocator + Copy>()
     ensures { AgreeingStays A }
 {}
@@ -101,6 +111,7 @@ pub fn peels_to_one<A: Allocator + Copy>()
 {}
 
 /// An id peels along tags alone, and reaches the commit.
+#[tactic(auto, using(crate::proofs::Sharing::peels_along_tags))]
 pub fn peels_along_tags<A: Allocator + Copy>()
     ensures { PeelsAlongTags A }
 {}
@@ -111,6 +122,7 @@ pub fn ordered_is_closed<A: Allocator + Copy>()
 {}
 
 /// In a graph in which parents come first an id reaches no id at a higher position.
+#[tactic(auto, using(crate::proofs::Ordering::reaching_down))]
 pub fn reaching_goes_down<A: Allocator + Copy>()
     ensures { ReachingGoesDown A }
 {}
@@ -127,6 +139,7 @@ pub fn places_are_nodes<A: Allocator + Copy>()
 {}
 
 /// There is one list to send for some wants, common ids and tips.
+#[tactic(auto, using(crate::proofs::Choosing::one_choice))]
 pub fn one_list_to_send<A: Allocator + Copy>()
     ensures { OneListToSend A }
 {}
@@ -160,6 +173,7 @@ pub fn reached_are_counted<A: Allocator + Copy>()
 
 /// How many held ids some tips reach, and how many parents these have, stays as objects come, where
 /// the tips were connected.
+#[tactic(auto, using(crate::proofs::Counting::counts_stay))]
 pub fn counts_stay<A: Allocator + Copy>()
     ensures { CountsStay A }
 {}
@@ -178,6 +192,7 @@ pub fn levels_are_reached<A: Allocator + Copy>()
 
 /// There is one offer of so many ids. It has at most as many, each once: ids that may be offered
 /// and that a tip reaches. Where it has fewer, it has all of these.
+#[tactic(auto, using(crate::proofs::OfferLaws::offers_are_exact))]
 pub fn offers_are_exact<A: Allocator + Copy>()
     ensures { OffersAreExact A }
 {}

@@ -1,16 +1,10 @@
 pub mod StateLemmas
-pub mod FromLeft
 pub mod ReplyForms
 pub mod ReplyVerdicts
 pub mod ReplySections
-pub mod AckSections
 pub mod ReplyEndings
 pub mod ReplyManual
 pub mod CanonicalLemmas
 pub mod WritingLemmas
-pub mod KeptLemmas
 pub mod ReplyLemmas
-pub mod ReadLaws
-pub mod PacketReasons
-pub mod ValueLemmas
 pub mod OtherReadings

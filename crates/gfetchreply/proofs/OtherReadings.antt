@@ -1,15 +1,14 @@
 -- Replies that are read another way: as the answer to another request, or within another limit.
-use Rattle.std.proofs.Common.{◌≡◌, ℕ, ◌+◌, ◌≤◌, Bool, true, false, List, [], ◌∷◌, ◌++◌, length, codes, inl, inr, Option, Some, None, Result, Ok, Err, refl, sym, subst, ap, ◌∙◌, arith}
-use Rattle.std.specs.Prelude.{◌⊎◌, ◌&&◌, nat_eq, nat_le}
-use Rattle.std.proofs.lemmas.Bool.{and_parts, and_from, false≢true, leb-true, le-leb}
+use Rattle.std.proofs.Common.{◌≡◌, ℕ, ◌+◌, ◌≤◌, Bool, true, false, List, [], ◌∷◌, ◌++◌, length, inl, inr, Option, Some, None, Result, Ok, Err, refl, sym, subst, ap, ◌∙◌, arith}
+use Rattle.std.specs.Prelude.{◌⊎◌, ◌&&◌, nat_le}
+use Rattle.std.proofs.lemmas.Bool.{and_parts, and_from, leb-true, le-leb}
 use Rattle.std.proofs.lemmas.Bool.Decides.{leb_tells}
 use Rattle.gpkt.specs.Change.{Change}
 use Rattle.gpkt.specs.LineReading.{Reads}
-use Rattle.gpkt.specs.Packets.{Packet, Data, Flush, Delim, ResponseEnd, text}
-use Rattle.gpkt.specs.Bands.{BandPacket, band_form, Data as BandData, Progress, Fatal}
+use Rattle.gpkt.specs.Packets.{Packet, Data, Flush, text}
+use Rattle.gpkt.specs.Bands.{BandPacket, band_form, Data as BandData}
 use Rattle.gpkt.specs.declared.fault.BandFault.{BandFault}
-use Rattle.ggrammar.specs.Grammar.{Judge, LawsOf, Open, Refused, Verdict, IsOpen, if_room}
-use Rattle.ggrammar.specs.Endings.{ends_with}
+use Rattle.ggrammar.specs.Grammar.{Judge, LawsOf, Open, Refused, Verdict, IsOpen, IsWhole, if_room}
 use Rattle.ggrammar.specs.MessageBytes.{known, IsOfBytes, LawsOfBytes}
 use Rattle.ggrammar.specs.MessageReading.{IsReasonAfter, ReadsRefused}
 use Rattle.ggrammar.specs.PeerErrors.{peer_error, unless_error}
@@ -18,12 +17,15 @@ use Rattle.ggrammar.specs.declared.fault.Why.{Why}
 use Rattle.ggrammar.specs.declared.fault.Why.TheVariants as why
 use Rattle.ggrammar.proofs.VerdictLemmas.{room_goes_on}
 use Rattle.gfetchreply.specs.FetchManual.{IsBody, IsPackSection}
-use Rattle.gfetchreply.specs.FetchReplies.{Reading, State, Place, Start, Acking, AfterNak, AfterReady, BeforePack, InPack, Over}
-use Rattle.gfetchreply.specs.FetchReplies.{FetchReply, Acks, Ready, Pack, Says, brings, judge, judge_at, judge_band, judge_there, state_of}
+use Rattle.gfetchreply.specs.FetchReplies.{Reading, State, Place, Start, Acking, AfterNak, AfterReady, BeforePack, InPack}
+use Rattle.gfetchreply.specs.FetchReplies.{FetchReply, Acks, Ready, Pack, Says, brings, judge, judge_at, judge_band, judge_there, state_of, first_place}
+use Rattle.gfetchreply.specs.FetchReplies.{ReplyForm, Acknowledgments, Packfile, reply_form}
 use Rattle.gfetchreply.specs.FetchHeads.{pack_of}
 use Rattle.gfetchreply.specs.Laws.{IsInAnyLimit, IsRefusedOverLimit, OneInWhateverReading}
 use Rattle.gfetchreply.proofs.ReplyEndings.{HasEndings-judge}
-use Rattle.gfetchreply.proofs.ReplyManual.{manual_from_says, one_reply_begins, says_from_manual}
+use Rattle.gfetchreply.proofs.ReplyManual.{manual_from_says, one_reply_begins, says_from_manual, whole_at_start}
+use Rattle.gfetchreply.proofs.ReplySections.{data_goes, refused}
+use Rattle.gfetchreply.proofs.ReplyVerdicts.{at_place, before_open, IsWholeAt, start, start_open}
 
 -- ---- within another limit
 
@@ -69,61 +71,41 @@ body_short reading packets (Pack pack) is = is.1.short
 
 -- ---- the first packet says whether the pack comes at once
 
-record IsFirst (packets : List Packet) (word : List ℕ) : Type 0 where
-  heading : List ℕ
-  rest : List Packet
-  parts : packets ≡ Data heading ∷ rest
-  is_word : text heading ≡ word
+abbrev heading_of : Bool → ReplyForm
+heading_of true = Packfile
+heading_of false = Acknowledgments
 
--- with what follows
-with_rest : (packets front back : List Packet) (heading word : List ℕ) (rest : List Packet) → packets ≡ front ++ back → front ≡ Data heading ∷ rest → text heading ≡ word
-    → IsFirst packets word
-with_rest packets front back heading word rest all parts is =
-    record { heading = heading; rest = rest ++ back; parts = all ∙ ap (λ (xs : List Packet). xs ++ back) parts; is_word = is }
+abbrev IsHeadedBy : ReplyForm → List Packet → Type 0
+IsHeadedBy form (Data payload ∷ rest) = reply_form (text payload) ≡ form
+IsHeadedBy form packets = ⊥
 
-true_or_false : {P : Type 0} (b : Bool) → b ≡ true → b ≡ false → P
-true_or_false true t f = cc
-true_or_false false t f = cc
+headed : (reading : Reading) (direct : Bool) (packets : List Packet) → reading.direct ≡ direct
+    → IsWholeAt reading (start reading) packets → IsHeadedBy (heading_of direct) packets
+headed reading direct [] is h = absurd h
+headed reading true (Data payload ∷ rest) is h =
+    before_open _ (data_goes reading (start reading) BeforePack payload rest (ap first_place is) h).0
+headed reading false (Data payload ∷ rest) is h =
+    start_open _ (data_goes reading (start reading) Start payload rest (ap first_place is) h).0
+headed reading direct (packet ∷ rest) is h =
+    refused _ _ (at_place reading (start reading) (first_place direct) packet (ap first_place is)) h
 
-body_direct : (reading : Reading) (packets body : List Packet) (reply : FetchReply) → reading.direct ≡ true → packets ≡ body ++ ends_with reading.ends
-    → IsBody reading body reply → IsFirst packets (codes "packfile")
-body_direct reading packets body (Acks ids) direct parts is = true_or_false reading.direct direct is.0
-body_direct reading packets body (Ready ids pack) direct parts is = true_or_false reading.direct direct is.0
-body_direct reading packets body (Pack pack) direct parts is = with_rest packets body _ is.1.heading _ _ parts is.1.parts is.1.is_heading
+same_heading : (packets back : List Packet) (a b : ReplyForm) → IsHeadedBy a packets → IsHeadedBy b (packets ++ back)
+    → a ≡ b
+same_heading (Data payload ∷ rest) back a b p q = sym p ∙ q
+same_heading packets back a b p q = absurd p
 
-body_acks : (reading : Reading) (packets body : List Packet) (reply : FetchReply) → reading.direct ≡ false → packets ≡ body ++ ends_with reading.ends
-    → IsBody reading body reply → IsFirst packets (codes "acknowledgments")
-body_acks reading packets body (Acks ids) direct parts is =
-    elim is.1 [
-      | inl h ↦ with_rest packets body _ h.1.acks.heading _ _ parts (h.1.parts ∙ ap (λ (xs : List Packet). xs ++ Data h.1.nak ∷ Flush ∷ []) h.1.acks.parts) h.1.acks.is_heading
-      | inr h ↦ with_rest packets body _ h.acks.heading _ _ parts (h.parts ∙ ap (λ (xs : List Packet). xs ++ Flush ∷ []) h.acks.parts) h.acks.is_heading
-    ]
-body_acks reading packets body (Ready ids pack) direct parts is =
-    with_rest packets body _ is.1.acks.heading _ _ parts (is.1.parts ∙ ap (λ (xs : List Packet). xs ++ Data is.1.readiness ∷ Delim ∷ is.1.rest) is.1.acks.parts) is.1.acks.is_heading
-body_acks reading packets body (Pack pack) direct parts is = true_or_false reading.direct is.0 direct
-
-same_first : (packets back : List Packet) (one other : List ℕ) → IsFirst packets one → IsFirst (packets ++ back) other → one ≡ other
-same_first packets back one other p q =
-    let same : Data p.heading ∷ (p.rest ++ back) ≡ Data q.heading ∷ q.rest = sym (ap (λ (xs : List Packet). xs ++ back) p.parts) ∙ q.parts in
-    let head : p.heading ≡ q.heading = cc in
-    sym p.is_word ∙ (ap text head ∙ q.is_word)
-
-apart : {P : Type 0} → codes "packfile" ≡ codes "acknowledgments" → P
-apart e = absurd (false≢true (ap (λ (xs : List ℕ). nat_eq (length xs) 8) (sym e)))
+heading_tells : (a b : Bool) → heading_of a ≡ heading_of b → b ≡ a
+heading_tells true true e = refl
+heading_tells false false e = refl
+heading_tells a b e = cc
 
 -- both come with the pack at once, or neither
-same_direct : (reading other : Reading) (packets back : List Packet) (one also : FetchReply) (a b : Bool) → reading.direct ≡ a → other.direct ≡ b
-    → Says reading packets one → Says other (packets ++ back) also → b ≡ a
-same_direct reading other packets back one also true true d e p q = refl
-same_direct reading other packets back one also false false d e p q = refl
-same_direct reading other packets back one also true false d e p q =
-    let x = manual_from_says reading packets one p in
-    let y = manual_from_says other (packets ++ back) also q in
-    apart (same_first packets back _ _ (body_direct reading packets x.body one d x.parts x.is_body) (body_acks other (packets ++ back) y.body also e y.parts y.is_body))
-same_direct reading other packets back one also false true d e p q =
-    let x = manual_from_says reading packets one p in
-    let y = manual_from_says other (packets ++ back) also q in
-    apart (sym (same_first packets back _ _ (body_acks reading packets x.body one d x.parts x.is_body) (body_direct other (packets ++ back) y.body also e y.parts y.is_body)))
+same_direct : (reading other : Reading) (packets back : List Packet) → IsWhole (judge reading) packets
+    → IsWhole (judge other) (packets ++ back) → other.direct ≡ reading.direct
+same_direct reading other packets back p q =
+    heading_tells reading.direct other.direct
+    (same_heading packets back _ _ (headed reading _ packets refl (whole_at_start reading packets p))
+    (headed other _ (packets ++ back) refl (whole_at_start other (packets ++ back) q)))
 
 same_reading : (reading other : Reading) (limit : ℕ) → other.format ≡ reading.format → other.direct ≡ reading.direct → other.ends ≡ reading.ends
     → record other { limit = limit } ≡ record reading { limit = limit }
@@ -132,7 +114,7 @@ same_reading reading other limit format direct ends = λ i. record { format = fo
 pub whatever_reading : OneInWhateverReading
 whatever_reading reading other packets back one also format ends p q =
     let limit = length (pack_of one) + length (pack_of also) in
-    let direct = same_direct reading other packets back one also _ _ refl refl p q in
+    let direct = same_direct reading other packets back p.whole q.whole in
     one_reply_begins (record reading { limit = limit }) packets back one also (any_limit reading limit packets one p (omega arith))
     (subst (λ (r : Reading). Says r (packets ++ back) also) (same_reading reading other limit format direct ends)
     (any_limit other limit (packets ++ back) also q (omega arith)))
@@ -149,10 +131,9 @@ room_more few bytes limit more false v longer is e = inl (sym e ∙ ap if_room i
 
 band_more : (limit more : ℕ) (state : State) (form : Result BandPacket BandFault) (v : Verdict) → limit ≤ more → judge_band limit state form ≡ v
     → (v ≡ Refused why.Limit) ⊎ (judge_band more state form ≡ v)
-band_more limit more state (Err fault) v longer e = inr e
-band_more limit more state (Ok (Fatal bytes)) v longer e = inr e
-band_more limit more state (Ok (Progress bytes)) v longer e = inr e
 band_more limit more state (Ok (BandData bytes)) v longer e = room_more _ (state.byte_count + length bytes) limit more _ v longer refl e
+band_more limit more state (Ok form) v longer e = inr e
+band_more limit more state (Err fault) v longer e = inr e
 
 error_more : (said : Option (List ℕ)) (limit more : ℕ) (state : State) (form : Result BandPacket BandFault) (v : Verdict) → limit ≤ more
     → unless_error said (judge_band limit state form) ≡ v → (v ≡ Refused why.Limit) ⊎ (unless_error said (judge_band more state form) ≡ v)
@@ -161,31 +142,13 @@ error_more None limit more state form v longer e = band_more limit more state fo
 
 judge_more : (reading : Reading) (limit : ℕ) (state : State) (place : Place) (packet : Packet) (v : Verdict) → reading.limit ≤ limit → judge_there reading place state packet ≡ v
     → (v ≡ Refused why.Limit) ⊎ (judge_there (record reading { limit = limit }) place state packet ≡ v)
-judge_more reading limit state Start (Data payload) v more e = inr e
-judge_more reading limit state Start Flush v more e = inr e
-judge_more reading limit state Start Delim v more e = inr e
-judge_more reading limit state Start ResponseEnd v more e = inr e
-judge_more reading limit state Acking (Data payload) v more e = inr e
-judge_more reading limit state Acking Flush v more e = inr e
-judge_more reading limit state Acking Delim v more e = inr e
-judge_more reading limit state Acking ResponseEnd v more e = inr e
-judge_more reading limit state AfterNak (Data payload) v more e = inr e
-judge_more reading limit state AfterNak Flush v more e = inr e
-judge_more reading limit state AfterNak Delim v more e = inr e
-judge_more reading limit state AfterNak ResponseEnd v more e = inr e
-judge_more reading limit state AfterReady (Data payload) v more e = inr e
-judge_more reading limit state AfterReady Flush v more e = inr e
-judge_more reading limit state AfterReady Delim v more e = inr e
-judge_more reading limit state AfterReady ResponseEnd v more e = inr e
-judge_more reading limit state BeforePack (Data payload) v more e = inr e
-judge_more reading limit state BeforePack Flush v more e = inr e
-judge_more reading limit state BeforePack Delim v more e = inr e
-judge_more reading limit state BeforePack ResponseEnd v more e = inr e
 judge_more reading limit state InPack (Data payload) v more e = error_more (peer_error payload) reading.limit limit state (band_form payload) v more e
-judge_more reading limit state InPack Flush v more e = inr e
-judge_more reading limit state InPack Delim v more e = inr e
-judge_more reading limit state InPack ResponseEnd v more e = inr e
-judge_more reading limit state Over packet v more e = inr e
+judge_more reading limit state Start Flush v more e = inr e
+judge_more reading limit state Acking Flush v more e = inr e
+judge_more reading limit state AfterNak Flush v more e = inr e
+judge_more reading limit state AfterReady Flush v more e = inr e
+judge_more reading limit state BeforePack Flush v more e = inr e
+judge_more reading limit state place packet v more e = inr e
 
 judged_more : (reading : Reading) (limit : ℕ) (front : List Packet) (packet : Packet) (v : Verdict) → reading.limit ≤ limit → judge reading front packet ≡ v
     → (v ≡ Refused why.Limit) ⊎ (judge (record reading { limit = limit }) front packet ≡ v)
@@ -217,18 +180,7 @@ reason_more reading limit front bytes (why.Line fault) more certain h = inr h
 reason_more reading limit front bytes why.Ended more certain h = inr h
 reason_more reading limit front bytes why.Memory more certain h = absurd certain
 reason_more reading limit front bytes why.Limit more certain h = inl refl
-reason_more reading limit front bytes (why.Band fault) more certain h = packet_more reading limit front bytes (why.Band fault) more h
-reason_more reading limit front bytes why.UnexpectedFrame more certain h = packet_more reading limit front bytes why.UnexpectedFrame more h
-reason_more reading limit front bytes why.BadText more certain h = packet_more reading limit front bytes why.BadText more h
-reason_more reading limit front bytes why.UnknownCommand more certain h = packet_more reading limit front bytes why.UnknownCommand more h
-reason_more reading limit front bytes why.UnknownCapability more certain h = packet_more reading limit front bytes why.UnknownCapability more h
-reason_more reading limit front bytes why.UnknownArgument more certain h = packet_more reading limit front bytes why.UnknownArgument more h
-reason_more reading limit front bytes why.BadId more certain h = packet_more reading limit front bytes why.BadId more h
-reason_more reading limit front bytes why.BadName more certain h = packet_more reading limit front bytes why.BadName more h
-reason_more reading limit front bytes (why.RemoteErr said) more certain h = packet_more reading limit front bytes (why.RemoteErr said) more h
-reason_more reading limit front bytes (why.RemoteFatal said) more certain h = packet_more reading limit front bytes (why.RemoteFatal said) more h
-reason_more reading limit front bytes why.WrongSection more certain h = packet_more reading limit front bytes why.WrongSection more h
-reason_more reading limit front bytes why.Format more certain h = packet_more reading limit front bytes why.Format more h
+reason_more reading limit front bytes reason more certain h = packet_more reading limit front bytes reason more h
 
 -- the same refusal within a longer limit, where it is not for the limit
 refused_more : (reading : Reading) (limit : ℕ) (front : List Packet) (bytes : Change) (fault : MessageFault) → LawsOf (judge (record reading { limit = limit })) → reading.limit ≤ limit

@@ -1,5 +1,5 @@
 -- Each open list of a reply has an ending, and few packets.
-use Rattle.std.proofs.Common.{◌≡◌, ℕ, ◌+◌, ◌≤◌, ◌<◌, ◌^◌, List, [], ◌∷◌, ◌++◌, length, codes, inl, inr, refl, sym, ap, subst, ◌∙◌, arith}
+use Rattle.std.proofs.Common.{◌≡◌, ℕ, ◌+◌, ◌≤◌, ◌<◌, ◌^◌, List, [], ◌∷◌, ◌++◌, length, length-append, codes, inl, refl, sym, ap, subst, ◌∙◌, arith}
 use Rattle.gpkt.specs.Packets.{Packet, Data, Flush, Delim, ResponseEnd, text, line_feed}
 use Rattle.gpkt.specs.Bands.{band_form}
 use Rattle.ggrammar.specs.Grammar.{Judge, Verdict, Open, Refused, IsOpen, IsWhole, HasEndings}
@@ -7,15 +7,17 @@ use Rattle.ggrammar.specs.Endings.{ends_with}
 use Rattle.ggrammar.specs.declared.ends.Ends.{Ends}
 use Rattle.ggrammar.specs.declared.ends.Ends.TheVariants.{Plain, Response}
 use Rattle.ggrammar.specs.declared.fault.Why.{Why}
-use Rattle.ggrammar.specs.declared.fault.Why.TheVariants.{WrongSection, UnexpectedFrame}
+use Rattle.gfetchreply.proofs.ReplyForms.{word_there}
 use Rattle.gfetchreply.specs.FetchReplies.{Reading, State, Place, Start, Acking, AfterNak, AfterReady, BeforePack, InPack, Over}
-use Rattle.gfetchreply.specs.FetchReplies.{ReplyForm, Acknowledgments, Nak, Readiness, Packfile, Ack, OtherForm, reply_form}
-use Rattle.gfetchreply.specs.FetchReplies.{max_acks, max_packets, state_of, judge, judge_at, judge_start, judge_before_pack, next_place, texts_there, bands_there}
-use Rattle.gfetchreply.proofs.FromLeft.{state_after, OpenFrom-from_open, IsWhole-from_left, WholeFrom-after_open}
-use Rattle.gfetchreply.proofs.ReplyForms.{heading_form, packfile_form, form_reports_none}
-use Rattle.gfetchreply.proofs.ReplyVerdicts.{start, state_from_start, judge_is, IsWholeAt, IsOpenAt, at_place, data_open, open_data, start_open, before_open, late_not_open, AckingOn, an_ack, a_nak, a_readiness, acking_open, BandOn, band_open, over_not_open, moved, next-moved}
-use Rattle.gfetchreply.proofs.ReplySections.{at_state, rest_flush, next-heading, next-delim, next-packfile}
-use Rattle.gfetchreply.proofs.StateLemmas.{next_state, state-ack, state-acking, state-band}
+use Rattle.gfetchreply.specs.FetchReplies.{ReplyForm, Acknowledgments, Nak, Readiness, Packfile, Ack, reply_form}
+use Rattle.gfetchreply.specs.FetchReplies.{max_acks, max_packets, state_of, judge, judge_at, judge_start, judge_before_pack, next_place, bands_there}
+use Rattle.gfetchreply.proofs.ReplyVerdicts.{state_after, OpenFrom-from_open, IsWhole-from_left, WholeFrom-after_open}
+use Rattle.gfetchreply.proofs.ReplyVerdicts.{start, state_from_start, judge_is, IsWholeAt, IsOpenAt, at_place}
+use Rattle.gfetchreply.proofs.ReplyVerdicts.{data_open, open_data, start_open, before_open, late_not_open, AckingOn}
+use Rattle.gfetchreply.proofs.ReplyVerdicts.{an_ack, a_nak, a_readiness, acking_open, BandOn, band_open, over_not_open}
+use Rattle.gfetchreply.proofs.ReplyForms.{form_reports_none}
+use Rattle.gfetchreply.proofs.ReplySections.{onward, rest_flush, next-heading, next-delim, next-packfile}
+use Rattle.gfetchreply.proofs.StateLemmas.{acks_there, moved, moves, next_state, state-ack, state-acking, state-band}
 
 -- ---- an ending
 
@@ -37,69 +39,52 @@ heading_line = codes "acknowledgments" ++ line_feed ∷ []
 
 packfile_is : reply_form (text packfile_line) ≡ Packfile
 unfolding packfile_line
-packfile_is = packfile_form (text packfile_line) refl
+packfile_is = word_there (text packfile_line) Packfile tt refl
 
 heading_is : reply_form (text heading_line) ≡ Acknowledgments
 unfolding heading_line
-heading_is = heading_form (text heading_line) refl
+heading_is = word_there (text heading_line) Acknowledgments tt refl
 
 ends_before : (reading : Reading) (state : State) → state.place ≡ BeforePack → IsWholeAt reading state (Data packfile_line ∷ Flush ∷ ends_with reading.ends)
 ends_before reading state here =
-    inr (
-      open_data reading state BeforePack packfile_line here tt (form_reports_none packfile_line Packfile packfile_is tt) (ap judge_before_pack packfile_is),
-      at_state reading (moved state InPack) (next_state reading.format state (Data packfile_line)) (Flush ∷ ends_with reading.ends)
-          (sym (next-packfile reading.format state packfile_line here packfile_is))
-          (rest_flush reading (moved state InPack) (at_place reading (moved state InPack) InPack Flush refl) refl),
-    )
+    onward reading state (moved state InPack) (Data packfile_line) _
+    (open_data reading state BeforePack packfile_line here (form_reports_none packfile_line Packfile packfile_is tt) (ap judge_before_pack packfile_is))
+    (next-packfile reading.format state packfile_line here packfile_is)
+    (rest_flush reading (moved state InPack) InPack refl refl refl)
 
 ends_after_ready : (reading : Reading) (state : State) → state.place ≡ AfterReady
     → IsWholeAt reading state (Delim ∷ Data packfile_line ∷ Flush ∷ ends_with reading.ends)
 ends_after_ready reading state here =
-    inr (
-      at_place reading state AfterReady Delim here,
-      at_state reading (moved state BeforePack) (next_state reading.format state Delim) (Data packfile_line ∷ Flush ∷ ends_with reading.ends)
-          (sym (next-delim reading.format state here)) (ends_before reading (moved state BeforePack) refl),
-    )
+    onward reading state (moved state BeforePack) Delim _ (at_place reading state AfterReady Delim here)
+    (next-delim reading.format state here) (ends_before reading (moved state BeforePack) refl)
 
 ends_start : (reading : Reading) (state : State) → state.place ≡ Start → IsWholeAt reading state (Data heading_line ∷ Flush ∷ ends_with reading.ends)
 ends_start reading state here =
-    inr (
-      open_data reading state Start heading_line here tt (form_reports_none heading_line Acknowledgments heading_is tt) (ap judge_start heading_is),
-      at_state reading (moved state Acking) (next_state reading.format state (Data heading_line)) (Flush ∷ ends_with reading.ends)
-          (sym (next-heading reading.format state heading_line here heading_is))
-          (rest_flush reading (moved state Acking) (at_place reading (moved state Acking) Acking Flush refl) refl),
-    )
+    onward reading state (moved state Acking) (Data heading_line) _
+    (open_data reading state Start heading_line here (form_reports_none heading_line Acknowledgments heading_is tt) (ap judge_start heading_is))
+    (next-heading reading.format state heading_line here heading_is)
+    (rest_flush reading (moved state Acking) Acking refl refl refl)
+
+as_ending : (reading : Reading) (state : State) (more : List Packet) → length more ≤ 2
+    → IsWholeAt reading state (more ++ Flush ∷ ends_with reading.ends) → Ending reading state
+as_ending reading state more few whole =
+    let one = few_ends reading.ends in
+    record {
+      more = more ++ Flush ∷ ends_with reading.ends;
+      few = omega (arith, length-append more (Flush ∷ ends_with reading.ends));
+      whole = whole;
+    }
 
 ending : (reading : Reading) (state : State) (place : Place) → state.place ≡ place → Ending reading state
 ending reading state Start here =
-    let one = few_ends reading.ends in record { more = Data heading_line ∷ Flush ∷ ends_with reading.ends; few = omega arith; whole = ends_start reading state here }
-ending reading state Acking here =
-    let one = few_ends reading.ends in
-    record {
-      more = Flush ∷ ends_with reading.ends;
-      few = omega arith;
-      whole = rest_flush reading state (at_place reading state Acking Flush here) (ap (λ (p : Place). next_place p Flush) here);
-    }
-ending reading state AfterNak here =
-    let one = few_ends reading.ends in
-    record {
-      more = Flush ∷ ends_with reading.ends;
-      few = omega arith;
-      whole = rest_flush reading state (at_place reading state AfterNak Flush here) (ap (λ (p : Place). next_place p Flush) here);
-    }
+    as_ending reading state (Data heading_line ∷ []) (omega arith) (ends_start reading state here)
 ending reading state AfterReady here =
-    let one = few_ends reading.ends in
-    record { more = Delim ∷ Data packfile_line ∷ Flush ∷ ends_with reading.ends; few = omega arith; whole = ends_after_ready reading state here }
+    as_ending reading state (Delim ∷ Data packfile_line ∷ []) (omega arith) (ends_after_ready reading state here)
 ending reading state BeforePack here =
-    let one = few_ends reading.ends in record { more = Data packfile_line ∷ Flush ∷ ends_with reading.ends; few = omega arith; whole = ends_before reading state here }
-ending reading state InPack here =
-    let one = few_ends reading.ends in
-    record {
-      more = Flush ∷ ends_with reading.ends;
-      few = omega arith;
-      whole = rest_flush reading state (at_place reading state InPack Flush here) (ap (λ (p : Place). next_place p Flush) here);
-    }
+    as_ending reading state (Data packfile_line ∷ []) (omega arith) (ends_before reading state here)
 ending reading state Over here = record { more = ResponseEnd ∷ []; few = omega arith; whole = inl (at_place reading state Over ResponseEnd here, refl) }
+ending reading state place here =
+    as_ending reading state [] (omega arith) (rest_flush reading state place here refl refl)
 
 open_at : (reading : Reading) (front : List Packet) → IsOpen (judge reading) front → IsOpenAt reading (start reading) front
 open_at reading front opened =
@@ -155,14 +140,16 @@ acking_step : (reading : Reading) (state : State) (payload : List ℕ) (form : R
 unfolding due
 acking_step reading state payload (Ack digits) here within is (an_ack d id spells few) =
     let same : due state.place ≡ due Acking = ap due here in
-    as_step reading state _ _ (state-ack reading.format state payload digits id here is spells) (record { fewer = omega arith; within = record { ack_count = omega arith; band_count = within.band_count; byte_count = within.byte_count } })
+    as_step reading state _ _ (state-ack reading.format state payload digits id here is spells)
+    (record {
+      fewer = omega arith;
+      within = record { ack_count = omega arith; band_count = within.band_count; byte_count = within.byte_count };
+    })
 acking_step reading state payload Nak here within is (a_nak none) =
     as_step reading state _ _ (state-acking reading.format state payload Nak here is refl) (move_step reading state Acking AfterNak here within (omega arith))
 acking_step reading state payload Readiness here within is a_readiness =
     as_step reading state _ _ (state-acking reading.format state payload Readiness here is refl) (move_step reading state Acking AfterReady here within (omega arith))
-acking_step reading state payload Acknowledgments here within is on = elim on [ ]
-acking_step reading state payload Packfile here within is on = elim on [ ]
-acking_step reading state payload OtherForm here within is on = elim on [ ]
+acking_step reading state payload form here within is on = elim on [ ]
 
 band_step : (reading : Reading) (state : State) (payload : List ℕ) → state.place ≡ InPack → Within reading state → BandOn reading.limit state (band_form payload)
     → Step reading state (next_state reading.format state (Data payload))
@@ -171,12 +158,13 @@ band_step reading state payload here within on =
     let few = on.few in
     as_step reading state _ _ (state-band reading.format state payload here) (record { fewer = omega arith; within = record { ack_count = within.ack_count; band_count = omega arith; byte_count = on.short } })
 
-flush_step : (reading : Reading) (state : State) (place : Place) → state.place ≡ place → Within reading state → texts_there place Flush ≡ [] → bands_there place Flush ≡ []
-    → next_place place Flush ≡ Over → 0 < due place → Step reading state (next_state reading.format state Flush)
+flush_step : (reading : Reading) (state : State) (place : Place) → state.place ≡ place → Within reading state
+    → acks_there reading.format place Flush ≡ [] → bands_there place Flush ≡ [] → next_place place Flush ≡ Over
+    → 0 < due place
+    → Step reading state (next_state reading.format state Flush)
 unfolding due
-flush_step reading state place here within no_texts no_bands over some =
-    as_step reading state _ _
-    (next-moved reading.format state Flush Over (ap (λ (p : Place). texts_there p Flush) here ∙ no_texts) (ap (λ (p : Place). bands_there p Flush) here ∙ no_bands) (ap (λ (p : Place). next_place p Flush) here ∙ over))
+flush_step reading state place here within no_acks no_bands over some =
+    as_step reading state _ _ (moves reading.format state place Over Flush here over no_acks no_bands)
     (move_step reading state place Over here within some)
 
 no_step : (reading : Reading) (state new : State) (v : Verdict) (why : Why) → v ≡ Refused why → v ≡ Open → Step reading state new
@@ -186,47 +174,30 @@ step_at : (reading : Reading) (state : State) (place : Place) (packet : Packet) 
     → Step reading state (next_state reading.format state packet)
 unfolding due
 step_at reading state Start (Data payload) here within goes =
-    let form : reply_form (text payload) ≡ Acknowledgments = start_open _ (data_open reading state Start payload here tt goes) in
+    let form : reply_form (text payload) ≡ Acknowledgments = start_open _ (data_open reading state Start payload here goes) in
     as_step reading state _ _ (next-heading reading.format state payload here form) (move_step reading state Start Acking here within (omega arith))
 step_at reading state Acking (Data payload) here within goes =
-    acking_step reading state payload _ here within refl (acking_open reading.format state _ (data_open reading state Acking payload here tt goes))
-step_at reading state AfterNak (Data payload) here within goes = absurd (late_not_open _ (data_open reading state AfterNak payload here tt goes))
-step_at reading state AfterReady (Data payload) here within goes = absurd (late_not_open _ (data_open reading state AfterReady payload here tt goes))
+    acking_step reading state payload _ here within refl (acking_open reading.format state _ (data_open reading state Acking payload here goes))
+step_at reading state AfterNak (Data payload) here within goes = absurd (late_not_open _ (data_open reading state AfterNak payload here goes))
+step_at reading state AfterReady (Data payload) here within goes = absurd (late_not_open _ (data_open reading state AfterReady payload here goes))
 step_at reading state BeforePack (Data payload) here within goes =
-    let form : reply_form (text payload) ≡ Packfile = before_open _ (data_open reading state BeforePack payload here tt goes) in
+    let form : reply_form (text payload) ≡ Packfile = before_open _ (data_open reading state BeforePack payload here goes) in
     as_step reading state _ _ (next-packfile reading.format state payload here form) (move_step reading state BeforePack InPack here within (omega arith))
 step_at reading state InPack (Data payload) here within goes =
-    band_step reading state payload here within (band_open reading.limit state (band_form payload) within.byte_count (data_open reading state InPack payload here tt goes))
+    band_step reading state payload here within (band_open reading.limit state (band_form payload) within.byte_count (data_open reading state InPack payload here goes))
 step_at reading state Over packet here within goes = absurd (over_not_open packet (sym (at_place reading state Over packet here) ∙ goes))
 step_at reading state Acking Flush here within goes = flush_step reading state Acking here within refl refl refl (omega arith)
 step_at reading state AfterNak Flush here within goes = flush_step reading state AfterNak here within refl refl refl (omega arith)
 step_at reading state InPack Flush here within goes = flush_step reading state InPack here within refl refl refl (omega arith)
-step_at reading state Start Flush here within goes = no_step reading state _ _ WrongSection (at_place reading state Start Flush here) goes
-step_at reading state AfterReady Flush here within goes = no_step reading state _ _ WrongSection (at_place reading state AfterReady Flush here) goes
-step_at reading state BeforePack Flush here within goes = no_step reading state _ _ WrongSection (at_place reading state BeforePack Flush here) goes
 step_at reading state AfterReady Delim here within goes =
     as_step reading state _ _ (next-delim reading.format state here) (move_step reading state AfterReady BeforePack here within (omega arith))
-step_at reading state Start Delim here within goes = no_step reading state _ _ WrongSection (at_place reading state Start Delim here) goes
-step_at reading state Acking Delim here within goes = no_step reading state _ _ WrongSection (at_place reading state Acking Delim here) goes
-step_at reading state AfterNak Delim here within goes = no_step reading state _ _ WrongSection (at_place reading state AfterNak Delim here) goes
-step_at reading state BeforePack Delim here within goes = no_step reading state _ _ WrongSection (at_place reading state BeforePack Delim here) goes
-step_at reading state InPack Delim here within goes = no_step reading state _ _ WrongSection (at_place reading state InPack Delim here) goes
-step_at reading state Start ResponseEnd here within goes = no_step reading state _ _ UnexpectedFrame (at_place reading state Start ResponseEnd here) goes
-step_at reading state Acking ResponseEnd here within goes = no_step reading state _ _ UnexpectedFrame (at_place reading state Acking ResponseEnd here) goes
-step_at reading state AfterNak ResponseEnd here within goes = no_step reading state _ _ UnexpectedFrame (at_place reading state AfterNak ResponseEnd here) goes
-step_at reading state AfterReady ResponseEnd here within goes = no_step reading state _ _ UnexpectedFrame (at_place reading state AfterReady ResponseEnd here) goes
-step_at reading state BeforePack ResponseEnd here within goes = no_step reading state _ _ UnexpectedFrame (at_place reading state BeforePack ResponseEnd here) goes
-step_at reading state InPack ResponseEnd here within goes = no_step reading state _ _ UnexpectedFrame (at_place reading state InPack ResponseEnd here) goes
+step_at reading state place packet here within goes =
+    no_step reading state _ _ _ (at_place reading state place packet here) goes
 
 due_few : (place : Place) → due place ≤ 5
 unfolding due
 due_few Start = omega arith
-due_few Acking = omega arith
-due_few AfterNak = omega arith
-due_few AfterReady = omega arith
-due_few BeforePack = omega arith
-due_few InPack = omega arith
-due_few Over = omega arith
+due_few place = omega arith
 
 few_from : (reading : Reading) (state : State) (front : List Packet) → Within reading state → IsOpenAt reading state front
     → length front + (state.ack_count + state.band_count) ≤ due state.place + (max_acks + max_packets)

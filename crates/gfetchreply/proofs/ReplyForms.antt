@@ -1,7 +1,7 @@
 -- The forms of texts and payloads of a reply.
 use Rattle.std.proofs.Common.{◌≡◌, ℕ, Bool, true, false, cond, nat_eq, List, [], ◌∷◌, ◌++◌, length, take, codes, inl, inr, Option, Some, None, refl, sym, ap, subst, ◌∙◌, ◌-◌, suc, arith}
 use Rattle.std.specs.Str.{bytes_eq}
-use Rattle.std.proofs.lemmas.Bool.{and_left, cond-false, cases_cond, eqb-true}
+use Rattle.std.proofs.lemmas.Bool.{and_left, cond-false, cond_both, cases_cond, eqb-true}
 use Rattle.std.proofs.lemmas.Slice.Eq.{bytes_eq-Decides}
 use Rattle.gpkt.specs.Packets.{text}
 use Rattle.gpkt.specs.Bands.{band_form, band_at}
@@ -12,76 +12,48 @@ use Rattle.gfetchreply.specs.FetchReplies.{ReplyForm, Acknowledgments, Nak, Read
 
 -- ---- a text has one of six forms
 
-pub data FormOf (line : List ℕ) : ReplyForm → Type 0 where
-  headed : line ≡ codes "acknowledgments" → FormOf line Acknowledgments
-  naked : line ≡ codes "NAK" → FormOf line Nak
-  ready : line ≡ codes "ready" → FormOf line Readiness
-  packed : line ≡ codes "packfile" → FormOf line Packfile
-  acked : (id : List ℕ) → after_word (codes "ACK ") line ≡ Some id → FormOf line (Ack id)
-  other : FormOf line OtherForm
+abbrev pub IsOfForm : List ℕ → ReplyForm → Type 0
+IsOfForm line Acknowledgments = line ≡ codes "acknowledgments"
+IsOfForm line Nak = line ≡ codes "NAK"
+IsOfForm line Readiness = line ≡ codes "ready"
+IsOfForm line Packfile = line ≡ codes "packfile"
+IsOfForm line (Ack id) = after_word (codes "ACK ") line ≡ Some id
+IsOfForm line OtherForm = Unit {0}
 
-ack_form : (line : List ℕ) (id : Option (List ℕ)) → after_word (codes "ACK ") line ≡ id → FormOf line (ack_or_other id)
-ack_form line None e = other
-ack_form line (Some id) e = acked id e
+ack_form : (line : List ℕ) (id : Option (List ℕ)) → after_word (codes "ACK ") line ≡ id
+    → IsOfForm line (ack_or_other id)
+ack_form line None e = tt
+ack_form line (Some id) e = e
 
-word_form : (line word : List ℕ) (test : Bool) (form rest : ReplyForm) → bytes_eq line word ≡ test → (line ≡ word → FormOf line form) → FormOf line rest
-    → FormOf line (cond test form rest)
-word_form line word true form rest e is not_it = is ((bytes_eq-Decides line word).0 e)
-word_form line word false form rest e is not_it = not_it
+word_form : (line word : List ℕ) (form rest : ReplyForm) → (line ≡ word → IsOfForm line form) → IsOfForm line rest
+    → IsOfForm line (cond (bytes_eq line word) form rest)
+word_form line word form rest is not_it =
+    cond_both (bytes_eq line word) form rest (IsOfForm line) (λ e. is ((bytes_eq-Decides line word).0 e)) (λ _. not_it)
 
-pub form_of : (line : List ℕ) → FormOf line (reply_form line)
+form_of : (line : List ℕ) → IsOfForm line (reply_form line)
 unfolding reply_form
 form_of line =
-    word_form line (codes "acknowledgments") _ _ _ refl (λ e. headed e)
-    (word_form line (codes "NAK") _ _ _ refl (λ e. naked e)
-    (word_form line (codes "ready") _ _ _ refl (λ e. ready e)
-    (word_form line (codes "packfile") _ _ _ refl (λ e. packed e) (ack_form line _ refl))))
+    word_form line (codes "acknowledgments") Acknowledgments _ (λ e. e)
+    (word_form line (codes "NAK") Nak _ (λ e. e)
+    (word_form line (codes "ready") Readiness _ (λ e. e)
+    (word_form line (codes "packfile") Packfile _ (λ e. e) (ack_form line _ refl))))
 
-form_there : (line : List ℕ) (form : ReplyForm) → reply_form line ≡ form → FormOf line form
-form_there line form e = subst (FormOf line) e (form_of line)
+pub form_there : (line : List ℕ) (form : ReplyForm) → reply_form line ≡ form → IsOfForm line form
+form_there line form e = subst (IsOfForm line) e (form_of line)
 
-heading_by : (line : List ℕ) → FormOf line Acknowledgments → line ≡ codes "acknowledgments"
-heading_by line (headed e) = e
+-- a text that is one word
+abbrev pub IsWord : ReplyForm → Type 0
+IsWord (Ack id) = ⊥
+IsWord OtherForm = ⊥
+IsWord _ = Unit {0}
 
-nak_by : (line : List ℕ) → FormOf line Nak → line ≡ codes "NAK"
-nak_by line (naked e) = e
-
-readiness_by : (line : List ℕ) → FormOf line Readiness → line ≡ codes "ready"
-readiness_by line (ready e) = e
-
-packfile_by : (line : List ℕ) → FormOf line Packfile → line ≡ codes "packfile"
-packfile_by line (packed e) = e
-
-ack_by : (line id : List ℕ) → FormOf line (Ack id) → after_word (codes "ACK ") line ≡ Some id
-ack_by line id (acked i e) = e
-
-pub heading_line : (line : List ℕ) → reply_form line ≡ Acknowledgments → line ≡ codes "acknowledgments"
-heading_line line e = heading_by line (form_there line Acknowledgments e)
-
-pub nak_line : (line : List ℕ) → reply_form line ≡ Nak → line ≡ codes "NAK"
-nak_line line e = nak_by line (form_there line Nak e)
-
-pub readiness_line : (line : List ℕ) → reply_form line ≡ Readiness → line ≡ codes "ready"
-readiness_line line e = readiness_by line (form_there line Readiness e)
-
-pub packfile_line : (line : List ℕ) → reply_form line ≡ Packfile → line ≡ codes "packfile"
-packfile_line line e = packfile_by line (form_there line Packfile e)
-
-pub heading_form : (line : List ℕ) → line ≡ codes "acknowledgments" → reply_form line ≡ Acknowledgments
+pub word_there : (line : List ℕ) (form : ReplyForm) → IsWord form → IsOfForm line form → reply_form line ≡ form
 unfolding reply_form
-heading_form line e = ap reply_form e
-
-pub nak_form : (line : List ℕ) → line ≡ codes "NAK" → reply_form line ≡ Nak
-unfolding reply_form
-nak_form line e = ap reply_form e
-
-pub readiness_form : (line : List ℕ) → line ≡ codes "ready" → reply_form line ≡ Readiness
-unfolding reply_form
-readiness_form line e = ap reply_form e
-
-pub packfile_form : (line : List ℕ) → line ≡ codes "packfile" → reply_form line ≡ Packfile
-unfolding reply_form
-packfile_form line e = ap reply_form e
+word_there line Acknowledgments word e = ap reply_form e
+word_there line Nak word e = ap reply_form e
+word_there line Readiness word e = ap reply_form e
+word_there line Packfile word e = ap reply_form e
+word_there line form word e = absurd word
 
 pub ack_form-written : (id : List ℕ) → reply_form (codes "ACK " ++ id) ≡ Ack id
 unfolding reply_form after_word
@@ -128,13 +100,13 @@ abbrev pub IsForm : ReplyForm → Type 0
 IsForm OtherForm = ⊥
 IsForm _ = Unit {0}
 
-none_by : (payload : List ℕ) (form : ReplyForm) → FormOf (text payload) form → IsForm form → peer_error payload ≡ None
-none_by payload Acknowledgments (headed e) h = text_reports_none payload 97 _ e refl
-none_by payload Nak (naked e) h = text_reports_none payload 78 _ e refl
-none_by payload Readiness (ready e) h = text_reports_none payload 114 _ e refl
-none_by payload Packfile (packed e) h = text_reports_none payload 112 _ e refl
-none_by payload (Ack id) (acked i e) h = let a = after_ack (text payload) id e in text_reports_none payload 65 a.0 a.1 refl
-none_by payload OtherForm f h = absurd h
+none_by : (payload : List ℕ) (form : ReplyForm) → IsOfForm (text payload) form → IsForm form → peer_error payload ≡ None
+none_by payload Acknowledgments e h = text_reports_none payload 97 _ e refl
+none_by payload Nak e h = text_reports_none payload 78 _ e refl
+none_by payload Readiness e h = text_reports_none payload 114 _ e refl
+none_by payload Packfile e h = text_reports_none payload 112 _ e refl
+none_by payload (Ack id) e h = let a = after_ack (text payload) id e in text_reports_none payload 65 a.0 a.1 refl
+none_by payload OtherForm e h = absurd h
 
 -- a text of the grammar reports no error
 pub form_reports_none : (payload : List ℕ) (form : ReplyForm) → reply_form (text payload) ≡ form → IsForm form → peer_error payload ≡ None

@@ -1,21 +1,27 @@
 -- What a reply that was read says.
-use Rattle.std.proofs.Common.{◌≡◌, ℕ, Bool, true, false, List, [], ◌++◌, length, ◌≤◌, append-nil, refl, sym, ap, subst, ◌∙◌}
-use Rattle.std.specs.Prelude.{if◌then◌else◌}
-use Rattle.gpkt.specs.Packets.{Packet, Data, Flush, Delim, ResponseEnd}
+use Rattle.std.proofs.Common.{◌≡◌, ℕ, Bool, true, false, List, [], ◌++◌, length, ◌≤◌, append-nil, refl, sym, ap, subst}
+use Rattle.std.proofs.Common.{◌∙◌, Result, Ok, Err}
+use Rattle.std.specs.Prelude.{if◌then◌else◌, IfErr}
+use Rattle.gpkt.specs.Packets.{Packet, Data, canonical_all}
 use Rattle.gpkt.specs.Change.{Change}
 use Rattle.ggrammar.specs.Grammar.{IsWhole, Whole}
-use Rattle.ggrammar.specs.Kinds.{ReadsMessage}
+use Rattle.ggrammar.specs.Kinds.{ReadsMessage, ReadsOrRefuses, SaysWhole, ReadsExactly, ReadsBack}
 use Rattle.ggrammar.specs.MessageReading.{ReadsWhole, ReadsRefused}
 use Rattle.ggrammar.specs.declared.fault.MessageFault.{MessageFault}
-use Rattle.gfetchreply.specs.FetchReplies.{Reading, State, Place, Start, Acking, AfterNak, AfterReady, BeforePack, InPack, Over, judge_at, place_of, state_of, brings_into, judge, Says, FetchReply, reply_of, ack_texts, acks_of, band_payloads, data_of, is_ready, Acks, Ready, Pack}
+use Rattle.gfetchreply.specs.FetchReplies.{Reading, State, Place, InPack, judge_at, place_of, state_of, brings_into}
+use Rattle.gfetchreply.specs.FetchReplies.{judge, Says, FetchReply, reply_of, ack_texts, acks_of, band_payloads}
+use Rattle.gfetchreply.specs.FetchReplies.{data_of, is_ready, Acks, Ready, Pack, IsCanonical, canonical_reply}
 use Rattle.gfetchreply.specs.FetchHeads.{FetchHead, head_of, pack_of}
 use Rattle.gfetchreply.specs.steps.FetchHeads.{head_by, reply_with}
 use Rattle.gfetchreply.specs.steps.ReplyState.{Kept, data_there, Holds, Leaves}
-use Rattle.gfetchreply.specs.ReplyReading.{TakesReply, RefusesReply}
-use Rattle.gfetchreply.proofs.KeptLemmas.{pack_push}
+use Rattle.gfetchreply.specs.ReplyReading.{TakesReply, RefusesReply, ReadsReply}
+use Rattle.gfetchreply.proofs.StateLemmas.{pack_push}
 use Rattle.gfetchreply.proofs.ReplyEndings.{open_keeps_limit}
 use Rattle.gfetchreply.proofs.ReplyManual.{said_pack}
 use Rattle.gfetchreply.proofs.ReplyVerdicts.{data_not_whole}
+use Rattle.ggrammar.specs.MessageBytes.{known, IsOfBytes}
+use Rattle.gfetchreply.specs.Laws.{HasReadInto, ReadsBackInto, ReadsIntoOnlySaid, ReadsIntoWhereSaid}
+use Rattle.gfetchreply.specs.WellFormed.{IsReplyIn}
 
 heads : (direct ready : Bool) (ids : List (List ℕ)) (pack : List ℕ)
     → head_by direct ready ids ≡ head_of (if direct then Pack pack else if ready then Ready ids pack else Acks ids)
@@ -30,16 +36,9 @@ head_is reading packets =
 
 -- the last packet brings nothing of the pack
 last_none : (reading : Reading) (state : State) (place : Place) (packet : Packet) → state.place ≡ place → judge_at reading state packet ≡ Whole → data_there place packet ≡ []
-last_none reading state InPack (Data payload) here e = absurd (data_not_whole reading state InPack payload here tt e)
-last_none reading state Start (Data payload) here e = refl
-last_none reading state Acking (Data payload) here e = refl
-last_none reading state AfterNak (Data payload) here e = refl
-last_none reading state AfterReady (Data payload) here e = refl
-last_none reading state BeforePack (Data payload) here e = refl
-last_none reading state Over (Data payload) here e = refl
-last_none reading state place Flush here e = refl
-last_none reading state place Delim here e = refl
-last_none reading state place ResponseEnd here e = refl
+last_none reading state InPack (Data payload) here e = absurd (data_not_whole reading state InPack payload here e)
+last_none reading state place (Data payload) here e = refl
+last_none reading state place packet here e = refl
 
 -- a complete reply keeps the limit
 whole_is_short : (reading : Reading) (packets : List Packet) → IsWhole (judge reading) packets → length (data_of (band_payloads reading.direct packets)) ≤ reading.limit
@@ -57,12 +56,13 @@ rejoined (Ready ids pack) = refl
 rejoined (Pack pack) = refl
 
 module _ {S : Type 0} (taken : S → List ℕ → Type 0) (same : S → S → Type 0) (had : List ℕ → Type 0) (starts : S → Type 0) (seat : ℕ) where
-  pub takes_reply : (asked reading : Reading) (bytes : Change) (kept : Kept) (sink : S) (name : ℕ) (packets : List Packet) (head : FetchHead)
-      → ReadsWhole (judge asked) bytes packets → Holds taken same had starts seat asked reading kept sink name packets
+  pub takes_reply : (lent asked reading : Reading) (bytes : Change) (kept : Kept) (sink : S) (name : ℕ) (packets : List Packet) (head : FetchHead)
+      → asked ≡ lent → ReadsWhole (judge asked) bytes packets
+      → Holds taken same had starts seat lent reading kept sink name packets
       → head ≡ head_by asked.direct kept.ready kept.acks.ids → TakesReply taken asked bytes had sink head
-  takes_reply asked reading bytes kept sink name packets head read before is =
-      let held : Holds taken same had starts seat asked asked kept sink name packets =
-      subst (λ r. Holds taken same had starts seat asked r kept sink name packets) before.kind before in
+  takes_reply lent asked reading bytes kept sink name packets head from read before is =
+      let held : Holds taken same had starts seat lent asked kept sink name packets =
+      subst (λ r. Holds taken same had starts seat lent r kept sink name packets) (before.kind ∙ sym from) before in
       let says : Says asked packets (reply_of asked packets) = record { whole = read.whole; says = refl } in
       let pack = said_pack asked packets (reply_of asked packets) says in
       record {
@@ -74,12 +74,12 @@ module _ {S : Type 0} (taken : S → List ℕ → Type 0) (same : S → S → Ty
         pack = λ old h. subst (λ (xs : List ℕ). taken sink (old ++ xs)) (sym pack) (held.pack old h);
       }
 
-  pub refuses_reply : (refuses : Bool) (asked reading : Reading) (bytes : Change) (sink : S) (name : ℕ) (packets : List Packet) (fault : MessageFault)
-      → ReadsRefused (judge asked) (brings_into refuses asked) packets bytes fault → Leaves taken same had starts seat asked reading sink name packets
+  pub refuses_reply : (refuses : Bool) (lent asked reading : Reading) (bytes : Change) (sink : S) (name : ℕ) (packets : List Packet) (fault : MessageFault)
+      → asked ≡ lent → ReadsRefused (judge asked) (brings_into refuses asked) packets bytes fault → Leaves taken same had starts seat lent reading sink name packets
       → RefusesReply taken refuses asked bytes had sink fault
-  refuses_reply refuses asked reading bytes sink name packets fault refused before =
-      let left : Leaves taken same had starts seat asked asked sink name packets =
-      subst (λ r. Leaves taken same had starts seat asked r sink name packets) before.kind before in
+  refuses_reply refuses lent asked reading bytes sink name packets fault from refused before =
+      let left : Leaves taken same had starts seat lent asked sink name packets =
+      subst (λ r. Leaves taken same had starts seat lent r sink name packets) (before.kind ∙ sym from) before in
       record { packets = packets; refused = refused; short = open_keeps_limit asked packets refused.goes; pack = left.pack }
 
 -- ---- a sink that says what it has taken has the pack
@@ -101,3 +101,46 @@ module _ {S : Type 0} (taken : S → List ℕ → Type 0) (reading : Reading) (b
 
   pub short_reply : length (pack_of (reply_with head items)) ≤ reading.limit
   short_reply = subst (λ (reply : FetchReply). length (pack_of reply) ≤ reading.limit) (sym reply_is) h.short
+
+-- ---- what reading a reply into a sink comes to, by what reading the reply does
+
+pub says_whole : (reading : Reading) → SaysWhole (judge reading) (Says reading)
+says_whole reading packets = (λ whole. (reply_of reading packets, record { whole = whole; says = refl }), λ said. said.1.whole)
+
+module _ (refuses : Bool) (reading : Reading) where
+  -- whatever is read of these bytes is this reply, and this is left of them
+  abbrev IsRead : List ℕ → List ℕ → List ℕ → FetchReply → Type 0
+  IsRead bytes new rest reply = (answer : Result FetchReply MessageFault)
+      → ReadsOrRefuses (judge reading) (brings_into refuses reading) (Says reading) (known bytes new) answer → IfErr answer (λ fault. IsOfBytes fault.why)
+      → (answer ≡ Ok reply) × (new ≡ rest)
+
+  module _ {S : Type 0} (taken : S → List ℕ → Type 0) where
+    read_into : (bytes new rest : List ℕ) (old sink : S) (result : Result FetchHead MessageFault) (reply : FetchReply)
+        → ReadsReply taken refuses reading (known bytes new) (taken old) sink result → IfErr result (λ fault. IsOfBytes fault.why)
+        → IsRead bytes new rest reply → HasReadInto taken rest new old sink result reply
+    read_into bytes new rest old sink (Ok head) reply read certain is =
+        let h = is (Ok read.reply) read.read tt in
+        let same : read.reply ≡ reply = (let both : Ok read.reply ≡ Ok reply = h.0 in cc) in
+        record {
+          head = ap Ok (read.is_head ∙ ap head_of same);
+          left = h.1;
+          pack = λ before had. subst (λ (r : FetchReply). taken sink (before ++ pack_of r)) same (read.pack before had);
+        }
+    read_into bytes new rest old sink (Err fault) reply read certain is =
+        absurd (let no : Err fault ≡ Ok reply = (is (Err fault) (read.packets, read.refused) certain).0 in cc)
+
+    pub into_where_said : ReadsExactly (judge reading) (brings_into refuses reading) (Says reading) → ReadsIntoWhereSaid taken refuses reading
+    into_where_said exactly bytes new rest old sink result reply read certain at =
+        read_into bytes new rest old sink result reply read certain (λ answer reads sure. (exactly bytes new rest answer reply reads sure).1 at)
+
+    pub into_only_said : ReadsExactly (judge reading) (brings_into refuses reading) (Says reading) → ReadsIntoOnlySaid taken reading
+    into_only_said exactly bytes new old sink head read = (
+      read.reply,
+      (exactly bytes new new (Ok read.reply) read.reply read.read tt).0 (refl, refl),
+      record { head = ap Ok read.is_head; left = refl; pack = read.pack },
+    )
+
+    pub back_into : ReadsBack (judge reading) (brings_into refuses reading) (Says reading) (IsReplyIn reading) (IsCanonical reading.ends) → ReadsBackInto taken refuses reading
+    back_into back rest new old sink result reply fit read certain =
+        read_into (canonical_all (canonical_reply reading.ends reply) ++ rest) new rest old sink result reply read certain
+        (λ answer reads sure. back (canonical_reply reading.ends reply) rest new answer reply fit refl reads sure)

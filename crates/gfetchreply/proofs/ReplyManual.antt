@@ -11,17 +11,18 @@ use Rattle.ggrammar.specs.Places.{collected}
 use Rattle.ggrammar.specs.Endings.{ends_with}
 use Rattle.ggrammar.specs.declared.ends.Ends.{Ends}
 use Rattle.ggrammar.specs.declared.ends.Ends.TheVariants.{Plain, Response}
-use Rattle.gfetchreply.specs.FetchManual.{IsAck, IsAckSection, IsPackSection, IsNakReply, IsAckReply, IsReadyReply, IsBody, IsFetchReply}
+use Rattle.gfetchreply.specs.FetchManual.{IsAck, IsAckSection, IsPackSection, IsBody, IsFetchReply}
+use Rattle.gfetchreply.proofs.ReplyForms.{word_there}
 use Rattle.gfetchreply.specs.FetchReplies.{Reading, State, Place, Start, Acking, BeforePack, InPack, Over}
+use Rattle.gfetchreply.specs.FetchReplies.{Acknowledgments, Nak, Readiness, Packfile}
 use Rattle.gfetchreply.specs.FetchReplies.{FetchReply, Acks, Ready, Pack, ReplyForm, reply_form, ack_id, is_readiness, is_ready}
-use Rattle.gfetchreply.specs.FetchReplies.{judge, judge_at, next_place, after_text, first_place, texts_there, bands_there, ack_texts, band_payloads, acks_of, data_of, reply_of, Says}
+use Rattle.gfetchreply.specs.FetchReplies.{judge, judge_at, next_place, after_text, first_place, texts_there, bands_there, ack_texts, band_payloads, acks_of, data_of, reply_by, reply_of, Says}
 use Rattle.gfetchreply.specs.FetchHeads.{pack_of}
-use Rattle.gfetchreply.proofs.FromLeft.{WholeFrom-from_whole, IsWhole-from_left, WholeFrom-ends}
-use Rattle.gfetchreply.proofs.ReplyForms.{heading_form, nak_form, readiness_form, packfile_form}
-use Rattle.gfetchreply.proofs.ReplyVerdicts.{start, judge_is, IsWholeAt, at_place, moved}
-use Rattle.gfetchreply.proofs.ReplySections.{pack_part, part_pack, rest_flush}
-use Rattle.gfetchreply.proofs.AckSections.{AckTail, ended, naked, readied, IsAckRest, ack_part, part_ack, rest_acks, rest_nak, rest_ready, ack_is}
-use Rattle.gfetchreply.proofs.StateLemmas.{next_state, acks_of-append, acks_of-one}
+use Rattle.gfetchreply.proofs.ReplyVerdicts.{WholeFrom-from_whole, IsWhole-from_left, WholeFrom-ends, start, judge_is}
+use Rattle.gfetchreply.proofs.ReplyVerdicts.{IsWholeAt}
+use Rattle.gfetchreply.proofs.ReplySections.{pack_part, part_pack, rest_flush, AckTail, ended, naked, readied, IsAckRest}
+use Rattle.gfetchreply.proofs.ReplySections.{acked, ack_part, part_ack, rest_acks, rest_nak, rest_ready, ack_is}
+use Rattle.gfetchreply.proofs.StateLemmas.{moved, next_state, acks_of-append, acks_of-one}
 
 -- ---- what packets give
 
@@ -55,7 +56,7 @@ section_parts ends limit section pack is =
     ∙ ap (λ (xs : List Packet). Data is.heading ∷ xs) (append_assoc (map Data is.payloads) (Flush ∷ []) (ends_with ends))
 
 packfile_there : (heading : List ℕ) → text heading ≡ codes "packfile" → next_place BeforePack (Data heading) ≡ InPack
-packfile_there heading e = ap (after_text BeforePack) (packfile_form (text heading) e)
+packfile_there heading e = ap (after_text BeforePack) (word_there (text heading) Packfile tt e)
 
 section_texts : (ends : Ends) (limit : ℕ) (section : List Packet) (pack : List ℕ) → IsPackSection limit section pack → texts BeforePack (section ++ ends_with ends) ≡ []
 section_texts ends limit section pack is =
@@ -89,7 +90,7 @@ acks_bands format (ack ∷ acks) tail are =
     ∙ acks_bands format acks tail (All-tail (IsAck format) (text ack) (map text acks) are)
 
 heading_there : (heading : List ℕ) → text heading ≡ codes "acknowledgments" → next_place Start (Data heading) ≡ Acking
-heading_there heading e = ap (after_text Start) (heading_form (text heading) e)
+heading_there heading e = ap (after_text Start) (word_there (text heading) Acknowledgments tt e)
 
 -- the packets from the heading of the acknowledgments on
 module _ (format : Format) (section : List Packet) (ids : List (List ℕ)) (is : IsAckSection format section ids) (tail : List Packet) where
@@ -125,107 +126,108 @@ acks_not_ready format (line ∷ lines) more are =
     ap (λ (f : ReplyForm). is_readiness f || is_ready (lines ++ more)) form.is
     ∙ acks_not_ready format lines more (All-tail (IsAck format) line lines are)
 
--- a text that acknowledges none adds none
-acks_and : (format : Format) (lines : List (List ℕ)) (line : List ℕ) → ack_id format (reply_form line) ≡ None
-    → acks_of format (lines ++ line ∷ []) ≡ acks_of format lines
-acks_and format lines line none =
-    acks_of-append format lines (line ∷ [])
-    ∙ (ap (λ (xs : List (List ℕ)). acks_of format lines ++ xs) (acks_of-one format line None none) ∙ append-nil (acks_of format lines))
-
-reply_pack : (reading : Reading) (packets : List Packet) (payloads : List (List ℕ)) → reading.direct ≡ true → bands BeforePack packets ≡ payloads
-    → reply_of reading packets ≡ Pack (data_of payloads)
-unfolding band_payloads
-reply_pack reading packets payloads direct is =
-    cond-true reading.direct _ _ direct
-    ∙ ap (λ (xs : List (List ℕ)). Pack (data_of xs)) (ap (λ (d : Bool). bands (first_place d) packets) direct ∙ is)
-
-reply_acks : (reading : Reading) (packets : List Packet) (lines : List (List ℕ)) → reading.direct ≡ false → texts Start packets ≡ lines → is_ready lines ≡ false
-    → reply_of reading packets ≡ Acks (acks_of reading.format lines)
-unfolding ack_texts band_payloads
-reply_acks reading packets lines direct is ready =
-    let same : ack_texts reading.direct packets ≡ lines = ap (λ (d : Bool). texts (first_place d) packets) direct ∙ is in
-    cond-false reading.direct _ _ direct
-    ∙ (cond-false (is_ready (ack_texts reading.direct packets)) _ _ (ap is_ready same ∙ ready)
-    ∙ ap (λ (xs : List (List ℕ)). Acks (acks_of reading.format xs)) same)
-
-reply_ready : (reading : Reading) (packets : List Packet) (lines payloads : List (List ℕ)) → reading.direct ≡ false → texts Start packets ≡ lines → is_ready lines ≡ true
-    → bands Start packets ≡ payloads → reply_of reading packets ≡ Ready (acks_of reading.format lines) (data_of payloads)
-unfolding ack_texts band_payloads
-reply_ready reading packets lines payloads direct is ready are =
-    let same : ack_texts reading.direct packets ≡ lines = ap (λ (d : Bool). texts (first_place d) packets) direct ∙ is in
-    let also : band_payloads reading.direct packets ≡ payloads = ap (λ (d : Bool). bands (first_place d) packets) direct ∙ are in
-    cond-false reading.direct _ _ direct
-    ∙ (cond-true (is_ready (ack_texts reading.direct packets)) _ _ (ap is_ready same ∙ ready)
-    ∙ (ap (λ (xs : List (List ℕ)). Ready (acks_of reading.format xs) (data_of (band_payloads reading.direct packets))) same
-    ∙ ap (λ (xs : List (List ℕ)). Ready (acks_of reading.format lines) (data_of xs)) also))
-
 -- ---- a reply of the manual says what it says
 
-value_pack : (reading : Reading) (packets body : List Packet) (pack : List ℕ) → reading.direct ≡ true → packets ≡ body ++ ends_with reading.ends
-    → IsPackSection reading.limit body pack → Pack pack ≡ reply_of reading packets
-value_pack reading packets body pack direct parts is =
-    sym (reply_pack reading packets is.payloads direct (ap (bands BeforePack) parts ∙ section_bands reading.ends reading.limit body pack is)
-    ∙ ap (λ (xs : List ℕ). Pack xs) (sym is.is_data))
+texts_at : (reading : Reading) (direct : Bool) (packets : List Packet) (lines : List (List ℕ)) → reading.direct ≡ direct
+    → texts (first_place direct) packets ≡ lines → ack_texts reading.direct packets ≡ lines
+unfolding ack_texts
+texts_at reading direct packets lines is e = ap (λ (d : Bool). texts (first_place d) packets) is ∙ e
 
-value_nak : (reading : Reading) (packets body : List Packet) → reading.direct ≡ false → packets ≡ body ++ ends_with reading.ends
-    → IsNakReply reading.format body → Acks [] ≡ reply_of reading packets
-value_nak reading packets body direct parts is =
-    let form = nak_form (text is.nak) is.is_nak in
-    let tail = Data is.nak ∷ Flush ∷ ends_with reading.ends in
-    let after : texts Acking tail ≡ text is.nak ∷ [] =
-    ap (λ (p : Place). text is.nak ∷ texts p (Flush ∷ ends_with reading.ends)) (ap (after_text Acking) form)
-    ∙ ap (λ (xs : List (List ℕ)). text is.nak ∷ xs) (over_texts reading.ends) in
-    let all : packets ≡ is.section ++ tail =
-    parts ∙ (ap (λ (xs : List Packet). xs ++ ends_with reading.ends) is.parts ∙ append_assoc is.section (Data is.nak ∷ Flush ∷ []) (ends_with reading.ends)) in
-    let lines : texts Start packets ≡ map text is.acks.acks ++ text is.nak ∷ [] =
-    ap (texts Start) all ∙ (headed_texts reading.format is.section [] is.acks tail ∙ ap (λ (xs : List (List ℕ)). map text is.acks.acks ++ xs) after) in
-    let ready : is_ready (map text is.acks.acks ++ text is.nak ∷ []) ≡ false =
-    acks_not_ready reading.format (map text is.acks.acks) (text is.nak ∷ []) is.acks.are_acks ∙ ap (λ (f : ReplyForm). is_readiness f || false) form in
-    sym (reply_acks reading packets _ direct lines ready
-    ∙ ap (λ (xs : List (List ℕ)). Acks xs) (acks_and reading.format (map text is.acks.acks) (text is.nak) (ap (ack_id reading.format) form) ∙ sym is.acks.are))
+bands_at : (reading : Reading) (direct : Bool) (packets : List Packet) (payloads : List (List ℕ))
+    → reading.direct ≡ direct → bands (first_place direct) packets ≡ payloads → band_payloads reading.direct packets ≡ payloads
+unfolding band_payloads
+bands_at reading direct packets payloads is e = ap (λ (d : Bool). bands (first_place d) packets) is ∙ e
 
-value_acks : (reading : Reading) (packets body : List Packet) (ids : List (List ℕ)) → reading.direct ≡ false → packets ≡ body ++ ends_with reading.ends
-    → IsAckReply reading.format body ids → Acks ids ≡ reply_of reading packets
-value_acks reading packets body ids direct parts is =
-    let tail = Flush ∷ ends_with reading.ends in
-    let all : packets ≡ is.section ++ tail =
-    parts ∙ (ap (λ (xs : List Packet). xs ++ ends_with reading.ends) is.parts ∙ append_assoc is.section (Flush ∷ []) (ends_with reading.ends)) in
-    let lines : texts Start packets ≡ map text is.acks.acks ++ [] =
-    ap (texts Start) all ∙ (headed_texts reading.format is.section ids is.acks tail ∙ ap (λ (xs : List (List ℕ)). map text is.acks.acks ++ xs) (over_texts reading.ends)) in
-    let ready : is_ready (map text is.acks.acks ++ []) ≡ false = acks_not_ready reading.format (map text is.acks.acks) [] is.acks.are_acks in
-    sym (reply_acks reading packets _ direct lines ready
-    ∙ ap (λ (xs : List (List ℕ)). Acks xs) (ap (acks_of reading.format) (append-nil (map text is.acks.acks)) ∙ sym is.acks.are))
+-- the texts and the payloads of the packets give this reply
+record Gives (reading : Reading) (packets : List Packet) (reply : FetchReply) : Type 0 where
+  lines : List (List ℕ)
+  payloads : List (List ℕ)
+  are_texts : ack_texts reading.direct packets ≡ lines
+  are_bands : band_payloads reading.direct packets ≡ payloads
+  value : reply_by reading lines payloads ≡ reply
+  pack : pack_of reply ≡ data_of payloads
 
-value_ready : (reading : Reading) (packets body : List Packet) (ids : List (List ℕ)) (pack : List ℕ) → reading.direct ≡ false → packets ≡ body ++ ends_with reading.ends
-    → IsReadyReply reading.format reading.limit body ids pack → Ready ids pack ≡ reply_of reading packets
-value_ready reading packets body ids pack direct parts is =
-    let form = readiness_form (text is.readiness) is.is_readiness in
-    let after_all = is.rest ++ ends_with reading.ends in
-    let tail = Data is.readiness ∷ Delim ∷ after_all in
-    let all : packets ≡ is.section ++ tail =
-    parts ∙ (ap (λ (xs : List Packet). xs ++ ends_with reading.ends) is.parts ∙ append_assoc is.section (Data is.readiness ∷ Delim ∷ is.rest) (ends_with reading.ends)) in
-    let after : texts Acking tail ≡ text is.readiness ∷ [] =
-    ap (λ (p : Place). text is.readiness ∷ texts p (Delim ∷ after_all)) (ap (after_text Acking) form)
-    ∙ ap (λ (xs : List (List ℕ)). text is.readiness ∷ xs) (section_texts reading.ends reading.limit is.rest pack is.packs) in
-    let after_bands : bands Acking tail ≡ is.packs.payloads =
-    ap (λ (p : Place). bands p (Delim ∷ after_all)) (ap (after_text Acking) form) ∙ section_bands reading.ends reading.limit is.rest pack is.packs in
-    let lines : texts Start packets ≡ map text is.acks.acks ++ text is.readiness ∷ [] =
-    ap (texts Start) all ∙ (headed_texts reading.format is.section ids is.acks tail ∙ ap (λ (xs : List (List ℕ)). map text is.acks.acks ++ xs) after) in
-    let payloads : bands Start packets ≡ is.packs.payloads =
-    ap (bands Start) all ∙ (headed_bands reading.format is.section ids is.acks tail ∙ after_bands) in
-    let ready : is_ready (map text is.acks.acks ++ text is.readiness ∷ []) ≡ true =
-    acks_not_ready reading.format (map text is.acks.acks) (text is.readiness ∷ []) is.acks.are_acks ∙ ap (λ (f : ReplyForm). is_readiness f || false) form in
-    sym (reply_ready reading packets _ _ direct lines ready payloads
-    ∙ (ap (λ (xs : List (List ℕ)). Ready xs (data_of is.packs.payloads)) (acks_and reading.format (map text is.acks.acks) (text is.readiness) (ap (ack_id reading.format) form) ∙ sym is.acks.are)
-    ∙ ap (λ (xs : List ℕ). Ready ids xs) (sym is.packs.is_data)))
+-- acknowledged ids, and packets after them that acknowledge none
+module _
+    (reading : Reading) (body section more : List Packet) (ids lines payloads : List (List ℕ)) (ready : Bool)
+    (direct : reading.direct ≡ false) (is : IsAckSection reading.format section ids) (parts : body ≡ section ++ more)
+    (are_texts : texts Acking (more ++ ends_with reading.ends) ≡ lines)
+    (are_bands : bands Acking (more ++ ends_with reading.ends) ≡ payloads)
+    (none : acks_of reading.format lines ≡ []) (is_so : is_ready lines ≡ ready)
+  where
+    gives_acks : pack_of (if ready then Ready ids (data_of payloads) else Acks ids) ≡ data_of payloads
+        → Gives reading (body ++ ends_with reading.ends) (if ready then Ready ids (data_of payloads) else Acks ids)
+    gives_acks pack =
+        let tail = more ++ ends_with reading.ends in
+        let acks = map text is.acks in
+        let all : body ++ ends_with reading.ends ≡ section ++ tail =
+        ap (λ (xs : List Packet). xs ++ ends_with reading.ends) parts ∙ append_assoc section more (ends_with reading.ends) in
+        let acked : acks_of reading.format (acks ++ lines) ≡ ids =
+        acks_of-append reading.format acks lines
+        ∙ (ap (λ (xs : List (List ℕ)). acks_of reading.format acks ++ xs) none
+        ∙ (append-nil (acks_of reading.format acks) ∙ sym is.are)) in
+        let so : is_ready (acks ++ lines) ≡ ready = acks_not_ready reading.format acks lines is.are_acks ∙ is_so in
+        record {
+          lines = acks ++ lines;
+          payloads = payloads;
+          are_texts = texts_at reading false (body ++ ends_with reading.ends) (acks ++ lines) direct
+              (ap (texts Start) all
+              ∙ (headed_texts reading.format section ids is tail ∙ ap (λ (xs : List (List ℕ)). acks ++ xs) are_texts));
+          are_bands = bands_at reading false (body ++ ends_with reading.ends) payloads direct
+              (ap (bands Start) all ∙ (headed_bands reading.format section ids is tail ∙ are_bands));
+          value = cond-false reading.direct _ _ direct
+              ∙ (λ i. if so i then Ready (acked i) (data_of payloads) else Acks (acked i));
+          pack = pack;
+        }
 
-value_by : (reading : Reading) (packets body : List Packet) (reply : FetchReply) → packets ≡ body ++ ends_with reading.ends → IsBody reading body reply
+gives_by : (reading : Reading) (body : List Packet) (reply : FetchReply) → IsBody reading body reply
+    → Gives reading (body ++ ends_with reading.ends) reply
+gives_by reading body (Acks ids) (direct, inl (no_ids, is)) =
+    let form = word_there (text is.nak) Nak tt is.is_nak in
+    let after = ap (after_text Acking) form in
+    subst (λ (xs : List (List ℕ)). Gives reading (body ++ ends_with reading.ends) (Acks xs)) (sym no_ids)
+    (gives_acks reading body is.section (Data is.nak ∷ Flush ∷ []) []
+    (text is.nak ∷ []) [] false direct is.acks is.parts
+    (ap (λ (p : Place). text is.nak ∷ texts p (Flush ∷ ends_with reading.ends)) after
+    ∙ ap (λ (xs : List (List ℕ)). text is.nak ∷ xs) (over_texts reading.ends))
+    (ap (λ (p : Place). bands p (Flush ∷ ends_with reading.ends)) after ∙ over_bands reading.ends)
+    (acks_of-one reading.format (text is.nak) None (ap (ack_id reading.format) form))
+    (ap (λ (f : ReplyForm). is_readiness f || false) form) refl)
+gives_by reading body (Acks ids) (direct, inr is) =
+    gives_acks reading body is.section (Flush ∷ []) ids [] [] false direct is.acks is.parts (over_texts reading.ends)
+    (over_bands reading.ends) refl refl refl
+gives_by reading body (Ready ids pack) (direct, is) =
+    let form = word_there (text is.readiness) Readiness tt is.is_readiness in
+    let after = ap (after_text Acking) form in
+    let rest = Delim ∷ (is.rest ++ ends_with reading.ends) in
+    subst (λ (xs : List ℕ). Gives reading (body ++ ends_with reading.ends) (Ready ids xs)) (sym is.packs.is_data)
+    (gives_acks reading body is.section (Data is.readiness ∷ Delim ∷ is.rest) ids
+    (text is.readiness ∷ []) is.packs.payloads true
+    direct is.acks is.parts
+    (ap (λ (p : Place). text is.readiness ∷ texts p rest) after
+    ∙ ap (λ (xs : List (List ℕ)). text is.readiness ∷ xs) (section_texts reading.ends reading.limit is.rest pack is.packs))
+    (ap (λ (p : Place). bands p rest) after ∙ section_bands reading.ends reading.limit is.rest pack is.packs)
+    (acks_of-one reading.format (text is.readiness) None (ap (ack_id reading.format) form))
+    (ap (λ (f : ReplyForm). is_readiness f || false) form) refl)
+gives_by reading body (Pack pack) (direct, is) = record {
+  lines = [];
+  payloads = is.payloads;
+  are_texts = texts_at reading true _ [] direct (section_texts reading.ends reading.limit body pack is);
+  are_bands = bands_at reading true _ is.payloads direct (section_bands reading.ends reading.limit body pack is);
+  value = cond-true reading.direct _ _ direct ∙ ap (λ (xs : List ℕ). Pack xs) (sym is.is_data);
+  pack = is.is_data;
+}
+
+gives : (reading : Reading) (packets : List Packet) (reply : FetchReply) → IsFetchReply reading packets reply
+    → Gives reading packets reply
+gives reading packets reply is =
+    subst (λ (ps : List Packet). Gives reading ps reply) (sym is.parts) (gives_by reading is.body reply is.is_body)
+
+value_is : (reading : Reading) (packets : List Packet) (reply : FetchReply) → IsFetchReply reading packets reply
     → reply ≡ reply_of reading packets
-value_by reading packets body (Acks ids) parts (direct, inl h) =
-    ap (λ (xs : List (List ℕ)). Acks xs) h.0 ∙ value_nak reading packets body direct parts h.1
-value_by reading packets body (Acks ids) parts (direct, inr h) = value_acks reading packets body ids direct parts h
-value_by reading packets body (Ready ids pack) parts h = value_ready reading packets body ids pack h.0 parts h.1
-value_by reading packets body (Pack pack) parts h = value_pack reading packets body pack h.0 parts h.1
+value_is reading packets reply is =
+    let given = gives reading packets reply is in
+    sym given.value ∙ (λ i. reply_by reading (sym given.are_texts i) (sym given.are_bands i))
 
 -- ---- a reply of the manual is complete
 
@@ -238,35 +240,33 @@ whole_pack reading body pack direct is =
     part_pack reading (start reading) body pack (record { place = start_place reading true direct; band_count = refl; byte_count = refl }) is
 
 -- acknowledgments, and what completes them
-whole_acks : (reading : Reading) (section tail : List Packet) (ids : List (List ℕ)) → reading.direct ≡ false → (is : IsAckSection reading.format section ids)
-    → ((new : State) → new.place ≡ Acking → new.ack_count ≡ length is.acks → new.band_count ≡ 0 → new.byte_count ≡ 0 → IsWholeAt reading new tail)
-    → IsWholeAt reading (start reading) (section ++ tail)
-whole_acks reading section tail ids direct is last =
+whole_acks : (reading : Reading) (body section more : List Packet) (ids : List (List ℕ)) → reading.direct ≡ false
+    → (is : IsAckSection reading.format section ids) → body ≡ section ++ more
+    → IsWholeAt reading (acked (length is.acks) (start reading)) (more ++ ends_with reading.ends)
+    → IsWholeAt reading (start reading) (body ++ ends_with reading.ends)
+whole_acks reading body section more ids direct is parts last =
     let few = is.few in
-    let rest = rest_acks reading (moved (start reading) Acking) is.acks tail refl is.are_acks (omega arith)
-    (λ new after. last new after.place (let count = after.ack_count in omega arith) after.band_count after.byte_count) in
-    subst (IsWholeAt reading (start reading)) (sym (headed_parts reading.format section ids is tail))
-    (part_ack reading (start reading) is.heading (map Data is.acks ++ tail) (start_place reading false direct) is.is_heading rest)
+    let tail = more ++ ends_with reading.ends in
+    subst (IsWholeAt reading (start reading))
+    (sym (ap (λ (xs : List Packet). xs ++ ends_with reading.ends) parts
+    ∙ (append_assoc section more (ends_with reading.ends) ∙ headed_parts reading.format section ids is tail)))
+    (part_ack reading (start reading) is.heading (map Data is.acks ++ tail) (start_place reading false direct) is.is_heading
+    (rest_acks reading (moved (start reading) Acking) is.acks tail refl is.are_acks (omega arith) last))
 
 whole_by : (reading : Reading) (body : List Packet) (reply : FetchReply) → IsBody reading body reply → IsWholeAt reading (start reading) (body ++ ends_with reading.ends)
 whole_by reading body (Acks ids) (direct, inl (none, is)) =
     let count : length is.acks.acks ≡ 0 =
     sym (length-map is.acks.acks text) ∙ (sym (acks_count reading.format (map text is.acks.acks) is.acks.are_acks) ∙ ap length (sym is.acks.are)) in
-    let whole = whole_acks reading is.section (Data is.nak ∷ Flush ∷ ends_with reading.ends) [] direct is.acks
-    (λ new place acks packets bytes. rest_nak reading new is.nak place (acks ∙ count) is.is_nak) in
-    subst (IsWholeAt reading (start reading))
-    (sym (ap (λ (xs : List Packet). xs ++ ends_with reading.ends) is.parts ∙ append_assoc is.section (Data is.nak ∷ Flush ∷ []) (ends_with reading.ends))) whole
+    whole_acks reading body is.section (Data is.nak ∷ Flush ∷ []) [] direct is.acks is.parts
+    (rest_nak reading _ is.nak refl (omega arith) is.is_nak)
 whole_by reading body (Acks ids) (direct, inr is) =
-    let whole = whole_acks reading is.section (Flush ∷ ends_with reading.ends) ids direct is.acks
-    (λ new place acks packets bytes. rest_flush reading new (at_place reading new Acking Flush place) (ap (λ (p : Place). next_place p Flush) place)) in
-    subst (IsWholeAt reading (start reading))
-    (sym (ap (λ (xs : List Packet). xs ++ ends_with reading.ends) is.parts ∙ append_assoc is.section (Flush ∷ []) (ends_with reading.ends))) whole
+    whole_acks reading body is.section (Flush ∷ []) ids direct is.acks is.parts
+    (rest_flush reading _ Acking refl refl refl)
 whole_by reading body (Ready ids pack) (direct, is) =
-    let whole = whole_acks reading is.section (Data is.readiness ∷ Delim ∷ (is.rest ++ ends_with reading.ends)) ids direct is.acks
-    (λ new place acks packets bytes. rest_ready reading new is.readiness (is.rest ++ ends_with reading.ends) place is.is_readiness
-    (λ next there count size. part_pack reading next is.rest pack (record { place = there; band_count = count ∙ packets; byte_count = size ∙ bytes }) is.packs)) in
-    subst (IsWholeAt reading (start reading))
-    (sym (ap (λ (xs : List Packet). xs ++ ends_with reading.ends) is.parts ∙ append_assoc is.section (Data is.readiness ∷ Delim ∷ is.rest) (ends_with reading.ends))) whole
+    whole_acks reading body is.section (Data is.readiness ∷ Delim ∷ is.rest) ids direct is.acks is.parts
+    (rest_ready reading _ is.readiness _ refl is.is_readiness
+    (part_pack reading (moved (acked (length is.acks.acks) (start reading)) BeforePack) is.rest pack
+    (record { place = refl; band_count = refl; byte_count = refl }) is.packs))
 whole_by reading body (Pack pack) (direct, is) = whole_pack reading body pack direct is
 
 -- ---- from the manual to the judge
@@ -280,7 +280,7 @@ says_from_manual reading packets reply is = record {
   whole = subst (λ (j : Judge). IsWhole j packets) (sym (judge_is reading))
       (IsWhole-from_left (judge_at reading) (next_state reading.format) (start reading) packets
       (subst (IsWholeAt reading (start reading)) (sym is.parts) (whole_by reading is.body reply is.is_body)));
-  says = value_by reading packets is.body reply is.parts is.is_body;
+  says = value_is reading packets reply is;
 }
 
 -- ---- from the judge to the manual
@@ -290,58 +290,60 @@ record IsOfManual (reading : Reading) (packets : List Packet) : Type 0 where
   reply : FetchReply
   is : IsFetchReply reading packets reply
 
-section_of : (reading : Reading) (heading : List ℕ) (state : State) (rest : List Packet) (is : IsAckRest reading state rest) → state.ack_count ≡ 0
-    → text heading ≡ codes "acknowledgments" → IsAckSection reading.format (Data heading ∷ map Data is.acks) (acks_of reading.format (map text is.acks))
-section_of reading heading state rest is none is_heading =
-    let few = is.few in
-    record { heading = heading; acks = is.acks; parts = refl; is_heading = is_heading; are_acks = is.are; few = omega arith; are = refl }
+module _
+    (reading : Reading) (packets rest : List Packet) (heading : List ℕ) (state : State) (is : IsAckRest reading state rest)
+    (direct : reading.direct ≡ false) (none : state.ack_count ≡ 0) (is_heading : text heading ≡ codes "acknowledgments")
+    (parts : packets ≡ Data heading ∷ rest)
+  where
+    section : List Packet
+    section = Data heading ∷ map Data is.acks
 
-manual_by : (reading : Reading) (packets rest : List Packet) (heading : List ℕ) (state : State) (is : IsAckRest reading state rest) → reading.direct ≡ false → state.ack_count ≡ 0
-    → text heading ≡ codes "acknowledgments" → packets ≡ Data heading ∷ rest → AckTail reading (state.ack_count + length is.acks) is.tail → IsOfManual reading packets
-manual_by reading packets rest heading state is direct none is_heading parts (ended e) =
-    let section = Data heading ∷ map Data is.acks in
-    let acks = section_of reading heading state rest is none is_heading in
-    record {
+    acks : IsAckSection reading.format section (acks_of reading.format (map text is.acks))
+    unfolding section
+    acks = record {
+      heading = heading;
+      acks = is.acks;
+      parts = refl;
+      is_heading = is_heading;
+      are_acks = is.are;
+      few = (let few = is.few in omega arith);
+      are = refl;
+    }
+
+    -- the packets of a body
+    joined : (more : List Packet) → is.tail ≡ more ++ ends_with reading.ends
+        → packets ≡ (section ++ more) ++ ends_with reading.ends
+    unfolding section
+    joined more e =
+        parts
+        ∙ (ap (λ (xs : List Packet). Data heading ∷ xs) (is.parts ∙ ap (λ (xs : List Packet). map Data is.acks ++ xs) e)
+        ∙ sym (append_assoc section more (ends_with reading.ends)))
+
+    manual_by : AckTail reading (state.ack_count + length is.acks) is.tail → IsOfManual reading packets
+    manual_by (ended e) = record {
       reply = Acks (acks_of reading.format (map text is.acks));
       is = record {
         body = section ++ Flush ∷ [];
         is_body = (direct, inr (record { section = section; acks = acks; parts = refl }));
-        parts = parts
-            ∙ (ap (λ (xs : List Packet). Data heading ∷ xs) (is.parts ∙ ap (λ (xs : List Packet). map Data is.acks ++ xs) e)
-            ∙ sym (append_assoc section (Flush ∷ []) (ends_with reading.ends)));
+        parts = joined (Flush ∷ []) e;
       };
     }
-manual_by reading packets rest heading state is direct none is_heading parts (naked nak count is_nak e) =
-    let section = Data heading ∷ map Data is.acks in
-    let acks = section_of reading heading state rest is none is_heading in
-    let no_acks : length (map text is.acks) ≡ 0 = (let long = length-map is.acks text in omega arith) in
-    let nothing : acks_of reading.format (map text is.acks) ≡ [] = ap (acks_of reading.format) (nil_from_length (map text is.acks) no_acks) in
-    record {
-      reply = Acks [];
-      is = record {
-        body = section ++ Data nak ∷ Flush ∷ [];
-        is_body = (
-          direct,
-          inl (
-            refl,
-            record {
-              section = section;
-              nak = nak;
-              acks = subst (IsAckSection reading.format section) nothing acks;
-              is_nak = is_nak;
-              parts = refl;
-            },
-          ),
-        );
-        parts = parts
-            ∙ (ap (λ (xs : List Packet). Data heading ∷ xs) (is.parts ∙ ap (λ (xs : List Packet). map Data is.acks ++ xs) e)
-            ∙ sym (append_assoc section (Data nak ∷ Flush ∷ []) (ends_with reading.ends)));
-      };
-    }
-manual_by reading packets rest heading state is direct none is_heading parts (readied readiness more is_readiness e packs) =
-    let section = Data heading ∷ map Data is.acks in
-    let acks = section_of reading heading state rest is none is_heading in
-    record {
+    manual_by (naked nak count is_nak e) =
+        let no_acks : length (map text is.acks) ≡ 0 = (let long = length-map is.acks text in omega arith) in
+        let nothing : acks_of reading.format (map text is.acks) ≡ [] = ap (acks_of reading.format) (nil_from_length (map text is.acks) no_acks) in
+        let same = subst (IsAckSection reading.format section) nothing acks in
+        record {
+          reply = Acks [];
+          is = record {
+            body = section ++ Data nak ∷ Flush ∷ [];
+            is_body = (
+              direct,
+              inl (refl, record { section = section; nak = nak; acks = same; is_nak = is_nak; parts = refl }),
+            );
+            parts = joined (Data nak ∷ Flush ∷ []) e;
+          };
+        }
+    manual_by (readied readiness more is_readiness e packs) = record {
       reply = Ready (acks_of reading.format (map text is.acks)) packs.pack;
       is = record {
         body = section ++ Data readiness ∷ Delim ∷ packs.section;
@@ -357,10 +359,8 @@ manual_by reading packets rest heading state is direct none is_heading parts (re
             parts = refl;
           },
         );
-        parts = parts
-            ∙ (ap (λ (xs : List Packet). Data heading ∷ xs)
-            (is.parts ∙ ap (λ (xs : List Packet). map Data is.acks ++ xs) (e ∙ ap (λ (xs : List Packet). Data readiness ∷ Delim ∷ xs) packs.parts))
-            ∙ sym (append_assoc section (Data readiness ∷ Delim ∷ packs.section) (ends_with reading.ends)));
+        parts = joined (Data readiness ∷ Delim ∷ packs.section)
+            (e ∙ ap (λ (xs : List Packet). Data readiness ∷ Delim ∷ xs) packs.parts);
       };
     }
 
@@ -375,8 +375,7 @@ of_manual reading packets false direct h =
 pub manual_from_says : (reading : Reading) (packets : List Packet) (reply : FetchReply) → Says reading packets reply → IsFetchReply reading packets reply
 manual_from_says reading packets reply said =
     let found = of_manual reading packets reading.direct refl (whole_at_start reading packets said.whole) in
-    let value = value_by reading packets found.is.body found.reply found.is.parts found.is.is_body in
-    subst (IsFetchReply reading packets) (value ∙ sym said.says) found.is
+    subst (IsFetchReply reading packets) (value_is reading packets found.reply found.is ∙ sym said.says) found.is
 
 -- ---- one meaning, and no reply begins another
 
@@ -397,45 +396,8 @@ one_reply_begins reading packets back reply other short long =
 
 -- ---- the pack that a reply says
 
-nak_bands : (reading : Reading) (packets body : List Packet) → packets ≡ body ++ ends_with reading.ends → IsNakReply reading.format body → bands Start packets ≡ []
-nak_bands reading packets body parts is =
-    let form = nak_form (text is.nak) is.is_nak in
-    let tail = Data is.nak ∷ Flush ∷ ends_with reading.ends in
-    let all : packets ≡ is.section ++ tail =
-    parts ∙ (ap (λ (xs : List Packet). xs ++ ends_with reading.ends) is.parts ∙ append_assoc is.section (Data is.nak ∷ Flush ∷ []) (ends_with reading.ends)) in
-    ap (bands Start) all
-    ∙ (headed_bands reading.format is.section [] is.acks tail
-    ∙ (ap (λ (p : Place). bands p (Flush ∷ ends_with reading.ends)) (ap (after_text Acking) form) ∙ over_bands reading.ends))
-
-acks_only_bands : (reading : Reading) (packets body : List Packet) (ids : List (List ℕ)) → packets ≡ body ++ ends_with reading.ends → IsAckReply reading.format body ids
-    → bands Start packets ≡ []
-acks_only_bands reading packets body ids parts is =
-    let tail = Flush ∷ ends_with reading.ends in
-    let all : packets ≡ is.section ++ tail =
-    parts ∙ (ap (λ (xs : List Packet). xs ++ ends_with reading.ends) is.parts ∙ append_assoc is.section (Flush ∷ []) (ends_with reading.ends)) in
-    ap (bands Start) all ∙ (headed_bands reading.format is.section ids is.acks tail ∙ over_bands reading.ends)
-
--- none where ids are acknowledged alone
-no_pack : (reading : Reading) (packets : List Packet) (ids : List (List ℕ)) → IsFetchReply reading packets (Acks ids) → data_of (band_payloads reading.direct packets) ≡ []
-unfolding band_payloads
-no_pack reading packets ids is =
-    let direct : reading.direct ≡ false = is.is_body.0 in
-    ap data_of
-    (ap (λ (d : Bool). bands (first_place d) packets) direct
-    ∙ elim is.is_body.1 [
-      | inl h ↦ nak_bands reading packets is.body is.parts h.1
-      | inr h ↦ acks_only_bands reading packets is.body ids is.parts h
-    ])
-
-pack_by : (direct ready : Bool) (ids : List (List ℕ)) (pack : List ℕ) (reply : FetchReply)
-    → reply ≡ (if direct then Pack pack else if ready then Ready ids pack else Acks ids) → (reply ≡ Acks ids → pack ≡ []) → pack_of reply ≡ pack
-pack_by true ready ids pack reply is alone = ap pack_of is
-pack_by false true ids pack reply is alone = ap pack_of is
-pack_by false false ids pack reply is alone = ap pack_of is ∙ sym (alone is)
-
 pub said_pack : (reading : Reading) (packets : List Packet) (reply : FetchReply) → Says reading packets reply
     → pack_of reply ≡ data_of (band_payloads reading.direct packets)
 said_pack reading packets reply said =
-    pack_by reading.direct (is_ready (ack_texts reading.direct packets)) (acks_of reading.format (ack_texts reading.direct packets))
-    (data_of (band_payloads reading.direct packets)) reply said.says
-    (λ e. no_pack reading packets _ (subst (IsFetchReply reading packets) e (manual_from_says reading packets reply said)))
+    let given = gives reading packets reply (manual_from_says reading packets reply said) in
+    given.pack ∙ ap data_of (sym given.are_bands)

@@ -1,5 +1,6 @@
 -- The sections of a reply that is complete from some state on.
-use Rattle.std.proofs.Common.{◌≡◌, ℕ, ◌+◌, ◌≤◌, List, [], ◌∷◌, ◌++◌, length, map, ◌⊎◌, inl, inr, refl, sym, ap, subst, ◌∙◌, append_assoc, length-append, arith}
+use Rattle.std.proofs.Common.{◌≡◌, ℕ, ◌+◌, ◌≤◌, List, [], ◌∷◌, ◌++◌, length, map, ◌⊎◌, inl, inr, refl, sym, ap, subst}
+use Rattle.std.proofs.Common.{◌∙◌, append_assoc, length-append, arith, true, codes, Option, Some, None}
 use Rattle.std.specs.Prelude.{All}
 use Rattle.std.proofs.lemmas.List.Elements.{All-nil, All-cons, All-head, All-tail}
 use Rattle.gpkt.specs.Packets.{Packet, Data, Flush, Delim, ResponseEnd, text}
@@ -10,46 +11,60 @@ use Rattle.ggrammar.specs.Endings.{ends_with, at_flush}
 use Rattle.ggrammar.specs.declared.ends.Ends.{Ends}
 use Rattle.ggrammar.specs.declared.ends.Ends.TheVariants.{Plain, Response}
 use Rattle.ggrammar.specs.declared.fault.Why.{Why}
-use Rattle.ggrammar.specs.declared.fault.Why.TheVariants.{WrongSection, UnexpectedFrame}
-use Rattle.gfetchreply.specs.FetchManual.{IsDataOrProgress, IsPackSection}
+use Rattle.gfetchreply.specs.FetchManual.{IsDataOrProgress, IsPackSection, IsAck}
+use Rattle.gfetchreply.proofs.ReplyForms.{form_there, word_there}
 use Rattle.gfetchreply.specs.FetchReplies.{Reading, State, Place, Start, Acking, AfterReady, BeforePack, InPack, Over}
-use Rattle.gfetchreply.specs.FetchReplies.{Acknowledgments, Packfile, reply_form}
-use Rattle.gfetchreply.specs.FetchReplies.{max_packets, data_in, data_of, judge_at, judge_before_pack, next_place, after_text, texts_there, bands_there}
-use Rattle.gfetchreply.proofs.ReplyForms.{packfile_line, packfile_form, form_reports_none, band_reports_none}
-use Rattle.gfetchreply.proofs.ReplyVerdicts.{IsWholeAt, at_place, data_open, open_data, data_not_whole, before_open, BandOn, band_open, open_band, over_whole, over_not_open, moved, next-moved}
-use Rattle.gfetchreply.proofs.StateLemmas.{next_state, state-band}
+use Rattle.gfetchreply.specs.FetchReplies.{Acknowledgments, Packfile, reply_form, max_packets, data_in, data_of}
+use Rattle.gfetchreply.specs.FetchReplies.{judge_at, judge_before_pack, next_place, after_text}
+use Rattle.gfetchreply.specs.FetchReplies.{AfterNak, ReplyForm, Nak, Readiness, Ack, ack_id, max_acks}
+use Rattle.gfetchreply.specs.FetchReplies.{judge_acking, judge_start, judge_there, judge_payload}
+use Rattle.gfetchreply.proofs.ReplyForms.{form_reports_none, band_reports_none}
+use Rattle.gfetchreply.proofs.ReplyVerdicts.{IsWholeAt, at_place, data_open, open_data, data_not_whole, before_open}
+use Rattle.gfetchreply.proofs.ReplyVerdicts.{BandOn, band_open, open_band, over_whole, over_not_open}
+use Rattle.gfetchreply.proofs.ReplyVerdicts.{start_open, late_not_open, AckingOn, an_ack, a_nak, a_readiness}
+use Rattle.gfetchreply.proofs.ReplyVerdicts.{acking_open, open_acking}
+use Rattle.gfetchreply.proofs.StateLemmas.{moved, moves, next_state, state-band, state-ack, state-acking, same_state}
+use Rattle.std.specs.Option.{is_some}
+use Rattle.ggrammar.specs.Ids.{id_of_text}
 
 -- the state is another
 pub at_state : (reading : Reading) (a b : State) (packets : List Packet) → a ≡ b → IsWholeAt reading a packets → IsWholeAt reading b packets
 at_state reading a b packets e h = subst (λ (s : State). IsWholeAt reading s packets) e h
 
 -- neither open nor complete
-no_verdict : {P : Type 0} {Q : Type 0} {R : Type 0} (v w : Verdict) → (v ≡ w) → (w ≡ Whole → ⊥) → (w ≡ Open → ⊥) → ((v ≡ Whole) × P) ⊎ ((v ≡ Open) × Q) → R
-no_verdict v w e neither nor (inl h) = absurd (neither (sym e ∙ h.0))
-no_verdict v w e neither nor (inr h) = absurd (nor (sym e ∙ h.0))
-
 pub refused : {P : Type 0} {Q : Type 0} {R : Type 0} (v : Verdict) (why : Why) → v ≡ Refused why → ((v ≡ Whole) × P) ⊎ ((v ≡ Open) × Q) → R
-refused v why e h = no_verdict v (Refused why) e (λ f. cc) (λ f. cc) h
+refused v why e (inl h) = absurd (let no = sym e ∙ h.0 in cc)
+refused v why e (inr h) = absurd (let no = sym e ∙ h.0 in cc)
 
 -- the packet goes on
 pub goes_on : {P : Type 0} {Q : Type 0} (v : Verdict) → (v ≡ Whole → ⊥) → ((v ≡ Whole) × P) ⊎ ((v ≡ Open) × Q) → (v ≡ Open) × Q
 goes_on v never (inl h) = absurd (never h.0)
 goes_on v never (inr h) = h
 
+-- data goes on, where it is due
+pub data_goes : (reading : Reading) (state : State) (place : Place) (payload : List ℕ) (rest : List Packet) → state.place ≡ place
+    → IsWholeAt reading state (Data payload ∷ rest)
+    → (judge_payload reading place state payload ≡ Open)
+    × IsWholeAt reading (next_state reading.format state (Data payload)) rest
+data_goes reading state place payload rest here h =
+    let goes = goes_on _ (data_not_whole reading state place payload here) h in
+    (data_open reading state place payload here goes.0, goes.1)
+
+-- a packet goes on, and what follows it is complete from there on
+pub onward : (reading : Reading) (state next : State) (packet : Packet) (rest : List Packet)
+    → judge_at reading state packet ≡ Open → next_state reading.format state packet ≡ next → IsWholeAt reading next rest
+    → IsWholeAt reading state (packet ∷ rest)
+onward reading state next packet rest goes is h = inr (goes, at_state reading _ _ rest (sym is) h)
+
 -- ---- headings and the delimiter
 
 pub next-heading : (format : Format) (state : State) (heading : List ℕ) → state.place ≡ Start → reply_form (text heading) ≡ Acknowledgments
     → next_state format state (Data heading) ≡ moved state Acking
 next-heading format state heading here form =
-    next-moved format state (Data heading) Acking
-    (ap (λ (p : Place). texts_there p (Data heading)) here)
-    (ap (λ (p : Place). bands_there p (Data heading)) here)
-    (ap (λ (p : Place). next_place p (Data heading)) here ∙ ap (after_text Start) form)
+    moves format state Start Acking (Data heading) here (ap (after_text Start) form) refl refl
 
 pub next-delim : (format : Format) (state : State) → state.place ≡ AfterReady → next_state format state Delim ≡ moved state BeforePack
-next-delim format state here =
-    next-moved format state Delim BeforePack
-    (ap (λ (p : Place). texts_there p Delim) here) (ap (λ (p : Place). bands_there p Delim) here) (ap (λ (p : Place). next_place p Delim) here)
+next-delim format state here = moves format state AfterReady BeforePack Delim here refl refl refl
 
 -- ---- after the flush
 
@@ -69,20 +84,34 @@ rest_by Response rest (inl h) = let no = h.0 in cc
 rest_by Response rest (inr h) = h.1
 
 -- what follows a flush that ends the reply, and completes it
-pub flush_rest : (reading : Reading) (state : State) (rest : List Packet) → judge_at reading state Flush ≡ at_flush reading.ends → next_place state.place Flush ≡ Over
-    → IsWholeAt reading state (Flush ∷ rest) → rest ≡ ends_with reading.ends
-flush_rest reading state rest at over (inl h) = rest_by reading.ends rest (inl (sym at ∙ h.0, h.1))
-flush_rest reading state rest at over (inr h) =
-    rest_by reading.ends rest (inr (sym at ∙ h.0, over_rest reading (next_state reading.format state Flush) rest over h.1))
+pub flush_rest : (reading : Reading) (state : State) (place : Place) (rest : List Packet) → state.place ≡ place
+    → judge_there reading place state Flush ≡ at_flush reading.ends → next_place place Flush ≡ Over
+    → IsWholeAt reading state (Flush ∷ rest) → Flush ∷ rest ≡ Flush ∷ ends_with reading.ends
+flush_rest reading state place rest here judged over h = ap (λ (xs : List Packet). Flush ∷ xs) (by_end h) where
+  at : judge_at reading state Flush ≡ at_flush reading.ends
+  at = at_place reading state place Flush here ∙ judged
+
+  by_end : IsWholeAt reading state (Flush ∷ rest) → rest ≡ ends_with reading.ends
+  by_end (inl k) = rest_by reading.ends rest (inl (sym at ∙ k.0, k.1))
+  by_end (inr k) =
+      rest_by reading.ends rest
+      (inr (
+        sym at ∙ k.0,
+        over_rest reading (next_state reading.format state Flush) rest
+            (ap (λ (p : Place). next_place p Flush) here ∙ over) k.1,
+      ))
 
 by_rest : (reading : Reading) (state next : State) (ends : Ends) → next.place ≡ Over → judge_at reading state Flush ≡ at_flush ends
     → ((judge_at reading state Flush ≡ Whole) × (ends_with ends ≡ [])) ⊎ ((judge_at reading state Flush ≡ Open) × IsWholeAt reading next (ends_with ends))
 by_rest reading state next Plain over at = inl (at, refl)
 by_rest reading state next Response over at = inr (at, inl (at_place reading next Over ResponseEnd over, refl))
 
-pub rest_flush : (reading : Reading) (state : State) → judge_at reading state Flush ≡ at_flush reading.ends → next_place state.place Flush ≡ Over
+pub rest_flush : (reading : Reading) (state : State) (place : Place) → state.place ≡ place
+    → judge_there reading place state Flush ≡ at_flush reading.ends → next_place place Flush ≡ Over
     → IsWholeAt reading state (Flush ∷ ends_with reading.ends)
-rest_flush reading state at over = by_rest reading state (next_state reading.format state Flush) reading.ends over at
+rest_flush reading state place here judged over =
+    by_rest reading state (next_state reading.format state Flush) reading.ends
+    (ap (λ (p : Place). next_place p Flush) here ∙ over) (at_place reading state place Flush here ∙ judged)
 
 -- ---- the bytes of the pack
 
@@ -92,9 +121,6 @@ pub record IsPackRest (reading : Reading) (state : State) (packets : List Packet
   pub are : All (λ payload. IsDataOrProgress (band_form payload)) payloads
   pub few : state.band_count + length payloads ≤ max_packets
   pub short : state.byte_count + length (data_of payloads) ≤ reading.limit
-
-in_flush : (place : Place) → place ≡ InPack → next_place place Flush ≡ Over
-in_flush place e = ap (λ (p : Place). next_place p Flush) e
 
 -- the state after a packet of the pack
 abbrev pub banded : State → List ℕ → State
@@ -115,35 +141,33 @@ pub pack_rest : (reading : Reading) (state : State) (packets : List Packet) → 
     → IsWholeAt reading state packets → IsPackRest reading state packets
 pack_rest reading state [] here few short h = absurd h
 pack_rest reading state (Data payload ∷ rest) here few short h =
-    let goes = goes_on _ (data_not_whole reading state InPack payload here tt) h in
-    let on = band_open reading.limit state (band_form payload) short (data_open reading state InPack payload here tt goes.0) in
-    let more = at_state reading (next_state reading.format state (Data payload)) (banded state payload) rest (state-band reading.format state payload here) goes.1 in
+    let goes = data_goes reading state InPack payload rest here h in
+    let on = band_open reading.limit state (band_form payload) short goes.0 in
     let room : state.band_count + 1 ≤ max_packets = (let on_few = on.few in omega arith) in
-    more_rest reading state payload rest on (pack_rest reading (banded state payload) rest refl room on.short more)
+    more_rest reading state payload rest on
+    (pack_rest reading (banded state payload) rest refl room on.short
+    (at_state reading _ _ rest (state-band reading.format state payload here) goes.1))
 pack_rest reading state (Flush ∷ rest) here few short h = record {
   payloads = [];
-  parts = ap (λ (xs : List Packet). Flush ∷ xs) (flush_rest reading state rest (at_place reading state InPack Flush here) (in_flush state.place here) h);
+  parts = flush_rest reading state InPack rest here refl refl h;
   are = All-nil (λ p. IsDataOrProgress (band_form p));
   few = omega arith;
   short = omega arith;
 }
-pack_rest reading state (Delim ∷ rest) here few short h = refused _ WrongSection (at_place reading state InPack Delim here) h
-pack_rest reading state (ResponseEnd ∷ rest) here few short h = refused _ UnexpectedFrame (at_place reading state InPack ResponseEnd here) h
+pack_rest reading state (packet ∷ rest) here few short h = refused _ _ (at_place reading state InPack packet here) h
 
 pub rest_pack : (reading : Reading) (state : State) (payloads : List (List ℕ)) → state.place ≡ InPack → All (λ payload. IsDataOrProgress (band_form payload)) payloads
     → state.band_count + length payloads ≤ max_packets → state.byte_count + length (data_of payloads) ≤ reading.limit
     → IsWholeAt reading state (map Data payloads ++ Flush ∷ ends_with reading.ends)
-rest_pack reading state [] here are few short = rest_flush reading state (at_place reading state InPack Flush here) (in_flush state.place here)
+rest_pack reading state [] here are few short = rest_flush reading state InPack here refl refl
 rest_pack reading state (payload ∷ payloads) here are few short =
     let is = All-head (λ p. IsDataOrProgress (band_form p)) payload payloads are in
     let long = length-append (data_in (band_form payload)) (data_of payloads) in
     let on : BandOn reading.limit state (band_form payload) = record { is = is; few = omega arith; short = omega arith } in
-    inr (
-      open_data reading state InPack payload here tt (band_reports_none payload is) (open_band reading.limit state (band_form payload) on),
-      at_state reading (banded state payload) (next_state reading.format state (Data payload)) (map Data payloads ++ Flush ∷ ends_with reading.ends)
-          (sym (state-band reading.format state payload here))
-          (rest_pack reading (banded state payload) payloads refl (All-tail (λ p. IsDataOrProgress (band_form p)) payload payloads are) (omega arith) (omega arith)),
-    )
+    onward reading state (banded state payload) (Data payload) _
+    (open_data reading state InPack payload here (band_reports_none payload is) (open_band reading.limit state (band_form payload) on))
+    (state-band reading.format state payload here)
+    (rest_pack reading (banded state payload) payloads refl (All-tail (λ p. IsDataOrProgress (band_form p)) payload payloads are) (omega arith) (omega arith))
 
 -- ---- the pack's section
 
@@ -162,17 +186,14 @@ pub record IsBeforePack (state : State) : Type 0 where
 pub next-packfile : (format : Format) (state : State) (heading : List ℕ) → state.place ≡ BeforePack → reply_form (text heading) ≡ Packfile
     → next_state format state (Data heading) ≡ moved state InPack
 next-packfile format state heading here form =
-    next-moved format state (Data heading) InPack
-    (ap (λ (p : Place). texts_there p (Data heading)) here)
-    (ap (λ (p : Place). bands_there p (Data heading)) here)
-    (ap (λ (p : Place). next_place p (Data heading)) here ∙ ap (after_text BeforePack) form)
+    moves format state BeforePack InPack (Data heading) here (ap (after_text BeforePack) form) refl refl
 
 pub pack_part : (reading : Reading) (state : State) (packets : List Packet) → IsBeforePack state → IsWholeAt reading state packets → IsPackPart reading packets
 pack_part reading state [] before h = absurd h
 pack_part reading state (Data heading ∷ rest) before h =
-    let goes = goes_on _ (data_not_whole reading state BeforePack heading before.place tt) h in
-    let form : reply_form (text heading) ≡ Packfile = before_open _ (data_open reading state BeforePack heading before.place tt goes.0) in
-    let whole = at_state reading (next_state reading.format state (Data heading)) (moved state InPack) rest (next-packfile reading.format state heading before.place form) goes.1 in
+    let goes = data_goes reading state BeforePack heading rest before.place h in
+    let form : reply_form (text heading) ≡ Packfile = before_open _ goes.0 in
+    let whole = at_state reading _ _ rest (next-packfile reading.format state heading before.place form) goes.1 in
     let none = before.band_count in
     let empty = before.byte_count in
     let more = pack_rest reading (moved state InPack) rest refl (omega arith) (omega arith) whole in
@@ -183,7 +204,7 @@ pack_part reading state (Data heading ∷ rest) before h =
         heading = heading;
         payloads = more.payloads;
         parts = refl;
-        is_heading = packfile_line (text heading) form;
+        is_heading = form_there (text heading) Packfile form;
         are_bands = more.are;
         few = (let few = more.few in omega arith);
         short = (let short = more.short in omega arith);
@@ -191,27 +212,226 @@ pack_part reading state (Data heading ∷ rest) before h =
       };
       parts = ap (λ (xs : List Packet). Data heading ∷ xs) (more.parts ∙ sym (append_assoc (map Data more.payloads) (Flush ∷ []) (ends_with reading.ends)));
     }
-pack_part reading state (Flush ∷ rest) before h = refused _ WrongSection (at_place reading state BeforePack Flush before.place) h
-pack_part reading state (Delim ∷ rest) before h = refused _ WrongSection (at_place reading state BeforePack Delim before.place) h
-pack_part reading state (ResponseEnd ∷ rest) before h = refused _ UnexpectedFrame (at_place reading state BeforePack ResponseEnd before.place) h
+pack_part reading state (packet ∷ rest) before h = refused _ _ (at_place reading state BeforePack packet before.place) h
 
 pub part_pack : (reading : Reading) (state : State) (section : List Packet) (pack : List ℕ) → IsBeforePack state → IsPackSection reading.limit section pack
     → IsWholeAt reading state (section ++ ends_with reading.ends)
 part_pack reading state section pack before is =
-    let form = packfile_form (text is.heading) is.is_heading in
+    let form = word_there (text is.heading) Packfile tt is.is_heading in
     let none = before.band_count in
     let empty = before.byte_count in
     let few = is.few in
     let long : length pack ≡ length (data_of is.payloads) = ap length is.is_data in
     let short = is.short in
     let rest = rest_pack reading (moved state InPack) is.payloads refl is.are_bands (omega arith) (omega arith) in
-    let whole : IsWholeAt reading state (Data is.heading ∷ (map Data is.payloads ++ Flush ∷ ends_with reading.ends)) =
-    inr (
-      open_data reading state BeforePack is.heading before.place tt (form_reports_none is.heading Packfile form tt) (ap judge_before_pack form),
-      at_state reading (moved state InPack) (next_state reading.format state (Data is.heading)) (map Data is.payloads ++ Flush ∷ ends_with reading.ends)
-          (sym (next-packfile reading.format state is.heading before.place form)) rest,
-    ) in
+    let whole = onward reading state (moved state InPack) (Data is.heading) _
+    (open_data reading state BeforePack is.heading before.place (form_reports_none is.heading Packfile form tt) (ap judge_before_pack form))
+    (next-packfile reading.format state is.heading before.place form) rest in
     let same : Data is.heading ∷ (map Data is.payloads ++ Flush ∷ ends_with reading.ends) ≡ section ++ ends_with reading.ends =
     ap (λ (xs : List Packet). Data is.heading ∷ xs) (sym (append_assoc (map Data is.payloads) (Flush ∷ []) (ends_with reading.ends)))
     ∙ ap (λ (xs : List Packet). xs ++ ends_with reading.ends) (sym is.parts) in
     subst (IsWholeAt reading state) same whole
+
+-- ---- the acknowledgments
+
+-- what may follow so many acknowledged ids
+pub data AckTail (reading : Reading) (count : ℕ) (tail : List Packet) : Type 0 where
+  ended : tail ≡ Flush ∷ ends_with reading.ends → AckTail reading count tail
+  naked : (nak : List ℕ) → count ≡ 0 → text nak ≡ codes "NAK" → tail ≡ Data nak ∷ Flush ∷ ends_with reading.ends → AckTail reading count tail
+  readied : (readiness : List ℕ) (rest : List Packet) → text readiness ≡ codes "ready" → tail ≡ Data readiness ∷ Delim ∷ rest
+      → IsPackPart reading rest → AckTail reading count tail
+
+pub record IsAckRest (reading : Reading) (state : State) (packets : List Packet) : Type 0 where
+  pub acks : List (List ℕ)
+  pub tail : List Packet
+  pub parts : packets ≡ map Data acks ++ tail
+  pub are : All (IsAck reading.format) (map text acks)
+  pub few : state.ack_count + length acks ≤ max_acks
+  pub last : AckTail reading (state.ack_count + length acks) tail
+
+-- among the acknowledgments
+pub record IsAcking (state : State) : Type 0 where
+  pub place : state.place ≡ Acking
+  pub band_count : state.band_count ≡ 0
+  pub byte_count : state.byte_count ≡ 0
+
+-- ---- from the judge
+
+naked_rest : (reading : Reading) (state : State) (packets : List Packet) → state.place ≡ AfterNak → IsWholeAt reading state packets → packets ≡ Flush ∷ ends_with reading.ends
+naked_rest reading state [] here h = absurd h
+naked_rest reading state (Data payload ∷ rest) here h =
+    absurd (late_not_open _ (data_goes reading state AfterNak payload rest here h).0)
+naked_rest reading state (Flush ∷ rest) here h = flush_rest reading state AfterNak rest here refl refl h
+naked_rest reading state (packet ∷ rest) here h = refused _ _ (at_place reading state AfterNak packet here) h
+
+-- after `ready`: the delimiter, and the pack's section
+ready_rest : (reading : Reading) (state : State) (packets : List Packet) → state.place ≡ AfterReady → state.band_count ≡ 0 → state.byte_count ≡ 0
+    → IsWholeAt reading state packets → (rest : List Packet) × (packets ≡ Delim ∷ rest) × IsPackPart reading rest
+ready_rest reading state [] here none empty h = absurd h
+ready_rest reading state (Data payload ∷ rest) here none empty h =
+    absurd (late_not_open _ (data_goes reading state AfterReady payload rest here h).0)
+ready_rest reading state (Delim ∷ rest) here none empty h =
+    let goes = goes_on _ (λ e. let no = sym (at_place reading state AfterReady Delim here) ∙ e in cc) h in (
+      rest,
+      refl,
+      pack_part reading (moved state BeforePack) rest (record { place = refl; band_count = none; byte_count = empty })
+          (at_state reading _ _ rest (next-delim reading.format state here) goes.1),
+    )
+ready_rest reading state (packet ∷ rest) here none empty h = refused _ _ (at_place reading state AfterReady packet here) h
+
+-- so many ids more are acknowledged
+abbrev pub acked : ℕ → State → State
+acked more state = record { place = Acking; ack_count = state.ack_count + more; band_count = state.band_count; byte_count = state.byte_count }
+
+more_acks : (reading : Reading) (state : State) (ack : List ℕ) (rest : List Packet) → IsAck reading.format (text ack) → IsAckRest reading (acked 1 state) rest
+    → IsAckRest reading state (Data ack ∷ rest)
+more_acks reading state ack rest is more =
+    let few = more.few in
+    record {
+      acks = ack ∷ more.acks;
+      tail = more.tail;
+      parts = ap (λ (xs : List Packet). Data ack ∷ xs) more.parts;
+      are = All-cons (IsAck reading.format) (text ack) (map text more.acks) is more.are;
+      few = omega arith;
+      last = subst (λ (n : ℕ). AckTail reading n more.tail) (omega arith) more.last;
+    }
+
+ack_by : (reading : Reading) (state : State) (payload : List ℕ) (rest : List Packet) (form : ReplyForm) → reply_form (text payload) ≡ form → IsAcking state
+    → state.ack_count ≤ max_acks → AckingOn reading.format state form
+    → ((new : State) → IsAcking new → new.ack_count ≤ max_acks → IsWholeAt reading new rest → IsAckRest reading new rest)
+    → IsWholeAt reading (next_state reading.format state (Data payload)) rest → IsAckRest reading state (Data payload ∷ rest)
+ack_by reading state payload rest (Ack digits) is here few (an_ack d id spells less) next h =
+    more_acks reading state payload rest (ap is_some (ap (ack_id reading.format) is ∙ spells))
+    (next (acked 1 state) (record { place = refl; band_count = here.band_count; byte_count = here.byte_count }) (omega arith)
+    (at_state reading _ _ rest (state-ack reading.format state payload digits id here.place is spells) h))
+ack_by reading state payload rest Nak is here few (a_nak none) next h =
+    let ends = naked_rest reading (moved state AfterNak) rest refl
+    (at_state reading _ _ rest (state-acking reading.format state payload Nak here.place is refl) h) in
+    record {
+      acks = [];
+      tail = Data payload ∷ rest;
+      parts = refl;
+      are = All-nil (IsAck reading.format);
+      few = omega arith;
+      last = naked payload (omega arith) (form_there (text payload) Nak is) (ap (λ (xs : List Packet). Data payload ∷ xs) ends);
+    }
+ack_by reading state payload rest Readiness is here few a_readiness next h =
+    let ready = ready_rest reading (moved state AfterReady) rest refl here.band_count here.byte_count
+    (at_state reading _ _ rest (state-acking reading.format state payload Readiness here.place is refl) h) in
+    record {
+      acks = [];
+      tail = Data payload ∷ rest;
+      parts = refl;
+      are = All-nil (IsAck reading.format);
+      few = omega arith;
+      last = readied payload ready.0 (form_there (text payload) Readiness is) (ap (λ (xs : List Packet). Data payload ∷ xs) ready.1) ready.2;
+    }
+ack_by reading state payload rest form is here few on next h = elim on [ ]
+
+pub ack_rest : (reading : Reading) (packets : List Packet) (state : State) → IsAcking state → state.ack_count ≤ max_acks → IsWholeAt reading state packets → IsAckRest reading state packets
+ack_rest reading [] state here few h = absurd h
+ack_rest reading (Data payload ∷ rest) state here few h =
+    let goes = data_goes reading state Acking payload rest here.place h in
+    ack_by reading state payload rest _ refl here few (acking_open reading.format state _ goes.0)
+    (ack_rest reading rest) goes.1
+ack_rest reading (Flush ∷ rest) state here few h = record {
+  acks = [];
+  tail = Flush ∷ rest;
+  parts = refl;
+  are = All-nil (IsAck reading.format);
+  few = omega arith;
+  last = ended (flush_rest reading state Acking rest here.place refl refl h);
+}
+ack_rest reading (packet ∷ rest) state here few h = refused _ _ (at_place reading state Acking packet here.place) h
+
+-- ---- to the judge
+
+some_id : (format : Format) (digits : List ℕ) (id : Option (List ℕ)) → id_of_text format digits ≡ id → is_some id ≡ true → (found : List ℕ) × (id_of_text format digits ≡ Some found)
+some_id format digits None is e = cc
+some_id format digits (Some id) is e = (id, is)
+
+-- the text of an acknowledged id
+pub record IsAckForm (format : Format) (form : ReplyForm) : Type 0 where
+  pub digits : List ℕ
+  pub id : List ℕ
+  pub is : form ≡ Ack digits
+  pub spells : id_of_text format digits ≡ Some id
+
+pub ack_is : (format : Format) (form : ReplyForm) → is_some (ack_id format form) ≡ true → IsAckForm format form
+ack_is format (Ack digits) e = let some = some_id format digits _ refl e in record { digits = digits; id = some.0; is = refl; spells = some.1 }
+ack_is format form e = cc
+
+-- a text of the acknowledgments goes on
+pub open_ack : (reading : Reading) (state : State) (payload : List ℕ) (form : ReplyForm) → state.place ≡ Acking → reply_form (text payload) ≡ form
+    → AckingOn reading.format state form → judge_at reading state (Data payload) ≡ Open
+open_ack reading state payload Nak here is on =
+    open_data reading state Acking payload here (form_reports_none payload Nak is tt) (ap (judge_acking reading.format state) is ∙ open_acking reading.format state Nak on)
+open_ack reading state payload Readiness here is on =
+    open_data reading state Acking payload here (form_reports_none payload Readiness is tt) (ap (judge_acking reading.format state) is ∙ open_acking reading.format state Readiness on)
+open_ack reading state payload (Ack digits) here is on =
+    open_data reading state Acking payload here (form_reports_none payload (Ack digits) is tt) (ap (judge_acking reading.format state) is ∙ open_acking reading.format state (Ack digits) on)
+open_ack reading state payload form here is on = elim on [ ]
+
+pub rest_acks : (reading : Reading) (state : State) (acks : List (List ℕ)) (tail : List Packet) → state.place ≡ Acking → All (IsAck reading.format) (map text acks)
+    → state.ack_count + length acks ≤ max_acks → IsWholeAt reading (acked (length acks) state) tail
+    → IsWholeAt reading state (map Data acks ++ tail)
+rest_acks reading state [] tail here are few last =
+    at_state reading _ _ tail (same_state (sym here) (omega arith) refl refl) last
+rest_acks reading state (ack ∷ acks) tail here are few last =
+    let form = ack_is reading.format _ (All-head (IsAck reading.format) (text ack) (map text acks) are) in
+    onward reading state (acked 1 state) (Data ack) _
+    (open_ack reading state ack (Ack form.digits) here form.is (an_ack form.digits form.id form.spells (omega arith)))
+    (state-ack reading.format state ack form.digits form.id here form.is form.spells)
+    (rest_acks reading (acked 1 state) acks tail refl (All-tail (IsAck reading.format) (text ack) (map text acks) are) (omega arith)
+    (at_state reading _ _ tail (same_state refl (omega arith) refl refl) last))
+
+pub rest_nak : (reading : Reading) (state : State) (nak : List ℕ) → state.place ≡ Acking → state.ack_count ≡ 0 → text nak ≡ codes "NAK"
+    → IsWholeAt reading state (Data nak ∷ Flush ∷ ends_with reading.ends)
+rest_nak reading state nak here none is =
+    let form = word_there (text nak) Nak tt is in
+    onward reading state (moved state AfterNak) (Data nak) _ (open_ack reading state nak Nak here form (a_nak none))
+    (state-acking reading.format state nak Nak here form refl)
+    (rest_flush reading (moved state AfterNak) AfterNak refl refl refl)
+
+pub rest_ready : (reading : Reading) (state : State) (readiness : List ℕ) (rest : List Packet) → state.place ≡ Acking → text readiness ≡ codes "ready"
+    → IsWholeAt reading (moved state BeforePack) rest → IsWholeAt reading state (Data readiness ∷ Delim ∷ rest)
+rest_ready reading state readiness rest here is last =
+    let form = word_there (text readiness) Readiness tt is in
+    let ready = moved state AfterReady in
+    onward reading state ready (Data readiness) _ (open_ack reading state readiness Readiness here form a_readiness)
+    (state-acking reading.format state readiness Readiness here form refl)
+    (onward reading ready (moved state BeforePack) Delim rest (at_place reading ready AfterReady Delim refl)
+    (next-delim reading.format ready refl) last)
+
+-- ---- the heading
+
+pub record IsAckPart (reading : Reading) (state : State) (packets : List Packet) : Type 0 where
+  pub heading : List ℕ
+  pub rest : List Packet
+  pub parts : packets ≡ Data heading ∷ rest
+  pub is_heading : text heading ≡ codes "acknowledgments"
+  pub are : IsAckRest reading (moved state Acking) rest
+
+pub ack_part : (reading : Reading) (state : State) (packets : List Packet) → state.place ≡ Start → state.ack_count ≤ max_acks → state.band_count ≡ 0 → state.byte_count ≡ 0
+    → IsWholeAt reading state packets → IsAckPart reading state packets
+ack_part reading state [] here few none empty h = absurd h
+ack_part reading state (Data heading ∷ rest) here few none empty h =
+    let goes = data_goes reading state Start heading rest here h in
+    let form : reply_form (text heading) ≡ Acknowledgments = start_open _ goes.0 in
+    record {
+      heading = heading;
+      rest = rest;
+      parts = refl;
+      is_heading = form_there (text heading) Acknowledgments form;
+      are = ack_rest reading rest (moved state Acking) (record { place = refl; band_count = none; byte_count = empty }) few
+          (at_state reading _ _ rest (next-heading reading.format state heading here form) goes.1);
+    }
+ack_part reading state (packet ∷ rest) here few none empty h = refused _ _ (at_place reading state Start packet here) h
+
+pub part_ack : (reading : Reading) (state : State) (heading : List ℕ) (rest : List Packet) → state.place ≡ Start → text heading ≡ codes "acknowledgments"
+    → IsWholeAt reading (moved state Acking) rest → IsWholeAt reading state (Data heading ∷ rest)
+part_ack reading state heading rest here is whole =
+    let form = word_there (text heading) Acknowledgments tt is in
+    onward reading state (moved state Acking) (Data heading) rest
+    (open_data reading state Start heading here (form_reports_none heading Acknowledgments form tt) (ap judge_start form))
+    (next-heading reading.format state heading here form) whole

@@ -1,23 +1,112 @@
 -- What the judge of replies says of a packet at each place.
-use Rattle.std.proofs.Common.{◌≡◌, ℕ, ◌+◌, ◌≤◌, ◌<◌, Bool, true, false, cond, List, [], ◌∷◌, ◌++◌, length, Option, Some, None, Result, Ok, Err, refl, sym, ap, ◌∙◌, append_assoc, append-nil, arith}
+use Rattle.std.proofs.Common.{◌≡◌, ℕ, ◌+◌, ◌≤◌, ◌<◌, Bool, true, false, cond, List, [], ◌∷◌, ◌++◌, length, Option, Some}
+use Rattle.std.proofs.Common.{None, Result, Ok, Err, refl, sym, ap, subst, ◌∙◌, append_assoc, append-nil, arith, ◌⊎◌}
+use Rattle.std.proofs.Common.{inl, inr}
 use Rattle.std.specs.Prelude.{is_some, nat_lt}
 use Rattle.std.proofs.lemmas.Bool.{and_parts, and_from, ltb-true, ltb-false, lt-ltb, leb-true, le-leb}
 use Rattle.gpkt.specs.Packets.{Packet, Data, Flush, Delim, ResponseEnd}
 use Rattle.gpkt.specs.Bands.{BandPacket, Data as BandData, Progress, Fatal}
 use Rattle.gpkt.specs.declared.fault.BandFault.{BandFault}
 use Rattle.gname.specs.declared.formats.Format.{Format}
-use Rattle.ggrammar.specs.Grammar.{Verdict, Open, Whole, Refused, if_room}
-use Rattle.ggrammar.specs.Endings.{after_flush}
+use Rattle.ggrammar.specs.Grammar.{Verdict, Open, Whole, Refused, if_room, Judge, IsOpen, IsWhole}
+use Rattle.ggrammar.specs.Endings.{after_flush, at_flush}
+use Rattle.ggrammar.specs.MessageBytes.{IsForPacket, RefusesPackets}
 use Rattle.ggrammar.specs.Ids.{id_of_text}
 use Rattle.ggrammar.specs.PeerErrors.{peer_error, unless_error}
+use Rattle.ggrammar.specs.declared.ends.Ends.{Ends}
+use Rattle.ggrammar.specs.declared.ends.Ends.TheVariants.{Plain, Response}
 use Rattle.ggrammar.specs.declared.fault.Why.TheVariants as why
-use Rattle.ggrammar.proofs.VerdictLemmas.{open_unless, room_goes_on, room_left, room_not_whole, whole_unless}
+use Rattle.ggrammar.proofs.VerdictLemmas.{open_unless, past_error, room_goes_on, room_left, whole_unless}
 use Rattle.gfetchreply.specs.FetchManual.{IsDataOrProgress}
-use Rattle.gfetchreply.specs.FetchReplies.{Reading, State, Place, Start, Acking, AfterNak, AfterReady, BeforePack, InPack, Over}
+use Rattle.gfetchreply.specs.FetchReplies.{Reading, State, Place, Start, Acking, AfterNak, BeforePack, InPack, Over}
 use Rattle.gfetchreply.specs.FetchReplies.{ReplyForm, Acknowledgments, Nak, Readiness, Packfile, Ack, OtherForm}
-use Rattle.gfetchreply.specs.FetchReplies.{max_acks, max_packets, data_in, judge, judge_at, judge_there, judge_acking, judge_start, judge_before_pack, judge_late, judge_band, judge_payload, state_of, first_place, next_place, texts_there, bands_there}
-use Rattle.gfetchreply.proofs.FromLeft.{state_after, judge_from, OpenFrom, WholeFrom}
-use Rattle.gfetchreply.proofs.StateLemmas.{state_of-nil, state_of-push, next_state, state-move}
+use Rattle.gfetchreply.specs.FetchReplies.{max_acks, max_packets, data_in, judge, judge_at, judge_there, judge_acking}
+use Rattle.gfetchreply.specs.FetchReplies.{judge_start, judge_before_pack, judge_late, judge_band, judge_payload}
+use Rattle.gfetchreply.specs.FetchReplies.{state_of, first_place}
+use Rattle.gfetchreply.proofs.StateLemmas.{state_of-nil, state_of-push, next_state}
+use Rattle.ggrammar.proofs.GrammarLemmas.{nil_has_none}
+
+module _ {S : Type 0} (table : S → Packet → Verdict) (step : S → Packet → S) where
+  -- the state after these packets
+  abbrev pub state_after : S → List Packet → S
+  state_after state [] = state
+  state_after state (packet ∷ packets) = state_after (step state packet) packets
+
+  -- the judge that begins with a state
+  abbrev pub judge_from : S → Judge
+  judge_from state front packet = table (state_after state front) packet
+
+  abbrev pub OpenFrom : S → List Packet → Type 0
+  OpenFrom state [] = Unit {0}
+  OpenFrom state (packet ∷ rest) = (table state packet ≡ Open) × OpenFrom (step state packet) rest
+
+  abbrev pub WholeFrom : S → List Packet → Type 0
+  WholeFrom state [] = ⊥
+  WholeFrom state (packet ∷ rest) =
+      ((table state packet ≡ Whole) × (rest ≡ [])) ⊎ ((table state packet ≡ Open) × WholeFrom (step state packet) rest)
+
+  pub OpenFrom-from_open : (state : S) (lines : List Packet) → IsOpen (judge_from state) lines → OpenFrom state lines
+  OpenFrom-from_open state [] opened = tt
+  OpenFrom-from_open state (packet ∷ rest) opened = (
+    opened.each [] packet rest refl,
+    OpenFrom-from_open (step state packet) rest (record { each = λ front one back e. opened.each (packet ∷ front) one back (ap (λ (xs : List Packet). packet ∷ xs) e) }),
+  )
+
+  -- a position in an open list
+  open_there : (state : S) (lines front : List Packet) (packet : Packet) (back : List Packet) → OpenFrom state lines → lines ≡ front ++ packet ∷ back
+      → table (state_after state front) packet ≡ Open
+  open_there state [] front packet back h e = absurd (nil_has_none front packet back e)
+  open_there state (first ∷ rest) [] packet back h e =
+      let same : first ≡ packet = cc in ap (table state) (sym same) ∙ h.0
+  open_there state (first ∷ rest) (other ∷ front) packet back h e =
+      let same : first ≡ other = cc in
+      let more : rest ≡ front ++ packet ∷ back = cc in
+      ap (λ (p : Packet). table (state_after (step state p) front) packet) (sym same) ∙ open_there (step state first) rest front packet back h.1 more
+
+  pub IsOpen-from_left : (state : S) (lines : List Packet) → OpenFrom state lines → IsOpen (judge_from state) lines
+  IsOpen-from_left state lines h = record { each = λ front packet back e. open_there state lines front packet back h e }
+
+  whole_push : (state : S) (front : List Packet) (last : Packet) → OpenFrom state front → table (state_after state front) last ≡ Whole
+      → WholeFrom state (front ++ last ∷ [])
+  whole_push state [] last h ends = inl (ends, refl)
+  whole_push state (packet ∷ front) last h ends = inr (h.0, whole_push (step state packet) front last h.1 ends)
+
+  pub WholeFrom-from_whole : (state : S) (lines : List Packet) → IsWhole (judge_from state) lines → WholeFrom state lines
+  WholeFrom-from_whole state lines whole =
+      subst (WholeFrom state) (sym whole.parts) (whole_push state whole.front whole.last (OpenFrom-from_open state whole.front whole.goes) whole.ends)
+
+  pub IsWhole-from_left : (state : S) (lines : List Packet) → WholeFrom state lines → IsWhole (judge_from state) lines
+  IsWhole-from_left state [] h = absurd h
+  IsWhole-from_left state (packet ∷ rest) (inl h) = record {
+    front = [];
+    last = packet;
+    parts = ap (λ (xs : List Packet). packet ∷ xs) h.1;
+    goes = IsOpen-from_left state [] tt;
+    ends = h.0;
+  }
+  IsWhole-from_left state (packet ∷ rest) (inr h) =
+      let whole = IsWhole-from_left (step state packet) rest h.1 in
+      record {
+        front = packet ∷ whole.front;
+        last = whole.last;
+        parts = ap (λ (xs : List Packet). packet ∷ xs) whole.parts;
+        goes = IsOpen-from_left state (packet ∷ whole.front) (h.0, OpenFrom-from_open (step state packet) whole.front whole.goes);
+        ends = whole.ends;
+      }
+
+  -- no complete list begins another
+  pub WholeFrom-ends : (state : S) (lines back : List Packet) → WholeFrom state lines → WholeFrom state (lines ++ back) → back ≡ []
+  WholeFrom-ends state [] back short long = absurd short
+  WholeFrom-ends state (packet ∷ rest) back (inl h) (inl g) = ap (λ (xs : List Packet). xs ++ back) (sym h.1) ∙ g.1
+  WholeFrom-ends state (packet ∷ rest) back (inl h) (inr g) = let ends = h.0 in let goes = g.0 in cc
+  WholeFrom-ends state (packet ∷ rest) back (inr h) (inl g) = let goes = h.0 in let ends = g.0 in cc
+  WholeFrom-ends state (packet ∷ rest) back (inr h) (inr g) = WholeFrom-ends (step state packet) rest back h.1 g.1
+
+  -- what follows an open list
+  pub WholeFrom-after_open : (state : S) (front more : List Packet) → OpenFrom state front → WholeFrom (state_after state front) more
+      → WholeFrom state (front ++ more)
+  WholeFrom-after_open state [] more opened rest = rest
+  WholeFrom-after_open state (packet ∷ front) more opened rest = inr (opened.0, WholeFrom-after_open (step state packet) front more opened.1 rest)
 
 -- ---- the judge from the left
 
@@ -56,121 +145,114 @@ pub at_place : (reading : Reading) (state : State) (place : Place) (packet : Pac
 unfolding judge_at
 at_place reading state place packet here = ap (λ (p : Place). judge_there reading p state packet) here
 
--- data where a text or a payload is due
-abbrev pub IsDue : Place → Type 0
-IsDue Over = ⊥
-IsDue _ = Unit {0}
-
-data_there : (reading : Reading) (place : Place) (state : State) (payload : List ℕ) → IsDue place
+data_there : (reading : Reading) (place : Place) (state : State) (payload : List ℕ)
     → judge_there reading place state (Data payload) ≡ unless_error (peer_error payload) (judge_payload reading place state payload)
-data_there reading Start state payload due = refl
-data_there reading Acking state payload due = refl
-data_there reading AfterNak state payload due = refl
-data_there reading AfterReady state payload due = refl
-data_there reading BeforePack state payload due = refl
-data_there reading InPack state payload due = refl
-data_there reading Over state payload due = absurd due
+data_there reading Start state payload = refl
+data_there reading place state payload = refl
 
-pub data_open : (reading : Reading) (state : State) (place : Place) (payload : List ℕ) → state.place ≡ place → IsDue place
+pub data_judged : (reading : Reading) (state : State) (place : Place) (payload : List ℕ) → state.place ≡ place
+    → judge_at reading state (Data payload) ≡ unless_error (peer_error payload) (judge_payload reading place state payload)
+data_judged reading state place payload here =
+    at_place reading state place (Data payload) here ∙ data_there reading place state payload
+
+pub data_open : (reading : Reading) (state : State) (place : Place) (payload : List ℕ) → state.place ≡ place
     → judge_at reading state (Data payload) ≡ Open → judge_payload reading place state payload ≡ Open
-data_open reading state place payload here due e =
-    open_unless (peer_error payload) _ (sym (at_place reading state place (Data payload) here ∙ data_there reading place state payload due) ∙ e)
+data_open reading state place payload here e =
+    open_unless (peer_error payload) _ (sym (data_judged reading state place payload here) ∙ e)
 
-pub open_data : (reading : Reading) (state : State) (place : Place) (payload : List ℕ) → state.place ≡ place → IsDue place
+pub open_data : (reading : Reading) (state : State) (place : Place) (payload : List ℕ) → state.place ≡ place
     → peer_error payload ≡ None → judge_payload reading place state payload ≡ Open → judge_at reading state (Data payload) ≡ Open
-open_data reading state place payload here due none e =
-    at_place reading state place (Data payload) here
-    ∙ (data_there reading place state payload due
-    ∙ (ap (λ (said : Option (List ℕ)). unless_error said (judge_payload reading place state payload)) none ∙ e))
+open_data reading state place payload here none e =
+    data_judged reading state place payload here
+    ∙ (ap (λ (said : Option (List ℕ)). unless_error said (judge_payload reading place state payload)) none ∙ e)
 
--- ---- no data ends a reply
+-- ---- no data ends a reply, and what is refused is refused for the packet's own sake
 
-not_whole_band : (limit : ℕ) (state : State) (form : Result BandPacket BandFault) → judge_band limit state form ≡ Whole → ⊥
-not_whole_band limit state (Err fault) e = cc
-not_whole_band limit state (Ok (Fatal bytes)) e = cc
-not_whole_band limit state (Ok (BandData bytes)) e = room_not_whole _ e
-not_whole_band limit state (Ok (Progress bytes)) e = room_not_whole _ e
+abbrev IsPart : Verdict → Type 0
+IsPart Whole = ⊥
+IsPart verdict = IsForPacket verdict
 
-not_whole_start : (form : ReplyForm) → judge_start form ≡ Whole → ⊥
-not_whole_start Acknowledgments e = cc
-not_whole_start Nak e = cc
-not_whole_start Readiness e = cc
-not_whole_start Packfile e = cc
-not_whole_start (Ack id) e = cc
-not_whole_start OtherForm e = cc
+part_test : (test : Bool) (one other : Verdict) → IsPart one → IsPart other → IsPart (cond test one other)
+part_test true one other h k = h
+part_test false one other h k = k
 
-not_whole_ack : (some room : Bool) → cond some (if_room room) (Refused why.BadId) ≡ Whole → ⊥
-not_whole_ack true room e = room_not_whole room e
-not_whole_ack false room e = cc
+part_room : (test : Bool) → IsPart (if_room test)
+part_room test = part_test test Open (Refused why.Limit) tt tt
 
-not_whole_nak : (some : Bool) → cond some (Refused why.WrongSection) Open ≡ Whole → ⊥
-not_whole_nak true e = cc
-not_whole_nak false e = cc
+part_start : (form : ReplyForm) → IsPart (judge_start form)
+part_start Packfile = tt
+part_start form = tt
 
-not_whole_acking : (format : Format) (state : State) (form : ReplyForm) → judge_acking format state form ≡ Whole → ⊥
-not_whole_acking format state Acknowledgments e = cc
-not_whole_acking format state Nak e = not_whole_nak _ e
-not_whole_acking format state Readiness e = cc
-not_whole_acking format state Packfile e = cc
-not_whole_acking format state (Ack id) e = not_whole_ack _ _ e
-not_whole_acking format state OtherForm e = cc
+part_acking : (format : Format) (state : State) (form : ReplyForm) → IsPart (judge_acking format state form)
+part_acking format state Nak = part_test (nat_lt 0 state.ack_count) (Refused why.WrongSection) Open tt tt
+part_acking format state (Ack id) = part_test (is_some (id_of_text format id)) _ (Refused why.BadId) (part_room _) tt
+part_acking format state form = tt
 
-not_whole_before : (form : ReplyForm) → judge_before_pack form ≡ Whole → ⊥
-not_whole_before Acknowledgments e = cc
-not_whole_before Nak e = cc
-not_whole_before Readiness e = cc
-not_whole_before Packfile e = cc
-not_whole_before (Ack id) e = cc
-not_whole_before OtherForm e = cc
+part_late : (form : ReplyForm) → IsPart (judge_late form)
+part_late OtherForm = tt
+part_late form = tt
 
-late_refused : (form : ReplyForm) (verdict : Verdict) → judge_late form ≡ verdict → verdict ≡ Whole → ⊥
-late_refused Acknowledgments verdict e f = cc
-late_refused Nak verdict e f = cc
-late_refused Readiness verdict e f = cc
-late_refused Packfile verdict e f = cc
-late_refused (Ack id) verdict e f = cc
-late_refused OtherForm verdict e f = cc
+part_before : (form : ReplyForm) → IsPart (judge_before_pack form)
+part_before Packfile = tt
+part_before form = tt
 
-pub late_not_open : (form : ReplyForm) → judge_late form ≡ Open → ⊥
-late_not_open Acknowledgments e = cc
-late_not_open Nak e = cc
-late_not_open Readiness e = cc
-late_not_open Packfile e = cc
-late_not_open (Ack id) e = cc
-late_not_open OtherForm e = cc
+part_band : (limit : ℕ) (state : State) (band : Result BandPacket BandFault) → IsPart (judge_band limit state band)
+part_band limit state (Ok (Fatal bytes)) = tt
+part_band limit state (Ok band) = part_room _
+part_band limit state (Err fault) = tt
 
-not_whole_payload : (reading : Reading) (place : Place) (state : State) (payload : List ℕ) → judge_payload reading place state payload ≡ Whole → ⊥
-not_whole_payload reading Start state payload e = not_whole_start _ e
-not_whole_payload reading Acking state payload e = not_whole_acking reading.format state _ e
-not_whole_payload reading AfterNak state payload e = late_refused _ Whole e refl
-not_whole_payload reading AfterReady state payload e = late_refused _ Whole e refl
-not_whole_payload reading BeforePack state payload e = not_whole_before _ e
-not_whole_payload reading InPack state payload e = not_whole_band reading.limit state _ e
-not_whole_payload reading Over state payload e = cc
+part_payload : (reading : Reading) (place : Place) (state : State) (payload : List ℕ) → IsPart (judge_payload reading place state payload)
+part_payload reading Start state payload = part_start _
+part_payload reading Acking state payload = part_acking reading.format state _
+part_payload reading BeforePack state payload = part_before _
+part_payload reading InPack state payload = part_band reading.limit state _
+part_payload reading Over state payload = tt
+part_payload reading place state payload = part_late _
 
-pub data_not_whole : (reading : Reading) (state : State) (place : Place) (payload : List ℕ) → state.place ≡ place → IsDue place
+part_not_whole : (verdict : Verdict) → IsPart verdict → verdict ≡ Whole → ⊥
+part_not_whole Whole h e = h
+part_not_whole verdict h e = cc
+
+pub data_not_whole : (reading : Reading) (state : State) (place : Place) (payload : List ℕ) → state.place ≡ place
     → judge_at reading state (Data payload) ≡ Whole → ⊥
-data_not_whole reading state place payload here due e =
-    not_whole_payload reading place state payload
-    (whole_unless (peer_error payload) _ (sym (at_place reading state place (Data payload) here ∙ data_there reading place state payload due) ∙ e))
+data_not_whole reading state place payload here e =
+    part_not_whole _ (part_payload reading place state payload)
+    (whole_unless (peer_error payload) _ (sym (data_judged reading state place payload here) ∙ e))
+
+for_packet : (verdict : Verdict) → IsPart verdict → IsForPacket verdict
+for_packet Whole h = tt
+for_packet verdict h = h
+
+flush_for_packet : (ends : Ends) → IsForPacket (at_flush ends)
+flush_for_packet Plain = tt
+flush_for_packet Response = tt
+
+there_for_packet : (reading : Reading) (place : Place) (state : State) (packet : Packet)
+    → IsForPacket (judge_there reading place state packet)
+there_for_packet reading place state (Data payload) =
+    subst IsForPacket (sym (data_there reading place state payload))
+    (past_error (peer_error payload) _ (for_packet _ (part_payload reading place state payload)))
+there_for_packet reading Acking state Flush = flush_for_packet reading.ends
+there_for_packet reading AfterNak state Flush = flush_for_packet reading.ends
+there_for_packet reading InPack state Flush = flush_for_packet reading.ends
+there_for_packet reading Over state Delim = tt
+there_for_packet reading Over state ResponseEnd = tt
+there_for_packet reading place state packet = tt
+
+pub refuses_packets : (reading : Reading) → RefusesPackets (judge reading)
+unfolding judge_at
+refuses_packets reading front packet =
+    there_for_packet reading (state_of reading front).place (state_of reading front) packet
 
 -- ---- texts that go on
 
 pub start_open : (form : ReplyForm) → judge_start form ≡ Open → form ≡ Acknowledgments
 start_open Acknowledgments e = refl
-start_open Nak e = cc
-start_open Readiness e = cc
-start_open Packfile e = cc
-start_open (Ack id) e = cc
-start_open OtherForm e = cc
+start_open form e = cc
 
 pub before_open : (form : ReplyForm) → judge_before_pack form ≡ Open → form ≡ Packfile
-before_open Acknowledgments e = cc
-before_open Nak e = cc
-before_open Readiness e = cc
 before_open Packfile e = refl
-before_open (Ack id) e = cc
-before_open OtherForm e = cc
+before_open form e = cc
 
 -- the forms that the acknowledgments go on with
 pub data AckingOn (format : Format) (state : State) : ReplyForm → Type 0 where
@@ -188,12 +270,10 @@ ack_open format state digits None is e = cc
 ack_open format state digits (Some id) is e = an_ack digits id is (ltb-true state.ack_count max_acks (room_left _ e))
 
 pub acking_open : (format : Format) (state : State) (form : ReplyForm) → judge_acking format state form ≡ Open → AckingOn format state form
-acking_open format state Acknowledgments e = cc
 acking_open format state Nak e = a_nak (nak_open state _ refl e)
 acking_open format state Readiness e = a_readiness
-acking_open format state Packfile e = cc
 acking_open format state (Ack digits) e = ack_open format state digits _ refl e
-acking_open format state OtherForm e = cc
+acking_open format state form e = cc
 
 pub open_acking : (format : Format) (state : State) (form : ReplyForm) → AckingOn format state form → judge_acking format state form ≡ Open
 open_acking format state (Ack digits) (an_ack d id is few) =
@@ -201,9 +281,7 @@ open_acking format state (Ack digits) (an_ack d id is few) =
     ∙ room_goes_on _ (lt-ltb state.ack_count max_acks few)
 open_acking format state Nak (a_nak none) = ap (λ (n : ℕ). cond (nat_lt 0 n) (Refused why.WrongSection) Open) none
 open_acking format state Readiness a_readiness = refl
-open_acking format state Acknowledgments on = elim on [ ]
-open_acking format state Packfile on = elim on [ ]
-open_acking format state OtherForm on = elim on [ ]
+open_acking format state form on = elim on [ ]
 
 -- a packet of the pack's section that goes on
 pub record BandOn (limit : ℕ) (state : State) (form : Result BandPacket BandFault) : Type 0 where
@@ -231,22 +309,13 @@ open_band limit state (Ok (Progress bytes)) h = room_goes_on _ (lt-ltb state.ban
 
 pub over_whole : (packet : Packet) → after_flush packet ≡ Whole → packet ≡ ResponseEnd
 over_whole (Data payload) e = absurd (let no = whole_unless (peer_error payload) _ e in cc)
-over_whole Flush e = cc
-over_whole Delim e = cc
 over_whole ResponseEnd e = refl
+over_whole packet e = cc
 
 pub over_not_open : (packet : Packet) → after_flush packet ≡ Open → ⊥
 over_not_open (Data payload) e = let no = open_unless (peer_error payload) _ e in cc
-over_not_open Flush e = cc
-over_not_open Delim e = cc
-over_not_open ResponseEnd e = cc
+over_not_open packet e = cc
 
--- ---- a packet that only changes the place
-
-abbrev pub moved : State → Place → State
-moved state place = record { place = place; ack_count = state.ack_count; band_count = state.band_count; byte_count = state.byte_count }
-
-pub next-moved : (format : Format) (state : State) (packet : Packet) (place : Place) → texts_there state.place packet ≡ [] → bands_there state.place packet ≡ []
-    → next_place state.place packet ≡ place → next_state format state packet ≡ moved state place
-next-moved format state packet place no_texts no_bands to =
-    state-move format state packet no_texts no_bands ∙ ap (λ (p : Place). moved state p) to
+pub late_not_open : (form : ReplyForm) → judge_late form ≡ Open → ⊥
+late_not_open OtherForm e = cc
+late_not_open form e = cc

@@ -10,16 +10,4 @@ pub only_memory : (well_formed has_room : Bool) (reason : Why) → well_formed �
 only_memory w r why.BadText fits room is = absurd (false≢true (sym is ∙ fits))
 only_memory w r why.Limit fits room is = absurd (false≢true (sym is.1 ∙ room))
 only_memory w r why.Memory fits room is = refl
-only_memory w r (why.Line fault) fits room is = absurd is
-only_memory w r (why.Band fault) fits room is = absurd is
-only_memory w r why.UnexpectedFrame fits room is = absurd is
-only_memory w r why.UnknownCommand fits room is = absurd is
-only_memory w r why.UnknownCapability fits room is = absurd is
-only_memory w r why.UnknownArgument fits room is = absurd is
-only_memory w r why.BadId fits room is = absurd is
-only_memory w r why.BadName fits room is = absurd is
-only_memory w r (why.RemoteErr said) fits room is = absurd is
-only_memory w r (why.RemoteFatal said) fits room is = absurd is
-only_memory w r why.WrongSection fits room is = absurd is
-only_memory w r why.Format fits room is = absurd is
-only_memory w r why.Ended fits room is = absurd is
+only_memory w r reason fits room is = absurd is

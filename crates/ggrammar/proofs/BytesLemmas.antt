@@ -1,36 +1,46 @@
--- Messages at the front of some bytes.
-use Rattle.std.proofs.Common.{◌≡◌, ℕ, Bool, List, [], ◌∷◌, ◌++◌, length, inl, inr, Option, Some, None, Ok, Err, sym, subst, ap, ◌∙◌, append_assoc, append-nil, length-append, arith}
-use Rattle.gpkt.specs.Packets.{Packet, Spells, SpellsAll}
-use Rattle.gpkt.specs.LineReading.{Reads, ReadsLines}
-use Rattle.gpkt.specs.Laws.{OneReading, OneBegins, RefusedIsNoLine, HasFourBytes}
+-- Messages at the front of some bytes; and bytes that are refused: with one fault, where no message is at their front.
+use Rattle.std.proofs.Common.{◌≡◌, ℕ, Bool, List, [], ◌∷◌, ◌++◌, length, inl, inr, Option, Some, None, Ok, Err, sym}
+use Rattle.std.proofs.Common.{subst, ap, ◌∙◌, append_assoc, append-nil, length-append, arith, zero, suc, ◌<◌, ◌⊎◌, drop}
+use Rattle.std.proofs.Common.{Result, refl}
+use Rattle.gpkt.specs.Packets.{Packet, Spells, SpellsAll, digit_count}
+use Rattle.gpkt.specs.LineReading.{Reads, ReadsLines, Gives, NoLine}
+use Rattle.gpkt.specs.Laws.{OneReading, OneBegins, RefusedIsNoLine, HasFourBytes, EveryFront, OneOutcome}
 use Rattle.gpkt.specs.declared.fault.LineFault.{LineFault}
 use Rattle.gpkt.specs.declared.fault.LineFault.TheVariants as line_fault
-use Rattle.ggrammar.specs.Grammar.{Judge, Whole, Refused, IsOpen, IsUnfinished, IsWhole}
-use Rattle.ggrammar.specs.MessageReading.{IsReasonAfter}
-use Rattle.ggrammar.specs.MessageBytes.{known, IsFront, IsOfBytes, ReadsFront, ReadsNoOther, RefusedIsNoMessage, EndedIsNoMessage, SpellingsPrefixFree}
+use Rattle.ggrammar.specs.Grammar.{Judge, Whole, Refused, IsOpen, IsUnfinished, IsWhole, Verdict, Open, HasEndings}
+use Rattle.ggrammar.specs.MessageReading.{IsReasonAfter, IsReason, ReadsRefused}
+use Rattle.ggrammar.specs.MessageBytes.{known, IsFront, IsOfBytes, ReadsFront, ReadsNoOther, RefusedIsNoMessage}
+use Rattle.ggrammar.specs.MessageBytes.{EndedIsNoMessage, SpellingsPrefixFree, IsForPacket, IsOfPacket, RefusesPackets}
+use Rattle.ggrammar.specs.MessageBytes.{BeginsWithMessage, IsRefused, LawsOfBytes}
 use Rattle.ggrammar.specs.declared.fault.Why.{Why}
 use Rattle.ggrammar.specs.declared.fault.Why.TheVariants as why
 use Rattle.ggrammar.proofs.GrammarLemmas.{nil_has_none, split_push, IsOpen-never_refuses, IsPrefixFree-always}
+use Rattle.ggrammar.proofs.GrammarLemmas.{IsOpen-nil, IsOpen-push, OpenIsUnfinished-by_endings}
+use Rattle.gpkt.specs.Laws as lines
+use Rattle.ggrammar.specs.declared.fault.MessageFault.{MessageFault}
+use Rattle.ggrammar.proofs.ReadingLemmas.{ReadsLines-nil, ReadsLines-push, reason_after}
 
 module _ (judge : Judge) where
   pub reads_front : ReadsFront judge
   reads_front lines bytes rest whole at = record { whole = whole; bytes = (at.front, at.parts, at.spelt) }
+
+  -- a complete list does not go on to another
+  no_longer : (lines others more : List Packet) (bytes rest after : List ℕ) → IsWhole judge lines
+      → IsWhole judge others → others ≡ lines ++ more → SpellsAll more bytes → rest ≡ bytes ++ after
+      → (others ≡ lines) × (after ≡ rest)
+  no_longer lines others more bytes rest after whole also longer most left =
+      let none = IsPrefixFree-always judge lines more whole (subst (IsWhole judge) longer also) in
+      let empty : bytes ≡ [] = subst (λ xs. SpellsAll xs bytes) none most in
+      (longer ∙ ap (λ xs. lines ++ xs) none ∙ append-nil lines, sym (left ∙ ap (λ xs. xs ++ after) empty))
 
   -- of two complete lists at the front of the same bytes neither is longer
   same_lines : OneBegins → (lines others : List Packet) (front next rest after : List ℕ) → IsWhole judge lines → IsWhole judge others
       → SpellsAll lines front → SpellsAll others next → front ++ rest ≡ next ++ after → (others ≡ lines) × (after ≡ rest)
   same_lines begins lines others front next rest after whole also spelt read same =
       elim (begins lines others front next rest after spelt read same) [
-        | inl (more, bytes, longer, most, left) ↦ (
-            let none : more ≡ [] = IsPrefixFree-always judge lines more whole (subst (IsWhole judge) longer also) in
-            let empty : bytes ≡ [] = subst (λ (xs : List Packet). SpellsAll xs bytes) none most in
-            (longer ∙ ap (λ (xs : List Packet). lines ++ xs) none ∙ append-nil lines, sym (left ∙ ap (λ (xs : List ℕ). xs ++ after) empty))
-            )
-        | inr (more, bytes, longer, most, left) ↦ (
-            let none : more ≡ [] = IsPrefixFree-always judge others more also (subst (IsWhole judge) longer whole) in
-            let empty : bytes ≡ [] = subst (λ (xs : List Packet). SpellsAll xs bytes) none most in
-            (sym (longer ∙ ap (λ (xs : List Packet). others ++ xs) none ∙ append-nil others), left ∙ ap (λ (xs : List ℕ). xs ++ rest) empty)
-            )
+        | inl (more, bytes, longer, most, left) ↦ no_longer _ _ _ _ _ _ whole also longer most left
+        | inr (more, bytes, longer, most, left) ↦
+            (let back = no_longer _ _ _ _ _ _ also whole longer most left in (sym back.0, sym back.1))
       ]
 
   pub reads_no_other : OneBegins → ReadsNoOther judge
@@ -51,74 +61,55 @@ module _ (judge : Judge) where
         | inr h ↦ IsOpen-never_refuses front packet h.0 reason (subst (IsOpen judge) h.1 whole.goes) refuses
       ]
 
-  -- a packet is spelt where a message goes on
-  module _ (one : OneReading) (no_line : RefusedIsNoLine) (four : HasFourBytes) (brings : List Packet → Packet → Bool) (front : List Packet)
-      (line : Packet) (mid new spelling rest : List ℕ) (parts : mid ≡ spelling ++ rest) (spelt : Spells line spelling) (fits : (reason : Why) → judge front line ≡ Refused reason → ⊥) where
-    refuses_packet : (reason : Why) (packet : Packet) → Reads (known mid new) (Ok (Some packet)) → judge front packet ≡ Refused reason → ⊥
-    refuses_packet reason packet read refuses =
-        let same : line ≡ packet = (one line packet spelling read.0 rest new spelt read.2 (sym parts ∙ read.1)).0 in
-        fits reason (ap (judge front) same ∙ refuses)
+  module _ (one : OneReading) (no_line : RefusedIsNoLine) (four : HasFourBytes) (brings : List Packet → Packet → Bool) where
+    -- a packet is spelt where a message goes on
+    module _ (front : List Packet) (line : Packet) (mid new spelling rest : List ℕ) (parts : mid ≡ spelling ++ rest)
+        (spelt : Spells line spelling) (fits : (reason : Why) → judge front line ≡ Refused reason → ⊥) where
+      refuses_packet : (reason : Why) (packet : Packet) → Reads (known mid new) (Ok (Some packet)) → judge front packet ≡ Refused reason → ⊥
+      refuses_packet reason packet read refuses =
+          let same : line ≡ packet = (one line packet spelling read.0 rest new spelt read.2 (sym parts ∙ read.1)).0 in
+          fits reason (ap (judge front) same ∙ refuses)
 
-    refuses_line : (fault : LineFault) → IsOfBytes (why.Line fault) → Reads (known mid new) (Err fault) → ⊥
-    refuses_line line_fault.BadDigits certain read = no_line line_fault.BadDigits line mid spelling rest read.0 (sym parts) spelt
-    refuses_line line_fault.Reserved certain read = no_line line_fault.Reserved line mid spelling rest read.0 (sym parts) spelt
-    refuses_line line_fault.TooLong certain read = no_line line_fault.TooLong line mid spelling rest read.0 (sym parts) spelt
-    refuses_line line_fault.Truncated certain read = no_line line_fault.Truncated line mid spelling rest read.0 (sym parts) spelt
-    refuses_line line_fault.Io certain read = certain
-    refuses_line line_fault.Failed certain read = certain
-    refuses_line line_fault.Memory certain read = read
+      refuses_line : (fault : LineFault) → IsOfBytes (why.Line fault) → Reads (known mid new) (Err fault) → ⊥
+      refuses_line line_fault.Io certain read = certain
+      refuses_line line_fault.Failed certain read = certain
+      refuses_line line_fault.Memory certain read = read
+      refuses_line fault certain read = no_line fault line mid spelling rest read.0 (sym parts) spelt
 
-    ends : Reads (known mid new) (Ok None) → ⊥
-    ends read =
-        let bytes = ap length parts ∙ length-append spelling rest in
-        let none : length mid ≡ 0 = ap length read.0 in
-        let some = four line spelling spelt in
-        omega (arith, bytes, none, some)
+      ends : Reads (known mid new) (Ok None) → ⊥
+      ends read =
+          let bytes = ap length parts ∙ length-append spelling rest in
+          let none : length mid ≡ 0 = ap length read.0 in
+          let some = four line spelling spelt in
+          omega (arith, bytes, none, some)
 
-    pub refuses : (reason : Why) → IsOfBytes reason → IsReasonAfter judge brings front (known mid new) reason → ⊥
-    refuses (why.Line fault) certain h = refuses_line fault certain h
-    refuses why.Ended certain h = ends h
-    refuses why.Memory certain h = certain
-    refuses (why.Band fault) certain h = refuses_packet (why.Band fault) h.0 h.1 h.2
-    refuses why.UnexpectedFrame certain h = refuses_packet why.UnexpectedFrame h.0 h.1 h.2
-    refuses why.BadText certain h = refuses_packet why.BadText h.0 h.1 h.2
-    refuses why.UnknownCommand certain h = refuses_packet why.UnknownCommand h.0 h.1 h.2
-    refuses why.UnknownCapability certain h = refuses_packet why.UnknownCapability h.0 h.1 h.2
-    refuses why.UnknownArgument certain h = refuses_packet why.UnknownArgument h.0 h.1 h.2
-    refuses why.BadId certain h = refuses_packet why.BadId h.0 h.1 h.2
-    refuses why.BadName certain h = refuses_packet why.BadName h.0 h.1 h.2
-    refuses why.Limit certain h = refuses_packet why.Limit h.0 h.1 h.2
-    refuses (why.RemoteErr said) certain h = refuses_packet (why.RemoteErr said) h.0 h.1 h.2
-    refuses (why.RemoteFatal said) certain h = refuses_packet (why.RemoteFatal said) h.0 h.1 h.2
-    refuses why.WrongSection certain h = refuses_packet why.WrongSection h.0 h.1 h.2
-    refuses why.Format certain h = refuses_packet why.Format h.0 h.1 h.2
+      pub refuses : (reason : Why) → IsOfBytes reason → IsReasonAfter judge brings front (known mid new) reason → ⊥
+      refuses (why.Line fault) certain h = refuses_line fault certain h
+      refuses why.Ended certain h = ends h
+      refuses why.Memory certain h = certain
+      refuses reason certain h = refuses_packet reason h.0 h.1 h.2
 
-  -- what goes on after an unfinished list
-  goes_no_further : OneReading → RefusedIsNoLine → HasFourBytes → (brings : List Packet → Packet → Bool) (front more : List Packet) (mid new spelling rest : List ℕ)
-      (reason : Why) → IsUnfinished judge front → IsOfBytes reason → IsReasonAfter judge brings front (known mid new) reason
-      → mid ≡ spelling ++ rest → SpellsAll more spelling → IsWhole judge (front ++ more) → ⊥
-  goes_no_further one no_line four brings front [] mid new spelling rest reason before certain h parts spelt whole =
-      before.unfinished front [] (sym (append-nil front)) (subst (IsWhole judge) (append-nil front) whole)
-  goes_no_further one no_line four brings front (line ∷ more) mid new spelling rest reason before certain h parts spelt whole =
-      refuses one no_line four brings front line mid new spelt.0 (spelt.1 ++ rest)
-      (parts ∙ ap (λ (xs : List ℕ). xs ++ rest) spelt.2 ∙ append_assoc spelt.0 spelt.1 rest) spelt.3
-      (λ why is. refused_is_not_whole front more line why is whole) reason certain h
-
-  -- where the bytes between are known
-  refused_at : OneBegins → OneReading → RefusedIsNoLine → HasFourBytes → (brings : List Packet → Packet → Bool) (front lines : List Packet) (bytes new rest : List ℕ) (between : Option (List ℕ)) (reason : Why)
-      → IsUnfinished judge front → ReadsLines (record { old = Some bytes; new = between }) front
-      → IsReasonAfter judge brings front (record { old = between; new = Some new }) reason → IsOfBytes reason → IsFront lines bytes rest → IsWhole judge lines → ⊥
-  refused_at begins one no_line four brings front lines bytes new rest None reason before read h certain at whole = read
-  refused_at begins one no_line four brings front lines bytes new rest (Some mid) reason before read h certain at whole =
-      elim (begins lines front at.front read.0 rest mid at.spelt read.2 (sym at.parts ∙ read.1)) [
-        | inl (more, spelling, longer, most, left) ↦ before.unfinished lines more longer whole
-        | inr (more, spelling, longer, most, left) ↦
-            goes_no_further one no_line four brings front more mid new spelling rest reason before certain h left most (subst (IsWhole judge) longer whole)
-      ]
+    -- where the bytes between are known
+    refused_at : OneBegins → (front lines : List Packet) (bytes new rest : List ℕ) (between : Option (List ℕ)) (reason : Why)
+        → IsUnfinished judge front → ReadsLines (record { old = Some bytes; new = between }) front
+        → IsReasonAfter judge brings front (record { old = between; new = Some new }) reason → IsOfBytes reason
+        → IsFront lines bytes rest → IsWhole judge lines → ⊥
+    refused_at begins front lines bytes new rest None reason before read h certain at whole = read
+    refused_at begins front lines bytes new rest (Some mid) reason before read h certain at whole =
+        elim (begins lines front at.front read.0 rest mid at.spelt read.2 (sym at.parts ∙ read.1)) [
+          | inl (more, spelling, longer, most, left) ↦ before.unfinished lines more longer whole
+          | inr ([], spelling, longer, most, left) ↦
+              before.unfinished front [] (sym (append-nil front)) (subst (IsWhole judge) (longer ∙ append-nil front) whole)
+          | inr (line ∷ more, spelling, longer, most, left) ↦
+              refuses front line mid new most.0 (most.1 ++ rest)
+              (left ∙ ap (λ xs. xs ++ rest) most.2 ∙ append_assoc most.0 most.1 rest) most.3
+              (λ why is. refused_is_not_whole front more line why is (subst (IsWhole judge) longer whole)) reason certain h
+        ]
 
   pub refused_is_no_message : OneBegins → OneReading → RefusedIsNoLine → HasFourBytes → RefusedIsNoMessage judge
   refused_is_no_message begins one no_line four brings front lines bytes new rest fault h certain at =
-      refused_at begins one no_line four brings front lines bytes new rest h.between fault.why h.unfinished h.before h.reason certain at
+      refused_at one no_line four brings begins front lines bytes new rest h.between fault.why h.unfinished h.before
+      h.reason certain at
 
   pub ended_is_no_message : HasFourBytes → EndedIsNoMessage judge
   ended_is_no_message four [] bytes new rest read at whole = nil_has_none whole.front whole.last [] whole.parts
@@ -129,3 +120,184 @@ module _ (judge : Judge) where
       let none : length bytes ≡ 0 = ap length read.0 in
       let some = four line spelt.0 spelt.3 in
       omega (arith, parts, front, none, some)
+
+-- ---- bytes that are refused
+
+module _ (judge : Judge) (brings : List Packet → Packet → Bool) where
+  -- ---- one refusal
+
+  -- what a packet's reading says of a refusal after these packets
+  abbrev Explains : List Packet → Result (Option Packet) LineFault → Why → Type 0
+  Explains front (Err fault) reason = reason ≡ why.Line fault
+  Explains front (Ok None) reason = reason ≡ why.Ended
+  Explains front (Ok (Some packet)) reason = judge front packet ≡ Refused reason
+
+  record Reason (front : List Packet) (mid new : List ℕ) (reason : Why) : Type 0 where
+    outcome : Result (Option Packet) LineFault
+    gives : Gives mid new outcome
+    certain : lines.IsOfBytes outcome
+    explains : Explains front outcome reason
+
+  reason_of : (front : List Packet) (mid new : List ℕ) (reason : Why) → IsOfBytes reason → IsReasonAfter judge brings front (known mid new) reason
+      → Reason front mid new reason
+  reason_of front mid new (why.Line line_fault.Io) certain h = absurd certain
+  reason_of front mid new (why.Line line_fault.Failed) certain h = absurd certain
+  reason_of front mid new (why.Line line_fault.Memory) certain h = absurd h
+  reason_of front mid new (why.Line fault) certain h =
+      record { outcome = Err fault; gives = h; certain = (λ e. cc, λ e. cc); explains = refl }
+  reason_of front mid new why.Ended certain h = record { outcome = Ok None; gives = h; certain = (λ e. cc, λ e. cc); explains = refl }
+  reason_of front mid new why.Memory certain h = absurd certain
+  reason_of front mid new reason certain h =
+      record { outcome = Ok (Some h.0); gives = h.1; certain = (λ e. cc, λ e. cc); explains = h.2 }
+
+  one_explained : (front : List Packet) (outcome : Result (Option Packet) LineFault) (one other : Why)
+      → Explains front outcome one → Explains front outcome other → one ≡ other
+  one_explained front (Err fault) one other a b = a ∙ sym b
+  one_explained front (Ok None) one other a b = a ∙ sym b
+  one_explained front (Ok (Some packet)) one other a b = cc (a, b)
+
+  -- after these packets the bytes are refused with this fault, for a reason in them
+  record Refuses (front : List Packet) (between : Option (List ℕ)) (new : List ℕ) (fault : MessageFault) : Type 0 where
+    goes : IsOpen judge front
+    frame : fault.frame ≡ length front
+    reason : IsReasonAfter judge brings front (record { old = between; new = Some new }) fault.why
+    certain : IsOfBytes fault.why
+
+  -- a list that is refused is not gone on with
+  module _ (law : OneOutcome) (one : OneReading) (no_line : RefusedIsNoLine) (four : HasFourBytes) where
+    one_after : (front : List Packet) (mid new after : List ℕ) (fault other : MessageFault)
+        → Refuses front (Some mid) new fault → Refuses front (Some mid) after other → (fault ≡ other) × (new ≡ after)
+    one_after front mid new after fault other h k =
+        let a = reason_of front mid new fault.why h.certain h.reason in
+        let b = reason_of front mid after other.why k.certain k.reason in
+        let same = law mid new after a.outcome b.outcome a.gives b.gives a.certain b.certain in
+        let explains = subst (λ outcome. Explains front outcome fault.why) same.0 a.explains in
+        let reason = one_explained front b.outcome fault.why other.why explains b.explains in
+        ((λ i. record { frame = (h.frame ∙ sym k.frame) i; why = reason i }), same.1)
+
+    -- one list begins the other
+    one_further : (front others more : List Packet) (mid next new after bytes : List ℕ) (fault other : MessageFault)
+        → others ≡ front ++ more → SpellsAll more bytes → mid ≡ bytes ++ next
+        → Refuses front (Some mid) new fault → Refuses others (Some next) after other → (fault ≡ other) × (new ≡ after)
+    one_further front others [] mid next new after bytes fault other longer spelt left h k =
+        one_after front mid new after fault other h
+        (subst (λ ls. Refuses ls (Some mid) after other) (longer ∙ append-nil front)
+        (subst (λ xs. Refuses others (Some xs) after other) (sym (left ∙ ap (λ xs. xs ++ next) spelt)) k))
+    one_further front others (line ∷ more) mid next new after bytes fault other longer spelt left h k =
+        absurd (refuses judge one no_line four brings front line mid new spelt.0 (spelt.1 ++ next)
+        (left ∙ ap (λ xs. xs ++ next) spelt.2 ∙ append_assoc spelt.0 spelt.1 next) spelt.3
+        (λ why is. IsOpen-never_refuses front line more why (subst (IsOpen judge) longer k.goes) is)
+        fault.why h.certain h.reason)
+
+    -- where the bytes between are known
+    one_between : OneBegins → (front others : List Packet) (bytes new after : List ℕ) (fault other : MessageFault)
+        (between beyond : Option (List ℕ)) → ReadsLines (record { old = Some bytes; new = between }) front
+        → ReadsLines (record { old = Some bytes; new = beyond }) others → Refuses front between new fault
+        → Refuses others beyond after other → (fault ≡ other) × (new ≡ after)
+    one_between begins front others bytes new after fault other None beyond read also h k = absurd read
+    one_between begins front others bytes new after fault other (Some mid) None read also h k = absurd also
+    one_between begins front others bytes new after fault other (Some mid) (Some next) read also h k =
+        elim (begins front others read.0 also.0 mid next read.2 also.2 (sym read.1 ∙ also.1)) [
+          | inl (more, spelling, longer, most, left) ↦ one_further _ _ _ _ _ _ _ spelling _ _ longer most left h k
+          | inr (more, spelling, longer, most, left) ↦
+              (let back = one_further _ _ _ _ _ _ _ spelling _ _ longer most left k h in (sym back.0, sym back.1))
+        ]
+
+    pub one_refusal : OneBegins → (front others : List Packet) (bytes new after : List ℕ) (fault other : MessageFault)
+        → ReadsRefused judge brings front (known bytes new) fault
+        → ReadsRefused judge brings others (known bytes after) other
+        → IsOfBytes fault.why → IsOfBytes other.why → (fault ≡ other) × (new ≡ after)
+    one_refusal begins front others bytes new after fault other h k certain sure =
+        one_between begins front others bytes new after fault other h.between k.between h.before k.before
+        (record { goes = h.goes; frame = h.frame; reason = h.reason; certain = certain })
+        (record { goes = k.goes; frame = k.frame; reason = k.reason; certain = sure })
+
+  -- ---- every input
+
+  packet_reason : (front : List Packet) (packet : Packet) (reason : Why) → judge front packet ≡ Refused reason → IsOfPacket reason
+      → IsReason (judge front packet) (brings front packet) reason × IsOfBytes reason
+  packet_reason front packet (why.Line fault) is h = absurd h
+  packet_reason front packet why.Ended is h = absurd h
+  packet_reason front packet why.Memory is h = absurd h
+  packet_reason front packet reason is h = (is, tt)
+
+  no_line_read : (fault : LineFault) (mid : List ℕ) → NoLine fault mid → (new : List ℕ) × Reads (known mid new) (Err fault) × IsOfBytes (why.Line fault)
+  no_line_read line_fault.Truncated mid none = ([], (none, refl), tt)
+  no_line_read line_fault.Io mid none = absurd none
+  no_line_read line_fault.Failed mid none = absurd none
+  no_line_read line_fault.Memory mid none = absurd none
+  no_line_read fault mid none = (drop digit_count mid, (none, refl), tt)
+
+  module _ (four : HasFourBytes) (every_front : EveryFront) (endings : HasEndings judge) (of_packets : RefusesPackets judge) (bytes : List ℕ) where
+    Found : Type 0
+    Found = BeginsWithMessage judge bytes ⊎ IsRefused judge brings bytes
+
+    refused_after : (front : List Packet) (mid new : List ℕ) (reason : Why) → IsOpen judge front
+        → ReadsLines (known bytes mid) front → IsReasonAfter judge brings front (known mid new) reason → IsOfBytes reason
+        → Found
+    unfolding Found
+    refused_after front mid new reason opened read h certain = inr (record {
+      front = front;
+      rest = new;
+      fault = record { frame = length front; why = reason };
+      refused = record {
+        between = Some mid;
+        goes = opened;
+        unfinished = OpenIsUnfinished-by_endings judge endings front opened;
+        frame = refl;
+        before = read;
+        reason = h;
+      };
+      certain = certain;
+    })
+
+    whole_after : (front : List Packet) (packet : Packet) (mid new : List ℕ) → IsOpen judge front
+        → ReadsLines (known bytes mid) front → Reads (known mid new) (Ok (Some packet)) → judge front packet ≡ Whole
+        → Found
+    unfolding Found
+    whole_after front packet mid new opened read next ends =
+        let all = ReadsLines-push (Some bytes) (Some mid) (Some new) front packet read next in
+        inl (
+          front ++ packet ∷ [],
+          new,
+          record { front = front; last = packet; parts = refl; goes = opened; ends = ends },
+          record { front = all.0; parts = all.1; spelt = all.2 },
+        )
+
+    by_verdict : (verdict : Verdict) (front : List Packet) (packet : Packet) (mid new : List ℕ) → judge front packet ≡ verdict → IsOpen judge front
+        → ReadsLines (known bytes mid) front → Reads (known mid new) (Ok (Some packet))
+        → (IsOpen judge (front ++ packet ∷ []) → ReadsLines (known bytes new) (front ++ packet ∷ []) → Found) → Found
+    by_verdict Open front packet mid new is opened read next more =
+        more (IsOpen-push opened is) (ReadsLines-push (Some bytes) (Some mid) (Some new) front packet read next)
+    by_verdict Whole front packet mid new is opened read next more = whole_after front packet mid new opened read next is
+    by_verdict (Refused reason) front packet mid new is opened read next more =
+        let h = packet_reason front packet reason is (subst IsForPacket is (of_packets front packet)) in
+        refused_after front mid new reason opened read (reason_after judge brings front (known mid new) packet reason next h.0) h.1
+
+    found_within : (steps : ℕ) (front : List Packet) (mid : List ℕ) → length mid < steps → IsOpen judge front → ReadsLines (known bytes mid) front → Found
+    found_within zero front mid short opened read = absurd (omega (arith, short))
+    found_within (suc steps) front mid short opened read =
+        elim (every_front mid) [
+          | inl empty ↦ refused_after front mid [] why.Ended opened read (empty, refl) tt
+          | inr (inl (line, spelling, rest, parts, spelt)) ↦
+              by_verdict (judge front line) front line mid rest refl opened read (spelling, parts, spelt)
+              (λ goes more. found_within steps (front ++ line ∷ []) rest
+              (omega (arith, short, four line spelling spelt, ap length parts, length-append spelling rest)) goes more)
+          | inr (inr (fault, none)) ↦
+              (let h = no_line_read fault mid none in refused_after front mid h.0 (why.Line fault) opened read h.1 h.2)
+        ]
+
+    pub every_input : BeginsWithMessage judge bytes ⊎ IsRefused judge brings bytes
+    unfolding Found
+    every_input = found_within (suc (length bytes)) [] bytes (omega arith) (IsOpen-nil judge) (ReadsLines-nil (Some bytes))
+
+pub LawsOfBytes-always : OneBegins → OneReading → RefusedIsNoLine → HasFourBytes → OneOutcome → EveryFront → (judge : Judge) → LawsOfBytes judge
+LawsOfBytes-always begins one no_line four law every_front judge = record {
+  front = reads_front judge;
+  no_other = reads_no_other judge begins;
+  refused = refused_is_no_message judge begins one no_line four;
+  ended = ended_is_no_message judge four;
+  one_refusal = λ brings. one_refusal judge brings law one no_line four begins;
+  every = λ endings of_packets brings bytes. every_input judge brings four every_front endings of_packets bytes;
+  prefix_free = spellings_prefix_free judge begins;
+}

@@ -1,27 +1,25 @@
 -- A text is a capability exactly where it is the text of one that is well formed.
 use Rattle.std.proofs.Common.{◌≡◌, ℕ, suc, ◌+◌, ◌<◌, ◌&&◌, Bool, true, false, nat_lt, if◌then◌else◌, List, [], ◌∷◌, ◌++◌, length, take, drop, get_or, position, Option, Some, None, refl, sym, ap, subst, ◌∙◌, append-nil, arith}
 use Rattle.std.specs.Prelude.{IfSome, IsTrue}
-use Rattle.std.specs.List.{list_all, position_or_len}
+use Rattle.std.specs.List.{position_or_len}
 use Rattle.std.proofs.Math.Seq.{split_at}
 use Rattle.std.proofs.lemmas.List.{take_at, drop_at, length_push, length-append, get_or_append_left, get_or_at, append_assoc}
 use Rattle.std.proofs.lemmas.List.Quantifiers.{position-Some}
 use Rattle.std.proofs.lemmas.List.Sums.{position_or_len_is, AllPass-from_list_all}
-use Rattle.std.proofs.lemmas.Bool.{and_parts, cond-true, cond-false}
+use Rattle.std.proofs.lemmas.Bool.{and_parts, cond-true, cond-false, eqb-true}
 use Rattle.std.proofs.lemmas.Bool.Decides.{nat_tests}
 use Rattle.std.proofs.lemmas.Grind.{common_steps}
-use Rattle.ggrammar.specs.Capabilities.{Capability, CapabilityIsItsText, IsWellFormed, capability_of, capability_split, capability_text, is_equals_sign, is_key, is_key_byte, is_value, has_length, key_alone, key_and_value, value_text}
+use Rattle.ggrammar.specs.Capabilities.{Capability, CapabilityIsItsText, IsWellFormed, capability_of, capability_split, capability_text, is_equals_sign, is_key, is_key_byte, is_value, has_length, key_and_value, value_text}
 
 -- ---- the text of a capability is read as it
 
 other_byte : (byte : ℕ) → is_key_byte byte ≡ true → is_equals_sign byte ≡ false
 other_byte byte h = grind (arith, nat_tests, common_steps)
 
-key_bytes : (key : List ℕ) → is_key key ≡ true → list_all is_key_byte key ≡ true
-unfolding is_key
-key_bytes key h = (and_parts (has_length key) (list_all is_key_byte key) h).1
-
 no_equals_sign : (key : List ℕ) → is_key key ≡ true → (k : ℕ) → k < length key → is_equals_sign (get_or key k 0) ≡ false
-no_equals_sign key h k within = other_byte (get_or key k 0) (AllPass-from_list_all is_key_byte key (key_bytes key h) k 0 within)
+unfolding is_key
+no_equals_sign key h k within =
+    other_byte (get_or key k 0) (AllPass-from_list_all is_key_byte key (and_parts (has_length key) _ h).1 k 0 within)
 
 found_after : (key value : List ℕ) → is_key key ≡ true → position is_equals_sign (key ++ 61 ∷ value) ≡ Some (length key)
 found_after key value h =
@@ -58,31 +56,20 @@ chosen : (test : Bool) (capability other : Capability) → (if test then Some ca
 chosen true capability other e = (refl, cc)
 chosen false capability other e = let none : None ≡ Some other = e in cc
 
-equals_sign : (byte : ℕ) → is_equals_sign byte ≡ true → byte ≡ 61
-equals_sign byte h = grind (arith, nat_tests)
-
-is_alone : (text : List ℕ) (capability : Capability) → key_alone text ≡ Some capability → (text ≡ capability_text capability) × IsWellFormed capability
-is_alone text capability e =
-    let h = chosen (is_key text) (record { key = text; value = None }) capability e in
-    subst (λ (c : Capability). (text ≡ capability_text c) × IsWellFormed c) h.1 (sym (append-nil text), record { key = h.0; value = tt })
-
-is_split : (text : List ℕ) (at : ℕ) (capability : Capability) → position is_equals_sign text ≡ Some at
-    → key_and_value (take at text) (drop (at + 1) text) ≡ Some capability → (text ≡ capability_text capability) × IsWellFormed capability
-is_split text at capability place e =
-    let h = chosen (is_key (take at text) && is_value (drop (at + 1) text)) (record { key = take at text; value = Some (drop (at + 1) text) }) capability e in
-    let there = position-Some is_equals_sign text at 0 place in
-    let sign : get_or text at 0 ≡ 61 = equals_sign (get_or text at 0) there.1 in
-    let next : suc at ≡ at + 1 = omega arith in
-    let parts : text ≡ take at text ++ 61 ∷ drop (at + 1) text =
-    split_at text at 0 there.0 ∙ ap (λ (n : ℕ). take at text ++ get_or text at 0 ∷ drop n text) next
-    ∙ ap (λ (byte : ℕ). take at text ++ byte ∷ drop (at + 1) text) sign in
-    let forms = and_parts (is_key (take at text)) (is_value (drop (at + 1) text)) h.0 in
-    subst (λ (c : Capability). (text ≡ capability_text c) × IsWellFormed c) h.1 (parts, record { key = forms.0; value = forms.1 })
-
 split_is_text : (text : List ℕ) (place : Option ℕ) (capability : Capability) → position is_equals_sign text ≡ place
     → capability_split text place ≡ Some capability → (text ≡ capability_text capability) × IsWellFormed capability
-split_is_text text None capability place e = is_alone text capability e
-split_is_text text (Some at) capability place e = is_split text at capability place e
+split_is_text text None capability place e =
+    let h = chosen (is_key text) (record { key = text; value = None }) capability e in
+    subst (λ c. (text ≡ capability_text c) × IsWellFormed c) h.1 (sym (append-nil text), record { key = h.0; value = tt })
+split_is_text text (Some at) capability place e =
+    let h = chosen (is_key (take at text) && is_value (drop (at + 1) text)) _ capability e in
+    let there = position-Some is_equals_sign text at 0 place in
+    let next : suc at ≡ at + 1 = omega arith in
+    let parts : text ≡ take at text ++ 61 ∷ drop (at + 1) text =
+    split_at text at 0 there.0 ∙ ap (λ n. take at text ++ get_or text at 0 ∷ drop n text) next
+    ∙ ap (λ byte. take at text ++ byte ∷ drop (at + 1) text) (eqb-true (get_or text at 0) 61 there.1) in
+    let forms = and_parts (is_key (take at text)) (is_value (drop (at + 1) text)) h.0 in
+    subst (λ c. (text ≡ capability_text c) × IsWellFormed c) h.1 (parts, record { key = forms.0; value = forms.1 })
 
 text_of_read : (text : List ℕ) (capability : Capability) → capability_of text ≡ Some capability
     → (text ≡ capability_text capability) × IsWellFormed capability

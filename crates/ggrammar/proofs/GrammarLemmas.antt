@@ -38,9 +38,6 @@ IsOpen-front xs ys opened = record {
   each = λ before one back e. opened.each before one (back ++ ys) (ap (λ (zs : List Packet). zs ++ ys) e ∙ append_assoc before (one ∷ back) ys);
 }
 
-pub IsOpen-last : {judge : Judge} (xs : List Packet) (x : Packet) → IsOpen judge (xs ++ x ∷ []) → judge xs x ≡ Open
-IsOpen-last xs x opened = opened.each xs x [] refl
-
 -- no packet of an open list ends the message or is refused
 pub IsOpen-never_ends : {judge : Judge} (front : List Packet) (packet : Packet) (back : List Packet)
     → IsOpen judge (front ++ packet ∷ back) → judge front packet ≡ Whole → ⊥
@@ -85,8 +82,8 @@ RefusesFirstMisfits-by_endings judge endings front packet why opened refuses = r
       ];
 }
 
-pub LawsOf-always : (judge : Judge) → LawsOf judge
-LawsOf-always judge = record {
+pub laws_of_grammars : (judge : Judge) → LawsOf judge
+laws_of_grammars judge = record {
   nothing = IsOpen-nil judge;
   goes_on = λ front packet opened goes. IsOpen-push opened goes;
   front = λ lines more opened. IsOpen-front lines more opened;

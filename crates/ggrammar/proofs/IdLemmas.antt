@@ -1,5 +1,5 @@
 -- Reading an id answers what its text spells.
-use Rattle.std.proofs.Common.{◌≡◌, ℕ, ◌≤◌, List, length, None, Some, Result, Ok, Err, inl, inr, refl, sym, ap, subst, ◌∙◌, ◌==◌, arith}
+use Rattle.std.proofs.Common.{◌≡◌, ℕ, ◌≤◌, List, length, Option, None, Some, Result, Ok, Err, inl, inr, refl, sym, ap, subst, ◌∙◌, ◌==◌, arith}
 use Rattle.std.proofs.lemmas.Bool.{cond-true, cond-false, eq-eqb}
 use Rattle.std.proofs.lemmas.Bool.Decides.{eqb_tells}
 use Rattle.hex.specs.Hex.{decode_of}
@@ -8,29 +8,9 @@ use Rattle.gname.specs.Formats.{id_text_length}
 use Rattle.gname.specs.Ids.{ReadsId, IsIdOf, IsIdTextOf, id_text}
 use Rattle.gname.specs.Laws.{IdsHaveOneFormat, IdsHaveTexts, TextsHaveOneReading}
 use Rattle.gname.specs.declared.formats.Format.{Format}
-use Rattle.gname.specs.declared.formats.Format.TheVariants.{Sha1, Sha256}
 use Rattle.gname.specs.declared.ids.OidFault.{OidFault}
-use Rattle.gname.specs.declared.ids.OidFault.TheVariants.{Length, Digit}
 use Rattle.gname.proofs.IdLemmas.{few_digits}
 use Rattle.ggrammar.specs.Ids.{id_of_text, ok_of, IdIsSpelt}
-
--- a text of the right length that spells none
-spells_none : (format : Format) (text : List ℕ) (fault : OidFault) (decoded : Result (List ℕ) FromHexError) → TextsHaveOneReading → ReadsId format text (Err fault)
-    → length text ≡ id_text_length format → decode_of text ≡ decoded → ok_of decoded ≡ None
-spells_none format text fault (Err other) law h long e = refl
-spells_none format text fault (Ok id) law h long e =
-    let same : Err fault ≡ Ok id = (law format text).1 (Err fault) (Ok id) h ((law format text).0 id (record { long = long; spells = e })) in cc
-
-pub id_read : (format : Format) (text id : List ℕ) → ReadsId format text (Ok id) → Some id ≡ id_of_text format text
-unfolding id_of_text
-id_read format text id h =
-    sym (cond-true (length text == id_text_length format) (ok_of (decode_of text)) None (eq-eqb _ _ h.0.long) ∙ ap ok_of h.0.spells)
-
-pub id_refused : (format : Format) (text : List ℕ) (fault : OidFault) → TextsHaveOneReading → ReadsId format text (Err fault) → None ≡ id_of_text format text
-unfolding id_of_text
-id_refused format text Length law h = sym (cond-false (length text == id_text_length format) (ok_of (decode_of text)) None (elim (eqb_tells (length text) (id_text_length format)) [ inl e ↦ absurd (h e.1) | inr n ↦ n.0 ]))
-id_refused format text (Digit at) law h =
-    sym (cond-true (length text == id_text_length format) (ok_of (decode_of text)) None (eq-eqb _ _ h.0) ∙ spells_none format text (Digit at) _ law h h.0 refl)
 
 -- ---- an id is what its text spells
 
@@ -56,6 +36,20 @@ is_spelt format text id h =
 
 pub id_formed : TextsHaveOneReading → (format : Format) (text id : List ℕ) → id_of_text format text ≡ Some id → IsIdOf format id
 id_formed law format text id e = ((law format text).0 id (spelt_by format text id e)).1
+
+-- what reading a text answers
+pub id_read : (format : Format) (text id : List ℕ) → ReadsId format text (Ok id) → Some id ≡ id_of_text format text
+id_read format text id h = sym (is_spelt format text id h.0)
+
+none_spelt : (format : Format) (text : List ℕ) (fault : OidFault) (read : Option (List ℕ)) → TextsHaveOneReading
+    → ReadsId format text (Err fault) → id_of_text format text ≡ read → None ≡ read
+none_spelt format text fault None law h e = refl
+none_spelt format text fault (Some id) law h e =
+    let reads = (law format text).0 id (spelt_by format text id e) in
+    let same : Err fault ≡ Ok id = (law format text).1 (Err fault) (Ok id) h reads in cc
+
+pub id_refused : (format : Format) (text : List ℕ) (fault : OidFault) → TextsHaveOneReading → ReadsId format text (Err fault) → None ≡ id_of_text format text
+id_refused format text fault law h = none_spelt format text fault (id_of_text format text) law h refl
 
 -- the text of an id spells it in its format, and is short
 pub id_spells : IdsHaveOneFormat → IdsHaveTexts → (format : Format) (id : List ℕ) → IsIdOf format id → IsIdTextOf format (id_text id) id

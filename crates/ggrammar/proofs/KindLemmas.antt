@@ -1,5 +1,5 @@
 -- Reading a kind of message, by what its packets say.
-use Rattle.std.proofs.Common.{◌≡◌, ℕ, Bool, List, ◌++◌, Option, Some, None, Result, Ok, Err, refl, subst, ap}
+use Rattle.std.proofs.Common.{◌≡◌, ℕ, Bool, List, ◌++◌, Option, Some, None, Result, Ok, Err, refl, subst, ap, ◌∙◌}
 use Rattle.std.specs.Prelude.{IfErr}
 use Rattle.gpkt.specs.Packets.{Packet, canonical_all}
 use Rattle.gpkt.specs.Laws.{CanonicalSpellsAll}
@@ -18,9 +18,11 @@ module _ {M : Type 0} (judge : Judge) (brings : List Packet → Packet → Bool)
       let same = laws.no_other lines read.lines bytes rest new whole at read.read in
       (one_meaning lines message other (subst (λ (ls : List Packet). Says ls message) same.0 read.says) says, same.1)
 
-  said_at_front : (bytes new : List ℕ) (message : M) → ReadsMessage judge Says (known bytes new) message → SaysAtFront Says bytes new message
-  said_at_front bytes new message read =
-      (read.lines, record { front = read.read.bytes.0; parts = read.read.bytes.1; spelt = read.read.bytes.2 }, read.says)
+  said_at_front : (bytes new rest : List ℕ) (message : M) → ReadsMessage judge Says (known bytes new) message
+      → new ≡ rest → SaysAtFront Says bytes rest message
+  said_at_front bytes new rest message read same =
+      let at = read.read.bytes in
+      (read.lines, record { front = at.0; parts = at.1 ∙ ap (λ xs. at.0 ++ xs) same; spelt = at.2 }, read.says)
 
   answers : (bytes new rest : List ℕ) (result : Result M MessageFault) (message : M) → ReadsOrRefuses judge brings Says (known bytes new) result
       → IfErr result (λ fault. IsOfBytes fault.why) → SaysAtFront Says bytes rest message → (result ≡ Ok message) × (new ≡ rest)
@@ -29,15 +31,11 @@ module _ {M : Type 0} (judge : Judge) (brings : List Packet → Packet → Bool)
   answers bytes new rest (Err fault) message refused certain (lines, at, says) =
       absurd (laws.refused brings refused.0 lines bytes new rest fault refused.1 certain at ((says_whole lines).1 (message, says)))
 
-  said : (bytes new rest : List ℕ) (result : Result M MessageFault) (message : M) → ReadsOrRefuses judge brings Says (known bytes new) result
-      → (result ≡ Ok message) × (new ≡ rest) → SaysAtFront Says bytes rest message
-  said bytes new rest result message read same =
-      subst (λ (xs : List ℕ). SaysAtFront Says bytes xs message) same.1
-      (said_at_front bytes new message (subst (ReadsOrRefuses judge brings Says (known bytes new)) same.0 read))
-
   pub reads_exactly : ReadsExactly judge brings Says
-  reads_exactly bytes new rest result message read certain =
-      (said bytes new rest result message read, answers bytes new rest result message read certain)
+  reads_exactly bytes new rest result message read certain = (
+    λ same. said_at_front bytes new rest message (subst (ReadsOrRefuses judge brings Says _) same.0 read) same.1,
+    answers bytes new rest result message read certain,
+  )
 
   pub reads_back : CanonicalSpellsAll → (IsValue : M → Type 0) (IsCanonical : Meaning M) → CanonicalSays Says IsValue IsCanonical
       → ReadsBack judge brings Says IsValue IsCanonical
@@ -58,15 +56,11 @@ module _ {M : Type 0} (judge : Judge) (brings : List Packet → Packet → Bool)
   answers_if_any bytes new rest (Err fault) message refused certain (lines, at, says) =
       absurd (laws.refused brings refused.0 lines bytes new rest fault refused.1 certain at ((says_whole lines).1 (message, says)))
 
-  said_if_any : (bytes new rest : List ℕ) (result : Result (Option M) MessageFault) (message : M)
-      → ReadsIfAny judge brings Says (known bytes new) result → (result ≡ Ok (Some message)) × (new ≡ rest) → SaysAtFront Says bytes rest message
-  said_if_any bytes new rest result message read same =
-      subst (λ (xs : List ℕ). SaysAtFront Says bytes xs message) same.1
-      (said_at_front bytes new message (subst (ReadsIfAny judge brings Says (known bytes new)) same.0 read))
-
   pub reads_exactly_if_any : ReadsExactlyIfAny judge brings Says
-  reads_exactly_if_any bytes new rest result message read certain =
-      (said_if_any bytes new rest result message read, answers_if_any bytes new rest result message read certain)
+  reads_exactly_if_any bytes new rest result message read certain = (
+    λ same. said_at_front bytes new rest message (subst (ReadsIfAny judge brings Says _) same.0 read) same.1,
+    answers_if_any bytes new rest result message read certain,
+  )
 
   pub reads_back_if_any : CanonicalSpellsAll → (IsValue : M → Type 0) (IsCanonical : Meaning M) → CanonicalSays Says IsValue IsCanonical
       → ReadsBackIfAny judge brings Says IsValue IsCanonical

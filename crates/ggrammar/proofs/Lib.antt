@@ -5,7 +5,6 @@ pub mod CapabilityLemmas
 pub mod WritingLemmas
 pub mod PassingLemmas
 pub mod BytesLemmas
-pub mod RefusalLemmas
 pub mod KindLemmas
 pub mod PlaceLemmas
 pub mod VerdictLemmas

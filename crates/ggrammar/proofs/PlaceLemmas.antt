@@ -1,5 +1,7 @@
 -- Positions and what packets give there, with a packet more; the texts of packets.
-use Rattle.std.proofs.Common.{◌≡◌, List, [], ◌∷◌, ◌++◌, Some, refl, sym, ap, ◌∙◌, append_assoc, append-nil}
+use Rattle.std.proofs.Common.{◌≡◌, List, [], ◌∷◌, ◌++◌, Option, None, Some, refl, sym, ap, ◌∙◌, append_assoc, append-nil}
+use Rattle.std.specs.List.{cons_option, filter_map}
+use Rattle.std.specs.Option.{option_to_list}
 use Rattle.std.proofs.lemmas.List.Elements.{filter_map-append}
 use Rattle.gpkt.specs.Packets.{Packet}
 use Rattle.gpkt.specs.Laws.{TextOfLine}
@@ -17,6 +19,13 @@ collected-push next give place [] packet = append-nil (give place packet)
 collected-push next give place (first ∷ front) packet =
     ap (λ xs. give place first ++ xs) (collected-push next give (next place first) front packet)
     ∙ sym (append_assoc (give place first) (collected next give (next place first) front) (give (place_after next (next place first) front) packet))
+
+-- what is given of a list with one more
+pub filter_map-push : {X Y : Type 0} (give : X → Option Y) (xs : List X) (x : X) (found : Option Y) → give x ≡ found
+    → filter_map give (xs ++ x ∷ []) ≡ filter_map give xs ++ option_to_list found
+filter_map-push give xs x None is = filter_map-append give xs (x ∷ []) ∙ ap (λ o. filter_map give xs ++ cons_option o []) is
+filter_map-push give xs x (Some y) is =
+    filter_map-append give xs (x ∷ []) ∙ ap (λ o. filter_map give xs ++ cons_option o []) is
 
 pub texts_of_more : TextsOfMore
 texts_of_more packets more = filter_map-append text_in packets more

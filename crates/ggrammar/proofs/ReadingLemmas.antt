@@ -1,10 +1,8 @@
 -- Packets read one after the other.
 use Rattle.std.proofs.Common.{◌≡◌, ℕ, List, [], ◌∷◌, ◌++◌, length, Option, Some, None, Ok, Result, Bool, true, ◌+◌, refl, sym, subst, ap, ◌∙◌, append_assoc, append-nil}
-use Rattle.gpkt.specs.Packets.{Packet, Spells, SpellsAll}
-use Rattle.gpkt.specs.LineReading.{Reads}
+use Rattle.gpkt.specs.Packets.{Packet, Spells, SpellsAll, packet_of}
+use Rattle.gpkt.specs.LineReading.{Reads, Reader, ReadsLines, HasRead, read_of}
 use Rattle.ggrammar.specs.Grammar.{Judge, IsOpen, HasEndings}
-use Rattle.gpkt.specs.Packets.{packet_of}
-use Rattle.gpkt.specs.LineReading.{Reader, ReadsLines, HasRead, read_of}
 use Rattle.gpkt.specs.declared.line.Line.{Line}
 use Rattle.gpkt.specs.declared.fault.LineFault.{LineFault}
 use Rattle.ggrammar.specs.MessageReading.{IsReason, IsReasonAfter, HasTaken, HasRefused, TakesPacket}
@@ -46,20 +44,7 @@ pub reason_after : (judge : Judge) (brings : List Packet → Packet → Bool) (f
     → Reads bytes (Ok (Some packet)) → IsReason (judge front packet) (brings front packet) why → IsReasonAfter judge brings front bytes why
 reason_after judge brings front bytes packet (why.Line fault) read h = absurd h
 reason_after judge brings front bytes packet why.Ended read h = absurd h
-reason_after judge brings front bytes packet why.Memory read h = (packet, read, h)
-reason_after judge brings front bytes packet (why.Band fault) read h = (packet, read, h)
-reason_after judge brings front bytes packet why.UnexpectedFrame read h = (packet, read, h)
-reason_after judge brings front bytes packet why.BadText read h = (packet, read, h)
-reason_after judge brings front bytes packet why.UnknownCommand read h = (packet, read, h)
-reason_after judge brings front bytes packet why.UnknownCapability read h = (packet, read, h)
-reason_after judge brings front bytes packet why.UnknownArgument read h = (packet, read, h)
-reason_after judge brings front bytes packet why.BadId read h = (packet, read, h)
-reason_after judge brings front bytes packet why.BadName read h = (packet, read, h)
-reason_after judge brings front bytes packet why.Limit read h = (packet, read, h)
-reason_after judge brings front bytes packet (why.RemoteErr said) read h = (packet, read, h)
-reason_after judge brings front bytes packet (why.RemoteFatal said) read h = (packet, read, h)
-reason_after judge brings front bytes packet why.WrongSection read h = (packet, read, h)
-reason_after judge brings front bytes packet why.Format read h = (packet, read, h)
+reason_after judge brings front bytes packet why read h = (packet, read, h)
 
 -- a message that is being read: its packets so far
 pub record IsGoing {M : Type 0} (judge : Judge) (holds : M → List Packet → Type 0) (old new : Option (List ℕ)) (message : M) (frame : ℕ) : Type 0 where
@@ -70,14 +55,18 @@ pub record IsGoing {M : Type 0} (judge : Judge) (holds : M → List Packet → T
   pub bytes : ReadsLines (record { old = old; new = new }) lines
 
 -- a message whose grammar stays takes a packet as the first grammar says
-pub takes_as : {M : Type 0} (holds left : M → List Packet → Type 0) (judge first : Judge) (brings at_first : List Packet → Packet → Bool) (old new : M) (packet : Packet) (result : Result Step Why)
+pub takes_as : {M : Type 0} (holds left : M → List Packet → Type 0) (judge first : Judge)
+    (brings at_first : List Packet → Packet → Bool) (old new : M) (packet : Packet) (result taken : Result Step Why)
     → judge ≡ first → brings ≡ at_first
-    → ((front : List Packet) → IsOpen judge front → holds old front → TakesPacket judge brings holds left front packet new result)
-    → (front : List Packet) → IsOpen first front → holds old front → TakesPacket first at_first holds left front packet new result
-takes_as holds left judge first brings at_first old new packet result same also takes front goes held =
-    subst (λ (b : List Packet → Packet → Bool). TakesPacket first b holds left front packet new result) also
-    (subst (λ (j : Judge). TakesPacket j brings holds left front packet new result) same
-    (takes front (subst (λ (j : Judge). IsOpen j front) (sym same) goes) held))
+    → ((front : List Packet) → IsOpen judge front → holds old front
+    → TakesPacket judge brings holds left front packet new result) → result ≡ taken
+    → (front : List Packet) → IsOpen first front → holds old front
+    → TakesPacket first at_first holds left front packet new taken
+takes_as holds left judge first brings at_first old new packet result taken same also takes is front goes held =
+    subst (TakesPacket first at_first holds left front packet new) is
+    (subst (λ b. TakesPacket first b holds left front packet new result) also
+    (subst (λ j. TakesPacket j brings holds left front packet new result) same
+    (takes front (subst (λ j. IsOpen j front) (sym same) goes) held)))
 
 module _ {M : Type 0} (judge : Judge) (brings : List Packet → Packet → Bool) (holds left : M → List Packet → Type 0) where
   -- what the message has before its first packet

@@ -1,6 +1,6 @@
 -- Verdicts: what is refused is refused for the packet's own sake, and a peer's error comes before all else.
 use Rattle.std.proofs.Common.{◌≡◌, ℕ, Bool, true, false, cond, List, Option, Some, None, refl, ap}
-use Rattle.gpkt.specs.Packets.{Packet, Data, Flush, Delim, ResponseEnd}
+use Rattle.gpkt.specs.Packets.{Packet, Data}
 use Rattle.ggrammar.specs.Endings.{after_flush}
 use Rattle.ggrammar.specs.Grammar.{Verdict, Open, Whole, Refused, if_room}
 use Rattle.ggrammar.specs.MessageBytes.{IsForPacket}
@@ -26,9 +26,7 @@ past_error None verdict h = h
 -- after the flush
 pub of_end : (packet : Packet) → IsForPacket (after_flush packet)
 of_end (Data payload) = past_error (peer_error payload) (Refused UnexpectedFrame) tt
-of_end Flush = tt
-of_end Delim = tt
-of_end ResponseEnd = tt
+of_end _ = tt
 
 -- ---- what is not refused reports no error, and had room
 

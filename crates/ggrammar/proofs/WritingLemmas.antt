@@ -14,11 +14,6 @@ not_payload (Ok done) other = λ e. cc
 not_payload (Err fault) other = λ e. other cc
 
 module _ {W : Type 0} (contents passed_on : W → Option (List ℕ)) (is_down : W → Bool) (loans : W → List ℕ) where
-  -- a call that was to write the packets of an equal list
-  as_lines : (old new : Writer W) (result : Result (Unit {0}) WriteFault) (lines others : List Packet) → lines ≡ others
-      → WritesLines contents passed_on is_down loans old new result lines → WritesLines contents passed_on is_down loans old new result others
-  as_lines old new result lines others same = subst (WritesLines contents passed_on is_down loans old new result) same
-
   pub writes_line : WritesLine contents passed_on is_down loans
   writes_line old new result line h fits = record {
     written = subst (HasWritten contents passed_on is_down loans old new result) (sym (append-nil (canonical line))) h;
@@ -56,33 +51,31 @@ module _ {W : Type 0} (contents passed_on : W → Option (List ℕ)) (is_down : 
   pub starts_writing : StartsWriting contents passed_on is_down loans
   starts_writing start lines = record { joins = λ more new result h. h }
 
-  pub goes_on_writing : CanonicalJoins → WritesJoin contents passed_on is_down loans → GoesOnWriting contents passed_on is_down loans
-  goes_on_writing canonical_joins join start now next lines coming front rest before parts wrote = record {
-    joins = λ more new result h. before.joins more new result
-        (as_lines now new result (front ++ (rest ++ more)) (coming ++ more) (sym (append_assoc front rest more) ∙ ap (λ (xs : List Packet). xs ++ more) (sym parts))
-        (followed canonical_joins join now next new front (rest ++ more) result wrote h));
-  }
+  pub lines_are_part : CanonicalJoins → WritesJoin contents passed_on is_down loans → LinesArePart contents passed_on is_down loans
+  lines_are_part canonical_joins join old new (Ok done) lines wrote =
+      record { joins = λ more next result h. followed canonical_joins join old new next lines more result wrote h }
+  lines_are_part canonical_joins join old new (Err fault) lines wrote = wrote
 
   pub goes_on_after_part : GoesOnAfterPart contents passed_on is_down loans
   goes_on_after_part start now next lines coming part rest before parts wrote = record {
     joins = λ more new result h. before.joins more new result
-        (as_lines now new result (part ++ (rest ++ more)) (coming ++ more) (sym (append_assoc part rest more) ∙ ap (λ (xs : List Packet). xs ++ more) (sym parts))
+        (subst (WritesLines _ _ _ _ now new result) (sym (append_assoc part rest more) ∙ ap (λ xs. xs ++ more) (sym parts))
         (wrote.joins (rest ++ more) new result h));
   }
 
+  pub goes_on_writing : CanonicalJoins → WritesJoin contents passed_on is_down loans → GoesOnWriting contents passed_on is_down loans
+  goes_on_writing canonical_joins join start now next lines coming front rest before parts wrote =
+      goes_on_after_part start now next lines coming front rest before parts
+      (lines_are_part canonical_joins join now next (Ok tt) front wrote)
+
   pub ends_writing : EndsWriting contents passed_on is_down loans
   ends_writing start now new lines coming result before h =
-      as_lines start new result (lines ++ []) lines (append-nil lines)
-      (before.joins [] new result (as_lines now new result coming (coming ++ []) (sym (append-nil coming)) h))
+      subst (WritesLines _ _ _ _ start new result) (append-nil lines)
+      (before.joins [] new result (subst (WritesLines _ _ _ _ now new result) (sym (append-nil coming)) h))
 
   pub fails_writing : CanonicalJoins → FailsOfMore contents passed_on is_down loans → FailsWriting contents passed_on is_down loans
   fails_writing canonical_joins fails start now new lines coming front rest fault (Ok done) before parts wrote same = absurd same
   fails_writing canonical_joins fails start now new lines coming front rest fault (Err other) before parts wrote same =
       subst (λ (f : WriteFault). WritesLines contents passed_on is_down loans start new (Err f) lines) (sym same)
       (ends_writing start now new lines coming (Err fault) before
-      (as_lines now new (Err fault) (front ++ rest) coming (sym parts) (cut canonical_joins fails now new front rest fault wrote)))
-
-  pub lines_are_part : CanonicalJoins → WritesJoin contents passed_on is_down loans → LinesArePart contents passed_on is_down loans
-  lines_are_part canonical_joins join old new (Ok done) lines wrote =
-      goes_on_writing canonical_joins join old old new lines lines lines [] (starts_writing old lines) (sym (append-nil lines)) wrote
-  lines_are_part canonical_joins join old new (Err fault) lines wrote = wrote
+      (subst (WritesLines _ _ _ _ now new (Err fault)) (sym parts) (cut canonical_joins fails now new front rest fault wrote)))

@@ -7,6 +7,7 @@ use gname::laws::texts_have_one_reading;
 use gname::{Format, Oid};
 
 /// The id of a format that a text spells, in either case of digits. `None` where it spells none.
+#[tactic(auto, using(crate::proofs::IdLemmas::id_read, crate::proofs::IdLemmas::id_refused))]
 pub fn id_of_text(format: Format, text: &[u8]) -> Option<Oid>
     ensures { result ≡ id_of_text format text.now }
 {

@@ -54,6 +54,7 @@ pub fn texts_are_classified()
 {}
 
 /// The texts of packets come in their order, and the packet of a text is read as that text.
+#[tactic(auto, using(crate::proofs::PlaceLemmas::texts_of_more, crate::proofs::PlaceLemmas::text_is_read))]
 pub fn texts_are_read()
     ensures more { TextsOfMore }
     ensures line { TextIsRead }

@@ -1,8 +1,7 @@
 -- Lines of a text: none has an LF, so that a text has one list of lines.
 use Rattle.std.specs.Prelude.{⊤}
-use Rattle.std.proofs.Common.{◌≡◌, ◌≢◌, ℕ, suc, ◌<◌, List, [], ◌∷◌, ◌++◌, refl, sym, ◌∙◌, ap, arith}
-use Rattle.std.proofs.lemmas.List.{append_assoc}
-use Rattle.std.proofs.lemmas.List.Elements.{All-head, All-tail}
+use Rattle.std.proofs.Common.{◌≡◌, ◌≢◌, ℕ, suc, ◌<◌, List, [], ◌∷◌, ◌++◌, refl, sym, ◌∙◌, ap, ap₂, arith}
+use Rattle.std.proofs.lemmas.{List.{append_assoc, append-nil}, List.Elements.{All-head, All-tail}}
 use Rattle.gname.specs.Laws.{IsClean}
 use Rattle.gobject.specs.PlainPackText.{IsInLine, line, text_of}
 
@@ -20,12 +19,11 @@ pub line_from : (text : List ℕ) → IsInLine text → IsLine text
 line_from [] none = tt
 line_from (b ∷ bs) none = (none 0, line_from bs (λ k. none (suc k)))
 
-above_lf : (b : ℕ) → 32 < b → b ≢ 10
-above_lf b above is = omega (arith, above, is)
-
 pub clean_line : (text : List ℕ) → IsClean text → IsLine text
 clean_line [] clean = tt
-clean_line (b ∷ bs) clean = (above_lf b (All-head (λ (c : ℕ). 32 < c) b bs clean), clean_line bs (All-tail (λ (c : ℕ). 32 < c) b bs clean))
+clean_line (b ∷ bs) clean =
+    let above = All-head (λ (c : ℕ). 32 < c) b bs clean in
+    ((λ is. omega (arith, above, is)), clean_line bs (All-tail (λ (c : ℕ). 32 < c) b bs clean))
 
 pub line-append : (xs ys : List ℕ) → IsLine xs → IsLine ys → IsLine (xs ++ ys)
 line-append [] ys lx ly = ly
@@ -43,29 +41,22 @@ pub back_lines : (xs ys : List (List ℕ)) → AreLines (xs ++ ys) → AreLines 
 back_lines [] ys each = each
 back_lines (x ∷ xs) ys each = back_lines xs ys each.1
 
-abbrev head_of : List ℕ → ℕ
-head_of [] = 0
-head_of (x ∷ xs) = x
-
-abbrev tail_of : List ℕ → List ℕ
-tail_of [] = []
-tail_of (x ∷ xs) = xs
-
 -- the first line of some bytes, and what follows its LF, are one
 pub one_line : (a b r s : List ℕ) → IsLine a → IsLine b → line a ++ r ≡ line b ++ s → (a ≡ b) × (r ≡ s)
-one_line [] [] r s la lb e = (refl, ap tail_of e)
-one_line [] (y ∷ b) r s la lb e = absurd (lb.0 (sym (ap head_of e)))
-one_line (x ∷ a) [] r s la lb e = absurd (la.0 (ap head_of e))
+one_line [] [] r s la lb e = (refl, (cc))
+one_line [] (y ∷ b) r s la lb e = absurd (lb.0 (cc))
+one_line (x ∷ a) [] r s la lb e = absurd (la.0 (cc))
 one_line (x ∷ a) (y ∷ b) r s la lb e =
-    let rest = one_line a b r s la.1 lb.1 (ap tail_of e) in
-    (ap (λ (n : ℕ). n ∷ a) (ap head_of e) ∙ ap (λ (t : List ℕ). y ∷ t) rest.0, rest.1)
+    let rest = one_line a b r s la.1 lb.1 (cc) in
+    let first : x ≡ y = cc in
+    (ap₂ (λ (n : ℕ) (t : List ℕ). n ∷ t) first rest.0, rest.1)
 
 -- bytes without an LF have no line before them
 pub not_a_line : (first after rest : List ℕ) → IsLine rest → rest ≡ line first ++ after → ⊥
-not_a_line [] after [] clean e = let h = e in cc
-not_a_line [] after (b ∷ rest) clean e = clean.0 (ap head_of e)
-not_a_line (x ∷ first) after [] clean e = let h = e in cc
-not_a_line (x ∷ first) after (b ∷ rest) clean e = not_a_line first after rest clean.1 (ap tail_of e)
+not_a_line [] after [] clean e = cc
+not_a_line [] after (b ∷ rest) clean e = clean.0 (cc)
+not_a_line (x ∷ first) after [] clean e = cc
+not_a_line (x ∷ first) after (b ∷ rest) clean e = not_a_line first after rest clean.1 (cc)
 
 -- where some lines are at the front of a text, they are the first of its lines
 pub more_lines : (lines whole : List (List ℕ)) (rest : List ℕ) → AreLines lines → AreLines whole → text_of whole ≡ text_of lines ++ rest → (more : List (List ℕ)) × (whole ≡ lines ++ more) × (rest ≡ text_of more)
@@ -82,12 +73,8 @@ pub no_line_left : (lines whole : List (List ℕ)) (rest : List ℕ) → AreLine
 no_line_left lines whole rest ll lw clean e =
     let left = more_lines lines whole rest ll lw e in none_left left.0 left.1 left.2
   where
-    append-none : (xs : List (List ℕ)) → xs ++ [] ≡ xs
-    append-none [] = refl
-    append-none (x ∷ xs) = ap (λ (ys : List (List ℕ)). x ∷ ys) (append-none xs)
-
     none_left : (more : List (List ℕ)) → whole ≡ lines ++ more → rest ≡ text_of more → (rest ≡ []) × (whole ≡ lines)
-    none_left [] parts same = (same, parts ∙ append-none lines)
+    none_left [] parts same = (same, parts ∙ append-nil lines)
     none_left (first ∷ more) parts same = absurd (not_a_line first (text_of more) rest clean same)
 
 -- a text has one list of lines

@@ -1,16 +1,25 @@
--- Reading a text, one line more.
+-- The items that the lines of a text stand for, one after the other, and reading one line more.
 use Rattle.std.specs.Prelude.{◌==◌}
-use Rattle.std.proofs.lemmas.Bool.Decides.{nat_tests}
 use Rattle.std.proofs.Common.{true, ◌≡◌, ℕ, ◌+◌, ◌≤◌, List, [], ◌∷◌, ◌++◌, length, map, refl, sym, ◌∙◌, ap, subst, arith}
-use Rattle.std.proofs.lemmas.List.{append_assoc, append-nil, length-append}
-use Rattle.ggraph.specs.declared.text.Order.{Order}
-use Rattle.ggraph.specs.declared.text.reading.Stage.TheVariants.{Done}
-use Rattle.ggraph.specs.declared.text.reading.Stage.{Stage}
-use Rattle.ggraph.specs.declared.text.reading.Reading.{Reading}
-use Rattle.gobject.specs.PlainPackText.{line, text_of}
+use Rattle.std.proofs.lemmas.{Bool.Decides.nat_tests, List.{append_assoc, append-nil, length-append, map_push}}
+use Rattle.ggraph.specs.declared.text.{Order.Order, reading.Reading.Reading, reading.Stage.{Stage, TheVariants.Done}}
 use Rattle.ggraph.specs.steps.Reading.{Item, MayCome, ComesNext, after, line_of, nothing_read}
-use Rattle.ggraph.proofs.Items.{HasRead, ReadsTo, items_text}
+use Rattle.gobject.specs.PlainPackText.{line, text_of}
 use Rattle.gobject.proofs.PlainPackLines.{text_of-append}
+
+-- the items may come one after the other, and this is read then
+abbrev pub ReadsTo : {A : Type 0} → Order → Reading A → List (Item A) → Reading A → Type 0
+ReadsTo order old [] new = new ≡ old
+ReadsTo order old (item ∷ items) new = MayCome order old item × ReadsTo order (after old item) items new
+
+-- their text
+abbrev pub items_text : {A : Type 0} → List (Item A) → List ℕ
+items_text items = text_of (map line_of items)
+
+-- the front of a text is these items, and the rest is left
+pub record HasRead {A : Type 0} (order : Order) (text : List ℕ) (items : List (Item A)) (rest : List ℕ) (new : Reading A) : Type 0 where
+  pub spells : text ≡ items_text items ++ rest
+  pub reads : ReadsTo order nothing_read items new
 
 pub reads_more : {A : Type 0} (order : Order) (old mid new : Reading A) (items : List (Item A)) (item : Item A) → ReadsTo order old items mid → MayCome order mid item → new ≡ after mid item → ReadsTo order old (items ++ item ∷ []) new
 reads_more {A} order old mid new [] item here may e = (subst (λ (r : Reading A). MayCome order r item) here may, e ∙ ap (λ (r : Reading A). after r item) here)
@@ -20,15 +29,8 @@ reads_more order old mid new (first ∷ items) item (may_first, rest) may e = (m
 pub text_of-push : (lines : List (List ℕ)) (last : List ℕ) → text_of (lines ++ last ∷ []) ≡ text_of lines ++ line last
 text_of-push lines last = text_of-append lines (last ∷ []) ∙ ap (λ (t : List ℕ). text_of lines ++ t) (append-nil (line last))
 
-pub map_more : {A : Type 0} (items : List (Item A)) (item : Item A) → map line_of (items ++ item ∷ []) ≡ map line_of items ++ line_of item ∷ []
-map_more [] item = refl
-map_more (first ∷ items) item = ap (λ (ls : List (List ℕ)). line_of first ∷ ls) (map_more items item)
-
 items_text_more : {A : Type 0} (items : List (Item A)) (item : Item A) → items_text (items ++ item ∷ []) ≡ items_text items ++ line (line_of item)
-items_text_more items item = ap text_of (map_more items item) ∙ text_of-push (map line_of items) (line_of item)
-
-pub has_read_none : {A : Type 0} (order : Order) (text : List ℕ) → HasRead {A = A} order text [] text nothing_read
-has_read_none order text = record { spells = refl; reads = refl }
+items_text_more items item = ap text_of (map_push line_of items item) ∙ text_of-push (map line_of items) (line_of item)
 
 pub has_read_more : {A : Type 0} (order : Order) (text : List ℕ) (items : List (Item A)) (rest this after_it : List ℕ) (old new : Reading A) → HasRead order text items rest old → rest ≡ line this ++ after_it → (item : Item A) → this ≡ line_of item → MayCome order old item → new ≡ after old item → HasRead order text (items ++ item ∷ []) after_it new
 has_read_more order text items rest this after_it old new so_far next item is may e = record {

@@ -1,30 +1,20 @@
 -- A text has one reading as a repository.
 use Rattle.std.specs.Prelude.{◌==◌, ◌&&◌, not}
 use Rattle.std.proofs.Common.{◌≡◌, ◌≢◌, inl, inr, Bool, true, false, ℕ, List, [], ◌∷◌, ◌++◌, map, All, codes, refl, sym, ◌∙◌, ap, subst}
-use Rattle.std.proofs.lemmas.List.{append_assoc, append-nil}
-use Rattle.std.proofs.lemmas.List.Elements.{All-head, All-tail, All-cons}
-use Rattle.gname.specs.declared.formats.Format.{Format}
-use Rattle.gname.specs.declared.formats.Format.TheVariants.{Sha1, Sha256}
-use Rattle.gname.specs.Ids.{IsIdOf, id_text}
-use Rattle.gobject.specs.declared.node.Kind.{Kind}
-use Rattle.gobject.specs.declared.node.Kind.TheVariants.{Commit, Tag}
-use Rattle.gobject.specs.declared.node.Entry.{Entry}
-use Rattle.grefs.specs.declared.head.Head.{Head}
-use Rattle.grefs.specs.declared.head.Head.TheVariants as heads_of
-use Rattle.ggraph.specs.declared.text.Order.{Order}
-use Rattle.ggraph.specs.declared.text.reading.Stage.{Stage}
-use Rattle.ggraph.specs.declared.text.reading.Stage.TheVariants.{Nodes, Refs, Done}
-use Rattle.ggraph.specs.declared.text.reading.Reading.{Reading}
+use Rattle.std.proofs.lemmas.{List.{append_assoc, append-nil}, List.Elements.{All-head, All-tail, All-cons}}
+use Rattle.gname.specs.{Ids.{IsIdOf, id_text}, declared.formats.Format.{Format, TheVariants.{Sha1, Sha256}}}
 use Rattle.gobject.specs.PlainPackText.{ids_of, ids_text, letter, node_text}
-use Rattle.gdag.specs.Graphs.{History, HasIdsOf}
-use Rattle.grefs.specs.RefLists.{IsBelowRefs, RefList}
+use Rattle.gobject.specs.declared.node.{Entry.Entry, Kind.{Kind, TheVariants.{Commit, Tag}}}
+use Rattle.grefs.specs.{RefLists.{IsBelowRefs, RefList}, declared.head.Head.Head}
+use Rattle.grefs.specs.declared.head.Head.TheVariants as heads_of
 use Rattle.ggraph.specs.RepositoryText.{EachFollows, IsHead, IsLoadable, MayFollow, RefMayFollow, first_line, head_line, last_line, lines_of, ref_line, repository_text}
+use Rattle.ggraph.specs.declared.text.Order.{Order}
+use Rattle.ggraph.specs.declared.text.reading.{Reading.Reading, Stage.{Stage, TheVariants.{Nodes, Refs, Done}}}
 use Rattle.ggraph.specs.steps.Reading.{Item, MayCome, RefMayCome, after, begins, ends, heads, line_of, node}
-use Rattle.ggraph.specs.steps.Reading.{nothing_read, ref}
-use Rattle.ggraph.proofs.Items.{ReadsTo}
-use Rattle.ggraph.proofs.Lines.{AreLines, IsLine, clean_line, line-append, one_list}
-use Rattle.ggraph.proofs.ReadingLemmas.{one_item}
-use Rattle.ggraph.specs.steps.TextLaws.{TextLaws}
+use Rattle.ggraph.specs.steps.{Reading.{nothing_read, ref}, TextLaws.TextLaws}
+use Rattle.gdag.specs.Graphs.{History, HasIdsOf}
+use Rattle.ggraph.proofs.LoadLemmas.{ReadsTo}
+use Rattle.ggraph.proofs.{Lines.{AreLines, IsLine, clean_line, line-append, one_list}, ReadingLemmas.one_item}
 
 module _ (laws : TextLaws) where
   -- ---- the same lines are the same items
@@ -90,18 +80,15 @@ module _ (laws : TextLaws) where
             (reads_on order (at_nodes g.format g.entries) (at_refs all.0 g refs) (whole_reading g refs head) (map ref refs) (heads head ∷ ends ∷ []) all.2 ending),
       )
 
-  lines_nodes : {A : Type 0} (g : List (Entry A)) (more : List (Item A)) → map line_of (map node g ++ more) ≡ map node_text g ++ map line_of more
-  lines_nodes [] more = refl
-  lines_nodes (x ∷ g) more = ap (λ (ls : List (List ℕ)). node_text x ∷ ls) (lines_nodes g more)
-
-  lines_refs : {A : Type 0} (refs : RefList) (more : List (Item A)) → map line_of (map ref refs ++ more) ≡ map ref_line refs ++ map line_of more
-  lines_refs [] more = refl
-  lines_refs (x ∷ refs) more = ap (λ (ls : List (List ℕ)). ref_line x ∷ ls) (lines_refs refs more)
+  lines_through : {A X : Type 0} (item : X → Item A) (xs : List X) (more : List (Item A))
+      → map line_of (map item xs ++ more) ≡ map (λ x. line_of (item x)) xs ++ map line_of more
+  lines_through item [] more = refl
+  lines_through item (x ∷ xs) more = ap (λ (ls : List (List ℕ)). line_of (item x) ∷ ls) (lines_through item xs more)
 
   pub lines_whole : {A : Type 0} (g : History A) (refs : RefList) (head : Head A) → map line_of (whole_items g refs head) ≡ lines_of g refs head
   lines_whole {A} g refs head =
-      ap (λ (ls : List (List ℕ)). first_line g.format ∷ ls) (lines_nodes g.entries (map ref refs ++ (heads head ∷ ends ∷ [])))
-      ∙ ap (λ (ls : List (List ℕ)). first_line g.format ∷ (map node_text g.entries ++ ls)) (lines_refs refs (heads head ∷ ends ∷ []))
+      ap (λ (ls : List (List ℕ)). first_line g.format ∷ ls) (lines_through node g.entries (map ref refs ++ (heads head ∷ ends ∷ [])))
+      ∙ ap (λ (ls : List (List ℕ)). first_line g.format ∷ (map node_text g.entries ++ ls)) (lines_through ref refs (heads head ∷ ends ∷ []))
 
   -- ---- no line has an LF
 

@@ -1,33 +1,24 @@
 -- Which line may come next: each line stands for one item.
-use Rattle.std.proofs.Common.{ap₂, ◌≡◌, inl, inr, ℕ, List, [], ◌∷◌, ◌++◌, All, codes, refl, sym, ◌∙◌, ap, subst, arith, lit<, ◌<◌, get_or, length, Result, Ok, Err, Option, Some, None, MatchOption, MatchResult, OnOk, IfErr}
-use Rattle.std.proofs.lemmas.List.{append_cancel_left}
-use Rattle.std.proofs.lemmas.List.Elements.{All-head, All-tail, All-cons}
-use Rattle.gname.specs.declared.formats.Format.{Format}
-use Rattle.gname.specs.declared.formats.Format.TheVariants.{Sha1, Sha256}
-use Rattle.gname.specs.Ids.{IsIdOf, id_text}
-use Rattle.gobject.specs.declared.node.Kind.{Kind}
-use Rattle.gobject.specs.declared.node.Kind.TheVariants.{Commit, Tag}
-use Rattle.gobject.specs.declared.node.Entry.{Entry}
-use Rattle.gobject.specs.Objects.{entry_of, node_of}
-use Rattle.gobject.specs.PlainPackText.{ids_of, ids_text, letter, node_text}
+use Rattle.std.proofs.Common.{ap₂, ◌≡◌, ℕ, List, [], ◌∷◌, ◌++◌, All, codes, refl, sym, ◌∙◌, ap, subst, arith, get_or, length, Result, Ok, Err, Option, Some, None, MatchOption, MatchResult, OnOk, IfErr}
+use Rattle.std.proofs.lemmas.{List.append_cancel_left, List.Elements.{All-head, All-tail, All-cons}}
+use Rattle.std.specs.Prelude.{◌==◌, if◌then◌else◌}
+use Rattle.gname.specs.{Ids.{IsIdOf, id_text}, declared.formats.Format.{Format, TheVariants.{Sha1, Sha256}}}
+use Rattle.gobject.specs.{Objects.{entry_of, node_of}, PlainPackText.{ids_of, ids_text, letter, node_text}}
+use Rattle.gobject.specs.declared.node.{Entry.Entry, Kind.{Kind, TheVariants.{Commit, Tag}}}
 use Rattle.gdag.specs.Graphs.{History, HasIdsOf}
-use Rattle.grefs.specs.declared.head.Head.{Head}
+use Rattle.grefs.specs.{RefLists.IsBelowRefs, declared.head.Head.Head}
 use Rattle.grefs.specs.declared.head.Head.TheVariants as heads_of
-use Rattle.grefs.specs.RefLists.{IsBelowRefs}
+use Rattle.ggraph.specs.RepositoryText.{IsHead, MayFollow, RefMayFollow, first_line, head_line, ref_line}
 use Rattle.ggraph.specs.declared.fault.LoadFault.{LoadFault}
-use Rattle.ggraph.specs.declared.fault.LoadFault.TheVariants as faults
-use Rattle.ggraph.specs.declared.text.Order.{Order}
-use Rattle.ggraph.specs.declared.text.Order.TheVariants.{Any, ParentsFirst}
-use Rattle.ggraph.specs.declared.text.reading.Stage.{Stage}
-use Rattle.ggraph.specs.declared.text.reading.Stage.TheVariants.{First, Nodes, Refs, Last, Done}
-use Rattle.ggraph.specs.declared.text.reading.Reading.{Reading}
-use Rattle.ggraph.specs.RepositoryText.{IsHead, MayFollow, RefMayFollow, first_line, head_line, last_line, ref_line}
+use Rattle.ggraph.specs.declared.text.{Order.{Order, TheVariants.{Any, ParentsFirst}}, reading.Reading.Reading}
+use Rattle.ggraph.specs.declared.text.reading.Stage.{TheVariants.{Nodes, Refs}}
+use Rattle.ggraph.specs.steps.NoSuchPart.{BeginsWithNoRefId, BeginsWithNoSpacedId, IsHeadOn, IsNoParents}
+use Rattle.ggraph.specs.steps.NoSuchPart.{IsNoHead, IsSymrefLine}
 use Rattle.ggraph.specs.steps.Reading.{Item, MayCome, begins, line_of, node, ref, heads, ends, RefusesLine}
 use Rattle.ggraph.specs.steps.Reading.{RefusesEntry, RefusesRef, ComesNext, NeverComes, RefMayCome, with_entry}
-use Rattle.ggraph.specs.steps.NoSuchPart.{BeginsWithNoRefId, BeginsWithNoSpacedId, IsHeadOn, IsNoParents, IsNoNode}
-use Rattle.ggraph.specs.steps.NoSuchPart.{IsNoRef, IsNoHead, IsSymrefLine}
-use Rattle.ggraph.proofs.TextLemmas.{one_front, one_id}
 use Rattle.ggraph.specs.steps.TextLaws.{TextLaws}
+use Rattle.ggraph.specs.declared.fault.LoadFault.TheVariants as faults
+use Rattle.ggraph.proofs.TextLemmas.{one_front, one_id}
 
 -- ---- lines that differ
 
@@ -37,15 +28,11 @@ first_byte xs = get_or xs 0 0
 abbrev third_byte : List ℕ → ℕ
 third_byte xs = get_or xs 2 0
 
-far : (a b : ℕ) → b < a → a ≡ b → ⊥
-far a b lt e = omega arith
-
 -- a line that begins as that of HEAD on a ref
 no_head_on : {A : Type 0} (format : Format) (line text : List ℕ) → line ≡ codes "h ref " ++ text → (IsBelowRefs text → ⊥) → IsNoHead A format line
-no_head_on format line text is none heads_of.None valid e = far 114 110 (lit< tt) (ap third_byte (sym is ∙ e))
-no_head_on format line text is none (heads_of.Id id) valid e = far 114 105 (lit< tt) (ap third_byte (sym is ∙ e))
 no_head_on format line text is none (heads_of.Symref target) valid e =
     none (subst IsBelowRefs (sym (append_cancel_left (codes "h ref ") text target (sym is ∙ e))) valid)
+no_head_on format line text is none _ valid e = let h = ap third_byte (sym is ∙ e) in absurd (omega (arith, h))
 
 abbrev SaysHeadOn : {A E : Type 0} → List ℕ → Result (Option (Head A)) E → Type 0
 SaysHeadOn text r = MatchResult r (λ found. MatchOption found (IsBelowRefs text → ⊥) (λ head. IsHeadOn text head)) (λ _. IsBelowRefs text)
@@ -56,10 +43,9 @@ SaysHead {A} format line r =
 
 pub head_on_line : {A E : Type 0} (format : Format) (line text : List ℕ) (r : Result (Option (Head A)) E) → line ≡ codes "h ref " ++ text → SaysHeadOn text r → SaysHead format line r
 head_on_line format line text (Ok None) is none = no_head_on format line text is none
-head_on_line format line text (Ok (Some heads_of.None)) is facts = absurd facts
-head_on_line format line text (Ok (Some (heads_of.Id id))) is facts = absurd facts
 head_on_line format line text (Ok (Some (heads_of.Symref target))) is facts =
     (is ∙ ap (λ (t : List ℕ). codes "h ref " ++ t) (sym facts.0), subst IsBelowRefs (sym facts.0) facts.1)
+head_on_line format line text (Ok (Some _)) is facts = absurd facts
 head_on_line format line text (Err e) is below = (text, below, is)
 
 -- ---- HEAD on a ref, out of memory for the name
@@ -68,43 +54,44 @@ pub symref_short : {A : Type 0} (order : Order) (old : Reading A) (line : List �
 symref_short order old line number due (target, below, is) = (heads (heads_of.Symref target), is, (due, below), tt)
 
 module _ (laws : TextLaws) where
-  letter_not : (kind : Kind) (s t : List ℕ) (b : ℕ) → (b ≡ 99 → ⊥) → (b ≡ 116 → ⊥) → letter kind ∷ s ≡ b ∷ t → ⊥
-  letter_not Commit s t b notc nott e = notc (sym (ap first_byte e))
-  letter_not Tag s t b notc nott e = nott (sym (ap first_byte e))
+  -- the first bytes of lines tell items apart
+  abbrev tag : {A : Type 0} → Item A → ℕ
+  tag (begins format) = 0
+  tag (node entry) = 1
+  tag (ref it) = 2
+  tag (heads head) = 3
+  tag ends = 4
 
-  head_starts : {A : Type 0} → (head : Head A) → (t : List ℕ) × (head_line head ≡ 104 ∷ t)
-  head_starts (heads_of.Id id) = (codes " id " ++ id_text id, refl)
-  head_starts (heads_of.Symref target) = (codes " ref " ++ target, refl)
-  head_starts heads_of.None = (codes " none", refl)
+  abbrev told : List ℕ → ℕ
+  told line =
+      let b = first_byte line in
+      if b == 103 then 0 else if b == 114 then 2 else if b == 104 then 3 else if b == 101 then 4 else 1
 
-  pub letter_not_ref : (kind : Kind) (rest : List ℕ) (it : List ℕ × List ℕ) → letter kind ∷ rest ≡ ref_line it → ⊥
-  letter_not_ref kind rest it e = letter_not kind rest (codes " " ++ (id_text it.1 ++ (codes " " ++ it.0))) 114 (λ h. omega arith) (λ h. omega arith) e
+  letter_told : (kind : Kind) (rest : List ℕ) → told (letter kind ∷ rest) ≡ 1
+  letter_told Commit rest = refl
+  letter_told Tag rest = refl
 
-  pub letter_not_head : {A : Type 0} → (kind : Kind) (rest : List ℕ) (head : Head A) → letter kind ∷ rest ≡ head_line head → ⊥
-  letter_not_head kind rest head e = let starts = head_starts head in letter_not kind rest starts.0 104 (λ h. omega arith) (λ h. omega arith) (e ∙ starts.1)
-
-  pub node_not_ref : {A : Type 0} → (entry : Entry A) (it : List ℕ × List ℕ) → node_text entry ≡ ref_line it → ⊥
-  node_not_ref entry it e = letter_not_ref entry.node.kind (ids_text (ids_of entry)) it e
-
-  pub node_not_head : {A : Type 0} → (entry : Entry A) (head : Head A) → node_text entry ≡ head_line head → ⊥
-  node_not_head entry head e = letter_not_head entry.node.kind (ids_text (ids_of entry)) head e
-
-  pub ref_not_head : {A : Type 0} → (it : List ℕ × List ℕ) (head : Head A) → ref_line it ≡ head_line head → ⊥
-  ref_not_head it head e = far 114 104 (lit< tt) (ap first_byte (e ∙ (head_starts head).1))
+  tagged : {A : Type 0} (item : Item A) → told (line_of item) ≡ tag item
+  tagged (begins Sha1) = refl
+  tagged (begins Sha256) = refl
+  tagged (node entry) = letter_told entry.node.kind (ids_text (ids_of entry))
+  tagged (ref it) = refl
+  tagged (heads (heads_of.Id id)) = refl
+  tagged (heads (heads_of.Symref target)) = refl
+  tagged (heads heads_of.None) = refl
+  tagged ends = refl
 
   -- ---- lines that say one thing
 
   letters_one : (k l : Kind) (s t : List ℕ) → letter k ∷ s ≡ letter l ∷ t → (k ≡ l) × (s ≡ t)
   letters_one Commit Commit s t e = (refl, append_cancel_left (codes "c") s t e)
-  letters_one Commit Tag s t e = absurd (far 116 99 (lit< tt) (sym (ap first_byte e)))
-  letters_one Tag Commit s t e = absurd (far 116 99 (lit< tt) (ap first_byte e))
   letters_one Tag Tag s t e = (refl, append_cancel_left (codes "t") s t e)
+  letters_one _ _ s t e = let h = ap first_byte e in absurd (omega (arith, h))
 
   pub formats_one : (a b : Format) → first_line a ≡ first_line b → a ≡ b
   formats_one Sha1 Sha1 e = refl
-  formats_one Sha1 Sha256 e = absurd (far 14 7 (lit< tt) (sym (ap length e)))
-  formats_one Sha256 Sha1 e = absurd (far 14 7 (lit< tt) (ap length e))
   formats_one Sha256 Sha256 e = refl
+  formats_one _ _ e = let h = ap length e in absurd (omega (arith, h))
 
   module _ (format : Format) where
     pub spaced_one : (xs ys : List (List ℕ)) → All (IsIdOf format) xs → All (IsIdOf format) ys → ids_text xs ≡ ids_text ys → xs ≡ ys
@@ -137,110 +124,46 @@ module _ (laws : TextLaws) where
 
     pub one_head : {A : Type 0} → (a b : Head A) → IsHead format a → IsHead format b → head_line a ≡ head_line b → a ≡ b
     one_head heads_of.None heads_of.None va vb e = refl
-    one_head heads_of.None (heads_of.Id id) va vb e = absurd (far 110 105 (lit< tt) (ap third_byte e))
-    one_head heads_of.None (heads_of.Symref target) va vb e = absurd (far 114 110 (lit< tt) (sym (ap third_byte e)))
-    one_head (heads_of.Id id) heads_of.None va vb e = absurd (far 110 105 (lit< tt) (sym (ap third_byte e)))
     one_head (heads_of.Id a) (heads_of.Id b) va vb e = ap heads_of.Id (one_id laws format a b va vb (append_cancel_left (codes "h id ") (id_text a) (id_text b) e))
-    one_head (heads_of.Id id) (heads_of.Symref target) va vb e = absurd (far 114 105 (lit< tt) (sym (ap third_byte e)))
-    one_head (heads_of.Symref target) heads_of.None va vb e = absurd (far 114 110 (lit< tt) (ap third_byte e))
-    one_head (heads_of.Symref target) (heads_of.Id id) va vb e = absurd (far 114 105 (lit< tt) (ap third_byte e))
     one_head (heads_of.Symref a) (heads_of.Symref b) va vb e = ap heads_of.Symref (append_cancel_left (codes "h ref ") a b e)
+    one_head _ _ va vb e = let h = ap third_byte e in absurd (omega (arith, h))
 
   -- ---- lines that may not come
 
-  no_refs_at : (stage : Stage) (s : Stage) → stage ≡ s → (s ≡ Nodes → ⊥) → (s ≡ Refs → ⊥) → RefMayCome stage → ⊥
-  no_refs_at stage s e notn notr (inl h) = notn (sym e ∙ h)
-  no_refs_at stage s e notn notr (inr h) = notr (sym e ∙ h)
-
   module _ {A : Type 0} (order : Order) (old : Reading A) (line : List ℕ) where
-    pub not_first : old.stage ≡ First → ((format : Format) → line ≡ first_line format → ⊥) → NeverComes order old line
-    not_first here other (begins format) e may = other format e
-    not_first here other (node entry) e may = let h = sym here ∙ may.0 in cc
-    not_first here other (ref it) e may = no_refs_at old.stage First here (λ h. cc) (λ h. cc) may.0
-    not_first here other (heads head) e may = no_refs_at old.stage First here (λ h. cc) (λ h. cc) may.0
-    not_first here other ends e may = let h = sym here ∙ may in cc
-
-    pub not_last : old.stage ≡ Last → (line ≡ last_line → ⊥) → NeverComes order old line
-    not_last here other (begins format) e may = let h = sym here ∙ may in cc
-    not_last here other (node entry) e may = let h = sym here ∙ may.0 in cc
-    not_last here other (ref it) e may = no_refs_at old.stage Last here (λ h. cc) (λ h. cc) may.0
-    not_last here other (heads head) e may = no_refs_at old.stage Last here (λ h. cc) (λ h. cc) may.0
-    not_last here other ends e may = other e
-
-    pub not_done : old.stage ≡ Done → NeverComes order old line
-    not_done here (begins format) e may = let h = sym here ∙ may in cc
-    not_done here (node entry) e may = let h = sym here ∙ may.0 in cc
-    not_done here (ref it) e may = no_refs_at old.stage Done here (λ h. cc) (λ h. cc) may.0
-    not_done here (heads head) e may = no_refs_at old.stage Done here (λ h. cc) (λ h. cc) may.0
-    not_done here ends e may = let h = sym here ∙ may in cc
-
-    not_at : (s : Stage) → RefMayCome old.stage → (s ≡ Nodes → ⊥) → (s ≡ Refs → ⊥) → old.stage ≡ s → ⊥
-    not_at s due notn notr e = no_refs_at old.stage s e notn notr due
-
-    pub no_item : RefMayCome old.stage → (old.stage ≡ Nodes → IsNoNode line) → IsNoRef line → IsNoHead A old.graph.format line → NeverComes order old line
-    no_item due nonode noref nohead (begins format) e may = not_at First due (λ h. cc) (λ h. cc) may
-    no_item due nonode noref nohead (node entry) e may = nonode may.0 entry.node.kind (ids_text (ids_of entry)) e
-    no_item due nonode noref nohead (ref it) e may = noref (id_text it.1 ++ (codes " " ++ it.0)) e
-    no_item due nonode noref nohead (heads head) e may = nohead head may.1 e
-    no_item due nonode noref nohead ends e may = not_at Last due (λ h. cc) (λ h. cc) may
-
     -- the line begins with the letter of a kind, and no node that has it may come
-    pub no_node_comes : (kind : Kind) (rest : List ℕ) → old.stage ≡ Nodes → line ≡ letter kind ∷ rest → ((entry : Entry A) → letter kind ∷ rest ≡ node_text entry → MayFollow order old.graph.format old.graph.entries entry → ⊥) → NeverComes order old line
-    no_node_comes kind rest here is never (begins format) e may = let h = sym here ∙ may in cc
-    no_node_comes kind rest here is never (node entry) e may = never entry (sym is ∙ e) may.1
-    no_node_comes kind rest here is never (ref it) e may = letter_not_ref kind rest it (sym is ∙ e)
-    no_node_comes kind rest here is never (heads head) e may = letter_not_head kind rest head (sym is ∙ e)
-    no_node_comes kind rest here is never ends e may = let h = sym here ∙ may in cc
+    no_node_comes : (kind : Kind) (rest : List ℕ) → line ≡ letter kind ∷ rest → ((entry : Entry A) → letter kind ∷ rest ≡ node_text entry → MayFollow order old.graph.format old.graph.entries entry → ⊥) → NeverComes order old line
+    no_node_comes kind rest is never (node entry) e may = never entry (sym is ∙ e) may.1
+    no_node_comes kind rest is never item e may =
+        let h = sym (letter_told kind rest) ∙ ap told (sym is ∙ e) ∙ tagged item in absurd (omega (arith, h))
 
     -- the line begins as a ref's, and no ref that has it may come
-    pub no_ref_comes : RefMayCome old.stage → (rest : List ℕ) → line ≡ codes "r " ++ rest → ((it : List ℕ × List ℕ) → line ≡ ref_line it → RefMayFollow old.graph.format old.refs it → ⊥) → NeverComes order old line
-    no_ref_comes due rest is never (begins format) e may = not_at First due (λ h. cc) (λ h. cc) may
-    no_ref_comes due rest is never (node entry) e may = letter_not entry.node.kind (ids_text (ids_of entry)) (codes " " ++ rest) 114 (λ h. omega arith) (λ h. omega arith) (sym e ∙ is)
-    no_ref_comes due rest is never (ref it) e may = never it e may.1
-    no_ref_comes due rest is never (heads head) e may = far 114 104 (lit< tt) (ap first_byte (sym is ∙ e ∙ (head_starts head).1))
-    no_ref_comes due rest is never ends e may = not_at Last due (λ h. cc) (λ h. cc) may
+    no_ref_comes : (rest : List ℕ) → line ≡ codes "r " ++ rest → ((it : List ℕ × List ℕ) → line ≡ ref_line it → RefMayFollow old.graph.format old.refs it → ⊥) → NeverComes order old line
+    no_ref_comes rest is never (ref it) e may = never it e may.1
+    no_ref_comes rest is never item e may = let h = ap told (sym is ∙ e) ∙ tagged item in absurd (omega (arith, h))
 
   -- ---- a line that may come stands for one item
 
   pub one_item : {A : Type 0} → (order other : Order) (old : Reading A) (a b : Item A) → MayCome order old a → MayCome other old b → line_of a ≡ line_of b → a ≡ b
   one_item order other old (begins f) (begins g) may there e = ap begins (formats_one f g e)
-  one_item order other old (begins f) (node entry) may there e = let h = sym may ∙ there.0 in cc
-  one_item order other old (begins f) (ref it) may there e = absurd (no_refs_at old.stage First may (λ h. cc) (λ h. cc) there.0)
-  one_item order other old (begins f) (heads head) may there e = absurd (no_refs_at old.stage First may (λ h. cc) (λ h. cc) there.0)
-  one_item order other old (begins f) ends may there e = let h = sym may ∙ there in cc
-  one_item order other old (node entry) (begins g) may there e = let h = sym may.0 ∙ there in cc
   one_item order other old (node a) (node b) may there e = ap node (one_entry old.graph.format a b may.1.comes.ids there.1.comes.ids e)
-  one_item order other old (node entry) (ref it) may there e = absurd (node_not_ref entry it e)
-  one_item order other old (node entry) (heads head) may there e = absurd (node_not_head entry head e)
-  one_item order other old (node entry) ends may there e = let h = sym may.0 ∙ there in cc
-  one_item order other old (ref it) (begins g) may there e = absurd (no_refs_at old.stage First there (λ h. cc) (λ h. cc) may.0)
-  one_item order other old (ref it) (node entry) may there e = absurd (node_not_ref entry it (sym e))
   one_item order other old (ref a) (ref b) may there e = ap ref (one_ref old.graph.format a b may.1.id there.1.id e)
-  one_item order other old (ref it) (heads head) may there e = absurd (ref_not_head it head e)
-  one_item order other old (ref it) ends may there e = absurd (no_refs_at old.stage Last there (λ h. cc) (λ h. cc) may.0)
-  one_item order other old (heads head) (begins g) may there e = absurd (no_refs_at old.stage First there (λ h. cc) (λ h. cc) may.0)
-  one_item order other old (heads head) (node entry) may there e = absurd (node_not_head entry head (sym e))
-  one_item order other old (heads head) (ref it) may there e = absurd (ref_not_head it head (sym e))
   one_item order other old (heads a) (heads b) may there e = ap heads (one_head old.graph.format a b may.1 there.1 e)
-  one_item order other old (heads head) ends may there e = absurd (no_refs_at old.stage Last there (λ h. cc) (λ h. cc) may.0)
-  one_item order other old ends (begins g) may there e = let h = sym may ∙ there in cc
-  one_item order other old ends (node entry) may there e = let h = sym may ∙ there.0 in cc
-  one_item order other old ends (ref it) may there e = absurd (no_refs_at old.stage Last may (λ h. cc) (λ h. cc) there.0)
-  one_item order other old ends (heads head) may there e = absurd (no_refs_at old.stage Last may (λ h. cc) (λ h. cc) there.0)
   one_item order other old ends ends may there e = refl
+  one_item order other old a b may there e = let h = sym (tagged a) ∙ ap told e ∙ tagged b in absurd (omega (arith, h))
 
   -- ---- what taking a node answers
 
   -- the id of a node's line is missing
   pub no_node_id : {A : Type 0} (order : Order) (old : Reading A) (kind : Kind) (text : List ℕ) → old.stage ≡ Nodes → BeginsWithNoSpacedId old.graph.format text → NeverComes order old (letter kind ∷ text)
-  no_node_id {A} order old kind text here none = no_node_comes order old (letter kind ∷ text) kind text here refl never
+  no_node_id {A} order old kind text here none = no_node_comes order old (letter kind ∷ text) kind text refl never
     where
       never : (entry : Entry A) → letter kind ∷ text ≡ node_text entry → MayFollow order old.graph.format old.graph.entries entry → ⊥
       never entry e may = none entry.id (ids_text entry.node.parents) may.comes.ids.id (letters_one kind entry.node.kind text (ids_text (ids_of entry)) e).1
 
   -- its parents are wrong
   pub no_node_parents : {A : Type 0} (order : Order) (old : Reading A) (kind : Kind) (text id after : List ℕ) → old.stage ≡ Nodes → text ≡ codes " " ++ (id_text id ++ after) → IsIdOf old.graph.format id → IsNoParents old.graph.format after → NeverComes order old (letter kind ∷ text)
-  no_node_parents {A} order old kind text id after here is valid none = no_node_comes order old (letter kind ∷ text) kind text here refl never
+  no_node_parents {A} order old kind text id after here is valid none = no_node_comes order old (letter kind ∷ text) kind text refl never
     where
       never : (entry : Entry A) → letter kind ∷ text ≡ node_text entry → MayFollow order old.graph.format old.graph.entries entry → ⊥
       never entry e may =
@@ -263,7 +186,7 @@ module _ (laws : TextLaws) where
     node_taken graph (Err e) facts = tt
 
     refused : (other : Order) → HasIdsOf old.graph.format this → (MayFollow other old.graph.format old.graph.entries this → ⊥) → NeverComes other old (letter kind ∷ text)
-    refused other valid never = no_node_comes other old (letter kind ∷ text) kind text here refl (λ entry e may.
+    refused other valid never = no_node_comes other old (letter kind ∷ text) kind text refl (λ entry e may.
         never (subst (λ (x : Entry A). MayFollow other old.graph.format old.graph.entries x) (one_entry old.graph.format entry this may.comes.ids valid (sym e ∙ node_line_is A kind text id after parents is are)) may))
 
     pub node_stopped : (number : ℕ) (r : Result (Unit {0}) LoadFault) → HasIdsOf old.graph.format this → IfErr r (RefusesEntry order old.graph this number) → IfErr r (RefusesLine order old (letter kind ∷ text) number)
@@ -276,7 +199,7 @@ module _ (laws : TextLaws) where
 
   -- the id of a ref's line is missing, or the space after it
   pub no_ref_parts : {A : Type 0} (order : Order) (old : Reading A) (line text : List ℕ) → RefMayCome old.stage → line ≡ codes "r " ++ text → BeginsWithNoRefId old.graph.format text → NeverComes order old line
-  no_ref_parts order old line text due is none = no_ref_comes order old line due text is (λ it e may.
+  no_ref_parts order old line text due is none = no_ref_comes order old line text is (λ it e may.
       none it.1 it.0 may.id (append_cancel_left (codes "r ") text (id_text it.1 ++ (codes " " ++ it.0)) (sym is ∙ e)))
 
   module _ {A : Type 0} (order : Order) (old : Reading A) (line text : List ℕ) (it : List ℕ × List ℕ) (due : RefMayCome old.stage) (is : line ≡ codes "r " ++ text) (are : text ≡ id_text it.1 ++ (codes " " ++ it.0)) where
@@ -294,7 +217,7 @@ module _ (laws : TextLaws) where
     ref_stopped number (Err faults.Memory) valid facts = (ref it, ref_line_is, (due, facts), tt)
     ref_stopped number (Err (faults.Text at)) valid facts = (
       facts.0,
-      no_ref_comes Any old line due text is (λ other e may.
+      no_ref_comes Any old line text is (λ other e may.
           facts.1 (subst (λ (x : List ℕ × List ℕ). RefMayFollow old.graph.format old.refs x) (one_ref old.graph.format other it may.id valid (sym e ∙ ref_line_is)) may)),
     )
     ref_stopped number (Err (faults.ParentLater at)) valid facts = absurd facts

@@ -1,31 +1,14 @@
 -- Refs over a graph.
-use Rattle.std.proofs.Common.{◌≡◌, inl, inr, ◌⊎◌, ℕ, zero, suc, take, drop, slice_get, List, [], ◌∷◌, ◌++◌, Bool, true, false, Some, None, refl, sym, ap, ◌∙◌, subst, Option, IsTrue, ◌↔◌, not, All, Contains}
-use Rattle.std.specs.Option.{is_some}
-use Rattle.std.specs.Map.{values_of}
-use Rattle.std.proofs.lemmas.Bool.{false≢true}
+use Rattle.std.proofs.Common.{◌≡◌, inl, inr, ◌⊎◌, ℕ, zero, suc, take, drop, slice_get, List, [], ◌∷◌, ◌++◌, Some, sym, ap, subst, All, Contains}
+use Rattle.std.proofs.lemmas.{List.Elements.{All-nil, All-cons, All-head, All-tail, All-contains}}
 use Rattle.std.proofs.lemmas.Option.{none-some, same_Some}
-use Rattle.std.proofs.lemmas.List.Elements.{All-nil, All-cons, All-head, All-tail, All-contains}
+use Rattle.std.specs.{Map.values_of}
 use Rattle.gobject.specs.declared.node.Entry.{Entry}
-use Rattle.gdag.specs.Graphs.{Holds}
-use Rattle.gdag.specs.Laws.{FullStaysFull}
-use Rattle.gdag.specs.Reach.{IsFull, Keeps}
-use Rattle.gdag.specs.Walks.{Misses}
+use Rattle.gdag.specs.{Laws.FullStaysFull, Reach.{IsFull, Keeps}}
 use Rattle.grefs.specs.RefLists.{RefList}
 use Rattle.ggraph.specs.SafeRefs.{IsSafe, SafeStays, SettingStaysSafe}
 
 module _ {A : Type 0} where
-  -- the ids are connected exactly where nothing of their ancestries is missing
-  pub full_missing : (g : List (Entry A)) (ids : List (List ℕ)) (missing : Option (List ℕ)) (none : Bool) → Misses g ids missing → is_some missing ≡ not none → IsTrue none ↔ All (IsFull g) ids
-  full_missing g ids None true misses is = (λ _. misses, λ _. refl)
-  full_missing g ids None false misses is = absurd (false≢true is)
-  full_missing g ids (Some b) true misses is = absurd (false≢true (sym is))
-  full_missing g ids (Some b) false misses is = (
-    λ none. absurd (false≢true none),
-    λ full.
-        let held : Holds g b = All-contains (IsFull g) ids misses.0.0 full misses.0.1 b misses.0.2 in
-        absurd (false≢true (sym (ap is_some misses.1) ∙ held)),
-  )
-
   all_full : (g h : List (Entry A)) → FullStaysFull A → Keeps g h → (ids : List (List ℕ)) → All (IsFull g) ids → All (IsFull h) ids
   all_full g h law keeps [] full = All-nil (IsFull h)
   all_full g h law keeps (id ∷ ids) full =

@@ -1,23 +1,15 @@
 -- Writing a text, one line more, and the first id of another format.
 use Rattle.std.proofs.Common.{◌≡◌, ℕ, ◌+◌, ◌<◌, List, [], ◌∷◌, ◌++◌, length, get_or, slice_get, take, drop, map, All, Option, Some, None, MatchOption, codes, refl, sym, ◌∙◌, ap, subst, arith}
-use Rattle.std.proofs.lemmas.List.{append_assoc, map-append, take_more, take-append-drop}
-use Rattle.std.proofs.lemmas.List.Elements.{All-append, All-cons, All-nil, All-push}
-use Rattle.std.proofs.lemmas.Option.{slice_get-get_or}
-use Rattle.gname.specs.declared.formats.Format.{Format}
-use Rattle.gname.specs.Ids.{IsIdOf}
-use Rattle.gobject.specs.PlainPackText.{line, node_text, text_of}
-use Rattle.gobject.specs.declared.node.Entry.{Entry}
+use Rattle.std.proofs.lemmas.List.{append_assoc, map-append, map_push, take_more, take-append-drop}
+use Rattle.std.proofs.lemmas.{List.Elements.{All-append, All-cons, All-nil, All-push}, Option.slice_get-get_or}
+use Rattle.gname.specs.{Ids.IsIdOf, declared.formats.Format.Format}
+use Rattle.gobject.specs.{PlainPackText.{line, node_text, text_of}, declared.node.Entry.Entry}
 use Rattle.gdag.specs.Graphs.{History}
-use Rattle.grefs.specs.RefLists.{RefList}
-use Rattle.grefs.specs.declared.head.Head.{Head}
+use Rattle.grefs.specs.{RefLists.RefList, declared.head.Head.Head}
 use Rattle.ggraph.specs.RepositoryText.{first_line, head_line, last_line, ref_line, repository_text}
 use Rattle.ggraph.specs.Saving.{IsFirstOther, head_ids, named_ids, ref_ids}
 use Rattle.gobject.proofs.PlainPackLines.{text_of-append}
 use Rattle.ggraph.proofs.LoadLemmas.{text_of-push}
-
-map_push : {X Y : Type 0} (f : X → Y) (xs : List X) (x : X) → map f (xs ++ x ∷ []) ≡ map f xs ++ f x ∷ []
-map_push f [] x = refl
-map_push {X} {Y} f (y ∷ xs) x = ap (λ (ys : List Y). f y ∷ ys) (map_push f xs x)
 
 pub lines_more : {X : Type 0} (f : X → List ℕ) (old : List ℕ) (xs : List X) (x : X) → (old ++ text_of (map f xs)) ++ line (f x) ≡ old ++ text_of (map f (xs ++ x ∷ []))
 lines_more f old xs x =
@@ -101,11 +93,8 @@ other_in_head format refs head id all first = record {
   other = first.other;
 }
 
-pub no_other : {A : Type 0} (format : Format) (refs : RefList) (head : Head A) → All (IsIdOf format) (ref_ids refs) → All (IsIdOf format) (head_ids head) → All (IsIdOf format) (named_ids refs head)
-no_other format refs head all here = All-append (IsIdOf format) (ref_ids refs) (head_ids head) all here
-
 pub other_in_head_result : {A : Type 0} (format : Format) (refs : RefList) (head : Head A) (found : Option (List ℕ)) → All (IsIdOf format) (ref_ids refs) → MatchOption found (All (IsIdOf format) (head_ids head)) (IsFirstOther format (head_ids head)) → MatchOption found (All (IsIdOf format) (named_ids refs head)) (IsFirstOther format (named_ids refs head))
-other_in_head_result format refs head None all here = no_other format refs head all here
+other_in_head_result format refs head None all here = All-append (IsIdOf format) (ref_ids refs) (head_ids head) all here
 other_in_head_result format refs head (Some id) all here = other_in_head format refs head id all here
 
 -- the one id that HEAD stands at

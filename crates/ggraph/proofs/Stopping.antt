@@ -1,38 +1,27 @@
 -- Where a text is refused, and that no text of a repository is.
 use Rattle.std.proofs.Common.{◌≡◌, inl, inr, ℕ, ◌+◌, List, [], ◌∷◌, ◌++◌, length, map, Ok, Err, refl, sym, ◌∙◌, ap, subst}
-use Rattle.std.proofs.lemmas.List.{append_assoc, length-map}
-use Rattle.grefs.specs.declared.head.Head.{Head}
-use Rattle.grefs.specs.declared.head.Head.TheVariants.{Id, None, Symref}
-use Rattle.ggraph.specs.declared.fault.LoadFault.{LoadFault}
-use Rattle.ggraph.specs.declared.fault.LoadFault.TheVariants as faults
-use Rattle.ggraph.specs.declared.text.Order.{Order}
-use Rattle.ggraph.specs.declared.text.Order.TheVariants.{Any, ParentsFirst}
-use Rattle.ggraph.specs.declared.text.Repository.{Repository}
-use Rattle.ggraph.specs.declared.text.reading.Stage.TheVariants.{Done}
-use Rattle.ggraph.specs.declared.text.reading.Reading.{Reading}
-use Rattle.grefs.specs.RefLists.{RefList}
+use Rattle.std.proofs.lemmas.List.{append_assoc, length-map, map_push}
+use Rattle.grefs.specs.{RefLists.RefList, declared.head.Head.{Head, TheVariants.{Symref}}}
+use Rattle.ggraph.specs.Loading.{AcceptsText, BeginsText, EndsEarly, IsKeptLine, IsWholeText, IsWrongLine, StopsAt}
 use Rattle.ggraph.specs.RepositoryText.{IsLoadable, lines_of, repository_text}
-use Rattle.ggraph.specs.steps.Reading.{Item, IsKept, MayCome, RefusesLine, NeverComes, after, begins, ends, heads}
-use Rattle.ggraph.specs.steps.Reading.{line_of, node, nothing_read, ref}
+use Rattle.ggraph.specs.declared.{fault.LoadFault.LoadFault, text.Order.{Order, TheVariants.{Any, ParentsFirst}}}
+use Rattle.ggraph.specs.declared.text.{Repository.Repository, reading.Reading.Reading, reading.Stage.TheVariants.Done}
+use Rattle.ggraph.specs.steps.Reading.{Item, IsKept, MayCome, RefusesLine, NeverComes, after, heads}
+use Rattle.ggraph.specs.steps.{Reading.{line_of, node, nothing_read, ref}, TextLaws.TextLaws}
+use Rattle.ggraph.specs.declared.fault.LoadFault.TheVariants as faults
 use Rattle.gobject.specs.PlainPackText.{GoesOn, IsInLine, line}
 use Rattle.gdag.specs.Graphs.{History}
-use Rattle.ggraph.specs.Loading.{AcceptsText, BeginsText, EndsEarly, IsKeptLine, IsWholeText, IsWrongLine, StopsAt}
-use Rattle.ggraph.proofs.Items.{HasRead, ReadsTo, items_text}
-use Rattle.ggraph.proofs.Lines.{AreLines, front_lines, line_from, lines-append, more_lines, no_line_left}
-use Rattle.ggraph.proofs.LoadLemmas.{Progress, map_more, reads_more, text_of-push}
 use Rattle.ggraph.proofs.OneReading.{lines_are_lines, lines_whole, next_item, one_repository, reads_whole, same_reading, whole_items, whole_reading}
+use Rattle.ggraph.proofs.Lines.{AreLines, front_lines, line_from, lines-append, more_lines, no_line_left}
+use Rattle.ggraph.proofs.LoadLemmas.{HasRead, Progress, ReadsTo, items_text, reads_more, text_of-push}
 use Rattle.ggraph.proofs.WholeLemmas.{begins_so_far}
-use Rattle.ggraph.specs.steps.TextLaws.{TextLaws}
 
 module _ (laws : TextLaws) where
   -- ---- reading in any order
 
   may_in_any : {A : Type 0} (order : Order) (old : Reading A) (item : Item A) → MayCome order old item → MayCome Any old item
-  may_in_any order old (begins format) may = may
   may_in_any order old (node entry) may = (may.0, record { comes = may.1.comes; after = tt })
-  may_in_any order old (ref it) may = may
-  may_in_any order old (heads head) may = may
-  may_in_any order old ends may = may
+  may_in_any order old _ may = may
 
   reads_in_any : {A : Type 0} (order : Order) (old new : Reading A) (items : List (Item A)) → ReadsTo order old items new → ReadsTo Any old items new
   reads_in_any order old new [] reads = reads
@@ -53,7 +42,7 @@ module _ (laws : TextLaws) where
     begins_with : (other : Order) (line : List ℕ) (item : Item A) → ReadsTo other nothing_read items old → line ≡ line_of item → MayCome other old item → BeginsText A other (map line_of items ++ line ∷ [])
     begins_with other line item there is may =
         let longer = reads_more other nothing_read old (after old item) items item there may refl in
-        subst (BeginsText A other) (map_more items item ∙ ap (λ (l : List ℕ). map line_of items ++ l ∷ []) (sym is)) (begins_so_far other (items ++ item ∷ []) (after old item) longer)
+        subst (BeginsText A other) (map_push line_of items item ∙ ap (λ (l : List ℕ). map line_of items ++ l ∷ []) (sym is)) (begins_so_far other (items ++ item ∷ []) (after old item) longer)
 
     -- before the last line, the lines are not all
     whole_not : (old.stage ≡ Done → ⊥) → IsWholeText A order (map line_of items) → ⊥
@@ -73,13 +62,10 @@ module _ (laws : TextLaws) where
   )
 
   kept_line : {A : Type 0} (item : Item A) (this : List ℕ) → this ≡ line_of item → IsKept item → IsKeptLine A this
-  kept_line (begins format) this is kept = absurd kept
   kept_line (node entry) this is kept = inl (entry, is)
   kept_line (ref it) this is kept = inr (inl (it, is))
   kept_line (heads (Symref target)) this is kept = inr (inr (target, is))
-  kept_line (heads (Id id)) this is kept = absurd kept
-  kept_line (heads None) this is kept = absurd kept
-  kept_line ends this is kept = absurd kept
+  kept_line _ this is kept = absurd kept
 
   counted_lines : {A : Type 0} (items : List (Item A)) (number : ℕ) → number ≡ length items + 1 → number ≡ length (map line_of items) + 1
   counted_lines items number e = e ∙ ap (λ (n : ℕ). n + 1) (sym (length-map items line_of))

@@ -1,22 +1,16 @@
 -- What the items of a whole text are: the lines of a repository.
 use Rattle.std.proofs.Common.{◌≡◌, inl, inr, ℕ, List, [], ◌∷◌, ◌++◌, map, refl, sym, ◌∙◌, ap, subst}
-use Rattle.std.proofs.lemmas.List.{append_assoc, append-nil}
-use Rattle.gname.specs.declared.formats.Format.{Format}
-use Rattle.gname.specs.declared.formats.Format.TheVariants.{Sha1}
+use Rattle.std.proofs.lemmas.List.{append_assoc, append-nil, map_push}
+use Rattle.gname.specs.declared.formats.Format.{Format, TheVariants.Sha1}
 use Rattle.gobject.specs.PlainPackText.{node_text, text_of}
 use Rattle.gdag.specs.Graphs.{History}
-use Rattle.grefs.specs.declared.head.Head.{Head}
-use Rattle.grefs.specs.declared.head.Head.TheVariants.{None}
-use Rattle.ggraph.specs.declared.text.Order.{Order}
-use Rattle.ggraph.specs.declared.text.reading.Stage.{Stage}
-use Rattle.ggraph.specs.declared.text.reading.Stage.TheVariants.{First, Nodes, Refs, Last, Done}
-use Rattle.ggraph.specs.declared.text.reading.Reading.{Reading}
-use Rattle.grefs.specs.RefLists.{RefList}
+use Rattle.grefs.specs.{RefLists.RefList, declared.head.Head.{Head, TheVariants.None}}
 use Rattle.ggraph.specs.RepositoryText.{EachFollows, IsHead, IsLoadable, MayFollow, RefMayFollow, first_line, head_line, last_line, lines_of, ref_line, repository_text}
+use Rattle.ggraph.specs.{Loading.BeginsText, declared.text.Order.Order, declared.text.reading.Reading.Reading}
+use Rattle.ggraph.specs.declared.text.reading.Stage.{Stage, TheVariants.{First, Nodes, Refs, Last, Done}}
 use Rattle.ggraph.specs.steps.Reading.{Item, MayCome, RefMayCome, after, begins, ends, heads, line_of, node}
 use Rattle.ggraph.specs.steps.Reading.{nothing_read, ref}
-use Rattle.ggraph.specs.Loading.{BeginsText}
-use Rattle.ggraph.proofs.Items.{HasRead, ReadsTo, items_text}
+use Rattle.ggraph.proofs.LoadLemmas.{HasRead, ReadsTo, items_text}
 
 -- ---- each element after those before it
 
@@ -52,10 +46,6 @@ record IsFine {A : Type 0} (order : Order) (r : Reading A) (lines : List (List �
   shape : ShapeAt r.stage r lines
   valid : IsLoadable order r.graph r.refs r.head
 
-map_push : {X Y : Type 0} (f : X → Y) (xs : List X) (x : X) → map f xs ++ f x ∷ [] ≡ map f (xs ++ x ∷ [])
-map_push f [] x = refl
-map_push {X} {Y} f (y ∷ xs) x = ap (λ (ys : List Y). f y ∷ ys) (map_push f xs x)
-
 module _ {A : Type 0} (order : Order) (r : Reading A) (lines : List (List ℕ)) where
   -- the lines of nodes and refs, at either stage where a ref may come
   so_far : RefMayCome r.stage → ShapeAt r.stage r lines → lines ≡ first_line r.graph.format ∷ (map node_text r.graph.entries ++ map ref_line r.refs)
@@ -79,12 +69,12 @@ module _ {A : Type 0} (order : Order) (r : Reading A) (lines : List (List ℕ)) 
   shape_step (node entry) may shape =
       let at_nodes = subst (λ (s : Stage). ShapeAt s r lines) may.0 shape in
       subst (λ (s : Stage). ShapeAt s (after r (node entry)) (lines ++ node_text entry ∷ [])) (sym may.0) (
-        ap (λ (ls : List (List ℕ)). ls ++ node_text entry ∷ []) at_nodes.0 ∙ ap (λ (ls : List (List ℕ)). first_line r.graph.format ∷ ls) (map_push node_text r.graph.entries entry),
+        ap (λ (ls : List (List ℕ)). ls ++ node_text entry ∷ []) at_nodes.0 ∙ ap (λ (ls : List (List ℕ)). first_line r.graph.format ∷ ls) (sym (map_push node_text r.graph.entries entry)),
         at_nodes.1,
       )
   shape_step (ref it) may shape =
       line_after (ref_line it) may.0 shape
-      ∙ ap (λ (ls : List (List ℕ)). first_line r.graph.format ∷ (map node_text r.graph.entries ++ ls)) (map_push ref_line r.refs it)
+      ∙ ap (λ (ls : List (List ℕ)). first_line r.graph.format ∷ (map node_text r.graph.entries ++ ls)) (sym (map_push ref_line r.refs it))
   shape_step (heads head) may shape = line_after (head_line head) may.0 shape
   shape_step ends may shape =
       let at_last = subst (λ (s : Stage). ShapeAt s r lines) may shape in

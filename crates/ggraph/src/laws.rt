@@ -26,6 +26,7 @@ pub fn parents_first_is_ordered<A: Allocator + Copy>()
 
 /// A text is refused at one line and for one reason, unless out of memory: what [`load`](crate::load) reports
 /// is the first line that is wrong.
+#[tactic(auto, using(crate::proofs::StoppingOnce::stop_once))]
 pub fn texts_stop_once<A: Allocator + Copy>()
     ensures { TextsStopOnce A }
 {

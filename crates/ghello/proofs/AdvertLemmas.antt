@@ -1,51 +1,29 @@
 -- Facts on advertisements: what is kept of the packets, and what may be added.
 use Rattle.std.proofs.Common.{◌≡◌, ℕ, ◌+◌, ◌<◌, ◌≤◌, Bool, true, false, not, ◌&&◌, if◌then◌else◌, ◌==◌, nat_le, nat_lt, Bor, map, List, [], ◌∷◌, ◌++◌, length, drop, get_or, ◌⊎◌, inl, inr, Option, Some, None, Result, Ok, Err, refl, sym, ap, subst, ◌∙◌, append-nil, arith}
 use Rattle.std.specs.Prelude.{IfSome, IsTrue, ⊤}
-use Rattle.std.specs.List.{cons_option, filter_map, list_all}
-use Rattle.std.proofs.lemmas.List.{drop_more, drop_all, length_push}
+use Rattle.std.specs.List.{list_all}
+use Rattle.std.proofs.lemmas.List.{drop_more, length_push}
 use Rattle.std.proofs.lemmas.List.Elements.{All-append, All-cons, All-nil}
-use Rattle.std.proofs.lemmas.Bool.{and_parts, cond-true, cond-false}
+use Rattle.std.proofs.lemmas.Bool.{and_parts}
 use Rattle.std.proofs.lemmas.Bool.Decides.{nat_tests}
-use Rattle.gpkt.specs.Packets.{Packet, Data, Flush, Delim, ResponseEnd, text}
-use Rattle.gpkt.specs.Change.{Change}
+use Rattle.gpkt.specs.Packets.{Packet, Data, Flush, text}
 use Rattle.ggrammar.specs.Grammar.{Open, Whole, Refused, if_room}
 use Rattle.ggrammar.specs.Texts.{TextsOfMore, texts_of}
 use Rattle.ggrammar.specs.PeerErrors.{peer_error, unless_error}
 use Rattle.ggrammar.specs.Faults.{kept_text}
 use Rattle.ggrammar.specs.Capabilities.{Capability, CapabilityIsItsText, IsWellFormed, capability_of, has_length, is_key, is_key_byte, is_printable, is_value, max_capability}
-use Rattle.std.specs.Option.{option_copied}
+use Rattle.std.specs.Option.{option_copied, option_to_list}
 use Rattle.ggrammar.specs.CapabilityView.{capability_view}
 use Rattle.ggrammar.specs.declared.capability.Capability as lent
 use Rattle.ggrammar.specs.Building.{IsBuildReason}
-use Rattle.ggrammar.specs.Kinds.{ReadsOrRefuses}
-use Rattle.ggrammar.specs.MessageReading.{IsReason, TakesAs, TakesPacket, HasTaken}
+use Rattle.ggrammar.specs.MessageReading.{IsReason, TakesAs, TakesPacket}
 use Rattle.ggrammar.specs.declared.fault.Why.{Why}
 use Rattle.ggrammar.specs.declared.fault.Why.TheVariants as why
 use Rattle.ggrammar.specs.declared.message.Step.{Step}
 use Rattle.ggrammar.specs.declared.message.Step.TheVariants as step
-use Rattle.ghello.specs.Adverts.{AreCapabilities, Says, brings, capabilities_in, capabilities_of, capability_packet, has_room, is_capability, is_value_or_none, judge, judge_at, judge_capability, judge_text, judge_version, max_advertised}
-use Rattle.ghello.specs.Offers.{first_with, has_key}
-use Rattle.ghello.specs.steps.AdvertReading.{IsKept, added_by, brings_after, capability_list, judge_after}
-use Rattle.ghello.specs.steps.AdvertReading.{texts_at_least}
-
--- ---- looking up
-
--- the capability at a position is the first from there with its key
-pub first_with-here : (key : List ℕ) (capabilities : List Capability) (at : ℕ) (found : Capability) → at < length capabilities → found ≡ get_or capabilities at found
-    → has_key key found ≡ true → first_with key (drop at capabilities) ≡ Some found
-first_with-here key capabilities at found inside is has =
-    let rest : drop at capabilities ≡ found ∷ drop (at + 1) capabilities = drop_more capabilities at found inside ∙ ap (λ (x : Capability). x ∷ drop (at + 1) capabilities) (sym is) in
-    ap (first_with key) rest ∙ cond-true (has_key key found) (Some found) (first_with key (drop (at + 1) capabilities)) has
-
--- or the first is after it
-pub first_with-later : (key : List ℕ) (capabilities : List Capability) (at : ℕ) (passed : Capability) → at < length capabilities → passed ≡ get_or capabilities at passed
-    → has_key key passed ≡ false → first_with key (drop at capabilities) ≡ first_with key (drop (at + 1) capabilities)
-first_with-later key capabilities at passed inside is has =
-    let rest : drop at capabilities ≡ passed ∷ drop (at + 1) capabilities = drop_more capabilities at passed inside ∙ ap (λ (x : Capability). x ∷ drop (at + 1) capabilities) (sym is) in
-    ap (first_with key) rest ∙ cond-false (has_key key passed) (Some passed) (first_with key (drop (at + 1) capabilities)) has
-
-pub first_with-end : (key : List ℕ) (capabilities : List Capability) (at : ℕ) → length capabilities ≤ at → first_with key (drop at capabilities) ≡ None
-first_with-end key capabilities at past = ap (first_with key) (drop_all at capabilities past)
+use Rattle.ggrammar.proofs.PlaceLemmas.{filter_map-push}
+use Rattle.ghello.specs.Adverts.{AreCapabilities, brings, capabilities_in, capabilities_of, capability_packet, has_room, is_capability, is_value_or_none, judge, judge_at, judge_capability, judge_text, judge_version, max_advertised}
+use Rattle.ghello.specs.steps.AdvertReading.{IsKept, added_by, brings_after, judge_after, texts_at_least}
 
 -- ---- forms
 
@@ -106,22 +84,10 @@ capability_of_form texts line capability e =
 
 -- with room for it, a capability goes on; the reason that it is not added is the reason that it is refused
 not_added : (room : Bool) (reason : Why) → IsBuildReason true room reason → IsReason (if_room room) true reason
-not_added room (why.Line fault) h = absurd h
-not_added room (why.Band fault) h = absurd h
-not_added room why.UnexpectedFrame h = absurd h
 not_added room why.BadText h = absurd cc
-not_added room why.UnknownCommand h = absurd h
-not_added room why.UnknownCapability h = absurd h
-not_added room why.UnknownArgument h = absurd h
-not_added room why.BadId h = absurd h
-not_added room why.BadName h = absurd h
 not_added room why.Limit h = rw h.1 refl
-not_added room (why.RemoteErr said) h = absurd h
-not_added room (why.RemoteFatal said) h = absurd h
-not_added room why.WrongSection h = absurd h
-not_added room why.Format h = absurd h
 not_added room why.Memory h = rw h.1 (tt, refl)
-not_added room why.Ended h = absurd h
+not_added room reason h = absurd h
 
 pub capability_is_not_added : CapabilityIsItsText → (line : List ℕ) (capability : Capability) (capabilities : List Capability) (reason : Why) → capability_of line ≡ Some capability
     → IsBuildReason (is_capability capability) (has_room capabilities) reason → IsReason (judge_capability (length capabilities) (capability_of line)) true reason
@@ -137,28 +103,11 @@ packets_from capabilities at found inside is =
 
 -- ---- what is kept of the packets
 
-one_text : (found : Option Capability) → cons_option found [] ≡ capability_list found
-one_text None = refl
-one_text (Some capability) = refl
-
-text_and_more : (found : Option Capability) (texts : List (List ℕ)) (line : List ℕ) → filter_map capability_of (texts ++ line ∷ []) ≡ filter_map capability_of texts ++ capability_list (capability_of line)
-    → cons_option found (filter_map capability_of (texts ++ line ∷ [])) ≡ cons_option found (filter_map capability_of texts) ++ capability_list (capability_of line)
-text_and_more None texts line e = e
-text_and_more (Some capability) texts line e = ap (λ (xs : List Capability). capability ∷ xs) e
-
-pub filter_map-push : (texts : List (List ℕ)) (line : List ℕ) → filter_map capability_of (texts ++ line ∷ []) ≡ filter_map capability_of texts ++ capability_list (capability_of line)
-filter_map-push [] line = one_text (capability_of line)
-filter_map-push (first ∷ texts) line = text_and_more (capability_of first) texts line (filter_map-push texts line)
-
-none_yet : (texts : List (List ℕ)) → true ≡ (length texts == 0) → texts ≡ []
-none_yet [] e = refl
-none_yet (first ∷ texts) e = absurd (grind (arith, nat_tests))
-
 capabilities_in-push : (has : Bool) (texts : List (List ℕ)) (payload : List ℕ) → not has ≡ (length texts == 0)
     → capabilities_in (texts ++ text payload ∷ []) ≡ capabilities_in texts ++ added_by has (Data payload)
 capabilities_in-push true [] payload e = absurd (let no : false ≡ true = e in cc)
 capabilities_in-push false [] payload e = refl
-capabilities_in-push true (first ∷ texts) payload e = filter_map-push texts (text payload)
+capabilities_in-push true (first ∷ texts) payload e = filter_map-push capability_of texts (text payload) _ refl
 capabilities_in-push false (first ∷ texts) payload e = absurd (grind (arith, nat_tests))
 
 same_test : (has : Bool) (count : ℕ) → not has ≡ (count == 0) → (count == 0) ≡ (texts_at_least has == 0)
@@ -176,17 +125,11 @@ judge_kept front has capabilities (Data payload) kept =
     ap (λ (b : Bool). unless_error (peer_error payload) (if b then judge_version (text payload) else judge_capability (length (capabilities_of front)) (capability_of (text payload)))) (same_test has (length (texts_of front)) kept.begun)
     ∙ ap (λ (xs : List Capability). unless_error (peer_error payload) (if texts_at_least has == 0 then judge_version (text payload) else judge_capability (length xs) (capability_of (text payload)))) (sym kept.listed)
 judge_kept front has capabilities Flush kept = ap (λ (b : Bool). if b then Refused why.UnexpectedFrame else Whole) (same_test has (length (texts_of front)) kept.begun)
-judge_kept front has capabilities Delim kept = refl
-judge_kept front has capabilities ResponseEnd kept = refl
+judge_kept front has capabilities _ kept = refl
 
 pub brings_kept : (front : List Packet) (has : Bool) (capabilities : List Capability) (packet : Packet) → IsKept front has capabilities → brings front packet ≡ brings_after has packet
 brings_kept front has capabilities (Data payload) kept = same_brings has (length (texts_of front)) kept.begun
-brings_kept front has capabilities Flush kept = refl
-brings_kept front has capabilities Delim kept = refl
-brings_kept front has capabilities ResponseEnd kept = refl
-
-pub IsKept-nil : IsKept [] false []
-IsKept-nil = record { begun = refl; listed = refl }
+brings_kept front has capabilities _ kept = refl
 
 pub IsKept-push : TextsOfMore → (front : List Packet) (has : Bool) (capabilities : List Capability) (packet : Packet) (new_has : Bool) (new_capabilities : List Capability)
     → IsKept front has capabilities → (judge_after has capabilities packet ≡ Open) ⊎ (judge_after has capabilities packet ≡ Whole) → new_has ≡ true → new_capabilities ≡ capabilities ++ added_by has packet
@@ -205,12 +148,8 @@ IsKept-push law front true capabilities Flush new_has new_capabilities kept take
       begun = rw (is_new, texts) kept.begun;
       listed = adds ∙ (append-nil capabilities ∙ (kept.listed ∙ ap capabilities_in (sym texts)));
     }
-IsKept-push law front false capabilities Flush new_has new_capabilities kept (inl e) is_new adds = absurd cc
-IsKept-push law front false capabilities Flush new_has new_capabilities kept (inr e) is_new adds = absurd cc
-IsKept-push law front has capabilities Delim new_has new_capabilities kept (inl e) is_new adds = absurd cc
-IsKept-push law front has capabilities Delim new_has new_capabilities kept (inr e) is_new adds = absurd cc
-IsKept-push law front has capabilities ResponseEnd new_has new_capabilities kept (inl e) is_new adds = absurd cc
-IsKept-push law front has capabilities ResponseEnd new_has new_capabilities kept (inr e) is_new adds = absurd cc
+IsKept-push law front has capabilities packet new_has new_capabilities kept (inl e) is_new adds = absurd cc
+IsKept-push law front has capabilities packet new_has new_capabilities kept (inr e) is_new adds = absurd cc
 
 -- ---- taking a packet
 
@@ -229,12 +168,12 @@ version_is_taken false new_has capabilities new_capabilities payload line result
     rw (none, append-nil capabilities) (subst (λ (l : List ℕ). TakesAs (judge_version l) false ((new_has ≡ true) × (new_capabilities ≡ capabilities)) result) same h)
 
 pub capability_is_taken : (has new_has : Bool) (capabilities new_capabilities : List Capability) (payload line : List ℕ) (result : Result Step Why) → has ≡ true → peer_error payload ≡ None
-    → line ≡ text payload → TakesAs (judge_capability (length capabilities) (capability_of line)) true ((new_has ≡ has) × (new_capabilities ≡ capabilities ++ capability_list (capability_of line))) result
+    → line ≡ text payload → TakesAs (judge_capability (length capabilities) (capability_of line)) true ((new_has ≡ has) × (new_capabilities ≡ capabilities ++ option_to_list (capability_of line))) result
     → TakesAs (judge_after has capabilities (Data payload)) has ((new_has ≡ true) × (new_capabilities ≡ capabilities ++ added_by has (Data payload))) result
 unfolding judge_at
 capability_is_taken false new_has capabilities new_capabilities payload line result is none same h = absurd cc
 capability_is_taken true new_has capabilities new_capabilities payload line result is none same h =
-    rw none (subst (λ (l : List ℕ). TakesAs (judge_capability (length capabilities) (capability_of l)) true ((new_has ≡ true) × (new_capabilities ≡ capabilities ++ capability_list (capability_of l))) result) same h)
+    rw none (subst (λ (l : List ℕ). TakesAs (judge_capability (length capabilities) (capability_of l)) true ((new_has ≡ true) × (new_capabilities ≡ capabilities ++ option_to_list (capability_of l))) result) same h)
 
 module _ {M : Type 0} (has : M → Bool) (kept : M → List Capability) where
   pub advert_takes : TextsOfMore → (front : List Packet) (packet : Packet) (old new : M) (result : Result Step Why) → IsKept front (has old) (kept old)
@@ -246,8 +185,3 @@ module _ {M : Type 0} (has : M → Bool) (kept : M → List Capability) where
       (judge_kept front (has old) (kept old) packet held ∙ h.0, IsKept-push law front (has old) (kept old) packet (has new) (kept new) held (inr h.0) h.1.0 h.1.1)
   advert_takes law front packet old new (Err why) held h =
       (rw (judge_kept front (has old) (kept old) packet held, brings_kept front (has old) (kept old) packet held) h, tt)
-
-  pub advert_is_read : (bytes : Change) (message : M) → HasTaken judge brings (λ reader packets. IsKept packets (has reader) (kept reader)) (λ reader packets. ⊤) bytes message
-      → ReadsOrRefuses judge brings Says bytes (Ok (kept message))
-  advert_is_read bytes message taken =
-      record { lines = taken.lines; read = taken.read; says = record { whole = taken.read.whole; says = taken.held.listed } }

@@ -1,8 +1,8 @@
 -- What is written says its value, and each payload fits a packet.
-use Rattle.std.proofs.Common.{◌≡◌, ℕ, suc, ◌+◌, ◌≤◌, List, [], ◌∷◌, ◌++◌, map, length, Option, Some, None, refl, sym, ap, subst, ◌∙◌, arith}
+use Rattle.std.proofs.Common.{◌≡◌, ℕ, ◌+◌, ◌≤◌, List, [], ◌∷◌, ◌++◌, map, length, Option, Some, None, refl, sym, ap, subst, ◌∙◌, arith}
 use Rattle.std.specs.Prelude.{All, IfSome}
 use Rattle.std.proofs.lemmas.List.{length_push, length-append}
-use Rattle.std.proofs.lemmas.List.Elements.{All-append, All-cons, All-nil}
+use Rattle.std.proofs.lemmas.List.Elements.{All-append, All-cons, All-head, All-nil, All-tail}
 use Rattle.std.proofs.lemmas.Grind.{common_steps}
 use Rattle.gpkt.specs.Packets.{Packet, Data, Flush, text, max_payload, line_feed}
 use Rattle.gpkt.specs.Laws.{Fits, TextOfLine}
@@ -38,19 +38,13 @@ unfolding payload_of_capability
 lines_of [] = refl
 lines_of (capability ∷ capabilities) = ap (λ (xs : List Packet). capability_packet capability ∷ xs) (lines_of capabilities)
 
-All-first : {X : Type 0} (P : X → Type 0) (x : X) (xs : List X) → All P (x ∷ xs) → P x
-All-first P x xs h = h 0 x (omega arith)
-
-All-rest : {X : Type 0} (P : X → Type 0) (x : X) (xs : List X) → All P (x ∷ xs) → All P xs
-All-rest P x xs h = λ k d within. h (suc k) d (omega (arith, within))
-
 each_reads_back : TextOfLine → CapabilityIsItsText → (capabilities : List Capability) → All IsWellFormed capabilities
     → map (λ payload. capability_of (text payload)) (map payload_of_capability capabilities) ≡ map (λ capability. Some capability) capabilities
 unfolding payload_of_capability
 each_reads_back law texts [] forms = refl
 each_reads_back law texts (capability ∷ capabilities) forms =
-    let first : capability_of (text (payload_of_capability capability)) ≡ Some capability = ap capability_of (law (capability_text capability)) ∙ (texts (capability_text capability) capability).1 (refl, All-first IsWellFormed capability capabilities forms) in
-    rw first (ap (λ (xs : List (Option Capability)). Some capability ∷ xs) (each_reads_back law texts capabilities (All-rest IsWellFormed capability capabilities forms)))
+    let first : capability_of (text (payload_of_capability capability)) ≡ Some capability = ap capability_of (law (capability_text capability)) ∙ (texts (capability_text capability) capability).1 (refl, All-head IsWellFormed capability capabilities forms) in
+    rw first (ap (λ (xs : List (Option Capability)). Some capability ∷ xs) (each_reads_back law texts capabilities (All-tail IsWellFormed capability capabilities forms)))
 
 value_text_short : (value : Option (List ℕ)) → IfSome value (λ bytes. length bytes ≤ max_capability) → length (value_text value) ≤ 1001
 value_text_short None h = omega arith
@@ -68,8 +62,8 @@ all_fit : (capabilities : List Capability) → All IsWellFormed capabilities →
 all_fit [] forms = All-cons Fits Flush [] (omega arith) (All-nil Fits)
 all_fit (capability ∷ capabilities) forms =
     All-append Fits (capability_packet capability ∷ []) (map capability_packet capabilities ++ Flush ∷ [])
-    (All-cons Fits (capability_packet capability) [] (capability_fits capability (All-first IsWellFormed capability capabilities forms)) (All-nil Fits))
-    (all_fit capabilities (All-rest IsWellFormed capability capabilities forms))
+    (All-cons Fits (capability_packet capability) [] (capability_fits capability (All-head IsWellFormed capability capabilities forms)) (All-nil Fits))
+    (all_fit capabilities (All-tail IsWellFormed capability capabilities forms))
 
 advert_says : TextOfLine → CapabilityIsItsText → AsInManual advert.Says advert.IsAdvert → (capabilities : List Capability) → AreCapabilities capabilities
     → advert.Says (canonical_advert capabilities) capabilities × All Fits (canonical_advert capabilities)

@@ -11,8 +11,8 @@ use Rattle.std.proofs.lemmas.Bool.{and_parts, cond-true}
 use Rattle.std.proofs.lemmas.Bool.Decides.{Decides-eqb, nat_tests}
 use Rattle.std.proofs.lemmas.Slice.Eq.{bytes_eq-Decides, starts_is}
 use Rattle.std.proofs.lemmas.Grind.{common_steps}
-use Rattle.gpkt.specs.Packets.{Packet, Data, Flush, Delim, ResponseEnd}
-use Rattle.ggrammar.specs.Grammar.{Open, Whole, IsOpen, IsWhole, HasEndings, NothingIsOpen}
+use Rattle.gpkt.specs.Packets.{Packet, Data}
+use Rattle.ggrammar.specs.Grammar.{Judge, Open, Whole, IsOpen, IsWhole, HasEndings, NothingIsOpen}
 use Rattle.ggrammar.specs.Capabilities.{is_graphic, is_printable}
 use Rattle.ggrammar.specs.PeerErrors.{after_word}
 use Rattle.ggrammar.proofs.TextLemmas.{follows_word, tested}
@@ -24,7 +24,7 @@ use Rattle.ggrammar.specs.MessageReading.{TakesAs, TakesPacket, HasTaken, HasRef
 use Rattle.ggrammar.specs.declared.fault.Why.{Why}
 use Rattle.ggrammar.specs.declared.fault.MessageFault.{MessageFault}
 use Rattle.ggrammar.specs.declared.message.Step.{Step}
-use Rattle.ghello.proofs.TakingLemmas.{TakesPacket-by_verdict}
+use Rattle.ggrammar.specs.declared.message.Step.TheVariants as step
 
 -- ---- forms
 
@@ -33,15 +33,11 @@ shorter n most h = grind (arith, nat_tests)
 
 pub path_within : (hello : Hello) → IsHello hello → length hello.path ≤ max_path
 unfolding is_path
-path_within hello form =
-    shorter (length hello.path) max_path (and_parts (starts_with nat_eq hello.path (codes "/")) (nat_le (length hello.path) max_path)
-    (and_parts (starts_with nat_eq hello.path (codes "/") && nat_le (length hello.path) max_path) (list_all is_printable hello.path) form.path).0).1
+path_within hello form = shorter _ _ (and_parts _ _ (and_parts _ _ form.path).0).1
 
 pub host_within : (hello : Hello) → IsHello hello → length hello.host ≤ max_host
 unfolding is_host
-host_within hello form =
-    shorter (length hello.host) max_host (and_parts (nat_le 1 (length hello.host)) (nat_le (length hello.host) max_host)
-    (and_parts (nat_le 1 (length hello.host) && nat_le (length hello.host) max_host) (list_all is_graphic hello.host) form.host).0).1
+host_within hello form = shorter _ _ (and_parts _ _ (and_parts _ _ form.host).0).1
 
 -- ---- cutting at NULs
 
@@ -70,24 +66,9 @@ with_says (Some path) (Some host) hello e =
 -- two ways to put a payload together
 pub joined : (command host_word host version end : List ℕ)
     → command ++ nul ++ host_word ++ host ++ nul ++ nul ++ version ++ end ≡ command ++ 0 ∷ (host_word ++ host ++ 0 ∷ 0 ∷ (version ++ end))
-joined command host_word host version end =
-    append_assoc (command ++ nul ++ host_word ++ host ++ nul ++ nul) version end
-    ∙ (append_assoc (command ++ nul ++ host_word ++ host ++ nul) nul (version ++ end)
-    ∙ (append_assoc (command ++ nul ++ host_word ++ host) nul (0 ∷ (version ++ end))
-    ∙ (append_assoc (command ++ nul ++ host_word) host (0 ∷ 0 ∷ (version ++ end))
-    ∙ (append_assoc (command ++ nul) host_word (host ++ 0 ∷ 0 ∷ (version ++ end))
-    ∙ (append_assoc command nul (host_word ++ (host ++ 0 ∷ 0 ∷ (version ++ end)))
-    ∙ ap (λ (xs : List ℕ). command ++ 0 ∷ xs) (sym (append_assoc host_word host (0 ∷ 0 ∷ (version ++ end)))))))))
+joined command host_word host version end = simp append_assoc
 
 pub parts_say : (parts : List (List ℕ)) (hello : Hello) → hello_of_parts parts ≡ Some hello → IsHello hello × (join_with_byte 0 parts ≡ hello_payload hello)
-parts_say [] hello e = absurd cc
-parts_say (command ∷ []) hello e = absurd cc
-parts_say (command ∷ host ∷ []) hello e = absurd cc
-parts_say (command ∷ host ∷ (byte ∷ bytes) ∷ parts) hello e = absurd cc
-parts_say (command ∷ host ∷ [] ∷ []) hello e = absurd cc
-parts_say (command ∷ host ∷ [] ∷ version ∷ []) hello e = absurd cc
-parts_say (command ∷ host ∷ [] ∷ version ∷ (byte ∷ bytes) ∷ parts) hello e = absurd cc
-parts_say (command ∷ host ∷ [] ∷ version ∷ [] ∷ part ∷ parts) hello e = absurd cc
 parts_say (command ∷ host ∷ [] ∷ version ∷ [] ∷ []) hello e =
     let h = tested (bytes_eq version (codes "version=2")) (hello_with (after_word (codes "git-upload-pack ") command) (after_word (codes "host=") host)) hello e in
     let says = with_says (after_word (codes "git-upload-pack ") command) (after_word (codes "host=") host) hello h.1 in
@@ -97,6 +78,7 @@ parts_say (command ∷ host ∷ [] ∷ version ∷ [] ∷ []) hello e =
       says.2,
       rw (same_command, same_host, same_version) (sym (joined (codes "git-upload-pack " ++ hello.path) (codes "host=") hello.host (codes "version=2") (0 ∷ []))),
     )
+parts_say parts hello e = absurd cc
 
 -- a payload that says a hello is the one written of it
 pub hello_is_said : (payload : List ℕ) (hello : Hello) → hello_of payload ≡ Some hello → Says (Data payload ∷ []) hello
@@ -107,14 +89,10 @@ hello_is_said payload hello e =
     record { form = h.0; line = ap (λ (xs : List ℕ). Data xs ∷ []) same }
 
 -- more parts than five say nothing
-hello_of_more : (command host nothing version end part : List ℕ) (parts : List (List ℕ)) → hello_of_parts (command ∷ host ∷ nothing ∷ version ∷ end ∷ part ∷ parts) ≡ None
-hello_of_more command host [] version [] part parts = refl
-hello_of_more command host [] version (byte ∷ bytes) part parts = refl
-hello_of_more command host (byte ∷ bytes) version end part parts = refl
-
-hello_of_rest : (command host nothing version end : List ℕ) (parts : List (List ℕ)) → 0 < length parts → hello_of_parts (command ∷ host ∷ nothing ∷ version ∷ end ∷ parts) ≡ None
-hello_of_rest command host nothing version end [] some = absurd (omega (arith, some))
-hello_of_rest command host nothing version end (part ∷ parts) some = hello_of_more command host nothing version end part parts
+hello_of_rest : (command host nothing version end : List ℕ) (parts : List (List ℕ)) → 0 < length parts
+    → hello_of_parts (command ∷ host ∷ nothing ∷ version ∷ end ∷ parts) ≡ None
+hello_of_rest command host [] version [] [] some = absurd (omega (arith, some))
+hello_of_rest command host nothing version end parts some = refl
 
 pub too_many_parts : (payload command after_command host after_host nothing after_nothing version after_version end after_end : List ℕ)
     → slice_split is_nul payload ≡ command ∷ slice_split is_nul after_command → slice_split is_nul after_command ≡ host ∷ slice_split is_nul after_host
@@ -139,13 +117,11 @@ no_nul test bytes other h = λ k d within. other _ (AllPass-from_list_all test b
 
 path_bytes : (path : List ℕ) → is_path path ≡ true → list_all is_printable path ≡ true
 unfolding is_path
-path_bytes path h =
-    (and_parts (starts_with nat_eq path (codes "/") && nat_le (length path) max_path) (list_all is_printable path) h).1
+path_bytes path h = (and_parts _ _ h).1
 
 host_bytes : (host : List ℕ) → is_host host ≡ true → list_all is_graphic host ≡ true
 unfolding is_host
-host_bytes host h =
-    (and_parts (nat_le 1 (length host) && nat_le (length host) max_host) (list_all is_graphic host) h).1
+host_bytes host h = (and_parts _ _ h).1
 
 -- the parts of the payload of a hello
 pub parts_of_line : (hello : Hello) → IsHello hello
@@ -204,9 +180,7 @@ whole_payload (Some hello) e = (hello, refl)
 -- no packet goes on with a hello
 pub never_open : (packets : List Packet) (packet : Packet) → judge packets packet ≡ Open → ⊥
 never_open packets (Data payload) e = payload_never_open (hello_of payload) e
-never_open packets Flush e = cc
-never_open packets Delim e = cc
-never_open packets ResponseEnd e = cc
+never_open packets _ e = cc
 
 pub open_is_empty : (packets : List Packet) → IsOpen judge packets → packets ≡ []
 open_is_empty [] opened = refl
@@ -218,9 +192,7 @@ open_is_short packets opened = rw (open_is_empty packets opened) (omega arith)
 -- the packet that completes a hello says one
 pub whole_packet : (packets : List Packet) (packet : Packet) → judge packets packet ≡ Whole → (hello : Hello) × (hello_in (packet ∷ []) ≡ Some hello)
 whole_packet packets (Data payload) e = whole_payload (hello_of payload) e
-whole_packet packets Flush e = absurd cc
-whole_packet packets Delim e = absurd cc
-whole_packet packets ResponseEnd e = absurd cc
+whole_packet packets _ e = absurd cc
 
 pub whole_list : (packets : List Packet) → IsWhole judge packets → (hello : Hello) × (hello_in packets ≡ Some hello)
 whole_list packets whole =
@@ -230,12 +202,8 @@ whole_list packets whole =
 
 -- what one packet says
 pub packet_says : (packets : List Packet) (hello : Hello) → hello_in packets ≡ Some hello → Says packets hello
-packet_says [] hello e = absurd cc
 packet_says (Data payload ∷ []) hello e = hello_is_said payload hello e
-packet_says (Data payload ∷ packet ∷ packets) hello e = absurd cc
-packet_says (Flush ∷ packets) hello e = absurd cc
-packet_says (Delim ∷ packets) hello e = absurd cc
-packet_says (ResponseEnd ∷ packets) hello e = absurd cc
+packet_says packets hello e = absurd cc
 
 -- a list that says a hello is complete
 pub said_is_whole : NothingIsOpen judge → (packets : List Packet) (hello : Hello) → Says packets hello → IsWhole judge packets
@@ -272,6 +240,15 @@ hello_has_endings nothing packets opened = (
 
 -- ---- reading
 
+-- what is taken by the verdict of a judge is taken by the judge
+TakesPacket-by_verdict : {M : Type 0} (judge : Judge) (brings : List Packet → Packet → Bool) (holds left : M → List Packet → Type 0)
+    (front : List Packet) (packet : Packet) (new : M) (result : Result Step Why) → left new front
+    → TakesAs (judge front packet) (brings front packet) (holds new (front ++ packet ∷ [])) result
+    → TakesPacket judge brings holds left front packet new result
+TakesPacket-by_verdict judge brings holds left front packet new (Ok step.Open) leaves h = h
+TakesPacket-by_verdict judge brings holds left front packet new (Ok step.Whole) leaves h = h
+TakesPacket-by_verdict judge brings holds left front packet new (Err why) leaves h = (h, leaves)
+
 pub hello_takes : {M : Type 0} (kept : M → Option Hello) (front : List Packet) (packet : Packet) (new : M) (result : Result Step Why)
     → IsOpen judge front → TakesAs (judge [] packet) (brings [] packet) (kept new ≡ hello_in (packet ∷ [])) result
     → TakesPacket judge brings (λ reader packets. kept reader ≡ hello_in packets) (λ reader packets. ⊤) front packet new result
@@ -289,10 +266,6 @@ module _ {M : Type 0} (kept : M → Option Hello) (left : M → List Packet → 
   some_is_read taken e =
       let h = whole_list taken.lines taken.read.whole in
       let no : None ≡ Some h.0 = sym e ∙ (taken.held ∙ h.1) in absurd cc
-
-  pub hello_is_refused : (fault : MessageFault) → HasRefused judge brings (λ reader packets. kept reader ≡ hello_in packets) left bytes message fault
-      → ReadsOrRefuses {M = Hello} judge brings Says bytes (Err fault)
-  hello_is_refused fault refused = (refused.front, refused.refused)
 
   pub refused_at_once : (fault : MessageFault) → HasRefused judge brings (λ reader packets. kept reader ≡ hello_in packets) left bytes message fault
       → fault.frame ≡ 0

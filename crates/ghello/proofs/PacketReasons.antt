@@ -2,7 +2,7 @@
 use Rattle.std.proofs.Common.{ℕ, ◌==◌, List, length, Option, Some, None}
 use Rattle.std.specs.Prelude.{nat_lt}
 use Rattle.std.specs.Str.{bytes_eq}
-use Rattle.gpkt.specs.Packets.{Packet, Data, Flush, Delim, ResponseEnd, text}
+use Rattle.gpkt.specs.Packets.{Packet, Data, Flush, text}
 use Rattle.ggrammar.specs.Grammar.{Open, Whole, Refused}
 use Rattle.ggrammar.specs.Capabilities.{Capability, capability_of}
 use Rattle.ggrammar.specs.MessageBytes.{IsForPacket, RefusesPackets}
@@ -21,9 +21,7 @@ of_payload None = tt
 
 pub hello_refuses_packets : RefusesPackets hello.judge
 hello_refuses_packets front (Data payload) = of_payload (hello.hello_of payload)
-hello_refuses_packets front Flush = tt
-hello_refuses_packets front Delim = tt
-hello_refuses_packets front ResponseEnd = tt
+hello_refuses_packets front _ = tt
 
 -- ---- an advertisement
 
@@ -40,8 +38,7 @@ of_packet : (texts count : ℕ) (packet : Packet) → IsForPacket (judge_at text
 unfolding judge_at
 of_packet texts count (Data payload) = past_error (peer_error payload) (judge_text texts count (text payload)) (of_text texts count (text payload))
 of_packet texts count Flush = of_test (texts == 0) (Refused UnexpectedFrame) Whole tt tt
-of_packet texts count Delim = tt
-of_packet texts count ResponseEnd = tt
+of_packet texts count _ = tt
 
 pub advert_refuses_packets : RefusesPackets judge
 advert_refuses_packets front packet = of_packet (length (texts_of front)) (length (capabilities_of front)) packet

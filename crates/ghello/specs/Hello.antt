@@ -81,8 +81,7 @@ is_nul byte = nat_eq byte 0
 abbrev pub hello_with : Option Bytes → Option Bytes → Option Hello
 hello_with (Some path) (Some host) =
     if is_hello (record { path = path; host = host }) then Some (record { path = path; host = host }) else None
-hello_with (Some path) None = None
-hello_with None host = None
+hello_with path host = None
 
 -- the command with its path, the host, and the version after an empty part; the last NUL ends the payload
 abbrev pub hello_of_parts : List Bytes → Option Hello
@@ -103,9 +102,7 @@ judge_payload None = Refused BadText
 -- one packet is the whole message; that it reports an error is no reason of its own
 abbrev pub judge : List Packet → Packet → Verdict
 judge packets (Data payload) = judge_payload (hello_of payload)
-judge packets Flush = Refused UnexpectedFrame
-judge packets Delim = Refused UnexpectedFrame
-judge packets ResponseEnd = Refused UnexpectedFrame
+judge packets _ = Refused UnexpectedFrame
 
 -- the path and the host are kept
 abbrev pub brings : List Packet → Packet → Bool

@@ -2,7 +2,7 @@
 
 ghost use Rattle.std.specs.Prelude.{All, map, ◌≡◌, ◌<◌, ◌≤◌, ◌↔◌, ◌++◌, ◌∷◌, [], IsTrue, IfSome, OnOk, OnErr, IfOk, MatchResult, None, Some, true, false, length, slice_get, codes, ⊤};
 ghost use Rattle.std.specs.List.{list_any};
-ghost use Rattle.std.specs.Option.{option_copied, option_map};
+ghost use Rattle.std.specs.Option.{option_copied, option_map, option_to_list};
 ghost use Rattle.gname.specs.declared.formats.Format.TheVariants.{Sha1};
 ghost use Rattle.gpkt.specs.Packets.{Data, Flush, packet_of, text};
 ghost use Rattle.gpkt.specs.Change.{change_of};
@@ -15,7 +15,7 @@ ghost use Rattle.ggrammar.specs.Texts.{text_packet};
 ghost use Rattle.ggrammar.specs.Writing.{WritesLines, WritesPart};
 ghost use Rattle.ghello.specs.Adverts.{AreCapabilities, Says, brings, canonical_advert, capability_packet, version, has_room, is_capability, is_value_or_none, judge, judge_version, judge_capability, max_advertised};
 ghost use Rattle.ghello.specs.Offers.{IsFormatOf, check_fault, first_with, has_feature, has_format, has_key, has_word, is_name_of, is_space, lacks_command, named_format};
-ghost use Rattle.ghello.specs.steps.AdvertReading.{IsKept, added_by, brings_after, judge_after, capability_list};
+ghost use Rattle.ghello.specs.steps.AdvertReading.{IsKept, added_by, brings_after, judge_after};
 
 use arrayvec::ArrayVec;
 use ggrammar::compose::add;
@@ -487,7 +487,7 @@ impl<A: Allocator + Copy> AdvertReader<A> {
     fn take_capability(&mut self, text: &[u8]) -> Result<Step, Why>
         ensures { TakesAs (judge_capability (length self.old.advert) (capability_of text.now)) true
             ((self.new.has_version ≡ self.old.has_version)
-            × (self.new.advert ≡ self.old.advert ++ capability_list (capability_of text.now)))
+            × (self.new.advert ≡ self.old.advert ++ option_to_list (capability_of text.now)))
             result }
     {
         texts_are_classified();

@@ -1,8 +1,9 @@
 -- What is written of a reply says it, and each payload fits a packet.
 use Rattle.std.proofs.Common.{◌≡◌, ℕ, ◌+◌, ◌≤◌, List, [], ◌∷◌, ◌++◌, length, map, codes, Option, Some, None, inl, refl, sym, ap, subst, ◌∙◌, append_assoc, arith, length-append}
 use Rattle.std.specs.Prelude.{All, IfSome}
-use Rattle.std.proofs.lemmas.List.{length-map}
+use Rattle.std.proofs.lemmas.List.{length-map, map-append}
 use Rattle.std.proofs.lemmas.List.Elements.{All-cons, All-nil, All-head, All-tail, All-append}
+use Rattle.std.proofs.lemmas.Simd.{map-map}
 use Rattle.gpkt.specs.Packets.{Packet, Data, Flush, ResponseEnd, text, line_feed}
 use Rattle.gpkt.specs.Laws.{Fits}
 use Rattle.gname.specs.Ids.{IsIdOf, id_text}
@@ -20,10 +21,9 @@ use Rattle.glsreply.specs.RefTexts.{RefLine, symref_text, peeled_text, ref_text,
 use Rattle.glsreply.specs.LsReplies.{LsReply, Says, IsCanonicalReply, unborn_packets, ref_packet, canonical_reply}
 use Rattle.glsreply.specs.LsManual.{IsSymref, IsPeeled, IsAttribute, IsRefText, AreRefTexts, IsUnbornFirst, IsLsReply}
 use Rattle.glsreply.specs.WellFormed.{IsRefLine, IsLsReplyIn}
-use Rattle.glsreply.proofs.GrammarLemmas.{GrammarsAreExact}
-use Rattle.glsreply.proofs.ManualLemmas.{map_append}
+use Rattle.glsreply.proofs.StateLemmas.{GrammarsAreExact}
 use Rattle.glsreply.proofs.RefTextLemmas.{TextLaws}
-use Rattle.glsreply.proofs.WordLemmas.{words_say}
+use Rattle.glsreply.proofs.TableLemmas.{words_say}
 
 pub record LawsBelow : Type 0 where
   pub grammars : GrammarsAreExact
@@ -86,10 +86,6 @@ module _ (laws : LawsBelow) where
     lines_are_refs format lines (All-tail (IsRefLine format) line lines h),
   )
 
-  refs_sent : (lines : List RefLine) → map Data (map ref_payload lines) ≡ map ref_packet lines
-  refs_sent [] = refl
-  refs_sent (line ∷ lines) = ap (λ (packets : List Packet). ref_packet line ∷ packets) (refs_sent lines)
-
   unborn_sent : (unborn : Option (List ℕ)) → map Data (unborn_payloads unborn) ≡ unborn_packets unborn
   unborn_sent None = refl
   unborn_sent (Some target) = refl
@@ -104,7 +100,7 @@ module _ (laws : LawsBelow) where
       let first = unborn_payloads reply.unborn in
       let refs = map ref_payload reply.lines in
       let sent : map Data (first ++ refs) ≡ unborn_packets reply.unborn ++ map ref_packet reply.lines =
-      map_append Data first refs ∙ (λ i. unborn_sent reply.unborn i ++ refs_sent reply.lines i) in
+      map-append Data first refs ∙ (λ i. unborn_sent reply.unborn i ++ map-map Data ref_payload reply.lines i) in
       record {
         first = first;
         refs = refs;

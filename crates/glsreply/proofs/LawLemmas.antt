@@ -1,35 +1,30 @@
 -- Each open list has an ending, and is short.
-use Rattle.std.proofs.Common.{◌≡◌, ℕ, suc, ◌+◌, ◌<◌, ◌≤◌, ◌^◌, Bool, true, false, List, [], ◌∷◌, ◌++◌, length, ◌==◌, Result, Ok, Err, refl, sym, ap, subst, ◌∙◌, append_assoc, append-nil, arith, length-append}
-use Rattle.std.specs.Prelude.{nat_lt, All, IfSome}
-use Rattle.std.proofs.lemmas.Bool.{ltb-true, or_right}
-use Rattle.std.proofs.lemmas.List.{length_push}
-use Rattle.std.proofs.lemmas.List.Elements.{All-cons, All-nil}
+use Rattle.std.proofs.Common.{◌≡◌, ℕ, ◌<◌, Bool, true, false, List, [], ◌∷◌, ◌++◌, length, ◌==◌, Result, Ok, Err, refl, sym, ap, ◌∙◌, append_assoc, cond}
+use Rattle.std.specs.Prelude.{nat_lt}
+use Rattle.std.proofs.lemmas.Bool.{ltb-true, or_right, cond_both}
+use Rattle.ggrammar.specs.MessageBytes.{IsForPacket, RefusesPackets}
 use Rattle.gpkt.specs.Packets.{Packet, Data, Flush, Delim, ResponseEnd, text}
-use Rattle.gname.specs.Laws.{TextsHaveOneReading}
-use Rattle.gname.specs.Names.{IsRefName}
 use Rattle.gname.specs.declared.formats.Format.{Format}
 use Rattle.ggrammar.specs.Grammar.{Verdict, Open, Whole, Refused, IsOpen, IsWhole, HasEndings}
-use Rattle.ggrammar.specs.Endings.{at_flush}
+use Rattle.ggrammar.specs.Endings.{at_flush, ends_with}
 use Rattle.ggrammar.specs.PeerErrors.{peer_error}
 use Rattle.ggrammar.specs.Texts.{texts_of}
 use Rattle.ggrammar.specs.declared.ends.Ends.{Ends}
 use Rattle.ggrammar.specs.declared.ends.Ends.TheVariants.{Plain, Response}
 use Rattle.ggrammar.specs.declared.fault.Why.{Why}
 use Rattle.ggrammar.specs.declared.fault.Why.TheVariants.{UnexpectedFrame}
-use Rattle.ggrammar.proofs.VerdictLemmas.{open_unless, room_left, room_not_whole, whole_unless}
+use Rattle.ggrammar.proofs.VerdictLemmas.{open_unless, room_left, room_not_whole, whole_unless, of_end, of_room, past_error}
 use Rattle.glsreply.specs.RefTexts.{RefLine, line_of, FirstForm, UnbornForm, RefForm, first_form}
-use Rattle.glsreply.specs.LsReplies.{max_lines, is_over, unborn_in, unborn_of, unborn_packets, ref_lines, reply_of, judge_line, judge_first, within_limit, judge_text, judge_at, judge}
-use Rattle.glsreply.specs.WellFormed.{IsRefLine, IsLsReplyIn}
-use Rattle.glsreply.proofs.GrammarLemmas.{GrammarsAreExact, cond_holds, open_induction}
-use Rattle.glsreply.proofs.TextLemmas.{line_formed, form_well, FormsWell}
-use Rattle.glsreply.proofs.StateLemmas.{texts_push, over_push, or_false, unborn_is_no_line, refs_in, ref_lines-one, ref_lines-cons}
+use Rattle.glsreply.specs.LsReplies.{max_lines, is_over, judge_line, judge_first, within_limit, judge_text, judge_at, judge, judge_body}
+use Rattle.glsreply.proofs.RefTextLemmas.{FormsWell, Well, form_well, line_well, text_fault}
+use Rattle.glsreply.specs.LsManual.{IsRefText}
+use Rattle.glsreply.proofs.StateLemmas.{GrammarsAreExact, over_push}
 
 -- ---- what goes on
 
 pub goes_within : (count : ℕ) (verdict : Verdict) → within_limit count verdict ≡ Open → (count < max_lines) × (verdict ≡ Open)
 goes_within count Open h = (ltb-true _ _ (room_left (nat_lt count max_lines) h), refl)
-goes_within count Whole h = cc
-goes_within count (Refused why) h = cc
+goes_within count verdict h = cc
 
 -- a text goes on before the flush, where there is room for it
 pub data_goes : (format : Format) (ends : Ends) (over : Bool) (count : ℕ) (payload : List ℕ) → judge_at format ends over count (Data payload) ≡ Open
@@ -57,54 +52,6 @@ unfolding judge_at
 response_stops format ends true count h = cc
 response_stops format ends false count h = cc
 
--- ---- an open list is short
-
-abbrev one_if : Bool → ℕ
-one_if true = 1
-one_if false = 0
-
-pub record IsShort (front : List Packet) : Type 0 where
-  pub texts : length (texts_of front) ≤ max_lines
-  pub packets : length front ≤ length (texts_of front) + one_if (is_over front)
-
-short_push : (format : Format) (ends : Ends) (front : List Packet) (packet : Packet) → judge format ends front packet ≡ Open → IsShort front
-    → IsShort (front ++ packet ∷ [])
-short_push format ends front (Data payload) goes short =
-    let h = data_goes format ends (is_over front) (length (texts_of front)) payload goes in
-    let room = goes_within (length (texts_of front)) _ h.1 in
-    let texts = ap (λ (texts : List (List ℕ)). length texts) (texts_push front (Data payload)) ∙ length_push (texts_of front) (text payload) in
-    let over : is_over (front ++ Data payload ∷ []) ≡ is_over front = over_push front (Data payload) ∙ or_false (is_over front) in
-    record {
-      texts = omega (arith, texts, room.0);
-      packets = rw over (omega (arith, texts, length_push front (Data payload), short.packets));
-    }
-short_push format ends front Flush goes short =
-    let h = flush_goes format ends (is_over front) (length (texts_of front)) goes in
-    let texts = ap (λ (texts : List (List ℕ)). length texts) (texts_push front Flush ∙ append-nil (texts_of front)) in
-    let over : is_over (front ++ Flush ∷ []) ≡ true = over_push front Flush ∙ or_right (is_over front) true refl in
-    let before : length front ≤ length (texts_of front) + 0 = subst (λ (b : Bool). length front ≤ length (texts_of front) + one_if b) h.0 short.packets in
-    record {
-      texts = omega (arith, texts, short.texts);
-      packets = rw over (omega (arith, texts, length_push front Flush, before));
-    }
-short_push format ends front Delim goes short =
-    absurd (let no = delim_stops format ends (is_over front) (length (texts_of front)) Open goes in cc)
-short_push format ends front ResponseEnd goes short =
-    absurd (response_stops format ends (is_over front) (length (texts_of front)) goes)
-
-pub open_is_short : (format : Format) (ends : Ends) (front : List Packet) → IsOpen (judge format ends) front → IsShort front
-open_is_short format ends =
-    open_induction (judge format ends) IsShort (record { texts = omega arith; packets = omega arith }) (short_push format ends)
-
-pub is_bounded : (format : Format) (ends : Ends) (front : List Packet) → IsOpen (judge format ends) front → length front < 2 ^ 60
-is_bounded format ends front opened =
-    let short = open_is_short format ends front opened in
-    let one : one_if (is_over front) ≤ 1 = cond_one (is_over front) in
-    omega (arith, short.texts, short.packets, one) where
-      cond_one : (b : Bool) → one_if b ≤ 1
-      cond_one true = omega arith
-      cond_one false = omega arith
-
 -- ---- each open list has an ending
 
 pub over_ends : (format : Format) (ends : Ends) (count : ℕ) → judge_at format ends true count ResponseEnd ≡ Whole
@@ -118,10 +65,27 @@ flush_is format ends count = refl
 pub over_after_flush : (front : List Packet) → is_over (front ++ Flush ∷ []) ≡ true
 over_after_flush front = over_push front Flush ∙ or_right (is_over front) true refl
 
+pub ends_so : GrammarsAreExact → (format : Format) (ends : Ends) (front : List Packet) → IsOpen (judge format ends) front → is_over front ≡ false
+    → IsWhole (judge format ends) (front ++ Flush ∷ ends_with ends)
+ends_so laws format Plain front opened at = record {
+  front = front;
+  last = Flush;
+  parts = refl;
+  goes = opened;
+  ends = ap (λ (over : Bool). judge_at format Plain over (length (texts_of front)) Flush) at ∙ flush_is format Plain (length (texts_of front));
+}
+ends_so laws format Response front opened at = record {
+  front = front ++ Flush ∷ [];
+  last = ResponseEnd;
+  parts = sym (append_assoc front (Flush ∷ []) (ResponseEnd ∷ []));
+  goes = (laws (judge format Response)).goes_on front Flush opened (ap (λ (over : Bool). judge_at format Response over (length (texts_of front)) Flush) at ∙ flush_is format Response (length (texts_of front)));
+  ends = ap (λ (over : Bool). judge_at format Response over (length (texts_of (front ++ Flush ∷ []))) ResponseEnd) (over_after_flush front) ∙ over_ends format Response (length (texts_of (front ++ Flush ∷ [])));
+}
+
 pub has_endings : GrammarsAreExact → (format : Format) (ends : Ends) → HasEndings (judge format ends)
-has_endings laws format ends front opened = by_over ends (is_over front) refl opened where
-  by_over : (ends : Ends) (over : Bool) → is_over front ≡ over → IsOpen (judge format ends) front → (more : List Packet) × IsWhole (judge format ends) (front ++ more)
-  by_over ends true at opened = (
+has_endings laws format ends front opened = by_over (is_over front) refl where
+  by_over : (over : Bool) → is_over front ≡ over → (more : List Packet) × IsWhole (judge format ends) (front ++ more)
+  by_over true at = (
     ResponseEnd ∷ [],
     record {
       front = front;
@@ -131,26 +95,7 @@ has_endings laws format ends front opened = by_over ends (is_over front) refl op
       ends = ap (λ (over : Bool). judge_at format ends over (length (texts_of front)) ResponseEnd) at ∙ over_ends format ends (length (texts_of front));
     },
   )
-  by_over Plain false at opened = (
-    Flush ∷ [],
-    record {
-      front = front;
-      last = Flush;
-      parts = refl;
-      goes = opened;
-      ends = ap (λ (over : Bool). judge_at format Plain over (length (texts_of front)) Flush) at ∙ flush_is format Plain (length (texts_of front));
-    },
-  )
-  by_over Response false at opened = (
-    Flush ∷ ResponseEnd ∷ [],
-    record {
-      front = front ++ Flush ∷ [];
-      last = ResponseEnd;
-      parts = sym (append_assoc front (Flush ∷ []) (ResponseEnd ∷ []));
-      goes = (laws (judge format Response)).goes_on front Flush opened (ap (λ (over : Bool). judge_at format Response over (length (texts_of front)) Flush) at ∙ flush_is format Response (length (texts_of front)));
-      ends = ap (λ (over : Bool). judge_at format Response over (length (texts_of (front ++ Flush ∷ []))) ResponseEnd) (over_after_flush front) ∙ over_ends format Response (length (texts_of (front ++ Flush ∷ [])));
-    },
-  )
+  by_over false at = (Flush ∷ ends_with ends, ends_so laws format ends front opened at)
 
 -- ---- the last packet of a reply
 
@@ -176,71 +121,51 @@ unfolding judge_at
 data_part format ends true count payload h = let no = whole_unless (peer_error payload) (Refused UnexpectedFrame) h in cc
 data_part format ends false count payload h =
     let within = whole_unless (peer_error payload) (judge_text format count (text payload)) h in
-    cond_holds IsPart (count == 0) (judge_first format (text payload) (first_form (text payload))) (judge_line (line_of format (text payload)))
+    cond_both (count == 0) (judge_first format (text payload) (first_form (text payload))) (judge_line (line_of format (text payload))) IsPart
     (λ _. first_part format (text payload) (first_form (text payload))) (λ _. line_part (line_of format (text payload))) (not_whole_within count _ within)
 
--- it adds no text
-pub last_texts : (format : Format) (ends : Ends) (front : List Packet) (last : Packet) → judge format ends front last ≡ Whole
-    → texts_of (front ++ last ∷ []) ≡ texts_of front
-last_texts format ends front (Data payload) h = absurd (data_part format ends (is_over front) (length (texts_of front)) payload h)
-last_texts format ends front Flush h = texts_push front Flush ∙ append-nil (texts_of front)
-last_texts format ends front Delim h = texts_push front Delim ∙ append-nil (texts_of front)
-last_texts format ends front ResponseEnd h = texts_push front ResponseEnd ∙ append-nil (texts_of front)
+-- ---- packets are refused for their own sake
 
--- ---- what is read is well formed
+of_few : (count : ℕ) (verdict : Verdict) → IsForPacket verdict → IsForPacket (within_limit count verdict)
+of_few count Open h = of_room (nat_lt count max_lines)
+of_few count Whole h = h
+of_few count (Refused why) h = h
 
-one_ref : (format : Format) (line : List ℕ) → length (ref_lines format (line ∷ [])) ≤ 1
-one_ref format line = rw (ref_lines-one format line) (at_most_one (line_of format line)) where
-  at_most_one : (read : Result RefLine Why) → length (refs_in read) ≤ 1
-  at_most_one (Ok ref) = omega arith
-  at_most_one (Err why) = omega arith
+module _ (format : Format) where
+  of_read : (text : List ℕ) (read : Result RefLine Why) → Well (IsRefText format text) read
+      → IsForPacket (judge_line read)
+  of_read text (Ok line) h = tt
+  of_read text (Err why) h = (text_fault why true h).1
 
-module _ (law : TextsHaveOneReading) (format : Format) where
-  one_formed : (texts : List (List ℕ)) (line : List ℕ) (read : Result RefLine Why) → line_of format line ≡ read → All (IsRefLine format) (ref_lines format texts)
-      → All (IsRefLine format) (refs_in read ++ ref_lines format texts)
-  one_formed texts line (Ok ref) e more = All-cons (IsRefLine format) ref _ (line_formed format law line ref e) more
-  one_formed texts line (Err why) e more = more
+  of_line : (line : List ℕ) → IsForPacket (judge_line (line_of format line))
+  of_line line = of_read line (line_of format line) (line_well format line)
 
-  lines_formed : (texts : List (List ℕ)) → All (IsRefLine format) (ref_lines format texts)
-  lines_formed [] = All-nil (IsRefLine format)
-  lines_formed (line ∷ texts) =
-      subst (All (IsRefLine format)) (sym (ref_lines-cons format line texts)) (subst (λ (refs : List RefLine). All (IsRefLine format) (refs ++ ref_lines format texts)) (sym (ref_lines-one format line)) (one_formed texts line (line_of format line) refl (lines_formed texts)))
+  of_form : (line : List ℕ) (parts : List (List ℕ)) (form : FirstForm) → FormsWell parts form
+      → IsForPacket (judge_first format line form)
+  of_form line parts (UnbornForm (Ok target)) h = tt
+  of_form line parts (UnbornForm (Err why)) h = (text_fault why true h).1
+  of_form line parts RefForm h = of_line line
 
-  target_formed : (form : FirstForm) → FormsWell form → IfSome (unborn_in form) IsRefName
-  target_formed (UnbornForm (Ok target)) h = h
-  target_formed (UnbornForm (Err why)) h = tt
-  target_formed RefForm h = tt
+  of_text : (count : ℕ) (line : List ℕ) → IsForPacket (judge_text format count line)
+  of_text count line =
+      let first = judge_first format line (first_form line) in
+      let later = judge_line (line_of format line) in
+      of_few count (cond (count == 0) first later)
+      (cond_both (count == 0) first later IsForPacket (λ _. of_form line _ (first_form line) (form_well line)) (λ _. of_line line))
 
-  unborn_formed : (texts : List (List ℕ)) → IfSome (unborn_of texts) IsRefName
-  unborn_formed [] = tt
-  unborn_formed (first ∷ texts) = target_formed (first_form first) (form_well first)
+  of_flush : (ends : Ends) (count : ℕ) → IsForPacket (judge_body format ends count Flush)
+  of_flush Plain count = tt
+  of_flush Response count = tt
 
-  few_refs : (texts : List (List ℕ)) → length (ref_lines format texts) ≤ length texts
-  few_refs [] = omega arith
-  few_refs (line ∷ texts) =
-      let more = few_refs texts in
-      let both = ap (λ (refs : List RefLine). length refs) (ref_lines-cons format line texts) ∙ length-append (ref_lines format (line ∷ [])) (ref_lines format texts) in
-      omega (arith, more, both, one_ref format line)
+  of_body : (ends : Ends) (count : ℕ) (packet : Packet) → IsForPacket (judge_body format ends count packet)
+  of_body ends count (Data payload) = past_error (peer_error payload) (judge_text format count (text payload)) (of_text count (text payload))
+  of_body ends count Flush = of_flush ends count
+  of_body ends count packet = tt
 
-  few_lines : (texts : List (List ℕ)) → length (unborn_packets (unborn_of texts)) + length (ref_lines format texts) ≤ length texts
-  few_lines [] = omega arith
-  few_lines (first ∷ texts) = by_form (first_form first) refl where
-    by_form : (form : FirstForm) → first_form first ≡ form
-        → length (unborn_packets (unborn_in form)) + length (ref_lines format (first ∷ texts)) ≤ suc (length texts)
-    by_form (UnbornForm (Ok target)) e =
-        let none : ref_lines format (first ∷ texts) ≡ ref_lines format texts =
-        ref_lines-cons format first texts ∙ ap (λ (refs : List RefLine). refs ++ ref_lines format texts) (ref_lines-one format first ∙ ap refs_in (unborn_is_no_line format first (Ok target) e)) in
-        rw none (omega (arith, few_refs texts))
-    by_form (UnbornForm (Err why)) e = omega (arith, few_refs (first ∷ texts))
-    by_form RefForm e = omega (arith, few_refs (first ∷ texts))
+  of_packet : (ends : Ends) (over : Bool) (count : ℕ) (packet : Packet) → IsForPacket (judge_at format ends over count packet)
+  unfolding judge_at
+  of_packet ends true count packet = of_end packet
+  of_packet ends false count packet = of_body ends count packet
 
-  -- what a complete list says is a reply that can be written
-  pub reply_formed : (ends : Ends) (packets : List Packet) → IsWhole (judge format ends) packets → IsLsReplyIn format (reply_of format packets)
-  reply_formed ends packets whole =
-      let same : texts_of packets ≡ texts_of whole.front = ap texts_of whole.parts ∙ last_texts format ends whole.front whole.last whole.ends in
-      let short = open_is_short format ends whole.front whole.goes in
-      record {
-        unborn = unborn_formed (texts_of packets);
-        lines = lines_formed (texts_of packets);
-        few = (let bound = few_lines (texts_of packets) in let long = ap (λ (texts : List (List ℕ)). length texts) same in omega (arith, bound, long, short.texts));
-      }
+  pub refuses_packets : (ends : Ends) → RefusesPackets (judge format ends)
+  refuses_packets ends front packet = of_packet ends (is_over front) (length (texts_of front)) packet

@@ -1,14 +1,8 @@
 pub mod LineLemmas
-pub mod GrammarLemmas
-pub mod TextLemmas
-pub mod PacketReasons
 pub mod StateLemmas
 pub mod LawLemmas
-pub mod ReaderLemmas
 pub mod ValueLemmas
-pub mod ReadManual
 pub mod RefTextLemmas
-pub mod WordLemmas
 pub mod ManualLemmas
 pub mod TableLemmas
 pub mod CanonicalLemmas

@@ -2,12 +2,13 @@
 use Rattle.std.proofs.Common.{◌≡◌, ℕ, suc, ◌+◌, ◌-◌, ◌<◌, ◌≤◌, Bool, true, false, nat_eq, List, [], ◌∷◌, ◌++◌, length, take, drop, map, ◌==◌, codes, Option, Some, None, Result, Ok, Err, refl, sym, ap, subst, ◌∙◌, append_assoc, append-nil, arith, length-append}
 use Rattle.std.specs.Prelude.{All}
 use Rattle.std.specs.List.{starts_with}
-use Rattle.std.proofs.lemmas.Bool.{lt-ltb}
+use Rattle.std.proofs.lemmas.Bool.{lt-ltb, cond_both}
 use Rattle.std.proofs.lemmas.Bool.Decides.{Decides-eqb}
-use Rattle.std.proofs.lemmas.List.{length_push}
+use Rattle.std.proofs.lemmas.List.{length_push, map-append}
 use Rattle.std.proofs.lemmas.List.Elements.{All-head, All-tail}
 use Rattle.std.proofs.lemmas.Slice.Eq.{starts_is}
-use Rattle.gpkt.specs.Packets.{Packet, Data, Flush, ResponseEnd, text}
+use Rattle.std.proofs.Math.Bool.{or-false}
+use Rattle.gpkt.specs.Packets.{Packet, Data, Flush, text}
 use Rattle.gname.specs.declared.formats.Format.{Format}
 use Rattle.gname.specs.declared.formats.Format.TheVariants.{Sha1, Sha256}
 use Rattle.ggrammar.specs.Grammar.{Verdict, Open, IsOpen, IsWhole, if_room}
@@ -22,10 +23,30 @@ use Rattle.ggrammar.specs.declared.fault.Why.TheVariants.{BadId}
 use Rattle.ggrammar.proofs.TextLemmas.{tested}
 use Rattle.glsreply.specs.RefTexts.{RefLine, parts_of, line_of, line_of_parts, FirstForm, UnbornForm, RefForm, first_form, first_of_parts}
 use Rattle.glsreply.specs.LsReplies.{LsReply, Says, max_lines, is_over, unborn_in, unborn_of, ref_lines, judge_line, judge_first, within_limit, judge_text, judge_at, judge}
-use Rattle.glsreply.proofs.ReadManual.{SaysRef, SaysUnborn, IsReadReply}
-use Rattle.glsreply.proofs.GrammarLemmas.{GrammarsAreExact, cond_holds}
-use Rattle.glsreply.proofs.StateLemmas.{texts_push, over_push, or_false, unborn_is_no_line, unborn_gives_none, ref_lines-cons}
-use Rattle.glsreply.proofs.LawLemmas.{flush_is, over_ends, over_after_flush}
+use Rattle.glsreply.proofs.StateLemmas.{GrammarsAreExact, texts_push, over_push, unborn_is_no_line, unborn_gives_none, ref_lines-cons}
+use Rattle.glsreply.proofs.LawLemmas.{ends_so}
+
+-- ---- the replies of the manual, with its grammar of texts in the words of who reads them
+
+-- the text is read as the line of a ref
+abbrev pub SaysRef : Format → List ℕ → Type 0
+SaysRef format line = (ref : RefLine) × (line_of format line ≡ Ok ref)
+
+-- an unborn HEAD may come first
+abbrev pub SaysUnborn : Option (List ℕ) → List (List ℕ) → Type 0
+SaysUnborn None payloads = payloads ≡ []
+SaysUnborn (Some target) payloads =
+    (payload : List ℕ) × (payloads ≡ payload ∷ []) × (first_form (text payload) ≡ UnbornForm (Ok target))
+
+-- the packets are a reply, and say this
+pub record IsReadReply (format : Format) (ends : Ends) (packets : List Packet) (reply : LsReply) : Type 0 where
+  pub first : List (List ℕ)
+  pub refs : List (List ℕ)
+  pub parts : packets ≡ map Data (first ++ refs) ++ Flush ∷ ends_with ends
+  pub is_first : SaysUnborn reply.unborn first
+  pub are_refs : All (SaysRef format) (map text refs)
+  pub few : length (first ++ refs) ≤ max_lines
+  pub lines : reply.lines ≡ ref_lines format (map text refs)
 
 -- ---- a payload that reports an error is no line
 
@@ -33,8 +54,8 @@ err_text : (rest : List ℕ) → (more : List ℕ) × (text (codes "ERR " ++ res
 err_text [] = ([], refl)
 err_text (r ∷ rest) =
     let shorter : suc (suc (suc (suc (suc (length rest))))) - 1 ≡ suc (suc (suc (suc (length rest)))) = omega arith in
-    cond_holds (λ (cut : List ℕ). (more : List ℕ) × (cut ≡ codes "ERR " ++ more)) _
-    (take (suc (suc (suc (suc (suc (length rest))))) - 1) (codes "ERR " ++ r ∷ rest)) (codes "ERR " ++ r ∷ rest)
+    cond_both _ (take (suc (suc (suc (suc (suc (length rest))))) - 1) (codes "ERR " ++ r ∷ rest))
+    (codes "ERR " ++ r ∷ rest) (λ (cut : List ℕ). (more : List ℕ) × (cut ≡ codes "ERR " ++ more))
     (λ _. (take (length rest) (r ∷ rest), ap (λ (n : ℕ). take n (codes "ERR " ++ r ∷ rest)) shorter)) (λ _. (r ∷ rest, refl))
 
 err_parts : (more : List ℕ) → parts_of (codes "ERR " ++ more) ≡ codes "ERR" ∷ parts_of more
@@ -85,7 +106,8 @@ form_of_ref format line ref e = by_form (first_form line) refl where
 
 ref_text_goes : (format : Format) (count : ℕ) (line : List ℕ) (ref : RefLine) → line_of format line ≡ Ok ref → count < max_lines → judge_text format count line ≡ Open
 ref_text_goes format count line ref e room =
-    let judged = cond_holds (λ (verdict : Verdict). verdict ≡ Open) (count == 0) (judge_first format line (first_form line)) (judge_line (line_of format line))
+    let judged = cond_both (count == 0) (judge_first format line (first_form line)) (judge_line (line_of format line))
+    (λ (verdict : Verdict). verdict ≡ Open)
     (λ _. ap (judge_first format line) (form_of_ref format line ref e) ∙ ap judge_line e) (λ _. ap judge_line e) in
     ap (within_limit count) judged ∙ ap if_room (lt-ltb count max_lines room)
 
@@ -117,7 +139,7 @@ body_push : GrammarsAreExact → (format : Format) (ends : Ends) (front : List P
     → judge format ends front (Data payload) ≡ Open → IsBody format ends (front ++ Data payload ∷ []) (count + 1)
 body_push laws format ends front payload count body goes = record {
   goes = (laws (judge format ends)).goes_on front (Data payload) body.goes goes;
-  at = over_push front (Data payload) ∙ (or_false (is_over front) ∙ body.at);
+  at = over_push front (Data payload) ∙ (or-false (is_over front) ∙ body.at);
   texts = ap (λ (texts : List (List ℕ)). length texts) (texts_push front (Data payload)) ∙ (length_push (texts_of front) (text payload) ∙ ap (λ (n : ℕ). n + 1) body.texts);
 }
 
@@ -140,28 +162,7 @@ first_body laws format ends (Some target) first h =
     subst (λ (payloads : List (List ℕ)). IsBody format ends (map Data payloads) (length payloads)) (sym h.1)
     (body_push laws format ends [] h.0 0 (record { goes = (laws (judge format ends)).nothing; at = refl; texts = refl }) (unborn_goes format ends h.0 target h.2))
 
-ends_so : GrammarsAreExact → (format : Format) (ends : Ends) (front : List Packet) → IsOpen (judge format ends) front → is_over front ≡ false
-    → IsWhole (judge format ends) (front ++ Flush ∷ ends_with ends)
-ends_so laws format Plain front opened at = record {
-  front = front;
-  last = Flush;
-  parts = refl;
-  goes = opened;
-  ends = ap (λ (over : Bool). judge_at format Plain over (length (texts_of front)) Flush) at ∙ flush_is format Plain (length (texts_of front));
-}
-ends_so laws format Response front opened at = record {
-  front = front ++ Flush ∷ [];
-  last = ResponseEnd;
-  parts = sym (append_assoc front (Flush ∷ []) (ResponseEnd ∷ []));
-  goes = (laws (judge format Response)).goes_on front Flush opened (ap (λ (over : Bool). judge_at format Response over (length (texts_of front)) Flush) at ∙ flush_is format Response (length (texts_of front)));
-  ends = ap (λ (over : Bool). judge_at format Response over (length (texts_of (front ++ Flush ∷ []))) ResponseEnd) (over_after_flush front) ∙ over_ends format Response (length (texts_of (front ++ Flush ∷ [])));
-}
-
-pub map_append : {X Y : Type 0} (f : X → Y) (xs ys : List X) → map f (xs ++ ys) ≡ map f xs ++ map f ys
-map_append f [] ys = refl
-map_append f (x ∷ xs) ys = ap (λ (zs : List _). f x ∷ zs) (map_append f xs ys)
-
-texts_sent : (ends : Ends) (payloads : List (List ℕ)) → texts_of (map Data payloads ++ Flush ∷ ends_with ends) ≡ map text payloads
+pub texts_sent : (ends : Ends) (payloads : List (List ℕ)) → texts_of (map Data payloads ++ Flush ∷ ends_with ends) ≡ map text payloads
 texts_sent Plain [] = refl
 texts_sent Response [] = refl
 texts_sent ends (payload ∷ payloads) = ap (λ (texts : List (List ℕ)). text payload ∷ texts) (texts_sent ends payloads)
@@ -188,12 +189,9 @@ pub manual_says : GrammarsAreExact → (format : Format) (ends : Ends) (packets 
 manual_says laws format ends packets reply h =
     let few : length h.first + length h.refs ≤ max_lines = omega (arith, h.few, length-append h.first h.refs) in
     let body = refs_body laws format ends (map Data h.first) (length h.first) h.refs (first_body laws format ends reply.unborn h.first h.is_first) h.are_refs few in
-    let parts = ap (λ (sent : List Packet). sent ++ Flush ∷ ends_with ends) (map_append Data h.first h.refs) in
+    let parts = ap (λ (sent : List Packet). sent ++ Flush ∷ ends_with ends) (map-append Data h.first h.refs) in
     let whole = subst (IsWhole (judge format ends)) (sym (h.parts ∙ parts)) (ends_so laws format ends (map Data h.first ++ map Data h.refs) body.goes body.at) in
     let texts : texts_of packets ≡ map text (h.first ++ h.refs) = ap texts_of h.parts ∙ texts_sent ends (h.first ++ h.refs) in
     let unborn : unborn_of (texts_of packets) ≡ reply.unborn = ap unborn_of texts ∙ says_unborn format reply.unborn h.first h.refs h.is_first h.are_refs in
     let lines : ref_lines format (texts_of packets) ≡ reply.lines = ap (ref_lines format) texts ∙ (says_refs format reply.unborn h.first h.refs h.is_first ∙ sym h.lines) in
-    record { whole = whole; says = same_reply (sym unborn) (sym lines) } where
-      same_reply : {unborn unborn' : Option (List ℕ)} {lines lines' : List RefLine} → unborn ≡ unborn' → lines ≡ lines'
-          → ◌≡◌ {A = LsReply} (record { unborn = unborn; lines = lines }) (record { unborn = unborn'; lines = lines' })
-      same_reply e f = cc
+    record { whole = whole; says = λ i. record { unborn = sym unborn i; lines = sym lines i } }

@@ -1,27 +1,38 @@
--- The texts of the manual are read as what they say, and no others are.
-use Rattle.std.proofs.Common.{◌≡◌, ℕ, ◌<◌, Bool, true, false, cond, List, [], ◌∷◌, ◌++◌, codes, nat_lt, Option, Some, None, Result, Ok, Err, inl, inr, refl, sym, ap, subst, ◌∙◌, append_assoc, append-nil, arith}
-use Rattle.std.specs.Prelude.{All, is_none}
+-- The texts of the manual are read as what they say, and no others are; these are refused for a reason of texts.
+use Rattle.std.proofs.Common.{◌≡◌, ℕ, ◌<◌, Bool, true, false, List, [], ◌∷◌, ◌++◌, codes, nat_lt, Option, Some}
+use Rattle.std.proofs.Common.{None, Result, Ok, Err, inl, inr, refl, sym, ap, subst, ◌∙◌, append_assoc, append-nil}
+use Rattle.std.proofs.Common.{arith}
+use Rattle.std.specs.Prelude.{All, IfSome, is_none}
 use Rattle.std.specs.List.{list_all, join_with_byte}
 use Rattle.std.specs.Str.{bytes_eq}
-use Rattle.std.proofs.lemmas.Bool.{cond-true, ltb-true, ne_eqb}
+use Rattle.std.proofs.lemmas.Bool.{cond-true, ltb-true, ne_eqb, cond_both}
 use Rattle.std.proofs.lemmas.List.Elements.{All-cons, All-nil, All-head, All-tail, All-append}
 use Rattle.std.proofs.lemmas.List.Sums.{AllPass-from_list_all}
 use Rattle.std.proofs.lemmas.List.Splits.{slice_split_at, slice_split_none, join_with_byte-slice_split}
 use Rattle.std.proofs.lemmas.Slice.Eq.{bytes_eq-Decides}
-use Rattle.gname.specs.Ids.{IsIdTextOf}
+use Rattle.gname.specs.Ids.{IsIdTextOf, IsIdOf}
 use Rattle.gname.specs.Laws.{IsClean, NamesAreClean, IdTextsAreDigits, IdsHaveOneFormat, TextsHaveOneReading}
-use Rattle.gname.specs.Names.{IsRefName}
+use Rattle.gname.specs.Names.{IsRefName, name_fault}
 use Rattle.gname.specs.declared.formats.Format.{Format}
 use Rattle.ggrammar.specs.Ids.{id_of_text}
 use Rattle.ggrammar.specs.PeerErrors.{after_word}
 use Rattle.ggrammar.specs.declared.fault.Why.{Why}
-use Rattle.ggrammar.specs.declared.fault.Why.TheVariants.{BadText, BadName}
 use Rattle.gname.proofs.NameLemmas.{name_clean}
 use Rattle.ggrammar.proofs.IdLemmas.{is_spelt, spelt_by}
 use Rattle.ggrammar.proofs.TextLemmas.{follows_word, is_none-None}
-use Rattle.glsreply.specs.RefTexts.{RefLine, Attribute, Symref, Peeled, UnknownAttribute, peeled_or_unknown, symref_or_else, is_space, parts_of, is_name, attribute_of, with_attribute, with_attributes, with_id, line_with_id, line_of_parts, line_of, unborn_target, unborn_after_head, unborn_of_parts, UnbornForm, RefForm, first_of_parts, first_form, unborn_text}
+use Rattle.glsreply.specs.RefTexts.{RefLine, Attribute, Symref, Peeled, UnknownAttribute, peeled_or_unknown}
+use Rattle.glsreply.specs.RefTexts.{symref_or_else, is_space, parts_of, is_name, attribute_of, with_attribute}
+use Rattle.glsreply.specs.RefTexts.{with_attributes, with_id, line_with_id, line_of_parts, line_of, unborn_target}
+use Rattle.glsreply.specs.RefTexts.{unborn_after_head, unborn_of_parts, UnbornForm, RefForm, first_of_parts, first_form}
+use Rattle.glsreply.specs.RefTexts.{unborn_text, FirstForm}
 use Rattle.glsreply.specs.LsManual.{IsSymref, IsPeeled, IsAttribute, AreAttributes, IsRefText}
-use Rattle.glsreply.proofs.TextLemmas.{name_is}
+use Rattle.ggrammar.specs.Grammar.{Refused}
+use Rattle.ggrammar.specs.MessageReading.{IsReason}
+use Rattle.ggrammar.specs.MessageBytes.{IsOfPacket}
+use Rattle.ggrammar.specs.declared.fault.Why.TheVariants as why
+use Rattle.glsreply.specs.WellFormed.{IsRefLine}
+use Rattle.ggrammar.specs.declared.fault.Why.TheVariants as why
+use Rattle.glsreply.specs.LsReplies.{within_limit, judge_line, judge_first, judge_text}
 
 -- the laws of ids and names
 pub record TextLaws : Type 0 where
@@ -87,14 +98,32 @@ text_joins : (digits name attributes : List ℕ) → digits ++ codes " " ++ name
 text_joins digits name attributes =
     append_assoc (digits ++ codes " ") name attributes ∙ append_assoc digits (codes " ") (name ++ attributes)
 
--- ---- tests that were passed
+-- ---- what a text is refused for
 
-ok_if : {X : Type 0} (b : Bool) (read : Result X Why) (why : Why) (x : X) → cond b read (Err why) ≡ Ok x → (b ≡ true) × (read ≡ Ok x)
-ok_if true read why x e = (refl, e)
-ok_if false read why x e = absurd (let no : Err why ≡ Ok x = e in cc)
+-- the reasons for which a text is refused
+abbrev pub IsTextFault : Why → Type 0
+IsTextFault why.BadText = Unit {0}
+IsTextFault why.BadId = Unit {0}
+IsTextFault why.BadName = Unit {0}
+IsTextFault _ = ⊥
 
-same_ok : {X : Type 0} (x y : X) → ◌≡◌ {A = Result X Why} (Ok x) (Ok y) → x ≡ y
-same_ok x y e = cc
+pub text_fault : (why : Why) (brings : Bool) → IsTextFault why → IsReason (Refused why) brings why × IsOfPacket why
+text_fault why.BadText brings h = (refl, tt)
+text_fault why.BadId brings h = (refl, tt)
+text_fault why.BadName brings h = (refl, tt)
+text_fault why brings h = absurd h
+
+-- a result that is right, or a reason of texts
+abbrev pub Well : {X : Type 0} → (X → Type 0) → Result X Why → Type 0
+Well P (Ok x) = P x
+Well P (Err why) = IsTextFault why
+
+well_map : {X : Type 0} {P Q : X → Type 0} → ((x : X) → P x → Q x) → (read : Result X Why) → Well P read → Well Q read
+well_map f (Ok x) h = f x h
+well_map f (Err why) h = h
+
+pub name_is : (name : List ℕ) → is_name name ≡ true → IsRefName name
+name_is name h = is_none-None (name_fault name) h
 
 is_named : (name : List ℕ) → IsRefName name → is_name name ≡ true
 is_named name h = ap is_none h
@@ -108,33 +137,21 @@ attributes_append format (Ok line) [] more = refl
 attributes_append format (Ok line) (part ∷ parts) more =
     attributes_append format (with_attribute format line (attribute_of part)) parts more
 
-symref_attribute : (target : List ℕ) → attribute_of (codes "symref-target:" ++ target) ≡ Symref target
-unfolding attribute_of after_word
-symref_attribute target = refl
+-- what follows the word of an attribute
+abbrev Spells : List ℕ → Attribute → Type 0
+Spells part (Symref target) = part ≡ codes "symref-target:" ++ target
+Spells part (Peeled digits) = part ≡ codes "peeled:" ++ digits
+Spells part UnknownAttribute = Unit {0}
 
-peeled_attribute : (digits : List ℕ) → attribute_of (codes "peeled:" ++ digits) ≡ Peeled digits
-unfolding attribute_of after_word
-peeled_attribute digits = refl
-
-by_symref : (found other : Option (List ℕ)) (target : List ℕ) → symref_or_else found (peeled_or_unknown other) ≡ Symref target → found ≡ Some target
-by_symref (Some x) other target e = let same : Symref x ≡ Symref target = e in cc
-by_symref None (Some id) target e = absurd (let no : Peeled id ≡ Symref target = e in cc)
-by_symref None None target e = absurd (let no : UnknownAttribute ≡ Symref target = e in cc)
-
-by_peeled : (found other : Option (List ℕ)) (digits : List ℕ) → symref_or_else found (peeled_or_unknown other) ≡ Peeled digits → other ≡ Some digits
-by_peeled (Some x) other digits e = absurd (let no : Symref x ≡ Peeled digits = e in cc)
-by_peeled None (Some id) digits e = let same : Peeled id ≡ Peeled digits = e in cc
-by_peeled None None digits e = absurd (let no : UnknownAttribute ≡ Peeled digits = e in cc)
-
-symref_is : (part target : List ℕ) → attribute_of part ≡ Symref target → part ≡ codes "symref-target:" ++ target
+attribute_spells : (part : List ℕ) → Spells part (attribute_of part)
 unfolding attribute_of
-symref_is part target e =
-    follows_word (codes "symref-target:") part target (by_symref (after_word (codes "symref-target:") part) (after_word (codes "peeled:") part) target e)
-
-peeled_is : (part digits : List ℕ) → attribute_of part ≡ Peeled digits → part ≡ codes "peeled:" ++ digits
-unfolding attribute_of
-peeled_is part digits e =
-    follows_word (codes "peeled:") part digits (by_peeled (after_word (codes "symref-target:") part) (after_word (codes "peeled:") part) digits e)
+attribute_spells part = by_words _ _ refl refl where
+  by_words : (found other : Option (List ℕ)) → after_word (codes "symref-target:") part ≡ found
+      → after_word (codes "peeled:") part ≡ other
+      → Spells part (symref_or_else found (peeled_or_unknown other))
+  by_words (Some target) other is also = follows_word (codes "symref-target:") part target is
+  by_words None (Some digits) is also = follows_word (codes "peeled:") part digits also
+  by_words None None is also = tt
 
 -- ---- what is read of a text of the manual
 
@@ -158,6 +175,7 @@ module _ (laws : TextLaws) (format : Format) where
   with_leads peeled id name symref = record { id = id; name = name; symref = symref; peeled = peeled }
 
   symref_read : (text : List ℕ) (symref : Option (List ℕ)) → IsAttribute IsSymref text symref → IsRead text (with_target None) (with_target symref)
+  unfolding attribute_of after_word
   symref_read text None h = record { parts = []; same = h; clean = All-nil HasNoSpace; said = λ id name peeled. refl }
   symref_read text (Some target) h =
       let part = codes "symref-target:" ++ target in
@@ -166,11 +184,11 @@ module _ (laws : TextLaws) (format : Format) where
         same = h.0 ∙ ap (λ (bytes : List ℕ). 32 ∷ bytes) (sym (append-nil part));
         clean = All-cons HasNoSpace part [] (value_part (codes "symref-target:") target refl (name_clean target h.1)) (All-nil HasNoSpace);
         said = λ id name peeled. ap (λ (read : Result RefLine Why). with_attributes format read [])
-            (ap (with_attribute format (with_target None id name peeled)) (symref_attribute target)
-            ∙ cond-true (is_name target) (Ok (with_target (Some target) id name peeled)) (Err BadName) (is_named target h.1));
+            (cond-true (is_name target) (Ok (with_target (Some target) id name peeled)) (Err why.BadName) (is_named target h.1));
       }
 
   peeled_read : (text : List ℕ) (peeled : Option (List ℕ)) → IsAttribute (IsPeeled format) text peeled → IsRead text (with_leads None) (with_leads peeled)
+  unfolding attribute_of after_word
   peeled_read text None h = record { parts = []; same = h; clean = All-nil HasNoSpace; said = λ id name symref. refl }
   peeled_read text (Some id) h =
       let part = codes "peeled:" ++ h.0 in
@@ -179,8 +197,7 @@ module _ (laws : TextLaws) (format : Format) where
         same = h.1 ∙ ap (λ (bytes : List ℕ). 32 ∷ bytes) (sym (append-nil part));
         clean = All-cons HasNoSpace part [] (value_part (codes "peeled:") h.0 refl (digits_clean h.0 id h.2)) (All-nil HasNoSpace);
         said = λ id' name symref. ap (λ (read : Result RefLine Why). with_attributes format read [])
-            (ap (with_attribute format (with_leads None id' name symref)) (peeled_attribute h.0)
-            ∙ ap (with_id (with_leads None id' name symref)) (is_spelt format h.0 id h.2));
+            (ap (with_id (with_leads None id' name symref)) (is_spelt format h.0 id h.2));
       }
 
   record AreRead (text : List ℕ) (symref peeled : Option (List ℕ)) : Type 0 where
@@ -222,7 +239,7 @@ module _ (laws : TextLaws) (format : Format) where
       (All-cons HasNoSpace ref.name more.parts (clean_has_none ref.name (name_clean ref.name h.is_name)) more.clean) in
       ap (line_of_parts format) parts
       ∙ (ap (λ (id : Option (List ℕ)). line_with_id format id (ref.name ∷ more.parts)) (is_spelt format h.digits ref.id h.is_id)
-      ∙ (cond-true (is_name ref.name) (with_attributes format (Ok (with_target None ref.id ref.name None)) more.parts) (Err BadName) (is_named ref.name h.is_name)
+      ∙ (cond-true (is_name ref.name) (with_attributes format (Ok (with_target None ref.id ref.name None)) more.parts) (Err why.BadName) (is_named ref.name h.is_name)
       ∙ more.said ref.id ref.name))
 
 -- ---- what a text is that is read
@@ -244,94 +261,116 @@ module _ (format : Format) where
     | inr e ↦ e ∙ ap (λ (bytes : List ℕ). bytes ++ h.target) h.is_leads
   ]
 
-  next_symref : (line next : RefLine) (part text target : List ℕ) → part ≡ codes "symref-target:" ++ target
-      → with_attribute format line (Symref target) ≡ Ok next → AreAttributes format text line.symref line.peeled → IsNext line next (text ++ 32 ∷ part)
-  next_symref line next part text target is e so =
-      let free = ok_if (is_none line.symref) (cond (is_name target) (Ok (record line { symref = Some target })) (Err BadName)) BadText next e in
-      let named = ok_if (is_name target) (Ok (record line { symref = Some target })) BadName next free.1 in
-      let before = subst (λ (symref : Option (List ℕ)). AreAttributes format text symref line.peeled) (is_none-None line.symref free.0) so in
-      subst (λ (n : RefLine). IsNext line n (text ++ 32 ∷ part)) (same_ok (record line { symref = Some target }) next named.1) (
+  next_attribute : (line : RefLine) (part text : List ℕ) (attribute : Attribute) → Spells part attribute
+      → AreAttributes format text line.symref line.peeled
+      → Well (λ next. IsNext line next (text ++ 32 ∷ part)) (with_attribute format line attribute)
+  next_attribute line part text (Symref target) is so =
+      cond_both (is_none line.symref) _ _ (Well (λ next. IsNext line next (text ++ 32 ∷ part)))
+      (λ free. cond_both (is_name target) _ _ (Well (λ next. IsNext line next (text ++ 32 ∷ part)))
+      (λ named.
+      let before = subst (λ (symref : Option (List ℕ)). AreAttributes format text symref line.peeled) (is_none-None line.symref free) so in (
         refl,
         refl,
         record {
           target = 32 ∷ part;
           leads = before.leads;
           parts = inr (ap (λ (bytes : List ℕ). bytes ++ 32 ∷ part) (without_target text line.peeled before));
-          is_target = (ap (λ (bytes : List ℕ). 32 ∷ bytes) is, name_is target named.0);
+          is_target = (ap (λ (bytes : List ℕ). 32 ∷ bytes) is, name_is target named);
           is_leads = before.is_leads;
         },
-      )
+      )) (λ _. tt)) (λ _. tt)
+  next_attribute line part text (Peeled digits) is so =
+      cond_both (is_none line.peeled) _ _ (Well (λ next. IsNext line next (text ++ 32 ∷ part)))
+      (λ free. by_id free _ refl) (λ _. tt) where
+        by_id : is_none line.peeled ≡ true → (found : Option (List ℕ)) → id_of_text format digits ≡ found
+            → Well (λ next. IsNext line next (text ++ 32 ∷ part)) (with_id line found)
+        by_id free None read = tt
+        by_id free (Some id) read =
+            let before = subst (AreAttributes format text line.symref) (is_none-None line.peeled free) so in (
+              refl,
+              refl,
+              record {
+                target = before.target;
+                leads = 32 ∷ part;
+                parts = inl (ap (λ (bytes : List ℕ). bytes ++ 32 ∷ part) (without_leads text line.symref before));
+                is_target = before.is_target;
+                is_leads = (digits, ap (λ (bytes : List ℕ). 32 ∷ bytes) is, spelt_by format digits id read);
+              },
+            )
+  next_attribute line part text UnknownAttribute is so = tt
 
-  next_peeled : (line next : RefLine) (part text digits : List ℕ) (found : Option (List ℕ)) → part ≡ codes "peeled:" ++ digits → id_of_text format digits ≡ found
-      → cond (is_none line.peeled) (with_id line found) (Err BadText) ≡ Ok next → AreAttributes format text line.symref line.peeled → IsNext line next (text ++ 32 ∷ part)
-  next_peeled line next part text digits None is read e so =
-      absurd (let no = (ok_if (is_none line.peeled) (with_id line None) BadText next e).1 in cc)
-  next_peeled line next part text digits (Some id) is read e so =
-      let free = ok_if (is_none line.peeled) (Ok (record line { peeled = Some id })) BadText next e in
-      let before = subst (AreAttributes format text line.symref) (is_none-None line.peeled free.0) so in
-      subst (λ (n : RefLine). IsNext line n (text ++ 32 ∷ part)) (same_ok (record line { peeled = Some id }) next free.1) (
-        refl,
-        refl,
-        record {
-          target = before.target;
-          leads = 32 ∷ part;
-          parts = inl (ap (λ (bytes : List ℕ). bytes ++ 32 ∷ part) (without_leads text line.symref before));
-          is_target = before.is_target;
-          is_leads = (digits, ap (λ (bytes : List ℕ). 32 ∷ bytes) is, spelt_by format digits id read);
-        },
-      )
-
-  next_attribute : (line next : RefLine) (part text : List ℕ) (attribute : Attribute) → attribute_of part ≡ attribute → with_attribute format line attribute ≡ Ok next
-      → AreAttributes format text line.symref line.peeled → IsNext line next (text ++ 32 ∷ part)
-  next_attribute line next part text (Symref target) is e so = next_symref line next part text target (symref_is part target is) e so
-  next_attribute line next part text (Peeled digits) is e so =
-      next_peeled line next part text digits (id_of_text format digits) (peeled_is part digits is) refl e so
-  next_attribute line next part text UnknownAttribute is e so = absurd (let no : Err BadText ≡ Ok next = e in cc)
-
-  attributes_are : (line ref : RefLine) (parts : List (List ℕ)) (text : List ℕ) → with_attributes format (Ok line) parts ≡ Ok ref
-      → AreAttributes format text line.symref line.peeled → IsNext line ref (text ++ spaced parts)
-  attributes_are line ref [] text e so =
-      subst (λ (n : RefLine). IsNext line n (text ++ [])) (same_ok line ref e)
+  attributes_are : (line : RefLine) (parts : List (List ℕ)) (text : List ℕ) → AreAttributes format text line.symref line.peeled
+      → Well (λ ref. IsNext line ref (text ++ spaced parts)) (with_attributes format (Ok line) parts)
+  attributes_are line [] text so =
       (refl, refl, subst (λ (bytes : List ℕ). AreAttributes format bytes line.symref line.peeled) (sym (append-nil text)) so)
-  attributes_are line ref (part ∷ parts) text e so =
-      by_read (with_attribute format line (attribute_of part)) refl e (λ next bytes all more. attributes_are next ref parts bytes all more) where
-        by_read : (read : Result RefLine Why) → with_attribute format line (attribute_of part) ≡ read → with_attributes format read parts ≡ Ok ref
-            → ((next : RefLine) (bytes : List ℕ) → with_attributes format (Ok next) parts ≡ Ok ref → AreAttributes format bytes next.symref next.peeled → IsNext next ref (bytes ++ spaced parts))
-            → IsNext line ref (text ++ spaced (part ∷ parts))
-        by_read (Err why) is all later = absurd (let no : Err why ≡ Ok ref = all in cc)
-        by_read (Ok next) is all later =
-            let one = next_attribute line next part text (attribute_of part) refl is so in
-            let more = later next (text ++ 32 ∷ part) all one.2 in (
+  attributes_are line (part ∷ parts) text so =
+      by_read _ (next_attribute line part text _ (attribute_spells part) so)
+      (λ next bytes all. attributes_are next parts bytes all) where
+        by_read : (read : Result RefLine Why) → Well (λ next. IsNext line next (text ++ 32 ∷ part)) read
+            → ((next : RefLine) (bytes : List ℕ) → AreAttributes format bytes next.symref next.peeled
+            → Well (λ ref. IsNext next ref (bytes ++ spaced parts)) (with_attributes format (Ok next) parts))
+            → Well (λ ref. IsNext line ref (text ++ spaced (part ∷ parts))) (with_attributes format read parts)
+        by_read (Err why) one later = one
+        by_read (Ok next) one later =
+            well_map (λ ref more. (
               more.0 ∙ one.0,
               more.1 ∙ one.1,
               subst (λ (bytes : List ℕ). AreAttributes format bytes ref.symref ref.peeled) (append_assoc text (32 ∷ part) (spaced parts)) more.2,
-            )
+            )) (with_attributes format (Ok next) parts) (later next (text ++ 32 ∷ part) one.2)
 
-  by_id : (text : List ℕ) (ref : RefLine) (digits : List ℕ) (parts : List (List ℕ)) (found : Option (List ℕ)) → parts_of text ≡ digits ∷ parts
-      → id_of_text format digits ≡ found → line_with_id format found parts ≡ Ok ref → IsRefText format text ref
-  by_id text ref digits parts None is read e = absurd cc
-  by_id text ref digits [] (Some id) is read e = absurd cc
-  by_id text ref digits (name ∷ parts) (Some id) is read e =
+  id_well : (text digits : List ℕ) (parts : List (List ℕ)) (found : Option (List ℕ)) → parts_of text ≡ digits ∷ parts
+      → id_of_text format digits ≡ found → Well (IsRefText format text) (line_with_id format found parts)
+  id_well text digits parts None is read = tt
+  id_well text digits [] (Some id) is read = tt
+  id_well text digits (name ∷ parts) (Some id) is read =
       let bare : RefLine = record { id = id; name = name; symref = None; peeled = None } in
-      let named = ok_if (is_name name) (with_attributes format (Ok bare) parts) BadName ref e in
-      let all = attributes_are bare ref parts [] named.1 (record { target = []; leads = []; parts = inl refl; is_target = refl; is_leads = refl }) in
-      record {
+      cond_both (is_name name) _ _ (Well (IsRefText format text))
+      (λ named. well_map (λ ref all. record {
         digits = digits;
         attributes = spaced parts;
         parts = of_parts text digits (name ∷ parts) is
             ∙ (sym (text_joins digits name (spaced parts)) ∙ ap (λ (n : List ℕ). digits ++ codes " " ++ n ++ spaced parts) (sym all.1));
         is_id = subst (IsIdTextOf format digits) (sym all.0) (spelt_by format digits id read);
-        is_name = subst IsRefName (sym all.1) (name_is name named.0);
+        is_name = subst IsRefName (sym all.1) (name_is name named);
         are_attributes = all.2;
-      }
+      }) (with_attributes format (Ok bare) parts)
+      (attributes_are bare parts [] (record { target = []; leads = []; parts = inl refl; is_target = refl; is_leads = refl }))) (λ _. tt)
 
-  by_parts : (text : List ℕ) (ref : RefLine) (parts : List (List ℕ)) → parts_of text ≡ parts → line_of_parts format parts ≡ Ok ref → IsRefText format text ref
-  by_parts text ref [] is e = absurd cc
-  by_parts text ref (digits ∷ parts) is e = by_id text ref digits parts (id_of_text format digits) is refl e
+  parts_well : (text : List ℕ) (parts : List (List ℕ)) → parts_of text ≡ parts
+      → Well (IsRefText format text) (line_of_parts format parts)
+  parts_well text [] is = tt
+  parts_well text (digits ∷ parts) is = id_well text digits parts _ is refl
+
+  pub line_well : (text : List ℕ) → Well (IsRefText format text) (line_of format text)
+  unfolding line_of
+  line_well text = parts_well text _ refl
 
   pub says_ref_text : (text : List ℕ) (ref : RefLine) → line_of format text ≡ Ok ref → IsRefText format text ref
-  unfolding line_of
-  says_ref_text text ref e = by_parts text ref (parts_of text) refl e
+  says_ref_text text ref e = subst (Well (IsRefText format text)) e (line_well text)
+
+  -- it is a line of a repository with ids of the format
+  symref_formed : (text : List ℕ) (symref : Option (List ℕ)) → IsAttribute IsSymref text symref
+      → IfSome symref IsRefName
+  symref_formed text None h = tt
+  symref_formed text (Some target) h = h.1
+
+  peeled_formed : TextsHaveOneReading → (text : List ℕ) (peeled : Option (List ℕ))
+      → IsAttribute (IsPeeled format) text peeled
+      → IfSome peeled (IsIdOf format)
+  peeled_formed law text None h = tt
+  peeled_formed law text (Some id) h = ((law format h.0).0 id h.2).1
+
+  pub line_formed : TextsHaveOneReading → (text : List ℕ) (ref : RefLine) → line_of format text ≡ Ok ref
+      → IsRefLine format ref
+  line_formed law text ref e =
+      let is = says_ref_text text ref e in
+      let more = is.are_attributes in
+      record {
+        id = ((law format is.digits).0 ref.id is.is_id).1;
+        name = is.is_name;
+        symref = symref_formed more.target ref.symref more.is_target;
+        peeled = peeled_formed law more.leads ref.peeled more.is_leads;
+      }
 
 -- ---- an unborn HEAD
 
@@ -344,61 +383,76 @@ unborn_parts target clean =
     ∙ ap (λ (parts : List (List ℕ)). codes "HEAD" ∷ parts)
     (part_alone (codes "symref-target:" ++ target) (value_part (codes "symref-target:") target refl clean)))
 
-target_after : (target : List ℕ) → after_word (codes "symref-target:") (codes "symref-target:" ++ target) ≡ Some target
-unfolding after_word
-target_after target = refl
-
 pub unborn_says : NamesAreClean → (target : List ℕ) → IsRefName target → first_form (unborn_text target) ≡ UnbornForm (Ok target)
-unfolding first_form
+unfolding first_form after_word
 unborn_says names target h =
     ap first_of_parts (unborn_parts target (names target h).clean)
-    ∙ ap UnbornForm (ap unborn_target (target_after target) ∙ cond-true (is_name target) (Ok target) (Err BadName) (is_named target h))
+    ∙ ap UnbornForm (cond-true (is_name target) (Ok target) (Err why.BadName) (is_named target h))
 
-unborn_if : (b : Bool) (read : Result (List ℕ) Why) (target : List ℕ) → cond b (UnbornForm read) RefForm ≡ UnbornForm (Ok target) → (b ≡ true) × (read ≡ Ok target)
-unborn_if true read target e = (refl, cc)
-unborn_if false read target e = absurd (let no : RefForm ≡ UnbornForm (Ok target) = e in cc)
+abbrev targets : List ℕ → List (List ℕ)
+targets target = (codes "symref-target:" ++ target) ∷ []
 
-target_is : (part target : List ℕ) (found : Option (List ℕ)) → after_word (codes "symref-target:") part ≡ found → unborn_target found ≡ Ok target
-    → (part ≡ codes "symref-target:" ++ target) × IsRefName target
-target_is part target None is e = absurd cc
-target_is part target (Some name) is e =
-    let named = ok_if (is_name name) (Ok name) BadName target e in
-    let same = same_ok name target named.1 in (
-      follows_word (codes "symref-target:") part name is ∙ ap (λ (bytes : List ℕ). codes "symref-target:" ++ bytes) same,
-      subst IsRefName same (name_is name named.0),
-    )
+after_head_well : (parts : List (List ℕ))
+    → Well (λ target. (parts ≡ targets target) × IsRefName target) (unborn_after_head parts)
+after_head_well [] = tt
+after_head_well (part ∷ []) = by_name _ refl where
+  by_name : (found : Option (List ℕ)) → after_word (codes "symref-target:") part ≡ found
+      → Well (λ target. (part ∷ [] ≡ targets target) × IsRefName target) (unborn_target found)
+  by_name None is = tt
+  by_name (Some name) is =
+      cond_both (is_name name) _ _ (Well (λ target. (part ∷ [] ≡ targets target) × IsRefName target))
+      (λ named. (ap (λ (p : List ℕ). p ∷ []) (follows_word (codes "symref-target:") part name is), name_is name named))
+      (λ _. tt)
+after_head_well (part ∷ next ∷ parts) = tt
+
+unborn_well : (parts : List (List ℕ))
+    → Well (λ target. (parts ≡ codes "HEAD" ∷ targets target) × IsRefName target) (unborn_of_parts parts)
+unborn_well [] = tt
+unborn_well (head ∷ parts) =
+    cond_both (bytes_eq head (codes "HEAD")) _ _
+    (Well (λ target. (head ∷ parts ≡ codes "HEAD" ∷ targets target) × IsRefName target))
+    (λ is. well_map (λ target h. ((λ i. (bytes_eq-Decides head (codes "HEAD")).0 is i ∷ h.0 i), h.1))
+    (unborn_after_head parts) (after_head_well parts))
+    (λ _. tt)
 
 -- an unborn HEAD has three parts
-after_head_is : (parts : List (List ℕ)) (target : List ℕ) → unborn_after_head parts ≡ Ok target
-    → (part : List ℕ) × (parts ≡ part ∷ []) × (part ≡ codes "symref-target:" ++ target) × IsRefName target
-after_head_is [] target e = absurd cc
-after_head_is (part ∷ []) target e =
-    let h = target_is part target (after_word (codes "symref-target:") part) refl e in (part, refl, h.0, h.1)
-after_head_is (part ∷ next ∷ parts) target e = absurd cc
+abbrev pub FormsWell : List (List ℕ) → FirstForm → Type 0
+FormsWell parts (UnbornForm target) =
+    Well (λ target. (parts ≡ codes "unborn" ∷ codes "HEAD" ∷ targets target) × IsRefName target) target
+FormsWell parts RefForm = Unit {0}
 
-head_is : (parts : List (List ℕ)) (target : List ℕ) → unborn_of_parts parts ≡ Ok target
-    → (parts ≡ codes "HEAD" ∷ (codes "symref-target:" ++ target) ∷ []) × IsRefName target
-head_is [] target e = absurd cc
-head_is (head ∷ parts) target e =
-    let h = ok_if (bytes_eq head (codes "HEAD")) (unborn_after_head parts) BadText target e in
-    let rest = after_head_is parts target h.1 in
-    let named : head ≡ codes "HEAD" = (bytes_eq-Decides head (codes "HEAD")).0 h.0 in
-    let one : parts ≡ (codes "symref-target:" ++ target) ∷ [] = rest.1 ∙ ap (λ (part : List ℕ). part ∷ []) rest.2 in
-    ((λ i. named i ∷ one i), rest.3)
+first_well : (parts : List (List ℕ)) → FormsWell parts (first_of_parts parts)
+first_well [] = tt
+first_well (first ∷ parts) =
+    cond_both (bytes_eq first (codes "unborn")) _ _ (FormsWell (first ∷ parts))
+    (λ is. well_map (λ target h. ((λ i. (bytes_eq-Decides first (codes "unborn")).0 is i ∷ h.0 i), h.1))
+    (unborn_of_parts parts) (unborn_well parts))
+    (λ _. tt)
 
-first_is : (parts : List (List ℕ)) (target : List ℕ) → first_of_parts parts ≡ UnbornForm (Ok target)
-    → (parts ≡ codes "unborn" ∷ codes "HEAD" ∷ (codes "symref-target:" ++ target) ∷ []) × IsRefName target
-first_is [] target e = absurd (let no : RefForm ≡ UnbornForm (Ok target) = e in cc)
-first_is (first ∷ parts) target e =
-    let h = unborn_if (bytes_eq first (codes "unborn")) (unborn_of_parts parts) target e in
-    let rest = head_is parts target h.1 in
-    let named : first ≡ codes "unborn" = (bytes_eq-Decides first (codes "unborn")).0 h.0 in ((λ i. named i ∷ rest.0 i), rest.1)
+pub form_well : (text : List ℕ) → FormsWell (parts_of text) (first_form text)
+unfolding first_form
+form_well text = first_well (parts_of text)
 
 pub says_unborn_text : (text target : List ℕ) → first_form text ≡ UnbornForm (Ok target) → (text ≡ unborn_text target) × IsRefName target
-unfolding first_form unborn_text
+unfolding unborn_text
 says_unborn_text text target e =
-    let h = first_is (parts_of text) target e in (
+    let h = subst (FormsWell (parts_of text)) e (form_well text) in (
       of_parts text (codes "unborn") (codes "HEAD" ∷ (codes "symref-target:" ++ target) ∷ []) h.0
           ∙ ap (λ (bytes : List ℕ). codes "unborn HEAD " ++ bytes) (append-nil (codes "symref-target:" ++ target)),
       h.1,
     )
+
+-- ---- what is refused
+
+pub line_refused : (format : Format) (count : ℕ) (text : List ℕ) (why : Why) → Err why ≡ line_of format text
+    → IsReason (within_limit count (judge_line (line_of format text))) true why
+line_refused format count text why e =
+    subst (λ (read : Result RefLine Why). IsReason (within_limit count (judge_line read)) true why) e
+    (text_fault why true (subst (Well (IsRefText format text)) (sym e) (line_well format text))).0
+
+pub unborn_refused : (format : Format) (count : ℕ) (text : List ℕ) (why : Why) → 0 ≡ count → UnbornForm (Err why) ≡ first_form text
+    → IsReason (judge_text format count text) true why
+unborn_refused format count text why zero e =
+    subst (λ (n : ℕ). IsReason (judge_text format n text) true why) zero
+    (subst (λ (form : FirstForm). IsReason (within_limit 0 (judge_first format text form)) true why) e
+    (text_fault why true (subst (FormsWell (parts_of text)) (sym e) (form_well text))).0)

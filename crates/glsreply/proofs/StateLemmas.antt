@@ -1,18 +1,19 @@
 -- What a packet that is accepted adds to what is kept of a reply.
-use Rattle.std.proofs.Common.{◌≡◌, ℕ, Bool, true, false, cond, ◌||◌, List, [], ◌∷◌, ◌++◌, length, ◌==◌, codes, Option, Some, None, Result, Ok, Err, inl, inr, refl, sym, ap, ap₂, subst, ◌∙◌, append-nil, arith}
+use Rattle.std.proofs.Common.{◌≡◌, ℕ, Bool, true, false, cond, ◌||◌, List, [], ◌∷◌, ◌++◌, length, ◌==◌, codes, Option, Some, None, Result, Ok, Err, inl, inr, refl, sym, ap, ap₂, subst, ◌∙◌, append-nil, arith, append_assoc}
 use Rattle.std.specs.Prelude.{All}
 use Rattle.std.specs.List.{filter_map}
 use Rattle.std.specs.Str.{bytes_eq}
-use Rattle.std.proofs.lemmas.Bool.{ne_eqb, or_right}
+use Rattle.std.proofs.lemmas.Bool.{ne_eqb, or_right, cond_both}
 use Rattle.std.proofs.lemmas.List.{length_push}
 use Rattle.std.proofs.lemmas.List.Elements.{filter_map-append, All-append, All-cons, All-nil, All-head, All-tail}
 use Rattle.std.proofs.lemmas.List.Folds.{list_any-append}
 use Rattle.std.proofs.lemmas.Slice.Eq.{bytes_eq-Decides}
-use Rattle.gpkt.specs.Packets.{Packet, Data, Flush, Delim, ResponseEnd, text}
+use Rattle.std.proofs.Math.Bool.{or-false}
+use Rattle.gpkt.specs.Packets.{Packet, Data, Flush, text}
 use Rattle.gname.specs.Formats.{id_text_length}
 use Rattle.gname.specs.declared.formats.Format.{Format}
 use Rattle.gname.specs.declared.formats.Format.TheVariants.{Sha1, Sha256}
-use Rattle.ggrammar.specs.Grammar.{Verdict, Open, Whole, Refused, IsWhole}
+use Rattle.ggrammar.specs.Grammar.{Verdict, Open, Refused, IsWhole, Judge, IsOpen, LawsOf}
 use Rattle.ggrammar.specs.Ids.{id_of_text}
 use Rattle.ggrammar.specs.MessageReading.{IsAccepted, IsReason, TakesAs, TakesPacket}
 use Rattle.ggrammar.specs.PeerErrors.{peer_error}
@@ -29,14 +30,31 @@ use Rattle.glsreply.specs.LsReplies.{is_flush, is_over, unborn_in, unborn_of, li
 use Rattle.glsreply.specs.steps.ReplyState.{State, Holds, IsLineText, AreLineTexts, KeepsKind, state_of, state_in}
 use Rattle.glsreply.specs.steps.ReplyState.{with_line, with_first, with_text, with_packet}
 use Rattle.glsreply.specs.declared.reader.LsReplyReader.{LsReplyReader}
-use Rattle.glsreply.proofs.GrammarLemmas.{cond_holds, open_induction}
+
+-- ---- open lists
+
+-- the law of every grammar
+abbrev pub GrammarsAreExact : Type 0
+GrammarsAreExact = (judge : Judge) → LawsOf judge
+
+-- what holds of no packet, and of one packet more of an open list, holds of each open list
+module _ (judge : Judge) (P : List Packet → Type 0) where
+  steps : ((front : List Packet) (packet : Packet) → judge front packet ≡ Open → P front → P (front ++ packet ∷ []))
+      → (front back : List Packet) → IsOpen judge (front ++ back) → P front → P (front ++ back)
+  steps step front [] opened holds = subst P (sym (append-nil front)) holds
+  steps step front (packet ∷ back) opened holds =
+      let same : (front ++ packet ∷ []) ++ back ≡ front ++ packet ∷ back = append_assoc front (packet ∷ []) back in
+      subst P same (steps step (front ++ packet ∷ []) back (subst (IsOpen judge) (sym same) opened) (step front packet (opened.each front packet back refl) holds))
+
+  pub open_induction : P [] → ((front : List Packet) (packet : Packet) → judge front packet ≡ Open → P front → P (front ++ packet ∷ []))
+      → (front : List Packet) → IsOpen judge front → P front
+  open_induction none step front opened = steps step [] front opened none
 
 -- ---- verdicts
 
 accepted_within : (count : ℕ) (verdict : Verdict) → IsAccepted (within_limit count verdict) → IsAccepted verdict
 accepted_within count Open h = tt
-accepted_within count Whole h = tt
-accepted_within count (Refused why) h = h
+accepted_within count verdict h = h
 
 accepted_text : (format : Format) (ends : Ends) (over : Bool) (count : ℕ) (payload : List ℕ)
     → IsAccepted (judge_at format ends over count (Data payload)) → IsAccepted (judge_text format count (text payload))
@@ -111,10 +129,6 @@ texts_push front packet = filter_map-append text_in front (packet ∷ [])
 pub over_push : (front : List Packet) (packet : Packet) → is_over (front ++ packet ∷ []) ≡ (is_over front || is_over (packet ∷ []))
 over_push front packet = list_any-append is_flush front (packet ∷ [])
 
-pub or_false : (b : Bool) → (b || false) ≡ b
-or_false true = refl
-or_false false = refl
-
 push_is : (format : Format) (front : List Packet) (packet : Packet)
     → state_of format (front ++ packet ∷ []) ≡ state_at format (is_over front || is_over (packet ∷ [])) (texts_of front ++ texts_of (packet ∷ []))
 push_is format front packet =
@@ -130,11 +144,10 @@ pub state_push : (format : Format) (ends : Ends) (front : List Packet) (packet :
     → state_of format (front ++ packet ∷ []) ≡ with_packet format (state_of format front) packet
 state_push format ends front (Data payload) h =
     push_is format front (Data payload)
-    ∙ (ap (λ (b : Bool). state_at format b (texts_of front ++ text payload ∷ [])) (or_false (is_over front))
+    ∙ (ap (λ (b : Bool). state_at format b (texts_of front ++ text payload ∷ [])) (or-false (is_over front))
     ∙ text_adds format (is_over front) (texts_of front) (text payload) (accepted_text format ends (is_over front) (length (texts_of front)) payload h))
 state_push format ends front Flush h = push_is format front Flush ∙ adds_nothing format front _ true (or_right (is_over front) true refl)
-state_push format ends front Delim h = push_is format front Delim ∙ adds_nothing format front _ (is_over front) (or_false (is_over front))
-state_push format ends front ResponseEnd h = push_is format front ResponseEnd ∙ adds_nothing format front _ (is_over front) (or_false (is_over front))
+state_push format ends front packet h = push_is format front packet ∙ adds_nothing format front _ (is_over front) (or-false (is_over front))
 
 -- ---- texts that are accepted
 
@@ -148,7 +161,8 @@ form_accepted format line RefForm e h = line_accepted format line (line_of forma
 
 text_accepted : (format : Format) (count : ℕ) (line : List ℕ) → IsAccepted (judge_text format count line) → IsLineText format line
 text_accepted format count line h =
-    cond_holds (λ (verdict : Verdict). IsAccepted verdict → IsLineText format line) (count == 0) (judge_first format line (first_form line)) (judge_line (line_of format line))
+    cond_both (count == 0) (judge_first format line (first_form line)) (judge_line (line_of format line))
+    (λ (verdict : Verdict). IsAccepted verdict → IsLineText format line)
     (λ _. form_accepted format line (first_form line) refl) (λ _. line_accepted format line (line_of format line) refl) (accepted_within count _ h)
 
 nothing_more : (format : Format) (front : List Packet) (packet : Packet) → texts_of (packet ∷ []) ≡ [] → AreLineTexts format front → AreLineTexts format (front ++ packet ∷ [])
@@ -161,9 +175,7 @@ line_texts_push format ends front (Data payload) accepted h =
     subst (All (IsLineText format)) (sym (texts_push front (Data payload)))
     (All-append (IsLineText format) (texts_of front) (text payload ∷ []) h
     (All-cons (IsLineText format) (text payload) [] (text_accepted format (length (texts_of front)) (text payload) (accepted_text format ends (is_over front) (length (texts_of front)) payload accepted)) (All-nil (IsLineText format))))
-line_texts_push format ends front Flush accepted h = nothing_more format front Flush refl h
-line_texts_push format ends front Delim accepted h = nothing_more format front Delim refl h
-line_texts_push format ends front ResponseEnd accepted h = nothing_more format front ResponseEnd refl h
+line_texts_push format ends front packet accepted h = nothing_more format front packet refl h
 
 pub whole_line_texts : (format : Format) (ends : Ends) (packets : List Packet) → IsWhole (judge format ends) packets → AreLineTexts format packets
 whole_line_texts format ends packets whole =
@@ -174,24 +186,19 @@ whole_line_texts format ends packets whole =
 
 -- ---- a line has ids of one format
 
-id_length_of : (format : Format) (text id : List ℕ) → id_of_text format text ≡ Some id → length text ≡ id_text_length format
-id_length_of format text id e = (spelt_by format text id e).long
-
-first_id : (format : Format) (id : Option (List ℕ)) (parts : List (List ℕ)) (ref : RefLine) → line_with_id format id parts ≡ Ok ref → (x : List ℕ) × (id ≡ Some x)
-first_id format None parts ref e = absurd (let no : Err BadId ≡ Ok ref = e in cc)
-first_id format (Some id) parts ref e = (id, refl)
-
 first_length : (format : Format) (parts : List (List ℕ)) (ref : RefLine) → line_of_parts format parts ≡ Ok ref
     → (first : List ℕ) × (rest : List (List ℕ)) × (parts ≡ first ∷ rest) × (length first ≡ id_text_length format)
 first_length format [] ref e = absurd (let no : Err BadId ≡ Ok ref = e in cc)
-first_length format (first ∷ parts) ref e =
-    let h = first_id format (id_of_text format first) parts ref e in (first, parts, refl, id_length_of format first h.0 h.1)
+first_length format (first ∷ parts) ref e = (first, parts, refl, by_id (id_of_text format first) refl e) where
+  by_id : (id : Option (List ℕ)) → id_of_text format first ≡ id → line_with_id format id parts ≡ Ok ref
+      → length first ≡ id_text_length format
+  by_id None is h = absurd (let no : Err BadId ≡ Ok ref = h in cc)
+  by_id (Some id) is h = (spelt_by format first id is).long
 
 same_format : (f g : Format) → id_text_length f ≡ id_text_length g → f ≡ g
 same_format Sha1 Sha1 e = refl
 same_format Sha256 Sha256 e = refl
-same_format Sha1 Sha256 e = absurd (omega (arith, e))
-same_format Sha256 Sha1 e = absurd (omega (arith, e))
+same_format f g e = absurd (omega (arith, e))
 
 one_format : (f g : Format) (line : List ℕ) (a b : RefLine) → line_of f line ≡ Ok a → line_of g line ≡ Ok b → f ≡ g
 unfolding line_of
@@ -206,11 +213,12 @@ abbrev pub refs_in : Result RefLine Why → List RefLine
 refs_in (Ok line) = line ∷ []
 refs_in (Err why) = []
 
+one_in : (read : Result RefLine Why) → filter_map (λ (r : Result RefLine Why). line_in r) (read ∷ []) ≡ refs_in read
+one_in (Ok ref) = refl
+one_in (Err why) = refl
+
 pub ref_lines-one : (format : Format) (line : List ℕ) → ref_lines format (line ∷ []) ≡ refs_in (line_of format line)
-ref_lines-one format line = by_read (line_of format line) refl where
-  by_read : (read : Result RefLine Why) → line_of format line ≡ read → ref_lines format (line ∷ []) ≡ refs_in read
-  by_read (Ok ref) e = rw e refl
-  by_read (Err why) e = rw e refl
+ref_lines-one format line = one_in (line_of format line)
 
 pub ref_lines-cons : (format : Format) (line : List ℕ) (texts : List (List ℕ)) → ref_lines format (line ∷ texts) ≡ ref_lines format (line ∷ []) ++ ref_lines format texts
 ref_lines-cons format line texts = filter_map-append (λ text. line_in (line_of format text)) (line ∷ []) texts
@@ -236,9 +244,7 @@ same_refs f g (line ∷ texts) a b =
 
 brings_same : (front : List Packet) (packet : Packet) → brings [] packet ≡ brings front packet
 brings_same front (Data payload) = refl
-brings_same front Flush = refl
-brings_same front Delim = refl
-brings_same front ResponseEnd = refl
+brings_same front packet = refl
 
 module _ {A : Type 0} where
   abbrev pub Left : LsReplyReader A → List Packet → Type 0

@@ -20,8 +20,7 @@ use Rattle.glsreply.specs.WellFormed.{has_one_format, line_count, has_room, Push
 same_format : (a b : Format) → is_format a b ≡ true → a ≡ b
 same_format Sha1 Sha1 e = refl
 same_format Sha256 Sha256 e = refl
-same_format Sha1 Sha256 e = cc
-same_format Sha256 Sha1 e = cc
+same_format a b e = cc
 
 pub is_format-same : (a : Format) → is_format a a ≡ true
 is_format-same Sha1 = refl
@@ -72,14 +71,10 @@ module _ (law : IdsHaveOneFormat) where
 
   -- ---- the reply with the line
 
-  pub lines_pushed : (reply : LsReply) (line : RefLine) → IsReplyValue reply → IsLine line → has_one_format reply.lines line ≡ true
-      → (f : Format) × All (IsRefLine f) (reply.lines ++ line ∷ [])
-  lines_pushed reply line h is goes = lines_in_format h.0 reply.lines line h.1.lines is goes
-
   pub value_pushed : (reply : LsReply) (line : RefLine) → IsReplyValue reply → IsLine line → has_one_format reply.lines line ≡ true → line_count reply < max_lines
       → IsReplyValue (record { unborn = reply.unborn; lines = reply.lines ++ line ∷ [] })
   value_pushed reply line h is goes room =
-      let all = lines_pushed reply line h is goes in
+      let all = lines_in_format h.0 reply.lines line h.1.lines is goes in
       (all.0, record { unborn = h.1.unborn; lines = all.1; few = (let long = length_push reply.lines line in omega (arith, long, room)) })
 
   -- ---- a push

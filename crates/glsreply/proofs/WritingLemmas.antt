@@ -1,5 +1,5 @@
 -- The packets that are written.
-use Rattle.std.proofs.Common.{◌≡◌, ℕ, ◌<◌, ◌≤◌, List, Option, [], ◌∷◌, ◌++◌, length, map, drop, get_or, codes, zero, suc, refl, sym, ap, ◌∙◌, append_assoc, length-append, arith}
+use Rattle.std.proofs.Common.{◌≡◌, ℕ, ◌<◌, ◌≤◌, List, Option, [], ◌∷◌, ◌++◌, length, map, drop, get_or, codes, suc, refl, sym, ap, ◌∙◌, append_assoc, length-append, arith, drop-cons}
 use Rattle.gpkt.specs.Laws.{Fits}
 use Rattle.gpkt.specs.Packets.{Packet, Data, Flush, line_feed}
 use Rattle.gname.specs.Names.{max_name}
@@ -21,14 +21,10 @@ unborn_fits name short = let long = length-append name (line_feed ∷ []) in ome
 abbrev pub coming : Ends → List RefLine → List Packet
 coming ends lines = map ref_packet lines ++ Flush ∷ ends_with ends
 
-pub drop-line : (lines : List RefLine) (i : ℕ) (line : RefLine) → i < length lines → line ≡ get_or lines i line → drop i lines ≡ line ∷ drop (suc i) lines
-drop-line [] i line inside at = absurd (omega (arith, inside))
-drop-line (x ∷ lines) zero line inside at = ap (λ (l : RefLine). l ∷ lines) (sym at)
-drop-line (x ∷ lines) (suc i) line inside at = drop-line lines i line (omega (arith, inside)) at
-
 pub coming-line : (ends : Ends) (lines : List RefLine) (i : ℕ) (line : RefLine) → i < length lines → line ≡ get_or lines i line
     → coming ends (drop i lines) ≡ (ref_packet line ∷ []) ++ coming ends (drop (suc i) lines)
-coming-line ends lines i line inside at = ap (coming ends) (drop-line lines i line inside at)
+coming-line ends lines i line inside at =
+    ap (coming ends) (drop-cons lines i line inside ∙ ap (λ (l : RefLine). l ∷ drop (suc i) lines) (sym at))
 
 pub coming-end : (ends : Ends) (lines : List RefLine) (i : ℕ) → length lines ≤ i → coming ends (drop i lines) ≡ Flush ∷ ends_with ends
 coming-end ends lines i past = ap (coming ends) (drop_all i lines past)

@@ -32,7 +32,7 @@ IsAttribute IsTextOf text (Some value) = IsTextOf text value
 
 -- each attribute at most once, in either order
 pub record AreAttributes (format : Format) (text : Bytes) (symref : Option Name) (peeled : Option Id) : Type 0 where
-  pub target : Name
+  pub target : Bytes
   pub leads : Bytes
   pub parts : (text ≡ target ++ leads) ⊎ (text ≡ leads ++ target)
   pub is_target : IsAttribute IsSymref target symref

@@ -62,7 +62,6 @@ pub fn every_input()
 {
     endings();
     messages_are_read();
-    texts_have_one_reading();
 }
 
 /// The lists of packets that are read as a reply are those that the manual has, and they say the same.

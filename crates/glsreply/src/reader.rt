@@ -208,7 +208,6 @@ impl<A: Allocator + Copy> LsReplyReader<A> {
             (state_in self.new ≡ with_line (state_in self.old) (line_of self.old.format text.now))
             result }
     {
-        texts_have_one_reading();
         match line_of(self.format, text) {
             Ok(line) => self.take_line(&line),
             Err(why) => Err(why),

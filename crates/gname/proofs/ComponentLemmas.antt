@@ -1,18 +1,17 @@
 -- The rule of components finds the first part between slashes that is not allowed.
-use Rattle.std.proofs.Common.{◌≡◌, ◌↔◌, ℕ, ◌+◌, ◌-◌, ◌<◌, ◌≤◌, ◌==◌, true, false, inl, inr, List, [], ◌∷◌, ◌++◌, length, take, drop, get_or, slice_index, Option, Some, None, MatchOption, refl, sym, ap, ◌∙◌, subst, arith, append_assoc}
+use Rattle.std.proofs.Common.{◌≡◌, ◌↔◌, ℕ, ◌+◌, ◌-◌, ◌<◌, ◌≤◌, ◌==◌, true, false, inl, inr, List, [], ◌∷◌, ◌++◌, length, take, drop, get_or, slice_index, Option, Some, None, refl, sym, ap, ◌∙◌, subst, arith, append_assoc}
 use Rattle.std.specs.Prelude.{All}
 use Rattle.std.specs.List.{before_first, position_or_len}
 use Rattle.std.specs.Option.{option_map}
 use Rattle.std.proofs.Math.ListN.{length-take}
-use Rattle.std.proofs.lemmas.Bool.{and_from, and_parts, cases_eq, cases_lt, cases_order, eqb-true, false_from_ne_true, or_cases, or_right}
-use Rattle.std.proofs.lemmas.Option.{same_Some}
+use Rattle.std.proofs.lemmas.Bool.{and_from, and_parts, cases_eq, cases_lt, eqb-true, false_from_ne_true, or_cases, or_right}
 use Rattle.std.proofs.lemmas.List.{drop_all, drop_at, drop_more, get_or-take, get_or_append_left, get_or_at, length-append, take-append-drop, take_at, take_more}
 use Rattle.std.proofs.lemmas.List.Sums.{fails_before_first, passes_at_first, position_or_len_is, prefix_len-le-length}
 use Rattle.gname.specs.declared.faults.NameFault.TheVariants.{Component}
-use Rattle.gname.specs.Names.{begins_bad_component, begins_component, component, component_at, first_place, is_bad_component, is_slash}
+use Rattle.gname.specs.Names.{begins_bad_component, begins_component, component, component_at, is_bad_component, is_slash}
 use Rattle.gname.specs.Components.{AllowsComponents, ComesBefore, ComesBehind, ComponentFacts, IsComponent, IsFirstBadComponent}
-use Rattle.gname.proofs.NameLemmas.{KeepsRules-of_name, component-fault_from, component-fault_parts}
-use Rattle.gname.proofs.PlaceLemmas.{first_place-is}
+use Rattle.gname.proofs.NameLemmas.{KeepsRules-of_name, component_fault_from, component_fault_parts}
+use Rattle.gname.proofs.PlaceLemmas.{IsFirstOf, first_place_is, first_places_are_first}
 
 -- ---- where a component begins
 
@@ -140,11 +139,13 @@ allowed text at part h fails =
 
 -- ---- what the rule finds
 
--- what the first place is that passes the test
-abbrev Found : List ℕ → Option ℕ → Type 0
-Found text o =
-    MatchOption o ((j : ℕ) → j ≤ length text → begins_bad_component text j ≡ false)
-    (λ at. (at ≤ length text) × (begins_bad_component text at ≡ true) × ((j : ℕ) → j < at → begins_bad_component text j ≡ false))
+-- and where the components that begin at a place are allowed, the test fails
+passes : (text : List ℕ) (at : ℕ) → at ≤ length text → ((part : List ℕ) → IsComponent text at part → is_bad_component part ≡ false)
+    → begins_bad_component text at ≡ false
+passes text at fits good = false_from_ne_true (begins_bad_component text at) (λ bad.
+    let both = test-true text at bad in
+    let clash = sym both.1 ∙ good (component_at text at) (IsComponent-at text at fits both.0) in
+    cc clash)
 
 first-bad : (text : List ℕ) (at : ℕ) → at ≤ length text → begins_bad_component text at ≡ true → ((j : ℕ) → j < at → begins_bad_component text j ≡ false)
     → IsFirstBadComponent text at
@@ -157,68 +158,37 @@ first-bad text at fits here before =
       earlier = λ k other h low. allowed text k other h (before k low);
     }
 
-allows-none : (text : List ℕ) (o : Option ℕ) → Found text o → o ≡ None → AllowsComponents text
+-- what is found, where a fault of components is at the place that was found
+allows-none : (text : List ℕ) (o : Option ℕ) → IsFirstOf (begins_bad_component text) (length text) o → option_map Component o ≡ None
+    → AllowsComponents text
 allows-none text None found is = λ at part h. allowed text at part h (found at (within text at part h))
 allows-none text (Some at) found is = cc is
 
-none-allows : (text : List ℕ) (o : Option ℕ) → Found text o → AllowsComponents text → o ≡ None
-none-allows text None found all = refl
-none-allows text (Some at) found all =
-    let both = test-true text at found.1 in
-    let clash = sym both.1 ∙ all at (component_at text at) (IsComponent-at text at found.0 both.0) in
-    cc clash
-
-first-found : (text : List ℕ) (o : Option ℕ) (at : ℕ) → Found text o → o ≡ Some at → IsFirstBadComponent text at
+first-found : (text : List ℕ) (o : Option ℕ) (at : ℕ) → IsFirstOf (begins_bad_component text) (length text) o
+    → option_map Component o ≡ Some (Component at) → IsFirstBadComponent text at
 first-found text None at found is = cc is
 first-found text (Some k) at found is =
-    subst (IsFirstBadComponent text) (same_Some k at is) (first-bad text k found.0 found.1 found.2)
-
-found-first : (text : List ℕ) (o : Option ℕ) (at : ℕ) → Found text o → IsFirstBadComponent text at → o ≡ Some at
-found-first text None at found first =
-    let here = test-from text at first.part first.there first.bad in
-    let clash = sym here ∙ found at (within text at first.part first.there) in
-    cc clash
-found-first text (Some k) at found first =
-    elim (cases_order k at) [
-      | inl same ↦ ap (λ (n : ℕ). Some n) same
-      | inr (inl low) ↦
-          let both = test-true text k found.1 in
-          let clash = sym both.1 ∙ first.earlier k (component_at text k) (IsComponent-at text k found.0 both.0) low in
-          cc clash
-      | inr (inr high) ↦
-          let clash = sym (test-from text at first.part first.there first.bad) ∙ found.2 at high in
-          cc clash
-    ]
-
-found-here : (text : List ℕ) → Found text (first_place (begins_bad_component text) text)
-found-here text = first_place-is (begins_bad_component text) text
-
--- a fault of components is at the place that was found
-component-None : (o : Option ℕ) → (option_map Component o ≡ None) ↔ (o ≡ None)
-component-None None = (λ h. refl, λ h. refl)
-component-None (Some k) = (λ h. cc h, λ h. cc h)
-
-component-Some : (o : Option ℕ) (at : ℕ) → (option_map Component o ≡ Some (Component at)) ↔ (o ≡ Some at)
-component-Some None at = (λ h. cc h, λ h. cc h)
-component-Some (Some k) at = (λ h. cc h, λ h. cc h)
+    let same : k ≡ at = cc in subst (IsFirstBadComponent text) same (first-bad text k found.0 found.1 found.2)
 
 rule-none : (text : List ℕ) → (component text ≡ None) ↔ AllowsComponents text
 unfolding component
-rule-none text =
-    let o = first_place (begins_bad_component text) text in
-    let same = component-None o in (
-      λ h. allows-none text o (found-here text) (same.0 h),
-      λ all. same.1 (none-allows text o (found-here text) all),
-    )
+rule-none text = (
+  allows-none text _ (first_places_are_first (begins_bad_component text) text),
+  λ all. ap (option_map Component) (first_place_is (begins_bad_component text) text None (λ j low. passes text j low (all j))),
+)
 
 rule-found : (text : List ℕ) (at : ℕ) → (component text ≡ Some (Component at)) ↔ IsFirstBadComponent text at
 unfolding component
-rule-found text at =
-    let o = first_place (begins_bad_component text) text in
-    let same = component-Some o at in (
-      λ h. first-found text o at (found-here text) (same.0 h),
-      λ first. same.1 (found-first text o at (found-here text) first),
-    )
+rule-found text at = (
+  first-found text _ at (first_places_are_first (begins_bad_component text) text),
+  λ first.
+      let fits = within text at first.part first.there in
+      ap (option_map Component) (first_place_is (begins_bad_component text) text (Some at) (
+        fits,
+        test-from text at first.part first.there first.bad,
+        λ j low. passes text j (omega (arith, fits)) (λ part h. first.earlier j part h low),
+      )),
+)
 
 -- ---- the facts of components
 
@@ -229,15 +199,15 @@ one-begins text front back cut before =
       IsComponent-at text (length front) (omega (arith, long)) (begins-from text front back (length front) cut refl before),
     )
 
-pub ComponentFacts-of : (text : List ℕ) → ComponentFacts text
-ComponentFacts-of text =
+pub components_are_parts : (text : List ℕ) → ComponentFacts text
+components_are_parts text =
     record {
       each = one-begins text;
       none_found = rule-none text;
       found = rule-found text;
       fault = λ at. (
-        λ h. (let parts = component-fault_parts text at h in (parts.0, (rule-found text at).0 parts.1)),
-        λ h. component-fault_from text at h.0 ((rule-found text at).1 h.1),
+        λ h. (let parts = component_fault_parts text at h in (parts.0, (rule-found text at).0 parts.1)),
+        λ h. component_fault_from text at h.0 ((rule-found text at).1 h.1),
       );
       name = λ h. (rule-none text).0 (KeepsRules-of_name text h).components;
     }

@@ -3,13 +3,13 @@ use Rattle.std.proofs.Common.{◌≡◌, ◌≢◌, ℕ, ◌+◌, ◌*◌, ◌%�
 use Rattle.std.specs.List.{AllPass}
 use Rattle.std.specs.Result.{result_unwrap_or}
 use Rattle.std.proofs.Math.ListN.{length-take}
-use Rattle.std.proofs.lemmas.Bool.{cases_eq, cases_lt}
+use Rattle.std.proofs.lemmas.Bool.{cases_eq, cases_order}
 use Rattle.std.proofs.lemmas.Bool.Decides.{nat_tests}
 use Rattle.std.proofs.lemmas.List.{get_or-take}
 use Rattle.hex.specs.Hex.{decode_of, decode_sized, is_hex_digit, lower_digits, upper_digits}
 use Rattle.hex.specs.declared.error.FromHexError.{FromHexError}
 use Rattle.hex.specs.declared.error.FromHexError.TheVariants.{InvalidStringLength, OddLength}
-use Rattle.hex.proofs.HexLemmas.{decode_of-ok, decode_of-err, decode_of-encode_lower, decode_of-encode_upper, decode_sized-twice, decode_sized-other, decode_sized-odd, decode_sized-ok, length-encode_with}
+use Rattle.hex.proofs.HexLemmas.{decode_of-ok, decode_of-err, decode_of-encode_lower, decode_of-encode_upper, decode_sized-twice, decode_sized-other, decode_sized-odd, length-encode_with}
 use Rattle.gname.specs.declared.formats.Format.{Format}
 use Rattle.gname.specs.declared.formats.Format.TheVariants.{Sha1, Sha256}
 use Rattle.gname.specs.Formats.{id_length, id_text_length}
@@ -24,12 +24,12 @@ few_digits Sha1 = omega arith
 few_digits Sha256 = omega arith
 
 -- an id of a format has that format
-pub format_of-id : (format : Format) (id : List ℕ) → IsIdOf format id → format_of id ≡ format
+format_of-id : (format : Format) (id : List ℕ) → IsIdOf format id → format_of id ≡ format
 format_of-id Sha1 id h = rw h.long refl
 format_of-id Sha256 id h = rw h.long refl
 
-pub IsId-of_format : (format : Format) (id : List ℕ) → IsIdOf format id → IsId id
-IsId-of_format format id h = rw (format_of-id format id h) h
+pub ids_have_one_format : (format : Format) (id : List ℕ) → IsIdOf format id → IsId id × (format_of id ≡ format)
+ids_have_one_format format id h = let same = format_of-id format id h in (rw same h, same)
 
 -- what a text spells is an id
 pub IsIdOf-of_text : (format : Format) (text id : List ℕ) → IsIdTextOf format text id → IsIdOf format id
@@ -41,35 +41,19 @@ IsIdOf-of_text format text id h =
 AllPass-of_id_text : (text id : List ℕ) → decode_of text ≡ Ok id → AllPass is_hex_digit text
 AllPass-of_id_text text id h = (decode_of-ok text id h).1
 
--- the text of an id in lower case reads back
-pub IsIdText-id_text : (id : List ℕ) → IsId id → IsIdText (id_text id) id
-IsIdText-id_text id h = record {
-  long = length-encode_with lower_digits id ∙ ap (λ n. 2 * n) h.long;
-  spells = decode_of-encode_lower id h.bytes;
-}
-
--- so does the one in upper case
-pub IsIdText-upper_id_text : (id : List ℕ) → IsId id → IsIdText (upper_id_text id) id
-IsIdText-upper_id_text id h = record {
-  long = length-encode_with upper_digits id ∙ ap (λ n. 2 * n) h.long;
-  spells = decode_of-encode_upper id h.bytes;
-}
+-- the text of an id in lower case reads back, and so does the one in upper case
+pub ids_have_texts : (id : List ℕ) → IsId id → IsIdText (id_text id) id × IsIdText (upper_id_text id) id
+ids_have_texts id h = (
+  record { long = length-encode_with lower_digits id ∙ ap (λ n. 2 * n) h.long; spells = decode_of-encode_lower id h.bytes },
+  record { long = length-encode_with upper_digits id ∙ ap (λ n. 2 * n) h.long; spells = decode_of-encode_upper id h.bytes },
+)
 
 -- a text spells one id
 one_decoding : (text a b : List ℕ) → decode_of text ≡ Ok a → decode_of text ≡ Ok b → a ≡ b
 one_decoding text a b h k = ap (λ (r : Result (List ℕ) FromHexError). result_unwrap_or r a) (sym h ∙ k)
 
-pub IsIdText-one : (text a b : List ℕ) → IsIdText text a → IsIdText text b → a ≡ b
-IsIdText-one text a b h k = one_decoding text a b h.spells k.spells
-
--- a text that decodes into room for an id's bytes spells that id
-pub ReadsId-ok : (format : Format) (text id : List ℕ) → decode_sized text (id_length format) ≡ Ok id
-    → ReadsId format text (Ok id)
-ReadsId-ok format text id h =
-    let long = decode_sized-ok text (id_length format) id h in
-    let spelt : IsIdTextOf format text id =
-    record { long = long; spells = sym (decode_sized-twice text (id_length format) long) ∙ h } in
-    (spelt, IsIdOf-of_text format text id spelt)
+pub texts_spell_one_id : (text a b : List ℕ) → IsIdText text a → IsIdText text b → a ≡ b
+texts_spell_one_id text a b h k = one_decoding text a b h.spells k.spells
 
 -- the error of a result, or d
 abbrev err_or : FromHexError → Result (List ℕ) FromHexError → FromHexError
@@ -102,10 +86,10 @@ ReadsId-err format text e h =
     ]
 
 -- the same, of the reading's error as `?` passes it on
-pub ReadsId-is_err : (format : Format) (text : List ℕ) (e : FromHexError) (r : Result (List ℕ) OidFault)
+pub id_is_refused : (format : Format) (text : List ℕ) (e : FromHexError) (r : Result (List ℕ) OidFault)
     → Err e ≡ decode_sized text (id_length format) → IsErrAnd r (λ fault. fault ≡ id_fault_of e) → ReadsId format text r
-ReadsId-is_err format text e (Ok id) h is = absurd is
-ReadsId-is_err format text e (Err fault) h is = rw is (ReadsId-err format text e (sym h))
+id_is_refused format text e (Ok id) h is = absurd is
+id_is_refused format text e (Err fault) h is = rw is (ReadsId-err format text e (sym h))
 
 -- ---- one reading
 
@@ -122,40 +106,35 @@ not_before text a b first other low =
 
 one_place : (text : List ℕ) (a b : ℕ) → IsFirstBadDigit text a → IsFirstBadDigit text b → a ≡ b
 one_place text a b first other =
-    elim (cases_lt a b) [
-      | inl low ↦ absurd (not_before text a b first other low)
-      | inr high ↦
-          elim (cases_lt b a) [
-            | inl low ↦ absurd (not_before text b a other first low)
-            | inr same ↦ omega arith
-          ]
+    elim (cases_order a b) [
+      | inl same ↦ same
+      | inr (inl low) ↦ absurd (not_before text a b first other low)
+      | inr (inr high) ↦ absurd (not_before text b a other first high)
     ]
 
 -- each text has one reading
-pub ReadsId-one : (format : Format) (text : List ℕ) (a b : Result (List ℕ) OidFault)
+ReadsId-one : (format : Format) (text : List ℕ) (a b : Result (List ℕ) OidFault)
     → ReadsId format text a → ReadsId format text b → a ≡ b
 ReadsId-one format text (Ok a) (Ok b) h k = ap Ok (one_decoding text a b h.0.spells k.0.spells)
-ReadsId-one format text (Ok a) (Err Length) h k = absurd (k h.0.long)
-ReadsId-one format text (Ok a) (Err (Digit at)) h k =
-    absurd (no_bad_digit text at (AllPass-of_id_text text a h.0.spells) k.1)
-ReadsId-one format text (Err Length) (Ok b) h k = absurd (h k.0.long)
 ReadsId-one format text (Err Length) (Err Length) h k = refl
-ReadsId-one format text (Err Length) (Err (Digit at)) h k = absurd (h k.0)
-ReadsId-one format text (Err (Digit at)) (Ok b) h k =
-    absurd (no_bad_digit text at (AllPass-of_id_text text b k.0.spells) h.1)
-ReadsId-one format text (Err (Digit at)) (Err Length) h k = absurd (k h.0)
 ReadsId-one format text (Err (Digit at)) (Err (Digit other)) h k =
     ap (λ n. Err (Digit n)) (one_place text at other h.1 k.1)
+ReadsId-one format text (Ok a) (Err (Digit at)) h k =
+    absurd (no_bad_digit text at (AllPass-of_id_text text a h.0.spells) k.1)
+ReadsId-one format text (Err (Digit at)) (Ok b) h k =
+    absurd (no_bad_digit text at (AllPass-of_id_text text b k.0.spells) h.1)
+ReadsId-one format text _ _ h k = grind arith
 
--- a text that spells an id is read as that id
-pub ReadsId-of_text : (format : Format) (text id : List ℕ) → IsIdTextOf format text id → ReadsId format text (Ok id)
-ReadsId-of_text format text id h = (h, IsIdOf-of_text format text id h)
+pub texts_have_one_reading : (format : Format) (text : List ℕ)
+    → ((id : List ℕ) → IsIdTextOf format text id → ReadsId format text (Ok id))
+    × ((a b : Result (List ℕ) OidFault) → ReadsId format text a → ReadsId format text b → a ≡ b)
+texts_have_one_reading format text = (λ id h. (h, IsIdOf-of_text format text id h), ReadsId-one format text)
 
 -- a hexadecimal digit is above the space
 hex_digit_clean : (b : ℕ) → is_hex_digit b ≡ true → 32 < b
 hex_digit_clean b h = grind (arith, nat_tests)
 
-pub IdTextFacts-of_text : (text id : List ℕ) → IsIdText text id → IdTextFacts text id
-IdTextFacts-of_text text id h =
+pub id_texts_are_digits : (text id : List ℕ) → IsIdText text id → IdTextFacts text id
+id_texts_are_digits text id h =
     let digits = AllPass-of_id_text text id h.spells in
     record { spelt = IsIdOf-of_text (format_of id) text id h; digits = digits; clean = λ k d low. hex_digit_clean _ (digits k d low) }

@@ -1,7 +1,7 @@
 -- The first place of a text that passes a test: what it is, and which searches find it.
 use Rattle.std.proofs.Common.{◌≡◌, ℕ, zero, suc, ◌+◌, ◌<◌, ◌≤◌, Bool, true, false, cond, inl, inr, List, length, take, drop, slice_index, Option, Some, None, MatchOption, refl, sym, ap, ◌∙◌, arith, take_all, le_refl, length-drop}
 use Rattle.std.proofs.Math.ListN.{length-take}
-use Rattle.std.proofs.lemmas.Bool.{cases_eq, false_from_ne_true}
+use Rattle.std.proofs.lemmas.Bool.{cases_eq, cases_order, false_from_ne_true}
 use Rattle.std.proofs.lemmas.Slice.Eq.{bytes_eq-Decides}
 use Rattle.std.proofs.lemmas.List.Sums.{position_or_len_is}
 use Rattle.std.specs.List.{before_first}
@@ -9,85 +9,13 @@ use Rattle.memchr.specs.Find.{IsFirst, IsFirstByte, OccursAt, is_byte}
 use Rattle.memchr.proofs.lemmas.MatchLemmas.{OccursAt-part, OccursAt-from_part}
 use Rattle.gname.specs.Names.{first_place, first_place_from, is_slash, stands_at}
 
--- a place that passes, with none before it, is the first
-pub first_place_from-Some : (test : ℕ → Bool) (at more k : ℕ) → at ≤ k → k < at + more → test k ≡ true
-    → ((j : ℕ) → at ≤ j → j < k → test j ≡ false) → first_place_from test at more ≡ Some k
-unfolding first_place_from
-first_place_from-Some test at zero k low high here before = absurd (omega arith)
-first_place_from-Some test at (suc more) k low high here before =
-    elim (cases_eq at k) [
-      | inl same ↦ rw (same, here) refl
-      | inr other ↦
-          let no : test at ≡ false = before at (le_refl at) (omega arith) in
-          rw no (first_place_from-Some test (at + 1) more k (omega arith) (omega arith) here (λ j a b. before j (omega arith) b))
-    ]
-
--- where none passes there is no first one
-pub first_place_from-None : (test : ℕ → Bool) (at more : ℕ) → ((j : ℕ) → at ≤ j → j < at + more → test j ≡ false)
-    → first_place_from test at more ≡ None
-unfolding first_place_from
-first_place_from-None test at zero none = refl
-first_place_from-None test at (suc more) none =
-    let no : test at ≡ false = none at (le_refl at) (omega arith) in
-    rw no (first_place_from-None test (at + 1) more (λ j a b. none j (omega arith) (omega arith)))
-
--- the same two, of the places of a text
-pub first_place-Some : (test : ℕ → Bool) (text : List ℕ) (k : ℕ) → k ≤ length text → test k ≡ true
-    → ((j : ℕ) → j < k → test j ≡ false) → first_place test text ≡ Some k
-first_place-Some test text k fits here before =
-    first_place_from-Some test 0 (length text + 1) k (omega arith) (omega arith) here (λ j a b. before j b)
-
-pub first_place-None : (test : ℕ → Bool) (text : List ℕ) → ((j : ℕ) → j < length text + 1 → test j ≡ false)
-    → first_place test text ≡ None
-first_place-None test text none = first_place_from-None test 0 (length text + 1) (λ j a b. none j (omega arith))
-
--- a search for the first place of which P holds finds it, where the test decides P
-pub first_place-found : (test : ℕ → Bool) (text : List ℕ) (P : ℕ → Type 0) (r : Option ℕ)
-    → ((k : ℕ) → test k ≡ true → P k) → ((k : ℕ) → P k → test k ≡ true) → IsFirst P 0 (length text + 1) r
-    → first_place test text ≡ r
-first_place-found test text P None sound whole h =
-    first_place-None test text (λ j b. false_from_ne_true (test j) (λ t. h j (omega arith) b (sound j t)))
-first_place-found test text P (Some k) sound whole h =
-    let first = h.0 in
-    let high = first.high in
-    first_place-Some test text k (omega (arith, high)) (whole k h.1)
-    (λ j b. false_from_ne_true (test j) (λ t. first.before j (omega arith) b (sound j t)))
-
--- where bytes stand, they occur
-OccursAt-of_stands : (text needle : List ℕ) (k : ℕ) → 0 < length needle → stands_at text needle k ≡ true
-    → OccursAt text needle k
-OccursAt-of_stands text needle k some h =
-    let same : needle ≡ take (length needle) (drop k text) = (bytes_eq-Decides needle (take (length needle) (drop k text))).0 h in
-    let long = ap length same ∙ length-take (length needle) (drop k text) in
-    OccursAt-from_part text needle k (omega (arith, long, length-drop k text)) (sym same)
-
--- where they occur, they stand
-stands-of_OccursAt : (text needle : List ℕ) (k : ℕ) → OccursAt text needle k → stands_at text needle k ≡ true
-stands-of_OccursAt text needle k h =
-    (bytes_eq-Decides needle (take (length needle) (drop k text))).1 (sym (OccursAt-part text needle k h))
-
--- a search for bytes finds the first place at which they stand
-pub first_place-occurs : (text needle : List ℕ) (r : Option ℕ) → 0 < length needle
-    → IsFirst (OccursAt text needle) 0 (length text + 1) r → first_place (stands_at text needle) text ≡ r
-first_place-occurs text needle r some h =
-    first_place-found (stands_at text needle) text (OccursAt text needle) r (λ k. OccursAt-of_stands text needle k some)
-    (λ k. stands-of_OccursAt text needle k) h
-
--- a search for a slash finds where a component ends
-pub component-of_search : (rest : List ℕ) (r : Option ℕ) → IsFirstByte (is_byte 47) rest r
-    → MatchOption r (rest ≡ before_first is_slash rest) (λ len. take len rest ≡ before_first is_slash rest)
-component-of_search rest None h =
-    let whole = position_or_len_is is_slash rest (length rest) 0 (le_refl (length rest))
-    (λ j b. false_from_ne_true (is_slash (slice_index rest j)) (λ t. h j (omega arith) b t)) (λ b. absurd (omega arith)) in
-    sym (ap (λ n. take n rest) whole ∙ take_all (length rest) rest (le_refl (length rest)))
-component-of_search rest (Some len) h =
-    let first = h.0 in
-    let high = first.high in
-    let place = position_or_len_is is_slash rest len 0 (omega (arith, high))
-    (λ j b. false_from_ne_true (is_slash (slice_index rest j)) (λ t. first.before j (omega arith) b t)) (λ _. h.1) in
-    sym (ap (λ n. take n rest) place)
-
 -- ---- what a first place is
+
+-- r is the first place up to n that passes the test
+abbrev pub IsFirstOf : (ℕ → Bool) → ℕ → Option ℕ → Type 0
+IsFirstOf test n r =
+    MatchOption r ((j : ℕ) → j ≤ n → test j ≡ false)
+    (λ at. (at ≤ n) × (test at ≡ true) × ((j : ℕ) → j < at → test j ≡ false))
 
 -- r is the first place from `at` up to `end` that passes the test
 abbrev IsFirstPlace : (ℕ → Bool) → ℕ → ℕ → Option ℕ → Type 0
@@ -120,12 +48,68 @@ first_place_from-is test at (suc more) =
     cond_found test at (test at) refl (first_place_from test (at + 1) more) (at + suc more) (omega arith)
     (rw e at (first_place_from-is test (at + 1) more))
 
-of_text : (test : ℕ → Bool) (n : ℕ) (r : Option ℕ) → IsFirstPlace test 0 (0 + (n + 1)) r
-    → MatchOption r ((j : ℕ) → j ≤ n → test j ≡ false) (λ at. (at ≤ n) × (test at ≡ true) × ((j : ℕ) → j < at → test j ≡ false))
+of_text : (test : ℕ → Bool) (n : ℕ) (r : Option ℕ) → IsFirstPlace test 0 (0 + (n + 1)) r → IsFirstOf test n r
 of_text test n None h = λ j low. h j (omega arith) (omega arith)
 of_text test n (Some k) h = (omega (arith, h.1), h.2, λ j low. h.3 j (omega arith) low)
 
-pub first_place-is : (test : ℕ → Bool) (text : List ℕ)
-    → MatchOption (first_place test text) ((j : ℕ) → j ≤ length text → test j ≡ false)
-    (λ at. (at ≤ length text) × (test at ≡ true) × ((j : ℕ) → j < at → test j ≡ false))
-first_place-is test text = of_text test (length text) (first_place test text) (first_place_from-is test 0 (length text + 1))
+pub first_places_are_first : (test : ℕ → Bool) (text : List ℕ) → IsFirstOf test (length text) (first_place test text)
+first_places_are_first test text = of_text test (length text) (first_place test text) (first_place_from-is test 0 (length text + 1))
+
+-- there is one
+one_first : (test : ℕ → Bool) (n : ℕ) (a b : Option ℕ) → IsFirstOf test n a → IsFirstOf test n b → a ≡ b
+one_first test n None None f h = refl
+one_first test n None (Some k) f h = cc (sym h.1 ∙ f k h.0)
+one_first test n (Some k) None f h = cc (sym f.1 ∙ h k f.0)
+one_first test n (Some k) (Some j) f h = elim (cases_order k j) [
+  | inl same ↦ ap Some same
+  | inr (inl low) ↦ cc (sym f.1 ∙ h.2 k low)
+  | inr (inr high) ↦ cc (sym h.1 ∙ f.2 j high)
+]
+
+pub first_place_is : (test : ℕ → Bool) (text : List ℕ) (r : Option ℕ) → IsFirstOf test (length text) r → first_place test text ≡ r
+first_place_is test text r h = one_first test (length text) (first_place test text) r (first_places_are_first test text) h
+
+-- ---- which searches find it
+
+-- a search for the first place of which P holds finds it, where the test decides P
+first-of_search : (test : ℕ → Bool) (n : ℕ) (P : ℕ → Type 0) (r : Option ℕ) → ((k : ℕ) → test k ≡ true → P k)
+    → ((k : ℕ) → P k → test k ≡ true) → IsFirst P 0 (n + 1) r → IsFirstOf test n r
+first-of_search test n P None sound whole h = λ j b. false_from_ne_true (test j) (λ t. h j (omega arith) (omega arith) (sound j t))
+first-of_search test n P (Some k) sound whole h =
+    let first = h.0 in
+    let high = first.high in
+    (omega (arith, high), whole k h.1, λ j b. false_from_ne_true (test j) (λ t. first.before j (omega arith) b (sound j t)))
+
+-- where bytes stand, they occur
+OccursAt-of_stands : (text needle : List ℕ) (k : ℕ) → 0 < length needle → stands_at text needle k ≡ true
+    → OccursAt text needle k
+OccursAt-of_stands text needle k some h =
+    let same : needle ≡ take (length needle) (drop k text) = (bytes_eq-Decides needle (take (length needle) (drop k text))).0 h in
+    let long = ap length same ∙ length-take (length needle) (drop k text) in
+    OccursAt-from_part text needle k (omega (arith, long, length-drop k text)) (sym same)
+
+-- where they occur, they stand
+stands-of_OccursAt : (text needle : List ℕ) (k : ℕ) → OccursAt text needle k → stands_at text needle k ≡ true
+stands-of_OccursAt text needle k h =
+    (bytes_eq-Decides needle (take (length needle) (drop k text))).1 (sym (OccursAt-part text needle k h))
+
+-- a search for bytes finds the first place at which they stand
+pub first_place_occurs : (text needle : List ℕ) (r : Option ℕ) → 0 < length needle
+    → IsFirst (OccursAt text needle) 0 (length text + 1) r → first_place (stands_at text needle) text ≡ r
+first_place_occurs text needle r some h =
+    first_place_is (stands_at text needle) text r (first-of_search (stands_at text needle) (length text) (OccursAt text needle) r
+    (λ k. OccursAt-of_stands text needle k some) (λ k. stands-of_OccursAt text needle k) h)
+
+-- a search for a slash finds where a component ends
+pub component_of_search : (rest : List ℕ) (r : Option ℕ) → IsFirstByte (is_byte 47) rest r
+    → MatchOption r (rest ≡ before_first is_slash rest) (λ len. take len rest ≡ before_first is_slash rest)
+component_of_search rest None h =
+    let whole = position_or_len_is is_slash rest (length rest) 0 (le_refl (length rest))
+    (λ j b. false_from_ne_true (is_slash (slice_index rest j)) (λ t. h j (omega arith) b t)) (λ b. absurd (omega arith)) in
+    sym (ap (λ n. take n rest) whole ∙ take_all (length rest) rest (le_refl (length rest)))
+component_of_search rest (Some len) h =
+    let first = h.0 in
+    let high = first.high in
+    let place = position_or_len_is is_slash rest len 0 (omega (arith, high))
+    (λ j b. false_from_ne_true (is_slash (slice_index rest j)) (λ t. first.before j (omega arith) b t)) (λ _. h.1) in
+    sym (ap (λ n. take n rest) place)

@@ -67,6 +67,7 @@ impl Oid {
     ///
     /// It fails with `Length` where the text has another length, and else with `Digit` at its first
     /// byte that is no hexadecimal digit.
+    #[tactic(auto, using(crate::proofs::IdLemmas::id_is_refused))]
     pub fn from_hex_in(format: Format, text: &[u8]) -> Result<Oid, OidFault>
         ensures { ReadsId format text.now result }
     {

@@ -19,16 +19,19 @@ pub fn ids_have_texts()
 
 /// The text of an id has hexadecimal digits alone, so no control character or space. What a text
 /// spells is an id.
+#[tactic(auto, using(crate::proofs::IdLemmas::id_texts_are_digits))]
 pub fn id_texts_are_digits()
     ensures { IdTextsAreDigits }
 {}
 
 /// A text spells one id.
+#[tactic(auto, using(crate::proofs::IdLemmas::texts_spell_one_id))]
 pub fn texts_spell_one_id()
     ensures { TextsSpellOneId }
 {}
 
 /// An id of a format is an id, and has that format alone: its length tells.
+#[tactic(auto, using(crate::proofs::IdLemmas::ids_have_one_format))]
 pub fn ids_have_one_format()
     ensures { IdsHaveOneFormat }
 {}
@@ -45,11 +48,13 @@ pub fn names_are_clean()
 {}
 
 /// `HEAD` is a ref name.
+#[tactic(auto, using(crate::proofs::NameLemmas::head_is_a_name))]
 pub fn head_is_a_name()
     ensures { IsRefName head_name }
 {}
 
 /// A prefix has at most 1,000 bytes, and none of those that no name has.
+#[tactic(auto, using(crate::proofs::NameLemmas::prefixes_are_clean))]
 pub fn prefixes_are_clean()
     ensures { PrefixesAreClean }
 {}
@@ -67,6 +72,7 @@ pub fn rules_never_report_memory()
 {}
 
 /// A fault's position is the first that has the fault.
+#[tactic(auto, using(crate::proofs::PlaceLemmas::first_places_are_first))]
 pub fn first_places_are_first()
     ensures { FirstPlacesAreFirst }
 {}

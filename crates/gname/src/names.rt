@@ -41,7 +41,7 @@ impl<A: Allocator + Copy> Model for RefName<A> {
 impl RefName {
     /// Whether a text is a ref name, by the rules that `new` keeps: fails with its first fault in the order of
     /// `NameFault`, and never with `Memory`. It takes no memory.
-    #[tactic(auto, using(crate::proofs::NameLemmas::name_never_memory))]
+    #[tactic(auto, using(crate::proofs::NameLemmas::rules_never_report_memory))]
     pub fn check(text: &[u8]) -> Result<(), NameFault>
         ensures judged { Finds name_fault text.now result }
         ensures no_memory { IfErr result (λ fault. fault ≢ NameFault.Memory) }
@@ -67,6 +67,7 @@ impl<A: Allocator + Copy> RefName<A> {
     }
 
     /// The name `HEAD`. It fails only when out of memory.
+    #[tactic(auto, using(crate::proofs::NameLemmas::head_is_a_name))]
     pub fn head(alloc: A) -> Result<RefName<A>, AllocError>
         ensures { IfOk result (λ name. name ≡ head_name) }
     {

@@ -41,7 +41,7 @@ impl<A: Allocator + Copy> Prefix<A> {
     }
 
     /// The bytes of the prefix: at most 1,000, and no control character or space.
-    #[tactic(auto, using(crate::proofs::NameLemmas::prefix_within, crate::proofs::NameLemmas::prefix_clean))]
+    #[tactic(auto, using(crate::proofs::NameLemmas::prefixes_are_clean))]
     pub fn as_bytes(&self) -> &[u8]
         ensures bytes { result.now ≡ self.now }
         ensures prefix { IsPrefix self.now }

@@ -124,6 +124,7 @@ fn check_components(text: &[u8]) -> Result<(), NameFault>
     Ok(())
 }
 
+#[tactic(auto, using(crate::proofs::PlaceLemmas::first_place_occurs), unfolding(crate::specs::Names::double_dot))]
 fn check_dots(text: &[u8]) -> Result<(), NameFault>
     ensures { Finds double_dot text.now result }
 {
@@ -133,6 +134,7 @@ fn check_dots(text: &[u8]) -> Result<(), NameFault>
     }
 }
 
+#[tactic(auto, using(crate::proofs::PlaceLemmas::first_place_occurs), unfolding(crate::specs::Names::at_brace))]
 fn check_braces(text: &[u8]) -> Result<(), NameFault>
     ensures { Finds at_brace text.now result }
 {

@@ -18,41 +18,37 @@ MayCome A (first ∷ nodes) text = ((entry : Entry A) × IsNodeText text entry) 
 pub AreNodeTexts-length : {A : Type 0} (nodes : List (List ℕ)) (list : List (Entry A)) → AreNodeTexts nodes list → length nodes ≡ length list
 AreNodeTexts-length [] [] h = refl
 AreNodeTexts-length (text ∷ nodes) (entry ∷ list) h = ap suc (AreNodeTexts-length nodes list h.1)
-AreNodeTexts-length [] (entry ∷ list) h = absurd h
-AreNodeTexts-length (text ∷ nodes) [] h = absurd h
+AreNodeTexts-length _ _ h = absurd h
 
 -- the end is the line of no entry
 pub end_no_node : {A : Type 0} (n : ℕ) (entry : Entry A) → IsNodeText (end_text n) entry → ⊥
 end_no_node n entry h = let first : letter entry.node.kind ≡ 101 = (let is = h.1 in cc) in letter_no_end entry.node.kind first
 
--- after lines of entries comes one more, or the end
-next_node : {A : Type 0} (nodes front : List (List ℕ)) (text : List ℕ) (more : List (List ℕ)) (list read : List (Entry A)) (n : ℕ)
-    → AreNodeTexts nodes list → AreNodeTexts front read → nodes ++ end_text n ∷ [] ≡ front ++ text ∷ more
-    → ((entry : Entry A) × IsNodeText text entry) ⊎ ((text ≡ end_text n) × (length front ≡ length nodes))
-next_node [] [] text more list read n h k same = let is : end_text n ≡ text = cc in inr (sym is, refl)
-next_node [] (first ∷ front) text more list [] n h k same = absurd k
-next_node [] (first ∷ front) text more list (entry ∷ read) n h k same =
-    let is : end_text n ≡ first = cc in absurd (end_no_node n entry (subst (λ (t : List ℕ). IsNodeText t entry) (sym is) k.0))
-next_node (node ∷ nodes) [] text more [] read n h k same = absurd h
-next_node (node ∷ nodes) [] text more (entry ∷ list) read n h k same =
-    let is : node ≡ text = cc in inl (entry, subst (λ (t : List ℕ). IsNodeText t entry) is h.0)
-next_node (node ∷ nodes) (first ∷ front) text more [] read n h k same = absurd h
-next_node (node ∷ nodes) (first ∷ front) text more (entry ∷ list) [] n h k same = absurd k
-next_node (node ∷ nodes) (first ∷ front) text more (entry ∷ list) (other ∷ read) n h k same =
-    let rest : nodes ++ end_text n ∷ [] ≡ front ++ text ∷ more = cc in
-    elim (next_node nodes front text more list read n h.1 k.1 rest) [
-      | inl comes ↦ inl comes
-      | inr ends ↦ inr (ends.0, ap suc ends.1)
-    ]
+-- of lines of entries and a last one those of a front are of entries, and the next one is, or it is the last
+split_nodes : {A : Type 0} (nodes front : List (List ℕ)) (last text : List ℕ) (more : List (List ℕ)) (list : List (Entry A))
+    → AreNodeTexts nodes list → nodes ++ last ∷ [] ≡ front ++ text ∷ more
+    → ((read : List (Entry A)) × AreNodeTexts front read)
+    × (((entry : Entry A) × IsNodeText text entry) ⊎ ((text ≡ last) × (length front ≡ length nodes)))
+split_nodes [] [] last text more [] h same = (([], tt), inr (cc, refl))
+split_nodes [] (first ∷ []) last text more list h same = cc same
+split_nodes [] (first ∷ (second ∷ front)) last text more list h same = cc same
+split_nodes (node ∷ nodes) [] last text more (entry ∷ list) h same =
+    let is : node ≡ text = cc in (([], tt), inl (entry, subst (λ (t : List ℕ). IsNodeText t entry) is h.0))
+split_nodes (node ∷ nodes) (first ∷ front) last text more (entry ∷ list) h same =
+    let is : node ≡ first = cc in
+    let rest = split_nodes nodes front last text more list h.1 cc in (
+      (entry ∷ rest.0.0, (subst (λ (t : List ℕ). IsNodeText t entry) is h.0, rest.0.1)),
+      elim rest.1 [ inl comes ↦ inl comes | inr ends ↦ inr (ends.0, ap suc ends.1) ],
+    )
+split_nodes _ _ last text more list h same = absurd h
 
 -- the line after a front of a pack may come there
 pub comes_next : {A : Type 0} (front : List (List ℕ)) (text : List ℕ) (more lines : List (List ℕ)) (list : List (Entry A))
-    → IsFront A front → ArePackLines lines list → lines ≡ front ++ text ∷ more → MayCome A front text
-comes_next [] text more lines list before h same = let whole = sym same ∙ h.are in cc
-comes_next (first ∷ front) text more lines list before h same =
+    → ArePackLines lines list → lines ≡ front ++ text ∷ more → MayCome A front text
+comes_next [] text more lines list h same = let whole = sym same ∙ h.are in cc
+comes_next (first ∷ front) text more lines list h same =
     let whole : header ∷ (h.nodes ++ end_text (length list) ∷ []) ≡ first ∷ (front ++ text ∷ more) = sym h.are ∙ same in
-    let rest : h.nodes ++ end_text (length list) ∷ [] ≡ front ++ text ∷ more = cc in
-    elim (next_node h.nodes front text more list before.1.0 (length list) h.each before.1.1 rest) [
+    elim (split_nodes h.nodes front (end_text (length list)) text more list h.each cc).1 [
       | inl comes ↦ inl comes
       | inr ends ↦ inr (ends.0 ∙ ap end_text (sym (ends.1 ∙ AreNodeTexts-length h.nodes list h.each)))
     ]
@@ -81,23 +77,10 @@ BeginsPack-front A (first ∷ nodes) h =
     }
 
 -- and so are all lines of a pack but the last
-front_nodes : {A : Type 0} (nodes front : List (List ℕ)) (last text : List ℕ) (more : List (List ℕ)) (list : List (Entry A)) → AreNodeTexts nodes list
-    → nodes ++ last ∷ [] ≡ front ++ text ∷ more → (read : List (Entry A)) × AreNodeTexts front read
-front_nodes nodes [] last text more list h same = ([], tt)
-front_nodes [] (first ∷ []) last text more list h same = let none : [] ≡ text ∷ more = cc in cc
-front_nodes [] (first ∷ (second ∷ front)) last text more list h same = let none : [] ≡ second ∷ (front ++ text ∷ more) = cc in cc
-front_nodes (node ∷ nodes) (first ∷ front) last text more [] h same = absurd h
-front_nodes (node ∷ nodes) (first ∷ front) last text more (entry ∷ list) h same =
-    let is : node ≡ first = cc in
-    let rest : nodes ++ last ∷ [] ≡ front ++ text ∷ more = cc in
-    let further = front_nodes nodes front last text more list h.1 rest in
-    (entry ∷ further.0, (subst (λ (t : List ℕ). IsNodeText t entry) is h.0, further.1))
-
 pub IsFront-pack : {A : Type 0} (front : List (List ℕ)) (text : List ℕ) (more lines : List (List ℕ)) (list : List (Entry A)) → ArePackLines lines list
     → lines ≡ front ++ text ∷ more → IsFront A front
 IsFront-pack [] text more lines list h same = tt
 IsFront-pack (first ∷ front) text more lines list h same =
     let whole : header ∷ (h.nodes ++ end_text (length list) ∷ []) ≡ first ∷ (front ++ text ∷ more) = sym h.are ∙ same in
-    let begins : header ≡ first = cc in
-    let rest : h.nodes ++ end_text (length list) ∷ [] ≡ front ++ text ∷ more = cc in
-    (sym begins, front_nodes h.nodes front (end_text (length list)) text more list h.each rest)
+    let begins : first ≡ header = cc in
+    (begins, (split_nodes h.nodes front (end_text (length list)) text more list h.each cc).0)

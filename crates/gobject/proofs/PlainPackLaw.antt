@@ -13,7 +13,7 @@ use Rattle.gobject.specs.declared.fault.IndexFault.TheVariants as index_faults
 use Rattle.gobject.specs.Objects.{HasIds, entry_of, node_of}
 use Rattle.gobject.specs.Packs.{LosesNothing}
 use Rattle.gobject.specs.PlainPackText.{line, text_of, header, letter, ids_of, ids_text, node_text, end_text, pack_lines, pack_text, PackRefuses, IsInLine, IsIdsText, IsNodeText, AreNodeTexts, ArePackLines, IsPack, BeginsPack, IsWholePack, IsBadLine, IndexRefuses}
-use Rattle.gobject.proofs.PlainPackLines.{IsPart-nil, IsPart-id, IsPart-letter, IsPart-decimal, IsPart-header, IsInLine-part, IsInLine-cons, IsInLine-append, not_in_line, line_parts, text_of-push, IsIdsText-one}
+use Rattle.gobject.proofs.PlainPackLines.{IsPart-nil, IsPart-id, IsPart-letter, IsPart-decimal, IsPart-end, IsPart-header, IsInLine-part, IsInLine-cons, IsInLine-append, not_in_line, line_parts, text_of-push, IsIdsText-one}
 use Rattle.gobject.proofs.PlainPackFronts.{end_no_node}
 
 module _ (digits_law : IdTextsAreDigits) (one_law : TextsSpellOneId) where
@@ -33,16 +33,13 @@ module _ (digits_law : IdTextsAreDigits) (one_law : TextsSpellOneId) where
   -- and the end
   IsInLine-end : (n : ℕ) → IsInLine (end_text n)
   IsInLine-end n =
-      IsInLine-cons 101 (110 ∷ 100 ∷ 32 ∷ decimal n) (λ is. omega arith)
-      (IsInLine-cons 110 (100 ∷ 32 ∷ decimal n) (λ is. omega arith)
-      (IsInLine-cons 100 (32 ∷ decimal n) (λ is. omega arith)
-      (IsInLine-cons 32 (decimal n) (λ is. omega arith) (IsInLine-part (decimal n) (IsPart-decimal n)))))
+      IsInLine-append (101 ∷ 110 ∷ 100 ∷ []) (32 ∷ decimal n) (IsInLine-part (101 ∷ 110 ∷ 100 ∷ []) IsPart-end)
+      (IsInLine-cons 32 (decimal n) (λ is. omega arith) (IsInLine-part (decimal n) (IsPart-decimal n)))
 
   letter_one : (a b : Kind) → letter a ≡ letter b → a ≡ b
   letter_one Commit Commit h = refl
   letter_one Tag Tag h = refl
-  letter_one Commit Tag h = absurd (omega arith)
-  letter_one Tag Commit h = absurd (omega arith)
+  letter_one _ _ h = absurd (omega arith)
 
   -- a line is that of one entry
   IsNodeText-one : {A : Type 0} (text : List ℕ) (a b : Entry A) → IsNodeText text a → IsNodeText text b → a ≡ b
@@ -69,8 +66,7 @@ module _ (digits_law : IdTextsAreDigits) (one_law : TextsSpellOneId) where
   nodes_in_line : {A : Type 0} (nodes : List (List ℕ)) (list : List (Entry A)) → AreNodeTexts nodes list → All IsInLine nodes
   nodes_in_line [] [] h = All-nil IsInLine
   nodes_in_line (text ∷ nodes) (entry ∷ list) h = All-cons IsInLine text nodes (IsInLine-node text entry h.0) (nodes_in_line nodes list h.1)
-  nodes_in_line [] (entry ∷ list) h = absurd h
-  nodes_in_line (text ∷ nodes) [] h = absurd h
+  nodes_in_line _ _ h = absurd h
 
   pack_in_line : {A : Type 0} (lines : List (List ℕ)) (list : List (Entry A)) → ArePackLines lines list → All IsInLine lines
   pack_in_line lines list h =
@@ -79,18 +75,29 @@ module _ (digits_law : IdTextsAreDigits) (one_law : TextsSpellOneId) where
       (All-append IsInLine h.nodes (end_text (length list) ∷ []) (nodes_in_line h.nodes list h.each)
       (All-cons IsInLine (end_text (length list)) [] (IsInLine-end (length list)) (All-nil IsInLine))))
 
-  -- where some lines are at the front of a text, they are the first of its lines
-  more_lines : (lines whole : List (List ℕ)) (rest : List ℕ) → All IsInLine lines → All IsInLine whole → text_of whole ≡ text_of lines ++ rest
-      → (more : List (List ℕ)) × (whole ≡ lines ++ more) × (rest ≡ text_of more)
-  more_lines [] whole rest here there same = (whole, refl, sym same)
-  more_lines (first ∷ lines) [] rest here there same =
-      let whole : [] ≡ line first ++ (text_of lines ++ rest) = same ∙ append_assoc (line first) (text_of lines) rest in
-      absurd (not_in_line first (text_of lines ++ rest) (subst IsInLine whole (IsInLine-part [] IsPart-nil)))
-  more_lines (first ∷ lines) (other ∷ whole) rest here there same =
-      let parts = line_parts other first (text_of whole) (text_of lines ++ rest) (All-head IsInLine other whole there) (All-head IsInLine first lines here)
-      (same ∙ append_assoc (line first) (text_of lines) rest) in
-      let further = more_lines lines whole rest (All-tail IsInLine first lines here) (All-tail IsInLine other whole there) parts.1 in
-      (further.0, ap (λ (l : List ℕ). l ∷ whole) parts.0 ∙ ap (λ (ls : List (List ℕ)). first ∷ ls) further.1, further.2)
+  -- some lines go on with others, where these texts follow
+  abbrev GoesOn : List (List ℕ) → List ℕ → List (List ℕ) → List ℕ → Type 0
+  GoesOn lines x others y = (more : List (List ℕ)) × (others ≡ lines ++ more) × (x ≡ text_of more ++ y)
+
+  -- of two lists of lines at the front of a text one goes on with the other
+  lines_meet : (lines others : List (List ℕ)) (x y : List ℕ) → All IsInLine lines → All IsInLine others
+      → text_of lines ++ x ≡ text_of others ++ y → GoesOn lines x others y ⊎ GoesOn others y lines x
+  lines_meet [] others x y here there same = inl (others, refl, same)
+  lines_meet (first ∷ lines) [] x y here there same = inr (first ∷ lines, refl, sym same)
+  lines_meet (first ∷ lines) (second ∷ others) x y here there same =
+      let whole : line first ++ (text_of lines ++ x) ≡ line second ++ (text_of others ++ y) =
+      sym (append_assoc (line first) (text_of lines) x) ∙ same ∙ append_assoc (line second) (text_of others) y in
+      let parts = line_parts first second (text_of lines ++ x) (text_of others ++ y) (All-head IsInLine first lines here) (All-head IsInLine second others there) whole in
+      elim (lines_meet lines others x y (All-tail IsInLine first lines here) (All-tail IsInLine second others there) parts.1) [
+        | inl h ↦ inl (h.0, ap₂ (λ (l : List ℕ) (ls : List (List ℕ)). l ∷ ls) (sym parts.0) h.1, h.2)
+        | inr h ↦ inr (h.0, ap₂ (λ (l : List ℕ) (ls : List (List ℕ)). l ∷ ls) parts.0 h.1, h.2)
+      ]
+
+  -- no line is nothing
+  no_more : (more : List (List ℕ)) (x : List ℕ) → text_of more ++ x ≡ [] → (more ≡ []) × (x ≡ [])
+  no_more [] x same = (refl, same)
+  no_more ([] ∷ more) x same = cc same
+  no_more ((byte ∷ first) ∷ more) x same = cc same
 
   -- ---- what comes in a pack
 
@@ -98,22 +105,17 @@ module _ (digits_law : IdTextsAreDigits) (one_law : TextsSpellOneId) where
   same_nodes : {A : Type 0} (nodes front more : List (List ℕ)) (list read : List (Entry A)) (n m : ℕ) → AreNodeTexts nodes list → AreNodeTexts front read
       → nodes ++ end_text n ∷ [] ≡ (front ++ end_text m ∷ []) ++ more → (list ≡ read) × (more ≡ [])
   same_nodes [] [] more [] [] n m h k same = let nothing : [] ≡ more = cc in (refl, sym nothing)
-  same_nodes [] [] more (entry ∷ list) read n m h k same = absurd h
-  same_nodes [] [] more [] (entry ∷ read) n m h k same = absurd k
-  same_nodes [] (first ∷ front) more list [] n m h k same = absurd k
-  same_nodes [] (first ∷ front) more list (entry ∷ read) n m h k same =
+  same_nodes [] (first ∷ front) more [] (entry ∷ read) n m h k same =
       let is : end_text n ≡ first = cc in absurd (end_no_node n entry (subst (λ (t : List ℕ). IsNodeText t entry) (sym is) k.0))
-  same_nodes (node ∷ nodes) [] more [] read n m h k same = absurd h
-  same_nodes (node ∷ nodes) [] more (entry ∷ list) read n m h k same =
+  same_nodes (node ∷ nodes) [] more (entry ∷ list) [] n m h k same =
       let is : node ≡ end_text m = cc in absurd (end_no_node m entry (subst (λ (t : List ℕ). IsNodeText t entry) is h.0))
-  same_nodes (node ∷ nodes) (first ∷ front) more [] read n m h k same = absurd h
-  same_nodes (node ∷ nodes) (first ∷ front) more (entry ∷ list) [] n m h k same = absurd k
   same_nodes (node ∷ nodes) (first ∷ front) more (entry ∷ list) (other ∷ read) n m h k same =
       let is : node ≡ first = cc in
       let rest : nodes ++ end_text n ∷ [] ≡ (front ++ end_text m ∷ []) ++ more = cc in
       let one : entry ≡ other = IsNodeText-one first entry other (subst (λ (t : List ℕ). IsNodeText t entry) is h.0) k.0 in
       let further = same_nodes nodes front more list read n m h.1 k.1 rest in
       (ap (λ e. e ∷ list) one ∙ ap (λ es. other ∷ es) further.0, further.1)
+  same_nodes _ _ more list read n m h k same = grind arith
 
   same_packs : {A : Type 0} (lines front more : List (List ℕ)) (list read : List (Entry A)) → ArePackLines lines list → ArePackLines front read
       → lines ≡ front ++ more → (list ≡ read) × (more ≡ [])
@@ -126,34 +128,15 @@ module _ (digits_law : IdTextsAreDigits) (one_law : TextsSpellOneId) where
   -- ---- one reading
 
   -- bytes are a pack of one list
-  pub IsPack-one : {A : Type 0} (bytes : List ℕ) (a b : List (Entry A)) → IsPack bytes a → IsPack bytes b → a ≡ b
-  IsPack-one bytes a b h k =
-      let left = more_lines k.lines h.lines [] (pack_in_line k.lines b k.are) (pack_in_line h.lines a h.are) (sym h.whole ∙ k.whole ∙ sym (append-nil (text_of k.lines))) in
-      (same_packs h.lines k.lines left.0 a b h.are k.are left.1).0
+  pub packs_have_one_reading : {A : Type 0} (bytes : List ℕ) (a b : List (Entry A)) → IsPack bytes a → IsPack bytes b → a ≡ b
+  packs_have_one_reading bytes a b h k =
+      elim (lines_meet h.lines k.lines [] [] (pack_in_line h.lines a h.are) (pack_in_line k.lines b k.are)
+      (ap (λ (t : List ℕ). t ++ []) (sym h.whole ∙ k.whole))) [
+        | inl on ↦ sym (same_packs k.lines h.lines on.0 b a k.are h.are on.1).0
+        | inr on ↦ (same_packs h.lines k.lines on.0 a b h.are k.are on.1).0
+      ]
 
   -- ---- a bad line
-
-  -- the line after some lines that go on in the other
-  abbrev Extends : List (List ℕ) → List ℕ → List (List ℕ) → Type 0
-  Extends front rest lines = (text : List ℕ) × (more : List (List ℕ)) × (after : List ℕ) × (lines ≡ front ++ text ∷ more) × (rest ≡ line text ++ after)
-
-  -- of two lists of lines at the front of a text, they are one, or one goes on with the line that follows the other
-  lines_meet : (lines others : List (List ℕ)) (x y : List ℕ) → All IsInLine lines → All IsInLine others
-      → text_of lines ++ x ≡ text_of others ++ y → (lines ≡ others) ⊎ Extends lines x others ⊎ Extends others y lines
-  lines_meet [] [] x y here there same = inl refl
-  lines_meet [] (second ∷ others) x y here there same =
-      inr (inl (second, others, text_of others ++ y, refl, same ∙ append_assoc (line second) (text_of others) y))
-  lines_meet (first ∷ lines) [] x y here there same =
-      inr (inr (first, lines, text_of lines ++ x, refl, sym same ∙ append_assoc (line first) (text_of lines) x))
-  lines_meet (first ∷ lines) (second ∷ others) x y here there same =
-      let whole : line first ++ (text_of lines ++ x) ≡ line second ++ (text_of others ++ y) =
-      sym (append_assoc (line first) (text_of lines) x) ∙ same ∙ append_assoc (line second) (text_of others) y in
-      let parts = line_parts first second (text_of lines ++ x) (text_of others ++ y) (All-head IsInLine first lines here) (All-head IsInLine second others there) whole in
-      elim (lines_meet lines others x y (All-tail IsInLine first lines here) (All-tail IsInLine second others there) parts.1) [
-        | inl is ↦ inl (ap (λ (l : List ℕ). l ∷ lines) parts.0 ∙ ap (λ (ls : List (List ℕ)). second ∷ ls) is)
-        | inr (inl h) ↦ inr (inl (h.0, h.1, h.2, sym (ap (λ (l : List ℕ). l ∷ others) parts.0) ∙ ap (λ (ls : List (List ℕ)). first ∷ ls) h.3, h.4))
-        | inr (inr h) ↦ inr (inr (h.0, h.1, h.2, ap (λ (l : List ℕ). l ∷ lines) parts.0 ∙ ap (λ (ls : List (List ℕ)). second ∷ ls) h.3, h.4))
-      ]
 
   -- reading stops after these lines: they begin a pack, and no line that follows them does with them
   record Stops (A : Type 0) (bytes : List ℕ) (at : ℕ) : Type 0 where
@@ -195,11 +178,27 @@ module _ (digits_law : IdTextsAreDigits) (one_law : TextsSpellOneId) where
         place = place;
       }
 
+  -- where reading stops, it does not go on
+  stops_here : {A : Type 0} (bytes : List ℕ) (at : ℕ) (s : Stops A bytes at) (others : List (List ℕ)) (text : List ℕ) (more : List (List ℕ)) (y : List ℕ)
+      → BeginsPack A others → others ≡ s.lines ++ text ∷ more → s.rest ≡ text_of (text ∷ more) ++ y → ⊥
+  stops_here {A} bytes at s others text more y h is rest =
+      let P : List (List ℕ) → Type 0 = λ ls. ArePackLines ls h.list in
+      let in_line = All-head IsInLine text more (All-back s.lines (text ∷ more) (subst (All IsInLine) is (begins_in_line others h))) in
+      let same : others ++ h.more ≡ (s.lines ++ text ∷ []) ++ (more ++ h.more) =
+      ap (λ (ls : List (List ℕ)). ls ++ h.more) is ∙ simp append_assoc in
+      s.never text (text_of more ++ y) in_line (rest ∙ append_assoc (line text) (text_of more) y)
+      (record { list = h.list; more = more ++ h.more; are = subst P same h.are })
+
   -- no line of a pack is bad
-  pub IsPack-no_bad_line : {A : Type 0} (bytes : List ℕ) (at : ℕ) (list : List (Entry A)) → IsPack bytes list → IsBadLine A bytes at → ⊥
-  IsPack-no_bad_line {A} bytes at list h bad =
-      let left = more_lines s.lines h.lines s.rest s.each (pack_in_line h.lines list h.are) (sym h.whole ∙ s.parts) in
-      ends left.0 left.1 left.2
+  pub packs_have_no_bad_line : {A : Type 0} (bytes : List ℕ) (at : ℕ) (list : List (Entry A)) → IsPack bytes list → IsBadLine A bytes at → ⊥
+  packs_have_no_bad_line {A} bytes at list h bad =
+      elim (lines_meet s.lines h.lines s.rest [] s.each (pack_in_line h.lines list h.are) (sym s.parts ∙ h.whole ∙ sym (append-nil (text_of h.lines)))) [
+        | inl on ↦ ends on.0 on.1 on.2
+        | inr on ↦
+            let none = no_more on.0 s.rest (sym on.2) in
+            let same : s.lines ≡ h.lines = on.1 ∙ ap (λ (ls : List (List ℕ)). h.lines ++ ls) none.0 ∙ append-nil h.lines in
+            s.goes none.1 (list, subst P (sym same) h.are)
+      ]
     where
       s : Stops A bytes at
       s = Stops-of bytes at bad
@@ -207,34 +206,25 @@ module _ (digits_law : IdTextsAreDigits) (one_law : TextsSpellOneId) where
       P : List (List ℕ) → Type 0
       P ls = ArePackLines ls list
 
-      ends : (more : List (List ℕ)) → h.lines ≡ s.lines ++ more → s.rest ≡ text_of more → ⊥
+      ends : (more : List (List ℕ)) → h.lines ≡ s.lines ++ more → s.rest ≡ text_of more ++ [] → ⊥
       ends [] whole same = s.goes same (list, subst P (whole ∙ append-nil s.lines) h.are)
       ends (first ∷ more) whole same =
-          let each = subst (All IsInLine) whole (pack_in_line h.lines list h.are) in
-          let in_line = All-head IsInLine first more (All-back s.lines (first ∷ more) each) in
-          s.never first (text_of more) in_line same
-          (record { list = list; more = more; are = subst P (whole ∙ sym (append_assoc s.lines (first ∷ []) more)) h.are })
-
-  -- where reading stops, it does not go on
-  stops_here : {A : Type 0} (bytes : List ℕ) (at : ℕ) (s : Stops A bytes at) (others : List (List ℕ)) → BeginsPack A others → Extends s.lines s.rest others → ⊥
-  stops_here {A} bytes at s others h on =
-      let P : List (List ℕ) → Type 0 = λ ls. ArePackLines ls h.list in
-      let each = subst (All IsInLine) on.3 (begins_in_line others h) in
-      let in_line = All-head IsInLine on.0 on.1 (All-back s.lines (on.0 ∷ on.1) each) in
-      let same : others ++ h.more ≡ (s.lines ++ on.0 ∷ []) ++ (on.1 ++ h.more) =
-      ap (λ (ls : List (List ℕ)). ls ++ h.more) on.3 ∙ simp append_assoc in
-      s.never on.0 on.2 in_line on.4 (record { list = h.list; more = on.1 ++ h.more; are = subst P same h.are })
+          stops_here bytes at s h.lines first more [] (record { list = list; more = []; are = subst P (sym (append-nil h.lines)) h.are }) whole same
 
   -- bytes have one bad line at most
-  pub IsBadLine-one : {A : Type 0} (bytes : List ℕ) (a b : ℕ) → IsBadLine A bytes a → IsBadLine A bytes b → a ≡ b
-  IsBadLine-one {A} bytes a b h k =
+  pub bad_lines_have_one_place : {A : Type 0} (bytes : List ℕ) (a b : ℕ) → IsBadLine A bytes a → IsBadLine A bytes b → a ≡ b
+  bad_lines_have_one_place {A} bytes a b h k =
       let f : Stops A bytes a = Stops-of bytes a h in
       let g : Stops A bytes b = Stops-of bytes b k in
       elim (lines_meet f.lines g.lines f.rest g.rest f.each g.each (sym f.parts ∙ g.parts)) [
-        | inl is ↦ f.place ∙ ap (λ (ls : List (List ℕ)). length ls + 1) is ∙ sym g.place
-        | inr (inl on) ↦ absurd (stops_here bytes a f g.lines g.begins on)
-        | inr (inr on) ↦ absurd (stops_here bytes b g f.lines f.begins on)
+        | inl on ↦ f.place ∙ ap (λ (ls : List (List ℕ)). length ls + 1) (met a b f g on.0 on.1 on.2) ∙ sym g.place
+        | inr on ↦ f.place ∙ ap (λ (ls : List (List ℕ)). length ls + 1) (sym (met b a g f on.0 on.1 on.2)) ∙ sym g.place
       ]
+    where
+      met : (a b : ℕ) (f : Stops A bytes a) (g : Stops A bytes b) (more : List (List ℕ)) → g.lines ≡ f.lines ++ more
+          → f.rest ≡ text_of more ++ g.rest → f.lines ≡ g.lines
+      met a b f g [] is rest = sym (is ∙ append-nil f.lines)
+      met a b f g (text ∷ more) is rest = absurd (stops_here bytes a f g.lines text more g.rest g.begins is rest)
 
 module _ (texts_law : IdsHaveTexts) (digits_law : IdTextsAreDigits) (one_law : TextsSpellOneId) where
   -- ---- the image
@@ -262,16 +252,16 @@ module _ (texts_law : IdsHaveTexts) (digits_law : IdTextsAreDigits) (one_law : T
   no_fault : {A : Type 0} (bytes : List ℕ) (list : List (Entry A)) (fault : IndexFault) → IsPack bytes list → IndexRefuses A bytes fault
       → fault ≡ index_faults.Memory
   no_fault bytes list index_faults.Memory h k = refl
-  no_fault bytes list (index_faults.Bad at) h k = absurd (IsPack-no_bad_line digits_law one_law bytes at list h k)
+  no_fault bytes list (index_faults.Bad at) h k = absurd (packs_have_no_bad_line digits_law one_law bytes at list h k)
   no_fault bytes list index_faults.Other h k = absurd k
 
   -- plain packs lose nothing
-  pub LosesNothing-plain : (A : Type 0) → LosesNothing {A = A} (λ list pack. pack ≡ pack_text list)
+  pub loses_nothing : (A : Type 0) → LosesNothing {A = A} (λ list pack. pack ≡ pack_text list)
       (λ list. PackRefuses (pack_text list)) (λ bytes list. IsPack bytes list) (λ bytes. IndexRefuses A bytes) (λ list. pack_text list)
-  LosesNothing-plain A = record {
+  loses_nothing A = record {
     packs_image = λ list pack are h. h;
     too_large = λ list are h. h;
     packs_each = λ list are h. h;
-    reads_image = λ list others are h. IsPack-one digits_law one_law (pack_text list) others list h (IsPack-image list are.ids);
+    reads_image = λ list others are h. packs_have_one_reading digits_law one_law (pack_text list) others list h (IsPack-image list are.ids);
     reads_each = λ list fault are h. no_fault (pack_text list) list fault (IsPack-image list are.ids) h;
   }

@@ -1,11 +1,11 @@
 -- Parts, lines and ids at the front of a text.
-use Rattle.std.proofs.Common.{◌≡◌, ◌≢◌, ◌⊎◌, inl, inr, ℕ, zero, suc, ◌+◌, ◌/◌, ◌%◌, ◌≤◌, Bool, true, false, cond, eqb, ltb, List, [], ◌∷◌, ◌++◌, length, get_or, Ok, Err, refl, ap, sym, subst, ◌∙◌, append_assoc, arith}
+use Rattle.std.proofs.Common.{◌≡◌, ◌≢◌, ◌⊎◌, inl, inr, ℕ, zero, suc, ◌+◌, ◌/◌, ◌%◌, ◌≤◌, Bool, true, false, cond, eqb, ltb, List, [], ◌∷◌, ◌++◌, length, get_or, Ok, Err, refl, ap, sym, ◌∙◌, append_assoc, arith}
 use Rattle.std.specs.Fmt.{digit_glyph, digits_onto, digits, decimal}
 use Rattle.std.proofs.Math.Seq.{get_or-append_seam}
 use Rattle.std.proofs.lemmas.Bool.{false≢true, cases_eq, cases_lt}
 use Rattle.std.proofs.lemmas.List.{append-nil, append_cancel_left, get_or_past}
 use Rattle.hex.specs.Hex.{is_hex_digit}
-use Rattle.gname.specs.Ids.{IsIdText, IsIdTextOf, ReadsId, format_of}
+use Rattle.gname.specs.Ids.{IsIdText, ReadsId, format_of}
 use Rattle.gname.specs.declared.ids.OidFault.{OidFault}
 use Rattle.gname.specs.declared.ids.OidFault.TheVariants.{Length, Digit}
 use Rattle.gname.specs.declared.formats.Format.{Format}
@@ -37,9 +37,7 @@ IsPart-append (byte ∷ a) b h k = IsPart-cons byte (a ++ b) (h 0).0 (h 0).1 (Is
 
 -- a digit of an id is no separator
 hex_other : (byte : ℕ) → is_hex_digit byte ≡ true → (byte ≢ 32) × (byte ≢ 10)
-hex_other byte h =
-    let P : ℕ → Type 0 = λ b. is_hex_digit b ≡ true in
-    (λ is. false≢true (subst P is h), λ is. false≢true (subst P is h))
+hex_other byte h = (λ is. false≢true (rw is at h), λ is. false≢true (rw is at h))
 
 pub IsPart-id : IdTextsAreDigits → (digits id : List ℕ) → IsIdText digits id → IsPart digits
 IsPart-id law text id h = λ at.
@@ -58,17 +56,16 @@ format_of_digits-length Sha1 = refl
 format_of_digits-length Sha256 = refl
 
 -- what is refused as an id of the format that has as many digits is that of none
-pub NoId-err : IdTextsAreDigits → (text : List ℕ) (fault : OidFault) → ReadsId (format_of_digits (length text)) text (Err fault) → NoId text
-NoId-err law text Length h = λ id spelt.
+pub no_id_of_fault : IdTextsAreDigits → (text : List ℕ) (fault : OidFault) → ReadsId (format_of_digits (length text)) text (Err fault) → NoId text
+no_id_of_fault law text Length h = λ id spelt.
     let same : format_of_digits (length text) ≡ format_of id = ap format_of_digits spelt.long ∙ format_of_digits-length (format_of id) in
     h (spelt.long ∙ ap id_text_length (sym same))
-NoId-err law text (Digit at) h = λ id spelt. false≢true (sym h.1.bad ∙ (law text id spelt).digits at 0 h.1.inside)
+no_id_of_fault law text (Digit at) h = λ id spelt. false≢true (sym h.1.bad ∙ (law text id spelt).digits at 0 h.1.inside)
 
 -- and what is read as one is the text of that id
-pub IsIdText-ok : IdsHaveOneFormat → (format : Format) (text id : List ℕ) → ReadsId format text (Ok id) → IsIdText text id
-IsIdText-ok law format text id h =
-    let P : Format → Type 0 = λ f. IsIdTextOf f text id in
-    subst P (sym (law format id h.1).1) h.0
+pub id_text_of_read : IdsHaveOneFormat → (format : Format) (text id : List ℕ) → ReadsId format text (Ok id) → IsIdText text id
+id_text_of_read law format text id h =
+    rw ((law format id h.1).1) h.0
 
 letter_other : (kind : Kind) → (letter kind ≢ 32) × (letter kind ≢ 10)
 letter_other Commit = (λ is. omega arith, λ is. omega arith)
@@ -129,8 +126,7 @@ IsPart-header =
 separator_one : (s t : Separator) → separator_byte s ≡ separator_byte t → s ≡ t
 separator_one Space Space h = refl
 separator_one LineFeed LineFeed h = refl
-separator_one Space LineFeed h = absurd (omega arith)
-separator_one LineFeed Space h = absurd (omega arith)
+separator_one _ _ h = absurd (omega arith)
 
 not_separator : (s : Separator) (byte : ℕ) → (byte ≢ 32) × (byte ≢ 10) → byte ≡ separator_byte s → ⊥
 not_separator Space byte h is = h.0 is
@@ -226,10 +222,6 @@ text_of-push lines text rest =
 
 -- ---- ids
 
--- two texts that are the same begin with the same byte
-heads : (a b : ℕ) (x y : List ℕ) → a ∷ x ≡ b ∷ y → a ≡ b
-heads a b x y h = cc
-
 -- what ends the first of some ids, and what follows it
 pub id_follows : (digits others : List ℕ) (ids : List (List ℕ)) (end : Separator) (rest : List ℕ) → IsIdsText others ids
     → (first : Separator) × (after : List ℕ) × ((digits ++ others) ++ separator_byte end ∷ rest ≡ digits ++ separator_byte first ∷ after)
@@ -255,17 +247,10 @@ ids_first d e o p a b s t x y d_is e_is h k same =
 pub IsIdsText-one : IdTextsAreDigits → TextsSpellOneId → (text other : List ℕ) (a b : List (List ℕ)) (x y : List ℕ) → IsIdsText text a → IsIdsText other b
     → text ++ 10 ∷ x ≡ other ++ 10 ∷ y → a ≡ b
 IsIdsText-one law one text other [] [] x y h k same = refl
-IsIdsText-one law one text other [] (j ∷ b) x y h k same =
-    let whole : 10 ∷ x ≡ (32 ∷ k.0 ++ k.1) ++ 10 ∷ y =
-    sym (ap (λ (t : List ℕ). t ++ 10 ∷ x) h) ∙ same ∙ ap (λ (t : List ℕ). t ++ 10 ∷ y) k.2 in
-    absurd (omega (arith, heads 10 32 _ _ whole))
-IsIdsText-one law one text other (i ∷ a) [] x y h k same =
-    let whole : (32 ∷ h.0 ++ h.1) ++ 10 ∷ x ≡ 10 ∷ y =
-    sym (ap (λ (t : List ℕ). t ++ 10 ∷ x) h.2) ∙ same ∙ ap (λ (t : List ℕ). t ++ 10 ∷ y) k in
-    absurd (omega (arith, heads 32 10 _ _ whole))
+IsIdsText-one law one text other [] (j ∷ b) x y h k same = let whole = rw (h, k.2) at same in grind arith
+IsIdsText-one law one text other (i ∷ a) [] x y h k same = let whole = rw (h.2, k) at same in grind arith
 IsIdsText-one law one text other (i ∷ a) (j ∷ b) x y h k same =
-    let whole : 32 ∷ ((h.0 ++ h.1) ++ 10 ∷ x) ≡ 32 ∷ ((k.0 ++ k.1) ++ 10 ∷ y) =
-    sym (ap (λ (t : List ℕ). t ++ 10 ∷ x) h.2) ∙ same ∙ ap (λ (t : List ℕ). t ++ 10 ∷ y) k.2 in
+    let whole = rw (h.2, k.2) at same in
     let inner : (h.0 ++ h.1) ++ 10 ∷ x ≡ (k.0 ++ k.1) ++ 10 ∷ y = cc in
     let f = ids_first h.0 k.0 h.1 k.1 a b LineFeed LineFeed x y (IsPart-id law h.0 i h.3) (IsPart-id law k.0 j k.3) h.4 k.4 inner in
     let spelt : IsIdText h.0 j = rw f.0 k.3 in
@@ -276,22 +261,15 @@ IsIdsText-one law one text other (i ∷ a) (j ∷ b) x y h k same =
 pub ids_rest : IdTextsAreDigits → (text other : List ℕ) (a b : List (List ℕ)) (x y : List ℕ) → IsIdsText text a → IsIdsText other b
     → text ++ 32 ∷ x ≡ other ++ 10 ∷ y
     → (digits : List ℕ) × (id : List ℕ) × IsIdText digits id × (end : Separator) × (after : List ℕ) × (x ≡ digits ++ separator_byte end ∷ after)
-ids_rest law text other [] [] x y h k same =
-    let whole : 32 ∷ x ≡ 10 ∷ y = sym (ap (λ (t : List ℕ). t ++ 32 ∷ x) h) ∙ same ∙ ap (λ (t : List ℕ). t ++ 10 ∷ y) k in
-    absurd (omega (arith, heads 32 10 _ _ whole))
+ids_rest law text other [] [] x y h k same = let whole = rw (h, k) at same in grind arith
 ids_rest law text other [] (j ∷ b) x y h k same =
-    let whole : 32 ∷ x ≡ 32 ∷ ((k.0 ++ k.1) ++ 10 ∷ y) =
-    sym (ap (λ (t : List ℕ). t ++ 32 ∷ x) h) ∙ same ∙ ap (λ (t : List ℕ). t ++ 10 ∷ y) k.2 in
+    let whole = rw (h, k.2) at same in
     let inner : x ≡ (k.0 ++ k.1) ++ 10 ∷ y = cc in
     let f = id_follows k.0 k.1 b LineFeed y k.4 in
     (k.0, j, k.3, f.0, f.1, inner ∙ f.2)
-ids_rest law text other (i ∷ a) [] x y h k same =
-    let whole : (32 ∷ h.0 ++ h.1) ++ 32 ∷ x ≡ 10 ∷ y =
-    sym (ap (λ (t : List ℕ). t ++ 32 ∷ x) h.2) ∙ same ∙ ap (λ (t : List ℕ). t ++ 10 ∷ y) k in
-    absurd (omega (arith, heads 32 10 _ _ whole))
+ids_rest law text other (i ∷ a) [] x y h k same = let whole = rw (h.2, k) at same in grind arith
 ids_rest law text other (i ∷ a) (j ∷ b) x y h k same =
-    let whole : 32 ∷ ((h.0 ++ h.1) ++ 32 ∷ x) ≡ 32 ∷ ((k.0 ++ k.1) ++ 10 ∷ y) =
-    sym (ap (λ (t : List ℕ). t ++ 32 ∷ x) h.2) ∙ same ∙ ap (λ (t : List ℕ). t ++ 10 ∷ y) k.2 in
+    let whole = rw (h.2, k.2) at same in
     let inner : (h.0 ++ h.1) ++ 32 ∷ x ≡ (k.0 ++ k.1) ++ 10 ∷ y = cc in
     let f = ids_first h.0 k.0 h.1 k.1 a b Space LineFeed x y (IsPart-id law h.0 i h.3) (IsPart-id law k.0 j k.3) h.4 k.4 inner in
     ids_rest law h.1 k.1 a b x y h.4 k.4 f.1

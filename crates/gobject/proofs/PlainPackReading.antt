@@ -1,5 +1,5 @@
 -- Reading a plain pack part by part: what is read stays right, and what is refused is a bad line.
-use Rattle.std.proofs.Common.{ap₂, ◌≡◌, ◌≢◌, ◌⊎◌, ⊎_elim, inl, inr, ℕ, ◌+◌, ◌≤◌, ◌<◌, List, [], ◌∷◌, ◌++◌, length, length-append, codes, decimal, Option, None, Some, MatchOption, refl, ap, sym, subst, ◌∙◌, append_assoc, arith}
+use Rattle.std.proofs.Common.{ap₂, ◌≡◌, ◌≢◌, ◌⊎◌, ⊎_elim, inl, inr, ℕ, ◌+◌, ◌≤◌, ◌<◌, List, [], ◌∷◌, ◌++◌, length, length-append, codes, decimal, refl, ap, sym, subst, ◌∙◌, append_assoc, arith}
 use Rattle.std.proofs.lemmas.List.{append-nil}
 use Rattle.gname.specs.Ids.{IsIdText}
 use Rattle.gname.specs.Laws.{IdTextsAreDigits}
@@ -10,25 +10,14 @@ use Rattle.gobject.specs.declared.plain_pack.read.Separator.TheVariants.{Space, 
 use Rattle.gobject.specs.declared.plain_pack.read.Next.{Next}
 use Rattle.gobject.specs.declared.plain_pack.read.Next.TheVariants.{Header, Word, Id, Parent, Count, Nothing}
 use Rattle.gobject.specs.Objects.{entry_of, node_of}
-use Rattle.gobject.specs.PlainPackText.{line, text_of, header, letter, ids_of, end_text, IsNodeText, AreNodeTexts, ArePackLines, IsPack, BeginsPack, IsWrongLine, EndsEarly, IsBadLine, TakesMemory}
-use Rattle.gobject.specs.PlainPackReading.{IsPart, HasRead}
+use Rattle.gobject.specs.PlainPackText.{line, text_of, header, letter, ids_of, end_text, IsNodeText, AreNodeTexts, IsPack, BeginsPack, IsWrongLine, EndsEarly, IsBadLine, TakesMemory}
+use Rattle.gobject.specs.PlainPackReading.{AreLines, IsOpening, IsPart, HasRead}
 use Rattle.gobject.specs.steps.PlainPackReading.{separator_byte, with_parent, EndsId, IsKept, Leads, NeverLeads}
 use Rattle.gobject.specs.steps.PlainPackReading.{line_number}
 use Rattle.gobject.proofs.PlainPackFronts.{AreNodeTexts-length, IsFront, MayCome, BeginsPack-front, IsFront-pack, comes_next, whole_no_front}
 use Rattle.gobject.proofs.PlainPackLines.{IsPart-id, IsPart-letter, letter_no_end, IsPart-end, IsPart-decimal, IsPart-header, length-decimal-most, length-id-most, part_one, part_long, part_none, first_line, text_of-push, id_follows, ids_rest, IsIdsText-push}
 
 -- ---- one part more
-
--- a part in a line
-goes_on : (before front opening part : List ℕ) → before ≡ front ++ opening → before ++ (part ++ 32 ∷ []) ≡ front ++ ((opening ++ part) ++ 32 ∷ [])
-goes_on before front opening part h = ap (λ (b : List ℕ). b ++ (part ++ 32 ∷ [])) h ∙ simp append_assoc
-
--- a part at the end of a line
-ends : (before : List ℕ) (front : List (List ℕ)) (opening part : List ℕ) → before ≡ text_of front ++ opening
-    → before ++ (part ++ 10 ∷ []) ≡ text_of (front ++ (opening ++ part) ∷ []) ++ []
-ends before front opening part h =
-    let moved : (text : List ℕ) → (text ++ opening) ++ (part ++ 10 ∷ []) ≡ text ++ (line (opening ++ part) ++ []) = λ text. simp (append_assoc, append-nil) in
-    ap (λ (b : List ℕ). b ++ (part ++ 10 ∷ [])) h ∙ moved (text_of front) ∙ sym (text_of-push front (opening ++ part) [])
 
 -- one more line of an entry
 AreNodeTexts-push : {A : Type 0} (nodes : List (List ℕ)) (text : List ℕ) (list : List (Entry A)) (entry : Entry A) → AreNodeTexts nodes list
@@ -54,84 +43,65 @@ IsNodeText-parent opening node part id entry opens h spelt =
     ap (λ (o : List ℕ). o ++ part) opens ∙ append_assoc node (32 ∷ []) part ∙ ap (λ (n : List ℕ). n ++ 32 ∷ part) h.1 in
     (h.0 ++ 32 ∷ part, whole, IsIdsText-push h.0 part id (ids_of entry) h.2 spelt)
 
--- an id of an entry is read
-HasRead-id : {A : Type 0} (list new : List (Entry A)) (entry : Entry A) (after : Next A) (end : Separator) (before : List ℕ) (front : List (List ℕ)) (opening part : List ℕ)
-    → before ≡ text_of front ++ opening → (nodes : List (List ℕ)) → front ≡ header ∷ nodes → AreNodeTexts nodes list
-    → IsNodeText (opening ++ part) entry → EndsId list entry end after new
-    → HasRead after new (before ++ (part ++ separator_byte end ∷ []))
-HasRead-id list new entry after Space before front opening part parts nodes begins each node h =
-    rw (h.0, h.1) (record {
-      front = front;
-      opening = (opening ++ part) ++ 32 ∷ [];
-      parts = goes_on before (text_of front) opening part parts;
-      lines = (nodes, begins, each);
-      opens = (opening ++ part, refl, node);
-    })
-HasRead-id list new entry after LineFeed before front opening part parts nodes begins each node h =
-    rw (h.0, h.1) (record {
-      front = front ++ (opening ++ part) ∷ [];
+-- a part is read in its line
+part_in_line : {A : Type 0} (next after : Next A) (list new : List (Entry A)) (before part : List ℕ) (h : HasRead next list before)
+    → AreLines after new h.front → IsOpening after ((h.opening ++ part) ++ 32 ∷ []) → HasRead after new (before ++ (part ++ 32 ∷ []))
+part_in_line next after list new before part h lines opens = record {
+  front = h.front;
+  opening = (h.opening ++ part) ++ 32 ∷ [];
+  parts = ap (λ (b : List ℕ). b ++ (part ++ 32 ∷ [])) h.parts ∙ simp append_assoc;
+  lines = lines;
+  opens = opens;
+}
+
+-- and at its end
+part_at_end : {A : Type 0} (next after : Next A) (list new : List (Entry A)) (before part : List ℕ) (h : HasRead next list before)
+    → AreLines after new (h.front ++ (h.opening ++ part) ∷ []) → IsOpening after [] → HasRead after new (before ++ (part ++ 10 ∷ []))
+part_at_end next after list new before part h lines opens =
+    let moved : (text : List ℕ) → (text ++ h.opening) ++ (part ++ 10 ∷ []) ≡ text ++ (line (h.opening ++ part) ++ []) = λ text. simp (append_assoc, append-nil) in
+    record {
+      front = h.front ++ (h.opening ++ part) ∷ [];
       opening = [];
-      parts = ends before front opening part parts;
-      lines = (
-        nodes ++ (opening ++ part) ∷ [],
-        ap (λ (f : List (List ℕ)). f ++ (opening ++ part) ∷ []) begins,
-        AreNodeTexts-push nodes (opening ++ part) list entry each node,
-      );
-      opens = refl;
-    })
+      parts = ap (λ (b : List ℕ). b ++ (part ++ 10 ∷ [])) h.parts ∙ moved (text_of h.front) ∙ sym (text_of-push h.front (h.opening ++ part) []);
+      lines = lines;
+      opens = opens;
+    }
+
+-- an id of an entry is read
+HasRead-id : {A : Type 0} (next after : Next A) (list new : List (Entry A)) (entry : Entry A) (end : Separator) (before part : List ℕ)
+    (h : HasRead next list before) → ((nodes : List (List ℕ)) × (h.front ≡ header ∷ nodes) × AreNodeTexts nodes list)
+    → IsNodeText (h.opening ++ part) entry → EndsId list entry end after new
+    → HasRead after new (before ++ (part ++ separator_byte end ∷ []))
+HasRead-id next after list new entry Space before part h (nodes, begins, each) node e =
+    rw (e.0, e.1) (part_in_line next (Parent entry) list list before part h (nodes, begins, each) (h.opening ++ part, refl, node))
+HasRead-id next after list new entry LineFeed before part h (nodes, begins, each) node e =
+    let text = h.opening ++ part in
+    rw (e.0, e.1) (part_at_end next Word list (list ++ entry ∷ []) before part h
+    (nodes ++ text ∷ [], ap (λ (f : List (List ℕ)). f ++ text ∷ []) begins, AreNodeTexts-push nodes text list entry each node) refl)
 
 -- a part that may come next is read
 pub HasRead-part : {A : Type 0} (next after : Next A) (list new : List (Entry A)) (before part : List ℕ) (end : Separator) → HasRead next list before
     → Leads next list part end after new → HasRead after new (before ++ (part ++ separator_byte end ∷ []))
 HasRead-part {A} Header after list new before part LineFeed h l =
     let P : List (Entry A) → Type 0 = λ entries. AreNodeTexts [] entries in
-    rw (l.1, l.2) (record {
-      front = header ∷ [];
-      opening = [];
-      parts = ap₂ (λ (b p : List ℕ). b ++ (p ++ 10 ∷ [])) (h.parts ∙ ap₂ (λ (f : List (List ℕ)) (o : List ℕ). text_of f ++ o) h.lines.0 h.opens) l.0;
-      lines = ([], refl, subst P (sym h.lines.1) tt);
-      opens = refl;
-    })
+    let lines = ap₂ (λ (f : List (List ℕ)) (t : List ℕ). f ++ t ∷ []) h.lines.0 (ap₂ (λ (o p : List ℕ). o ++ p) h.opens l.0) in
+    rw (l.1, l.2) (part_at_end Header Word list list before part h ([], lines, subst P (sym h.lines.1) tt) refl)
 HasRead-part Word (Id kind) list new before part Space h l =
-    rw (l.1) (record {
-      front = h.front;
-      opening = (h.opening ++ part) ++ 32 ∷ [];
-      parts = goes_on before (text_of h.front) h.opening part h.parts;
-      lines = h.lines;
-      opens = ap₂ (λ (o p : List ℕ). (o ++ p) ++ 32 ∷ []) h.opens l.0;
-    })
+    rw (l.1) (part_in_line Word (Id kind) list list before part h h.lines (ap₂ (λ (o p : List ℕ). (o ++ p) ++ 32 ∷ []) h.opens l.0))
 HasRead-part Word Count list new before part Space h l =
-    rw (l.1) (record {
-      front = h.front;
-      opening = (h.opening ++ part) ++ 32 ∷ [];
-      parts = goes_on before (text_of h.front) h.opening part h.parts;
-      lines = h.lines;
-      opens = ap₂ (λ (o p : List ℕ). (o ++ p) ++ 32 ∷ []) h.opens l.0;
-    })
+    rw (l.1) (part_in_line Word Count list list before part h h.lines (ap₂ (λ (o p : List ℕ). (o ++ p) ++ 32 ∷ []) h.opens l.0))
 HasRead-part {A} (Id kind) after list new before part end h l =
-    HasRead-id list new (entry_of l.0 (node_of kind [])) after end before h.front h.opening part h.parts h.lines.0 h.lines.1 h.lines.2 (IsNodeText-first A h.opening part l.0 kind h.opens l.1) l.2
+    HasRead-id (Id kind) after list new (entry_of l.0 (node_of kind [])) end before part h h.lines (IsNodeText-first A h.opening part l.0 kind h.opens l.1) l.2
 HasRead-part (Parent entry) after list new before part end h l =
-    HasRead-id list new (with_parent entry l.0) after end before h.front h.opening part h.parts h.lines.0 h.lines.1 h.lines.2 (IsNodeText-parent h.opening h.opens.0 part l.0 entry h.opens.1 h.opens.2 l.1) l.2
+    HasRead-id (Parent entry) after list new (with_parent entry l.0) end before part h h.lines (IsNodeText-parent h.opening h.opens.0 part l.0 entry h.opens.1 h.opens.2 l.1) l.2
 HasRead-part Count after list new before part LineFeed h l =
-    rw (l.1, l.2) (record {
-      front = h.front ++ (h.opening ++ part) ∷ [];
-      opening = [];
-      parts = ends before h.front h.opening part h.parts;
-      lines = record {
-        nodes = h.lines.0;
-        are = ap₂ (λ (f : List (List ℕ)) (t : List ℕ). f ++ t ∷ []) h.lines.1 (ap₂ (λ (o p : List ℕ). o ++ p) h.opens l.0);
-        each = h.lines.2;
-      };
-      opens = refl;
-    })
-HasRead-part Word Header list new before part Space h l = absurd l.0
-HasRead-part Word Word list new before part Space h l = absurd l.0
-HasRead-part Word (Parent entry) list new before part Space h l = absurd l.0
-HasRead-part Word Nothing list new before part Space h l = absurd l.0
-HasRead-part Header after list new before part Space h l = absurd l
-HasRead-part Word after list new before part LineFeed h l = absurd l
-HasRead-part Count after list new before part Space h l = absurd l
-HasRead-part Nothing after list new before part end h l = absurd l
+    let last = ap₂ (λ (o p : List ℕ). o ++ p) h.opens l.0 in
+    rw (l.1, l.2) (part_at_end Count Nothing list list before part h (record {
+      nodes = h.lines.0;
+      are = ap₂ (λ (f : List (List ℕ)) (t : List ℕ). f ++ t ∷ []) h.lines.1 last;
+      each = h.lines.2;
+    }) refl)
+HasRead-part _ after list new before part end h l = grind arith
 
 -- a list with one more is not empty
 one_more : {X : Type 0} (xs : List X) (x : X) → xs ++ x ∷ [] ≢ []
@@ -174,41 +144,19 @@ pub TakesMemory-part : {A : Type 0} (next : Next A) (list : List (Entry A)) (bef
 unfolding Keeps
 TakesMemory-part {A} (Id kind) list before part LineFeed more h k =
     TakesMemory-id list (entry_of k.0 (node_of kind [])) before h.front h.opening part LineFeed more h.parts h.lines.0 h.lines.1 h.lines.2 (IsNodeText-first A h.opening part k.0 kind h.opens k.1) (inr refl)
-TakesMemory-part (Id kind) list before part Space more h k = absurd k
 TakesMemory-part (Parent entry) list before part end more h k =
     TakesMemory-id list (with_parent entry k.0) before h.front h.opening part end more h.parts h.lines.0 h.lines.1 h.lines.2 (IsNodeText-parent h.opening h.opens.0 part k.0 entry h.opens.1 h.opens.2 k.1) (parent_kept end entry k.0)
-TakesMemory-part Header list before part end more h k = absurd k
-TakesMemory-part Word list before part end more h k = absurd k
-TakesMemory-part Count list before part end more h k = absurd k
-TakesMemory-part Nothing list before part end more h k = absurd k
+TakesMemory-part _ list before part end more h k = grind arith
 
 -- a pack that has ended is read
-pub IsPack-read : {A : Type 0} (next : Next A) (list : List (Entry A)) (before part : List ℕ) → HasRead next list before → next ≡ Nothing → part ≡ []
+pub pack_is_read : {A : Type 0} (next : Next A) (list : List (Entry A)) (before part : List ℕ) → HasRead next list before → next ≡ Nothing → part ≡ []
     → IsPack (before ++ part) list
-IsPack-read {A} next list before part h is none =
-    let P : Next A → Type 0 = λ n. HasRead n list before in
-    let read : HasRead Nothing list before = subst P is h in
+pack_is_read {A} next list before part h is none =
+    let read : HasRead Nothing list before = rw is at h in
     let front = text_of read.front in
     let whole : before ++ part ≡ front =
     ap₂ (λ (b p : List ℕ). b ++ p) (read.parts ∙ ap (λ (o : List ℕ). front ++ o) read.opens ∙ append-nil front) none ∙ append-nil front in
     record { lines = read.front; whole = whole; are = read.lines }
-
--- what an answer says of a part that may come next, and of one that may not
-pub leads_at : {A : Type 0} (found : Option (Next A)) (after next same : Next A) (list new : List (Entry A)) (part : List ℕ) (end : Separator)
-    → found ≡ Some after → next ≡ same → MatchOption found (NeverLeads next list part end) (λ after. Leads next list part end after new)
-    → Leads same list part end after new
-leads_at {A} found after next same list new part end is one h =
-    let P : Option (Next A) → Type 0 = λ o. MatchOption o (NeverLeads next list part end) (λ after. Leads next list part end after new) in
-    let Q : Next A → Type 0 = λ n. Leads n list part end after new in
-    subst Q one (subst P is h)
-
-pub never_leads_at : {A : Type 0} (found : Option (Next A)) (next same : Next A) (list new : List (Entry A)) (part : List ℕ) (end : Separator)
-    → found ≡ None → next ≡ same → MatchOption found (NeverLeads next list part end) (λ after. Leads next list part end after new)
-    → NeverLeads same list part end
-never_leads_at {A} found next same list new part end is one h =
-    let P : Option (Next A) → Type 0 = λ o. MatchOption o (NeverLeads next list part end) (λ after. Leads next list part end after new) in
-    let Q : Next A → Type 0 = λ n. NeverLeads n list part end in
-    subst Q one (subst P is h)
 
 -- ---- what may follow
 
@@ -237,7 +185,7 @@ module _ (digits_law : IdTextsAreDigits) where
   -- the first part of a pack
   may_begin : {A : Type 0} (list : List (Entry A)) (text x t more : List ℕ) → text ≡ [] → t ≡ header → text ++ x ≡ line t ++ more → Follows Header list x
   may_begin list text x t more opens is same =
-      let parts : x ≡ header ++ 10 ∷ more = sym (ap (λ (o : List ℕ). o ++ x) opens) ∙ same ∙ ap (λ (l : List ℕ). line l ++ more) is in
+      let parts : x ≡ header ++ 10 ∷ more = rw (opens, is) at same in
       record { part = header; end = LineFeed; rest = more; after = Word; new = list; parts = parts; is = IsPart-header; few = omega arith; leads = (refl, refl, refl) }
 
   -- the first part of a line
@@ -249,8 +197,7 @@ module _ (digits_law : IdTextsAreDigits) where
       sym (ap (λ (o : List ℕ). o ++ x) opens) ∙ same ∙ ap (λ (l : List ℕ). line l ++ more) (node.1 ∙ ap (λ (i : List ℕ). letter h.0.node.kind ∷ i) node.2.2) in
       record { part = letter h.0.node.kind ∷ []; end = Space; rest = ((node.2.0 ++ node.2.1) ++ 10 ∷ []) ++ more; after = Id h.0.node.kind; new = list; parts = parts; is = IsPart-letter h.0.node.kind; few = omega arith; leads = (refl, refl) }
   may_word list text x t more n opens (inr is) same =
-      let parts : x ≡ codes "end" ++ 32 ∷ ((decimal n ++ 10 ∷ []) ++ more) =
-      sym (ap (λ (o : List ℕ). o ++ x) opens) ∙ same ∙ ap (λ (l : List ℕ). line l ++ more) is in
+      let parts : x ≡ codes "end" ++ 32 ∷ ((decimal n ++ 10 ∷ []) ++ more) = rw (opens, is) at same in
       record { part = codes "end"; end = Space; rest = (decimal n ++ 10 ∷ []) ++ more; after = Count; new = list; parts = parts; is = IsPart-end; few = omega arith; leads = (refl, refl) }
 
   -- the id of an entry
@@ -266,8 +213,7 @@ module _ (digits_law : IdTextsAreDigits) where
       let after = ends_id list (entry_of {A = A} h.0.id (node_of kind [])) f.0 in
       record { part = others.0; end = f.0; rest = f.1; after = after.0; new = after.1; parts = rests ∙ append_assoc (others.0 ++ others.1) (10 ∷ []) more ∙ f.2; is = IsPart-id digits_law others.0 h.0.id others.3; few = length-id-most others.0 h.0.id others.3; leads = (h.0.id, others.3, after.2) }
   may_id kind list text x t more n opens (inr is) same =
-      let whole : letter kind ∷ 32 ∷ x ≡ line (end_text n) ++ more =
-      sym (ap (λ (o : List ℕ). o ++ x) opens) ∙ same ∙ ap (λ (l : List ℕ). line l ++ more) is in
+      let whole : letter kind ∷ 32 ∷ x ≡ line (end_text n) ++ more = rw (opens, is) at same in
       let first : letter kind ≡ 101 = cc in
       absurd (letter_no_end kind first)
 
@@ -291,13 +237,11 @@ module _ (digits_law : IdTextsAreDigits) where
   may_count : {A : Type 0} (list : List (Entry A)) (text x t more : List ℕ) → text ≡ codes "end " → MayStand A (length list) t
       → text ++ x ≡ line t ++ more → Follows Count list x
   may_count list text x t more opens (inl h) same =
-      let whole : codes "end " ++ x ≡ line (letter h.0.node.kind ∷ h.1.0) ++ more =
-      sym (ap (λ (o : List ℕ). o ++ x) opens) ∙ same ∙ ap (λ (l : List ℕ). line l ++ more) h.1.1 in
+      let whole : codes "end " ++ x ≡ line (letter h.0.node.kind ∷ h.1.0) ++ more = rw (opens, h.1.1) at same in
       let first : letter h.0.node.kind ≡ 101 = cc in
       absurd (letter_no_end h.0.node.kind first)
   may_count list text x t more opens (inr is) same =
-      let whole : codes "end " ++ x ≡ codes "end " ++ ((decimal (length list) ++ 10 ∷ []) ++ more) =
-      sym (ap (λ (o : List ℕ). o ++ x) opens) ∙ same ∙ ap (λ (l : List ℕ). line l ++ more) is in
+      let whole : codes "end " ++ x ≡ codes "end " ++ ((decimal (length list) ++ 10 ∷ []) ++ more) = rw (opens, is) at same in
       let rests : x ≡ (decimal (length list) ++ 10 ∷ []) ++ more = cc in
       record { part = decimal (length list); end = LineFeed; rest = more; after = Nothing; new = list; parts = rests ∙ append_assoc (decimal (length list)) (10 ∷ []) more; is = IsPart-decimal (length list); few = length-decimal-most (length list); leads = (refl, refl, refl) }
 
@@ -324,7 +268,7 @@ module _ (digits_law : IdTextsAreDigits) where
               (found.1, next_parts whole front found.0 rest found.1 parts found.2, found.3),
               λ begins.
                   none found.0 found.1
-                  (comes_next front found.0 begins.more _ begins.list before begins.are (append_assoc front (found.0 ∷ []) begins.more)) found.2,
+                  (comes_next front found.0 begins.more _ begins.list begins.are (append_assoc front (found.0 ∷ []) begins.more)) found.2,
             )
       ] in
       (front, place, BeginsPack-front A front before, why)
@@ -372,8 +316,7 @@ module _ (digits_law : IdTextsAreDigits) where
       let count = ap (λ (f : List (List ℕ)). length f) h.lines.are in
       let long = AreNodeTexts-length h.lines.nodes list h.lines.each in
       let last = length-append h.lines.nodes (end_text (length list) ∷ []) in
-      let P : List (List ℕ) → Type 0 = λ ls. ArePackLines ls list in
-      let begins : BeginsPack A h.front = record { list = list; more = []; are = subst P (sym (append-nil h.front)) h.lines } in
+      let begins : BeginsPack A h.front = record { list = list; more = []; are = rw (append-nil h.front) h.lines } in
       let why : IsWrongLine A whole h.front ⊎ EndsEarly A whole h.front =
       elim (first_line x) [
         | inl one ↦ inr (x, parts, one, λ nothing all. goes refl nothing)
@@ -400,9 +343,7 @@ module _ (digits_law : IdTextsAreDigits) where
       let text = part ++ separator_byte end ∷ more in
       bad_part next list before text _ h (simp append_assoc) (λ _ none. not_nil part (separator_byte end) more none) (λ f.
       let one = part_one part f.part end f.end more f.rest is f.is f.parts in
-      let P : List ℕ → Type 0 = λ p. Leads next list p f.end f.after f.new in
-      let Q : Separator → Type 0 = λ e. Leads next list part e f.after f.new in
-      never f.after f.new (subst Q (sym one.1) (subst P (sym one.0) f.leads)))
+      never f.after f.new (rw (← one.0, ← one.1) at f.leads))
 
   -- so does one that is too long
   pub IsBadLine-long : {A : Type 0} (next : Next A) (list : List (Entry A)) (before part more : List ℕ) → HasRead next list before → IsPart part
@@ -418,7 +359,7 @@ module _ (digits_law : IdTextsAreDigits) where
       some (byte ∷ p) lt none = cc
 
   -- and so does the end of the input, but where the pack has ended
-  pub IsBadLine-end : {A : Type 0} (next : Next A) (list : List (Entry A)) (before part : List ℕ) → HasRead next list before → IsPart part
+  pub bad_line_at_end : {A : Type 0} (next : Next A) (list : List (Entry A)) (before part : List ℕ) → HasRead next list before → IsPart part
       → (next ≡ Nothing → part ≡ [] → ⊥) → IsBadLine A (before ++ part) (line_number next (length list))
-  IsBadLine-end next list before part h is goes =
+  bad_line_at_end next list before part h is goes =
       bad_part next list before part _ h refl goes (λ f. part_none part f.part f.end f.rest is f.parts)

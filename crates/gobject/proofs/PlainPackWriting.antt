@@ -3,9 +3,8 @@ use Rattle.std.proofs.Common.{◌≡◌, ℕ, ◌+◌, ◌<◌, List, [], ◌∷
 use Rattle.std.specs.List.{flat_map}
 use Rattle.std.proofs.lemmas.List.{append-nil, flat_map_more, take_more, take-append-drop}
 use Rattle.std.proofs.lemmas.List.Concat.{flat_map-append}
-use Rattle.gname.specs.Ids.{id_text}
 use Rattle.gobject.specs.declared.node.Entry.{Entry}
-use Rattle.gobject.specs.PlainPackText.{line, text_of, ids_text, ids_of, header, node_text, end_text, pack_text}
+use Rattle.gobject.specs.PlainPackText.{line, text_of, header, node_text, end_text, pack_text}
 use Rattle.gobject.specs.steps.PlainPackWriting.{nodes_text}
 use Rattle.gobject.proofs.PlainPackLines.{text_of-push}
 
@@ -24,15 +23,7 @@ pieces_split f xs i old =
 
 -- ---- room
 
--- a piece more
-pub left_more : {X : Type 0} (f : X → List ℕ) (xs : List X) (i : ℕ) (x : X) (room left rest : ℕ) → i < length xs → x ≡ get_or xs i x
-    → left + length (flat_map f (take i xs)) ≡ room → rest + length (f x) ≡ left → rest + length (flat_map f (take (i + 1) xs)) ≡ room
-left_more f xs i x room left rest lt is before here =
-    let whole = ap (λ (t : List ℕ). length t) (pieces_more f xs i x [] lt is) in
-    let parts = length-append (flat_map f (take i xs)) (f x) in
-    omega (arith, before, here, whole, parts)
-
--- and one that is too long
+-- a piece that is too long
 pub left_none : {X : Type 0} (f : X → List ℕ) (xs : List X) (i : ℕ) (x : X) (room left : ℕ) → i < length xs → x ≡ get_or xs i x
     → left + length (flat_map f (take i xs)) ≡ room → left < length (f x) → room < length (flat_map f xs)
 left_none f xs i x room left lt is before over =
@@ -49,30 +40,19 @@ nodes_text-is [] = refl
 nodes_text-is (entry ∷ list) = ap (λ (text : List ℕ). line (node_text entry) ++ text) (nodes_text-is list)
 
 -- a pack is the header, the lines of its entries and the end
-pub pack_text-is : {A : Type 0} (list : List (Entry A)) → pack_text list ≡ (line header ++ nodes_text list) ++ line (end_text (length list))
+pub pack_text_is : {A : Type 0} (list : List (Entry A)) → pack_text list ≡ (line header ++ nodes_text list) ++ line (end_text (length list))
 unfolding pack_text
-pack_text-is list =
+pack_text_is list =
     let last = end_text (length list) in
     sym (append-nil (text_of (header ∷ (map node_text list ++ last ∷ []))))
     ∙ text_of-push (header ∷ map node_text list) last []
     ∙ ap (λ (text : List ℕ). text_of (header ∷ map node_text list) ++ text) (append-nil (line last))
     ∙ ap (λ (text : List ℕ). (line header ++ text) ++ line last) (nodes_text-is list)
 
--- how long they are
-pub length-id : (id : List ℕ) (digits : ℕ) → length (id_text id) ≡ digits → length (ids_text (id ∷ [])) ≡ digits + 1
-length-id id digits h = let one = ap (λ (t : List ℕ). length t) (append-nil (32 ∷ id_text id)) in omega (arith, one, h)
-
-pub length-node : {A : Type 0} (entry : Entry A)
-    → length (line (node_text entry)) ≡ 2 + length (ids_text (entry.id ∷ [])) + length (ids_text entry.node.parents)
-length-node entry =
-    let ids = length-append (32 ∷ id_text entry.id) (ids_text entry.node.parents) in
-    let one = ap (λ (t : List ℕ). length t) (append-nil (32 ∷ id_text entry.id)) in
-    let last = length-append (ids_text (ids_of entry)) (10 ∷ []) in
-    omega (arith, ids, one, last)
-
-pub length-pack : {A : Type 0} (list : List (Entry A)) → length (pack_text list) ≡ 10 + length (decimal (length list)) + length (nodes_text list)
-length-pack list =
-    let whole = ap (λ (t : List ℕ). length t) (pack_text-is list) in
+-- and so long
+pub length_pack : {A : Type 0} (list : List (Entry A)) → length (pack_text list) ≡ 10 + length (decimal (length list)) + length (nodes_text list)
+length_pack list =
+    let whole = ap (λ (t : List ℕ). length t) (pack_text_is list) in
     let back = length-append (line header ++ nodes_text list) (line (end_text (length list))) in
     let front = length-append (line header) (nodes_text list) in
     let last = length-append (decimal (length list)) (10 ∷ []) in

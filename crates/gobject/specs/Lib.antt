@@ -3,6 +3,5 @@ pub mod Objects
 pub mod Packs
 pub mod PlainPackText
 pub mod PlainPackReading
-pub mod PlainPackFeed
 pub mod Laws
 pub mod steps

@@ -4,6 +4,7 @@ use Rattle.gobject.specs.declared.node.Entry.{Entry}
 use Rattle.gobject.specs.declared.plain_pack.read.Next.{Next}
 use Rattle.gobject.specs.declared.plain_pack.read.Next.TheVariants.{Header, Id, Parent, Count, Nothing}
 use Rattle.gobject.specs.PlainPackText.{text_of, header, letter, IsNodeText, AreNodeTexts, ArePackLines}
+use Rattle.gobject.specs.declared.plain_pack.feed.PlainFeed.{PlainFeed}
 
 -- neither a space nor a line feed is in the text
 abbrev pub IsPart : List ℕ → Type 0
@@ -31,3 +32,12 @@ pub record HasRead {A : Type 0} (next : Next A) (list : List (Entry A)) (bytes :
   pub parts : bytes ≡ text_of front ++ opening
   pub lines : AreLines next list front
   pub opens : IsOpening next opening
+
+-- ---- what was fed
+
+-- the bytes read, and those of a part that has not ended
+pub record Fed {A : Type 0} (feed : PlainFeed A) (bytes : List ℕ) : Type 0 where
+  pub before : List ℕ
+  pub parts : bytes ≡ before ++ feed.part.items
+  pub read : HasRead feed.lines.next feed.lines.entries.items before
+  pub part : IsPart feed.part.items

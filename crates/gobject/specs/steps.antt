@@ -1,4 +1,3 @@
 -- The steps: what only private functions and proofs speak of.
-pub mod PlainPackFeed
 pub mod PlainPackReading
 pub mod PlainPackWriting

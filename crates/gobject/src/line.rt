@@ -45,6 +45,7 @@ fn push_id<A: Allocator + Copy>(text: &mut Vec<u8, A>, id: &Oid) -> Result<(), A
 }
 
 // Ids, each after a space.
+#[tactic(auto, using(crate::proofs::PlainPackWriting::pieces_more))]
 fn push_ids<A: Allocator + Copy>(text: &mut Vec<u8, A>, ids: &[Oid]) -> Result<(), AllocError>
     ensures { OnOk result (text.new.items ≡ text.old.items ++ ids_text ids.now) }
 {

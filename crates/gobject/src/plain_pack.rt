@@ -7,7 +7,7 @@ mod write;
 
 ghost use Rattle.std.specs.Prelude.{◌≡◌};
 ghost use Rattle.gobject.specs.PlainPackText.{pack_text, PackRefuses, IsPack, IndexRefuses};
-ghost use Rattle.gobject.specs.PlainPackFeed.{Fed};
+ghost use Rattle.gobject.specs.PlainPackReading.{Fed};
 
 use crate::fault::{IndexFault, PackFault};
 use crate::node::Entry;

@@ -1,10 +1,9 @@
 -- What is read of bytes, and that each front has a packet or a reason.
-use Rattle.std.proofs.Common.{◌≡◌, ℕ, zero, suc, ◌+◌, ◌-◌, ◌<◌, ◌≤◌, ◌⊎◌, List, [], ◌∷◌, ◌++◌, length, take, drop, Option, Some, None, Result, Ok, Err, refl, sym, ap, ◌∙◌, inl, inr, arith, length-append, length-take-le, take-append-drop, append_assoc}
+use Rattle.std.proofs.Common.{◌≡◌, ℕ, zero, suc, ◌+◌, ◌<◌, ◌≤◌, ◌⊎◌, List, [], ◌∷◌, ◌++◌, length, take, drop, Option, Some, None, Result, Ok, Err, refl, sym, ap, ◌∙◌, inl, inr, arith, length-append, length-take-le, take-append-drop, append_assoc}
+use Rattle.gpkt.specs.{Laws.{IsOfBytes, OneFault, OneOutcome, SpellsAtFront, EveryFront}, LineReading.{NoLine, Gives}}
+use Rattle.gpkt.specs.Packets.{Packet, Data, Flush, Delim, ResponseEnd, number_of, max_packet}
 use Rattle.gpkt.specs.declared.fault.LineFault.{LineFault}
 use Rattle.gpkt.specs.declared.fault.LineFault.TheVariants.{BadDigits, Reserved, TooLong, Truncated, Io, Failed, Memory}
-use Rattle.gpkt.specs.Packets.{Packet, Data, Flush, Delim, ResponseEnd, number_of, max_packet}
-use Rattle.gpkt.specs.LineReading.{NoLine, Gives}
-use Rattle.gpkt.specs.Laws.{IsOfBytes, OneFault, OneOutcome, SpellsAtFront, EveryFront}
 use Rattle.gpkt.proofs.Readings.{one_reading_lem, refused_lem, has_four_bytes_lem, some_value}
 
 -- ---- one outcome
@@ -23,22 +22,17 @@ rest_after _ old = drop 4 old
 
 fault_of_bytes : (fault : LineFault) (old new : List ℕ) → Gives old new (Err fault) → IsOfBytes (Err fault)
     → NoLine fault old × (new ≡ rest_after fault old)
-fault_of_bytes BadDigits old new h fits = h
-fault_of_bytes Reserved old new h fits = h
-fault_of_bytes TooLong old new h fits = h
-fault_of_bytes Truncated old new h fits = h
 fault_of_bytes Io old new h fits = absurd (fits.0 refl)
 fault_of_bytes Failed old new h fits = absurd (fits.1 refl)
 fault_of_bytes Memory old new h fits = absurd h
+fault_of_bytes _ old new h fits = h
 
 some_bytes : (fault : LineFault) (bytes : List ℕ) → NoLine fault bytes → 0 < length bytes
-some_bytes BadDigits bytes h = let four = h.0 in omega arith
-some_bytes Reserved bytes h = let four = h.0 in omega arith
-some_bytes TooLong bytes h = let four = h.1.0 in omega arith
+some_bytes BadDigits bytes h = omega (arith, h.0)
+some_bytes Reserved bytes h = omega (arith, h.0)
+some_bytes TooLong bytes h = omega (arith, h.1.0)
 some_bytes Truncated bytes h = h.0
-some_bytes Io bytes h = absurd h
-some_bytes Failed bytes h = absurd h
-some_bytes Memory bytes h = absurd h
+some_bytes _ bytes h = absurd h
 
 no_bytes : {X : Type 0} (bytes : List ℕ) → 0 < length bytes → bytes ≡ [] → X
 no_bytes bytes some none = let len : length bytes ≡ 0 = ap length none in absurd (omega arith)
@@ -85,30 +79,19 @@ one_fault_lem BadDigits BadDigits bytes h k = refl
 one_fault_lem BadDigits Reserved bytes h k = no_number (take 4 bytes) 3 h.1 k.1
 one_fault_lem BadDigits TooLong bytes h k = no_number (take 4 bytes) k.0 h.1 k.1.1
 one_fault_lem BadDigits Truncated bytes h k = cut_digits bytes k h.0 h.1
-one_fault_lem BadDigits Io bytes h k = absurd k
-one_fault_lem BadDigits Failed bytes h k = absurd k
-one_fault_lem BadDigits Memory bytes h k = absurd k
 one_fault_lem Reserved BadDigits bytes h k = no_number (take 4 bytes) 3 k.1 h.1
 one_fault_lem Reserved Reserved bytes h k = refl
 one_fault_lem Reserved TooLong bytes h k = reserved_too_long bytes h k
 one_fault_lem Reserved Truncated bytes h k = cut_reserved bytes k h
-one_fault_lem Reserved Io bytes h k = absurd k
-one_fault_lem Reserved Failed bytes h k = absurd k
-one_fault_lem Reserved Memory bytes h k = absurd k
 one_fault_lem TooLong BadDigits bytes h k = no_number (take 4 bytes) h.0 k.1 h.1.1
 one_fault_lem TooLong Reserved bytes h k = reserved_too_long bytes k h
 one_fault_lem TooLong TooLong bytes h k = refl
 one_fault_lem TooLong Truncated bytes h k = cut_too_long bytes k h
-one_fault_lem TooLong Io bytes h k = absurd k
-one_fault_lem TooLong Failed bytes h k = absurd k
-one_fault_lem TooLong Memory bytes h k = absurd k
 one_fault_lem Truncated BadDigits bytes h k = cut_digits bytes h k.0 k.1
 one_fault_lem Truncated Reserved bytes h k = cut_reserved bytes h k
 one_fault_lem Truncated TooLong bytes h k = cut_too_long bytes h k
 one_fault_lem Truncated Truncated bytes h k = refl
-one_fault_lem Truncated Io bytes h k = absurd k
-one_fault_lem Truncated Failed bytes h k = absurd k
-one_fault_lem Truncated Memory bytes h k = absurd k
+one_fault_lem _ _ bytes h k = absurd k
 
 abbrev refused : LineFault → Result (Option Packet) LineFault
 refused fault = Err fault

@@ -1,17 +1,14 @@
 -- What bytes spell, and in how many ways.
-use Rattle.std.proofs.Common.{◌≡◌, ℕ, zero, suc, ◌+◌, ◌-◌, ◌<◌, ◌≤◌, List, [], ◌∷◌, ◌++◌, length, take, drop, Some, Result, Ok, Err, refl, sym, ap, ◌∙◌, subst, inl, inr, arith, append_assoc, append-nil, length-append, codes}
-use Rattle.std.specs.Int.{w16, to_be_bytes}
+use Rattle.std.proofs.Common.{◌≡◌, ℕ, zero, suc, ◌+◌, ◌-◌, ◌<◌, ◌≤◌, List, [], ◌∷◌, ◌++◌, length, take, drop, Some, Result, Ok, Err, refl, sym, ap, ◌∙◌, subst, inl, inr, arith, append_assoc, append-nil, length-append}
 use Rattle.std.proofs.lemmas.List.Elements.{All-head, All-tail}
+use Rattle.std.specs.Int.{w16, to_be_bytes}
 use lib.Seq.{take_at, drop_at}
-use Rattle.hex.specs.Hex.{decode_of, IsBytes}
-use Rattle.hex.specs.declared.error.FromHexError.{FromHexError}
-use Rattle.hex.proofs.HexLemmas.{decode_of-ok, decode_of-encode_lower}
-use Rattle.hex.proofs.OnLiterals.{hex_on_literals}
-use Rattle.gpkt.specs.declared.fault.LineFault.{LineFault}
-use Rattle.gpkt.specs.declared.fault.LineFault.TheVariants.{BadDigits, Reserved, TooLong, Truncated, Io, Failed, Memory}
+use Rattle.hex.specs.{Hex.{decode_of, IsBytes}, declared.error.FromHexError.FromHexError}
+use Rattle.hex.proofs.{HexLemmas.{decode_of-ok, decode_of-encode_lower}, OnLiterals.hex_on_literals}
 use Rattle.gpkt.specs.Packets.{Packet, Data, Flush, Delim, ResponseEnd, Spells, SpellsAll, number_in, number_of, digits_of, canonical, canonical_all, payload_of, max_payload}
-use Rattle.gpkt.specs.LineReading.{NoLine}
 use Rattle.gpkt.specs.Laws.{OneReading, RefusedIsNoLine, HasFourBytes, Fits, CanonicalSpells, CanonicalSpellsAll, CanonicalJoins, SpellingsJoin, SpellingsSplit, BeginsWith, OneBegins}
+use Rattle.gpkt.specs.LineReading.{NoLine}
+use Rattle.gpkt.specs.declared.fault.LineFault.{LineFault, TheVariants.{BadDigits, Reserved, TooLong, Truncated}}
 
 -- ---- lists
 
@@ -64,27 +61,19 @@ line_from-announced : (line : Packet) → line_from (announced line) (payload_of
 line_from-announced (Data payload) =
     let split : length payload + 4 ≡ suc (suc (suc (suc (length payload)))) = omega arith in
     ap (λ n. line_from n payload) split
-line_from-announced Flush = refl
-line_from-announced Delim = refl
-line_from-announced ResponseEnd = refl
+line_from-announced _ = refl
 
 announced-less_four : (line : Packet) → announced line - 4 ≡ length (payload_of line)
 announced-less_four (Data payload) = omega arith
-announced-less_four Flush = refl
-announced-less_four Delim = refl
-announced-less_four ResponseEnd = refl
+announced-less_four _ = refl
 
 announced-at_most : (line : Packet) → announced line ≤ length (payload_of line) + 4
 announced-at_most (Data payload) = omega arith
-announced-at_most Flush = omega arith
-announced-at_most Delim = omega arith
-announced-at_most ResponseEnd = omega arith
+announced-at_most _ = omega arith
 
 announced-not_three : (line : Packet) → announced line ≡ 3 → ⊥
 announced-not_three (Data payload) h = omega arith
-announced-not_three Flush h = omega arith
-announced-not_three Delim h = omega arith
-announced-not_three ResponseEnd h = omega arith
+announced-not_three _ h = omega arith
 
 -- the four digits, and what follows them
 record Parts (line : Packet) (bytes : List ℕ) : Type 0 where
@@ -96,9 +85,9 @@ record Parts (line : Packet) (bytes : List ℕ) : Type 0 where
 
 parts_of : (line : Packet) (bytes : List ℕ) → Spells line bytes → Parts line bytes
 parts_of (Data payload) bytes (digits, split, number, fits) = record { digits = digits; split = split; four = number_of-four digits _ number; number = number; fits = fits }
-parts_of Flush bytes h = record { digits = bytes; split = sym (append-nil bytes); four = number_of-four bytes 0 h; number = h; fits = omega arith }
-parts_of Delim bytes h = record { digits = bytes; split = sym (append-nil bytes); four = number_of-four bytes 1 h; number = h; fits = omega arith }
-parts_of ResponseEnd bytes h = record { digits = bytes; split = sym (append-nil bytes); four = number_of-four bytes 2 h; number = h; fits = omega arith }
+parts_of line bytes h =
+    let four = number_of-four bytes (announced line) h in
+    record { digits = bytes; split = sym (append-nil bytes); four = four; number = h; fits = omega arith }
 
 pub some_value : (a b : ℕ) → Some a ≡ Some b → a ≡ b
 some_value a b h = cc
@@ -159,32 +148,17 @@ refused_parts Truncated line bytes front rest h same p =
           let short = cut.3 in
           let most = announced-at_most line in omega arith
     ]
-refused_parts Io line bytes front rest h same p = h
-refused_parts Failed line bytes front rest h same p = h
-refused_parts Memory line bytes front rest h same p = h
+refused_parts _ line bytes front rest h same p = absurd h
 
 pub refused_lem : RefusedIsNoLine
 refused_lem fault line bytes front rest h same s = refused_parts fault line bytes front rest h same (parts_of line front s)
 
 -- ---- the canonical spelling
 
-flush_number : number_of (codes "0000") ≡ Some 0
-unfolding number_of hex_on_literals
-flush_number = refl
-
-delim_number : number_of (codes "0001") ≡ Some 1
-unfolding number_of hex_on_literals
-delim_number = refl
-
-response_end_number : number_of (codes "0002") ≡ Some 2
-unfolding number_of hex_on_literals
-response_end_number = refl
-
 pub canonical_spells_lem : CanonicalSpells
+unfolding number_of hex_on_literals
 canonical_spells_lem (Data payload) fits = (digits_of (length payload + 4), refl, number_of-digits_of (length payload + 4) (omega arith), fits)
-canonical_spells_lem Flush fits = flush_number
-canonical_spells_lem Delim fits = delim_number
-canonical_spells_lem ResponseEnd fits = response_end_number
+canonical_spells_lem _ fits = refl
 
 pub canonical_spells_all_lem : CanonicalSpellsAll
 canonical_spells_all_lem [] fits = refl

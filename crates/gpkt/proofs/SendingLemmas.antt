@@ -1,9 +1,8 @@
 -- What is written and passed on, one after the other.
-use Rattle.std.proofs.Common.{◌≡◌, ℕ, Bool, List, [], ◌++◌, Option, Some, None, refl, sym, ap, subst, ◌∙◌, append_assoc, append-nil}
-use Rattle.std.specs.Prelude.{IsSome}
-use Rattle.std.specs.Io.KnownBytes.{Appends, Keeps}
-use Rattle.gpkt.specs.Devices.{KeepsPassed}
-use Rattle.gpkt.specs.Sending.{output_of, IsUnwritten, Passes, SendsAndFails, SendsSome}
+use Rattle.std.proofs.Common.{◌≡◌, ℕ, Bool, List, [], ◌++◌, Option, Some, None, refl, sym, ap, subst, ◌∙◌, append-nil}
+use Rattle.std.proofs.KnownBytes.{Appends-trans}
+use Rattle.std.specs.{Io.KnownBytes.{Appends, Keeps}, Prelude.IsSome}
+use Rattle.gpkt.specs.{Devices.KeepsPassed, Sending.{output_of, IsUnwritten, Passes, SendsAndFails, SendsSome}}
 
 -- ---- bytes before and after
 
@@ -20,11 +19,7 @@ keeps_still (Some xs) None kept = absurd kept
 keeps_still (Some xs) (Some ys) kept = ([], kept ∙ sym (append-nil xs))
 
 pub appends_join : (a b c : Option (List ℕ)) (xs ys : List ℕ) → Appends a b xs → Appends b c ys → Appends a c (xs ++ ys)
-appends_join None b c xs ys h next = tt
-appends_join (Some ps) None c xs ys h next = absurd h
-appends_join (Some ps) (Some qs) None xs ys h next = absurd next
-appends_join (Some ps) (Some qs) (Some rs) xs ys h next =
-    next ∙ (ap (λ (bytes : List ℕ). bytes ++ ys) h ∙ append_assoc ps xs ys)
+appends_join = Appends-trans
 
 pub appends_known : (a b : Option (List ℕ)) (xs : List ℕ) → Appends a b xs → IsSome a → IsSome b
 appends_known None b xs h known = cc
@@ -36,13 +31,10 @@ appends_to old xs None b is h = cc
 appends_to old xs (Some ps) None is h = absurd h
 appends_to old xs (Some ps) (Some qs) is h = let same : ps ≡ old = cc in cc
 
-pub none_is_some : (old : List ℕ) → None ≡ Some old → ⊥
-none_is_some old is = cc
-
 -- where it is known what was passed on, it goes on from there
 pub passes_on_from : (old : List ℕ) (b c : Option (List ℕ)) → b ≡ Some old
     → KeepsPassed (record { old = b; new = c }) → (more : List ℕ) × (c ≡ Some (old ++ more))
-passes_on_from old None c is h = absurd (none_is_some old is)
+passes_on_from old None c is h = cc
 passes_on_from old (Some qs) None is h = absurd h
 passes_on_from old (Some qs) (Some rs) is h = let same : qs ≡ old = cc in (h.0, cc)
 

@@ -1,34 +1,26 @@
 -- The steps of reading a packet, joined.
 use Rattle.std.proofs.Common.{◌≡◌, ℕ, ◌+◌, ◌<◌, ◌≤◌, List, ◌++◌, length, take, drop, Option, Some, None, Ok, Err, refl, sym, ap, ◌∙◌, inl, inr, append_assoc, append-nil, arith, subst, length-append}
 use lib.Seq.{drop_at, take_at}
-use Rattle.gpkt.specs.declared.head.Head.TheVariants as head
-use Rattle.gpkt.specs.declared.fault.LineFault.{LineFault}
+use Rattle.gpkt.specs.{Change.Change, LineReading.{Gives, Reads, IsPartialLine}}
+use Rattle.gpkt.specs.{Packets.{Data, Spells, max_packet, max_payload, number_of}, declared.fault.LineFault.LineFault}
 use Rattle.gpkt.specs.declared.fault.LineFault.TheVariants.{BadDigits, Reserved, TooLong, Truncated, Io, Failed, Memory}
-use Rattle.gpkt.specs.Change.{Change}
-use Rattle.gpkt.specs.Packets.{Data, Spells, max_packet, max_payload, number_of}
-use Rattle.gpkt.specs.LineReading.{Gives, Reads, IsPartialLine}
 use Rattle.gpkt.specs.steps.Heads.{ReadsHead, ReadsPayload}
+use Rattle.gpkt.specs.declared.head.Head.TheVariants as head
 
 abbrev pub change : Option (List ℕ) → Option (List ℕ) → Change
 change old new = record { old = old; new = new }
 
 -- ---- the four digits
 
-pub take-four : (digits rest : List ℕ) → length digits ≡ 4 → take 4 (digits ++ rest) ≡ digits
-take-four digits rest len = take_at digits rest 4 len
-
-pub drop-four : (digits rest : List ℕ) → length digits ≡ 4 → drop 4 (digits ++ rest) ≡ rest
-drop-four digits rest len = drop_at digits rest 4 len
-
 -- a fact of the number that the first four bytes stand for
 digits_known : (P : Option ℕ → Type 0) (old new : List ℕ) → (digits : List ℕ) × (old ≡ digits ++ new) × (length digits ≡ 4) × P (number_of digits)
     → (4 ≤ length old) × P (number_of (take 4 old)) × (new ≡ drop 4 old)
 digits_known P old new (digits, front, len, holds) =
-    let first : take 4 old ≡ digits = ap (take 4) front ∙ take-four digits new len in
+    let first : take 4 old ≡ digits = ap (take 4) front ∙ take_at digits new 4 len in
     let all : length old ≡ length digits + length new = ap length front ∙ length-append digits new in (
       omega arith,
       subst (λ l. P (number_of l)) (sym first) holds,
-      sym (ap (drop 4) front ∙ drop-four digits new len),
+      sym (ap (drop 4) front ∙ drop_at digits new 4 len),
     )
 
 -- ---- a reading that ends in the digits
@@ -48,13 +40,9 @@ refused_known old new Failed h = absurd h.3
 refused_known old new Memory h = absurd h.3
 
 refused_lost : (old : List ℕ) (fault : LineFault) → ReadsHead (change (Some old) None) (Err fault) → ⊥
-refused_lost old BadDigits h = h.1
-refused_lost old Reserved h = h.1
-refused_lost old TooLong h = h.1
-refused_lost old Truncated h = h.1
-refused_lost old Io h = h.1
 refused_lost old Failed h = h.3
 refused_lost old Memory h = h.3
+refused_lost old _ h = h.1
 
 pub Reads-from_refused : (old new : Option (List ℕ)) (fault : LineFault) → ReadsHead (change old new) (Err fault) → Reads (change old new) (Err fault)
 Reads-from_refused None new fault h = tt
@@ -67,7 +55,7 @@ module _ (len : ℕ) (payload : List ℕ) (sized : length payload ≡ len) where
   IsPartialLine-payload : (digits bytes : List ℕ) → length digits ≡ 4 → number_of digits ≡ Some (len + 4) → len ≤ max_payload → length bytes < len → IsPartialLine (digits ++ bytes)
   IsPartialLine-payload digits bytes four announced fits few =
       let all = length-append digits bytes in
-      inr (len + 4, (omega arith, ap number_of (take-four digits bytes four) ∙ announced), omega arith, omega arith)
+      inr (len + 4, (omega arith, ap number_of (take_at digits bytes 4 four) ∙ announced), omega arith, omega arith)
 
   payload_known : (old mid new : List ℕ) (fault : LineFault) → ReadsHead (change (Some old) (Some mid)) (Ok (Some (head.Data len)))
       → ReadsPayload (change (Some mid) (Some new)) (Err fault) payload → Gives old new (Err fault)
@@ -79,20 +67,12 @@ module _ (len : ℕ) (payload : List ℕ) (sized : length payload ≡ len) where
   payload_known old mid new Io (digits, front, four, (announced, fits)) (bytes, next, few) =
       let whole : old ≡ (digits ++ bytes) ++ new = front ∙ ap (λ l. digits ++ l) next ∙ sym (append_assoc digits bytes new) in
       (digits ++ bytes, whole, IsPartialLine-payload digits bytes four announced fits (omega arith))
-  payload_known old mid new BadDigits head h = absurd h
-  payload_known old mid new Reserved head h = absurd h
-  payload_known old mid new TooLong head h = absurd h
-  payload_known old mid new Failed head h = absurd h
-  payload_known old mid new Memory head h = absurd h
+  payload_known old mid new _ head h = absurd h
 
   payload_lost : (mid : List ℕ) (fault : LineFault) → ReadsPayload (change (Some mid) None) (Err fault) payload → ⊥
   payload_lost mid Truncated h = h.1
   payload_lost mid Io h = h.1
-  payload_lost mid BadDigits h = h
-  payload_lost mid Reserved h = h
-  payload_lost mid TooLong h = h
-  payload_lost mid Failed h = h
-  payload_lost mid Memory h = h
+  payload_lost mid _ h = h
 
   pub Reads-from_cut : (old mid new : Option (List ℕ)) (fault : LineFault) → ReadsHead (change old mid) (Ok (Some (head.Data len)))
       → ReadsPayload (change mid new) (Err fault) payload → Reads (change old new) (Err fault)

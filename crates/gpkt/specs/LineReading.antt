@@ -1,12 +1,11 @@
 -- What a packet reader's call gives, and what it takes from its source.
 use Rattle.std.specs.Prelude.{◌≡◌, ℕ, ◌<◌, ◌≤◌, ◌⊎◌, Bool, true, false, List, [], ◌++◌, length, take, drop, Option}
 use Rattle.std.specs.Prelude.{Some, None, option_map, Result, Ok, Err}
-use Rattle.gpkt.specs.declared.line.Line.{Line}
-use Rattle.gpkt.specs.declared.fault.LineFault.{LineFault}
-use Rattle.gpkt.specs.declared.fault.LineFault.TheVariants.{BadDigits, Reserved, TooLong, Truncated, Io, Failed, Memory}
 use Rattle.gpkt.specs.Change.{Change, WhereKnown, change_of}
-use Rattle.gpkt.specs.Packets.{Bytes}
-use Rattle.gpkt.specs.Packets.{Packet, Spells, SpellsAll, digit_count, max_packet, number_of, packet_of, reserved_len}
+use Rattle.gpkt.specs.Packets.{Bytes, Packet, Spells, SpellsAll, digit_count, max_packet, number_of, packet_of}
+use Rattle.gpkt.specs.{Packets.reserved_len, declared.fault.LineFault.LineFault}
+use Rattle.gpkt.specs.declared.fault.LineFault.TheVariants.{BadDigits, Reserved, TooLong, Truncated, Io, Failed, Memory}
+use Rattle.gpkt.specs.declared.line.Line.{Line}
 
 -- a reader: its source, and whether a call of it has failed
 pub record Reader (S : Type 0) : Type 0 where

@@ -16,11 +16,13 @@ pub fn limits_are_the_constants()
 {}
 
 /// At most one packet is spelt at the front of some bytes, and in one way.
+#[tactic(auto, using(crate::proofs::Readings::one_reading_lem))]
 pub fn one_reading()
     ensures { OneReading }
 {}
 
 /// Where reading is refused no packet is spelt, and there is one reason.
+#[tactic(auto, using(crate::proofs::Readings::refused_lem, crate::proofs::Fronts::one_fault_lem))]
 pub fn refused_front()
     ensures no_line { RefusedIsNoLine }
     ensures one_fault { OneFault }
@@ -28,6 +30,7 @@ pub fn refused_front()
 
 /// Bytes that are read give one result and leave one rest, where neither the source fails nor the
 /// reader had failed.
+#[tactic(auto, using(crate::proofs::Fronts::one_outcome_lem))]
 pub fn one_outcome()
     ensures { OneOutcome }
 {}
@@ -38,11 +41,13 @@ pub fn every_front()
 {}
 
 /// A spelling has at least four bytes.
+#[tactic(auto, using(crate::proofs::Readings::has_four_bytes_lem))]
 pub fn has_four_bytes()
     ensures { HasFourBytes }
 {}
 
 /// What is written is a spelling of the packet, and of the packets.
+#[tactic(auto, using(crate::proofs::Readings::canonical_spells_lem, crate::proofs::Readings::canonical_spells_all_lem, crate::proofs::Readings::canonical_joins_lem))]
 pub fn canonical_spells()
     ensures line { CanonicalSpells }
     ensures lines { CanonicalSpellsAll }
@@ -50,12 +55,14 @@ pub fn canonical_spells()
 {}
 
 /// Two lists of packets are spelt one after the other exactly where the one list of both is spelt.
+#[tactic(auto, using(crate::proofs::Readings::spellings_join_lem, crate::proofs::Readings::spellings_split_lem))]
 pub fn spellings_join()
     ensures join { SpellingsJoin }
     ensures split { SpellingsSplit }
 {}
 
 /// Of two lists of packets that are spelt at the front of the same bytes one begins the other.
+#[tactic(auto, using(crate::proofs::Readings::one_begins_lem))]
 pub fn one_begins()
     ensures { OneBegins }
 {}
@@ -68,6 +75,7 @@ pub fn text_reads_back()
 
 /// A payload is read as a band exactly where it is that band's byte and bytes, and a packet can
 /// carry it exactly where the bytes are few enough.
+#[tactic(auto, using(crate::proofs::Bands::band_is_read, crate::proofs::Bands::band_is_payload))]
 pub fn bands_are_read()
     ensures payload { BandIsRead }
     ensures nothing_else { BandIsPayload }
@@ -75,6 +83,7 @@ pub fn bands_are_read()
 {}
 
 /// Packets that are read one after the other are a list of packets that is read.
+#[tactic(auto, using(crate::proofs::Joins::reads_none, crate::proofs::Joins::reads_next, crate::proofs::Joins::reads_join))]
 pub fn reads_join()
     ensures none { ReadsNone }
     ensures next { ReadsNext }
@@ -82,6 +91,7 @@ pub fn reads_join()
 {}
 
 /// Writes one after the other are one write of all the bytes, and a push passes all of them on.
+#[tactic(auto, using(crate::proofs::Joins::writes_join, crate::proofs::Joins::fails_of_more, crate::proofs::Joins::pushes_written))]
 pub fn writes_join<W: Sink>()
     ensures join { WritesJoin W.contents W.passed_on W.is_down W.loans }
     ensures failed { FailsOfMore W.contents W.passed_on W.is_down W.loans }

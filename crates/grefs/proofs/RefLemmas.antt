@@ -1,24 +1,17 @@
 -- Refs in order: what a search finds, and what an edit at that position does.
 use Rattle.std.proofs.Common.{ap₂, ◌≡◌, ◌≢◌, ℕ, zero, suc, ◌<◌, ◌≤◌, List, [], ◌∷◌, ◌++◌, length, get_or, set, Bool, true, false, cond, Option, Some, None, Result, Ok, Err, MatchResult, ◌⊎◌, inl, inr, ◌+◌, refl, sym, ◌∙◌, ap, subst, arith, take, drop, ◌-◌}
-use Rattle.std.specs.Str.{bytes_eq}
+use Rattle.std.proofs.lemmas.List.Elements.{All-append, All-contains_itself, All-head, All-tail, All-weaker, All-take, All-drop, All-cons, All-set, All-nil}
+use Rattle.std.proofs.lemmas.{Cmp.{nat_list_cmp_total, alike_right}, List.{length-set, length-append}}
+use Rattle.std.proofs.lemmas.{List.Edits.length-insert, Map.Keys.{sorted_head, sorted_tail}, Map.Lookups.exact_bytes}
+use Rattle.std.proofs.lemmas.{Map.Text.is_eq-slice_cmp, Option.same_Some, Slice.Eq.bytes_eq-Decides}
+use Rattle.std.specs.Cmp.Lexicographic.{slice_cmp}
 use Rattle.std.specs.List.{All, AllByRecursion, AllWithin, Contains, insert, find, slice_get}
 use Rattle.std.specs.List.Sorted.{IsStrictlySortedBy, IsNonDecreasingBy, IsBinarySearchResult, IsSearchInRange}
 use Rattle.std.specs.Map.{keys_of}
-use Rattle.std.specs.Option.{option_map}
-use Rattle.std.specs.Ordering.{nat_cmp, is_eq, is_lt, ordering_reverse, ordering_index}
-use Rattle.std.specs.declared.cmp.Ordering.{Ordering}
-use Rattle.std.specs.declared.cmp.Ordering.TheVariants.{Less, Equal, Greater}
-use Rattle.std.specs.Cmp.Lexicographic.{slice_cmp}
-use Rattle.std.proofs.lemmas.Cmp.{nat_list_cmp_total, alike_right}
-use Rattle.std.proofs.lemmas.Map.Text.{is_eq-slice_cmp}
-use Rattle.std.proofs.lemmas.Map.Lookups.{exact_bytes}
-use Rattle.std.proofs.lemmas.Map.Keys.{sorted_head, sorted_tail}
-use Rattle.std.proofs.lemmas.Option.{same_Some}
-use Rattle.std.proofs.lemmas.Slice.Eq.{bytes_eq-Decides}
-use Rattle.std.proofs.lemmas.List.Elements.{All-append, All-contains_itself, All-head, All-tail, All-weaker, All-take, All-drop, All-cons, All-set, All-nil, All-push}
-use Rattle.std.proofs.lemmas.List.Edits.{length-insert}
-use Rattle.std.proofs.lemmas.List.{length-set, length-append}
+use Rattle.std.specs.{Option.option_map, Ordering.{nat_cmp, is_eq, is_lt, ordering_reverse, ordering_index}}
+use Rattle.std.specs.{Str.bytes_eq, declared.cmp.Ordering.{Ordering, TheVariants.{Less, Equal, Greater}}}
 use Rattle.gname.specs.Names.{head_name}
+use Rattle.grefs.specs.Laws.{RefsComeInOrder}
 use Rattle.grefs.specs.RefLists.{RefList, has_name, ref_at, AreBelow, IsBelowRefs, IsRefs, SetsRef, max_refs}
 use Rattle.grefs.specs.steps.RefPlaces.{IsFound, IsGap}
 
@@ -292,8 +285,7 @@ at_key P (ref ∷ refs) all (suc j) d lt = at_key P refs all.1 j d (omega arith)
 
 index_small : (o : Ordering) → ordering_index o ≤ 2
 index_small Less = omega arith
-index_small Equal = omega arith
-index_small Greater = omega arith
+index_small _ = omega arith
 
 rises : (low high name : List ℕ) (o : Ordering) → order high name ≡ o → order low high ≡ Less → ordering_index (order low name) ≤ ordering_index o
 rises low high name Less h below = rw (nat_list_cmp_total.trans low high name below h) (omega arith)
@@ -339,23 +331,17 @@ refs_none = record { names = All-nil (λ (ref : List ℕ × List ℕ). IsBelowRe
 
 -- ---- a ref after all others
 
-all_push : (P : List ℕ → Type 0) (refs : RefList) (ref : List ℕ × List ℕ) → AllByRecursion P (keys_of refs) → P ref.0 → AllByRecursion P (keys_of (refs ++ ref ∷ []))
-all_push P [] ref all this = (this, tt)
-all_push P (first ∷ refs) ref all this = (all.0, all_push P refs ref all.1 this)
+gap_last : (refs : RefList) (name : List ℕ) → AreBelow refs name → IsGap refs name (length refs)
+gap_last [] name below = tt
+gap_last (ref ∷ refs) name below = (below.0, gap_last refs name below.1)
 
-sorted_push : (refs : RefList) (ref : List ℕ × List ℕ) → IsStrictlySortedBy order (keys_of refs) → AreBelow refs ref.0 → IsStrictlySortedBy order (keys_of (refs ++ ref ∷ []))
-sorted_push [] ref sorted below = sorted_cons ref.0 [] tt sorted_none
-sorted_push (first ∷ refs) ref sorted below =
-    sorted_cons first.0 (keys_of (refs ++ ref ∷ []))
-    (all_push (λ y. order first.0 y ≡ Less) refs ref (sorted_head order first.0 (keys_of refs) sorted) below.0)
-    (sorted_push refs ref (sorted_tail order first.0 (keys_of refs) sorted) below.1)
+insert_last : (refs : RefList) (ref : List ℕ × List ℕ) → insert refs (length refs) ref ≡ refs ++ ref ∷ []
+insert_last [] ref = refl
+insert_last (first ∷ refs) ref = ap (λ (l : RefList). first ∷ l) (insert_last refs ref)
 
 pub refs_push : (refs : RefList) (ref : List ℕ × List ℕ) → IsRefs refs → IsBelowRefs ref.0 → AreBelow refs ref.0 → length refs < max_refs → IsRefs (refs ++ ref ∷ [])
-refs_push refs ref valid name below room = record {
-  names = All-push (λ (r : List ℕ × List ℕ). IsBelowRefs r.0) refs ref valid.names name;
-  ascending = sorted_push refs ref valid.ascending below;
-  few = omega (arith, length-append refs (ref ∷ []));
-}
+refs_push refs ref valid name below room =
+    subst IsRefs (insert_last refs ref) (refs_insert refs ref.0 ref.1 (length refs) valid name room (gap_last refs ref.0 below))
 
 tail_last : (ref second : List ℕ × List ℕ) (refs : RefList) (last : List ℕ × List ℕ) → slice_get (ref ∷ (second ∷ refs)) (length (ref ∷ (second ∷ refs)) - 1) ≡ Some last → slice_get (second ∷ refs) (length (second ∷ refs) - 1) ≡ Some last
 tail_last ref second refs last here =
@@ -376,16 +362,37 @@ below_last [] last name here below = cc
 below_last (ref ∷ []) last name here below = subst (λ (r : List ℕ × List ℕ). order r.0 name ≡ Less) (same_Some ref last here) below.0
 below_last (ref ∷ (second ∷ refs)) last name here below = below_last (second ∷ refs) last name (tail_last ref second refs last here) below.1
 
-pub all_below : (refs : RefList) (last : List ℕ × List ℕ) (name : List ℕ) → slice_get refs (length refs - 1) ≡ Some last → IsRefs refs → (order last.0 name ≡ Less → AreBelow refs name) × (AreBelow refs name → order last.0 name ≡ Less)
-all_below refs last name here valid = (last_below refs last name here valid.ascending, below_last refs last name here)
-
 lower_less : (o : Ordering) → is_lt o ≡ true → o ≡ Less
 lower_less Less h = refl
-lower_less Equal h = cc
-lower_less Greater h = cc
+lower_less _ h = cc
 
 -- what the comparison of the last name with another says
 pub last_decides : (refs : RefList) (last : List ℕ × List ℕ) (name : List ℕ) (r : Bool) → slice_get refs (length refs - 1) ≡ Some last → IsRefs refs → r ≡ is_lt (order last.0 name) → (r ≡ true → AreBelow refs name) × (AreBelow refs name → r ≡ true)
-last_decides refs last name r here valid e =
-    let both = all_below refs last name here valid in
-    (λ yes_lower. both.0 (lower_less (order last.0 name) (sym e ∙ yes_lower)), λ below. e ∙ ap is_lt (both.1 below))
+last_decides refs last name r here valid e = (
+  λ yes_lower. last_below refs last name here valid.ascending (lower_less (order last.0 name) (sym e ∙ yes_lower)),
+  λ below. e ∙ ap is_lt (below_last refs last name here below),
+)
+
+-- ---- each ref could come next after those before it
+
+name_at : (front : RefList) (x : List ℕ × List ℕ) (back : RefList) → All (λ ref. IsBelowRefs ref.0) (front ++ x ∷ back) → IsBelowRefs x.0
+name_at [] x back all = All-head (λ (ref : List ℕ × List ℕ). IsBelowRefs ref.0) x back all
+name_at (y ∷ front) x back all = name_at front x back (All-tail (λ (ref : List ℕ × List ℕ). IsBelowRefs ref.0) y (front ++ x ∷ back) all)
+
+key_at : (P : List ℕ → Type 0) (front : RefList) (x : List ℕ × List ℕ) (back : RefList) → AllByRecursion P (keys_of (front ++ x ∷ back)) → P x.0
+key_at P [] x back all = all.0
+key_at P (y ∷ front) x back all = key_at P front x back all.1
+
+above_front : (front : RefList) (x : List ℕ × List ℕ) (back : RefList) → IsStrictlySortedBy order (keys_of (front ++ x ∷ back)) → AreBelow front x.0
+above_front [] x back sorted = tt
+above_front (y ∷ front) x back sorted = (
+  key_at (λ (k : List ℕ). order y.0 k ≡ Less) front x back (sorted_head order y.0 (keys_of (front ++ x ∷ back)) sorted),
+  above_front front x back (sorted_tail order y.0 (keys_of (front ++ x ∷ back)) sorted),
+)
+
+pub refs_come_in_order : RefsComeInOrder
+refs_come_in_order front ref back refs = record {
+  below = name_at front ref back refs.names;
+  above = above_front front ref back refs.ascending;
+  room = let few = refs.few in omega (arith, length-append front (ref ∷ back), few);
+}

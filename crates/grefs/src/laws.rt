@@ -13,11 +13,13 @@ pub fn limits_are_the_constants()
 {}
 
 /// Each ref could have been added after those before it.
+#[tactic(auto, using(crate::proofs::RefLemmas::refs_come_in_order))]
 pub fn refs_come_in_order()
     ensures { RefsComeInOrder }
 {}
 
 /// Refs of which each name stands at the same id are the same.
+#[tactic(auto, using(crate::proofs::RefLemmas::alike_same))]
 pub fn refs_are_their_look_ups()
     ensures { RefsAreTheirLookUps }
 {}

@@ -1,21 +1,15 @@
 -- Facts on the texts of refspecs.
 use Rattle.std.proofs.Common.{◌≡◌, ◌≢◌, ℕ, ◌+◌, ◌<◌, Bool, true, false, ◌==◌, nat_lt, List, [], ◌∷◌, ◌++◌, length, take, drop, get_or, None, Some, Result, Ok, Err, refl, sym, ap, ◌∙◌, subst, arith, append_assoc}
-use Rattle.std.specs.Prelude.{All, codes, nat_eq, position}
-use Rattle.std.specs.List.{starts_with, position_or_len}
-use Rattle.std.proofs.lemmas.Bool.{lt-ltb, ne_eqb, eqb-true, false≢true}
-use Rattle.std.proofs.lemmas.Bool.Decides.{Decides-eqb}
 use Rattle.std.proofs.lemmas.List.{append_cancel_right, take_at, drop_at, length-append, get_or_at, get_or_append_left, take-append-drop, drop_more}
-use Rattle.std.proofs.lemmas.List.Elements.{All-append, All-weaker, All-cons, All-nil}
-use Rattle.std.proofs.lemmas.List.Quantifiers.{position-Some}
-use Rattle.std.proofs.lemmas.List.Sums.{position_or_len_is}
-use Rattle.std.proofs.lemmas.Option.{none-some, same_Some}
-use Rattle.std.proofs.lemmas.Slice.Eq.{starts_is}
-use Rattle.gname.specs.Names.{IsRefName, empty, head_name, is_bad_byte, max_name, name_fault, too_long}
+use Rattle.std.proofs.lemmas.{Bool.{lt-ltb, ne_eqb, eqb-true, false≢true}, Bool.Decides.Decides-eqb}
+use Rattle.std.proofs.lemmas.List.{Elements.{All-append, All-weaker, All-cons, All-nil}, Quantifiers.position-Some}
+use Rattle.std.proofs.lemmas.{List.Sums.position_or_len_is, Option.{none-some, same_Some}, Slice.Eq.starts_is}
+use Rattle.std.specs.{List.{starts_with, position_or_len}, Prelude.{All, codes, nat_eq, position}}
 use Rattle.gname.specs.Laws.{NamesAreClean}
+use Rattle.gname.specs.Names.{IsRefName, empty, head_name, is_bad_byte, max_name, name_fault, too_long}
 use Rattle.gname.specs.declared.faults.NameFault.TheVariants.{TooLong}
 use Rattle.grefs.specs.RefLists.{IsBelowRefs}
-use Rattle.grefspec.specs.declared.fault.SpecFault.{SpecFault}
-use Rattle.grefspec.specs.declared.fault.SpecFault.TheVariants.{BadSpec, Memory}
+use Rattle.grefspec.specs.declared.fault.SpecFault.{SpecFault, TheVariants.{BadSpec, Memory}}
 use Rattle.grefspec.specs.Refspecs.{Refspec, AreSides, IsRefspec, IsSpec, IsStem, OneReading, Reads, force_text, side_text, sides_text}
 use Rattle.grefspec.specs.steps.Parsing.{HasSides, HasTexts, IsRest, is_colon}
 
@@ -107,39 +101,40 @@ reads_same P Q there back (Ok spec) reads = there spec reads
 reads_same P Q there back (Err BadSpec) reads = λ spec is. reads spec (back spec is)
 reads_same P Q there back (Err Memory) reads = (reads.0, there reads.0 reads.1)
 
+-- a text after its plus, where it has one, is read as the text is
+by_front : (forced : Bool) (text rest : List ℕ) → text ≡ force_text forced ++ rest
+    → ((spec : Refspec) → IsSpec text spec → (spec.forced ≡ forced) × (rest ≡ sides_text spec))
+    → (result : Result Refspec SpecFault) → Reads (IsRest forced rest) result → Reads (IsSpec text) result
+by_front forced text rest is parts =
+    let front : Bool → List ℕ → List ℕ = λ f l. force_text f ++ l in
+    reads_same (IsRest forced rest) (IsSpec text)
+    (λ spec read. record {
+      written = is ∙ ap (front forced) read.written ∙ ap (λ (f : Bool). front f (sides_text spec)) (sym read.force);
+      sides = read.sides;
+    })
+    (λ spec read. (let here = parts spec read in record { force = here.0; written = here.1; sides = read.sides }))
+
 -- a text with a plus at its front
-pub with_plus : NamesAreClean → (text rest : List ℕ) → text ≡ 43 ∷ rest → (result : Result Refspec SpecFault) → Reads (IsRest true rest) result → Reads (IsSpec text) result
-with_plus law text rest is result reads =
-    reads_same (IsRest true rest) (IsSpec text) (there text rest is) (back text rest is) result reads
+pub with_plus : NamesAreClean → (text rest : List ℕ) → text ≡ 43 ∷ rest → (result : Result Refspec SpecFault)
+    → Reads (IsRest true rest) result → Reads (IsSpec text) result
+with_plus law text rest is =
+    by_front true text rest is (λ spec read. by_force spec read.sides spec.forced (sym is ∙ read.written))
   where
-    there : (text rest : List ℕ) → text ≡ 43 ∷ rest → (spec : Refspec) → IsRest true rest spec → IsSpec text spec
-    there text rest is spec read = record { written = is ∙ ap (λ (l : List ℕ). 43 ∷ l) read.written ∙ ap (λ (f : Bool). force_text f ++ sides_text spec) (sym read.force); sides = read.sides }
-
-    by_force : (forced : Bool) (text rest : List ℕ) → text ≡ 43 ∷ rest → (spec : Refspec) → text ≡ force_text forced ++ sides_text spec → IsRefspec spec → (forced ≡ true) × (rest ≡ sides_text spec)
-    by_force true text rest is spec written sides = (refl, (cc (sym is ∙ written)))
-    by_force false text rest is spec written sides = absurd (no_plus law spec.pattern spec.source spec.destination _ rest sides (sym written ∙ is))
-
-    back : (text rest : List ℕ) → text ≡ 43 ∷ rest → (spec : Refspec) → IsSpec text spec → IsRest true rest spec
-    back text rest is spec read =
-        let parts = by_force spec.forced text rest is spec read.written read.sides in
-        record { force = parts.0; written = parts.1; sides = read.sides }
+    by_force : (spec : Refspec) → IsRefspec spec → (forced : Bool) → 43 ∷ rest ≡ force_text forced ++ sides_text spec
+        → (forced ≡ true) × (rest ≡ sides_text spec)
+    by_force spec sides true written = (refl, (cc))
+    by_force spec sides false written =
+        absurd (no_plus law spec.pattern spec.source spec.destination _ rest sides (sym written))
 
 -- and one without
-pub without_plus : NamesAreClean → (text : List ℕ) → ((rest : List ℕ) → text ≢ codes "+" ++ rest) → (result : Result Refspec SpecFault) → Reads (IsRest false text) result → Reads (IsSpec text) result
-without_plus law text none result reads =
-    reads_same (IsRest false text) (IsSpec text) there back result reads
+pub without_plus : NamesAreClean → (text : List ℕ) → ((rest : List ℕ) → text ≢ codes "+" ++ rest)
+    → (result : Result Refspec SpecFault) → Reads (IsRest false text) result → Reads (IsSpec text) result
+without_plus law text none = by_front false text text refl (λ spec read. by_force spec spec.forced read.written)
   where
-    there : (spec : Refspec) → IsRest false text spec → IsSpec text spec
-    there spec read = record { written = read.written ∙ ap (λ (f : Bool). force_text f ++ sides_text spec) (sym read.force); sides = read.sides }
-
-    by_force : (forced : Bool) (spec : Refspec) → text ≡ force_text forced ++ sides_text spec → (forced ≡ false) × (text ≡ sides_text spec)
-    by_force true spec written = absurd (none (sides_text spec) written)
-    by_force false spec written = (refl, written)
-
-    back : (spec : Refspec) → IsSpec text spec → IsRest false text spec
-    back spec read =
-        let parts = by_force spec.forced spec read.written in
-        record { force = parts.0; written = parts.1; sides = read.sides }
+    by_force : (spec : Refspec) (forced : Bool) → text ≡ force_text forced ++ sides_text spec
+        → (forced ≡ false) × (text ≡ sides_text spec)
+    by_force spec true written = absurd (none (sides_text spec) written)
+    by_force spec false written = (refl, written)
 
 -- the first colon of a refspec's sides is the one between them
 pub colon_at : NamesAreClean → (spec : Refspec) → IsRefspec spec → (text : List ℕ) → text ≡ sides_text spec → position is_colon text ≡ Some (length (side_text spec.pattern spec.source))
@@ -191,14 +186,27 @@ without_colon law forced text none spec read = none-some _ (sym none ∙ colon_a
 
 -- ---- patterns and names
 
+-- the sides of a pattern, or of none, are read as their texts are
+by_sides : (forced pattern : Bool) (source destination stem other : List ℕ) → source ≡ side_text pattern stem
+    → destination ≡ side_text pattern other
+    → ((p : Bool) (a b : List ℕ) → source ≡ side_text p a → destination ≡ side_text p b → AreSides p a b
+    → (p ≡ pattern) × (a ≡ stem) × (b ≡ other) × AreSides pattern stem other)
+    → (result : Result Refspec SpecFault) → Reads (HasSides forced pattern stem other) result
+    → Reads (HasTexts forced source destination) result
+by_sides forced pattern source destination stem other from to parts =
+    reads_same (HasSides forced pattern stem other) (HasTexts forced source destination)
+    (λ spec read. subst (HasTexts forced source destination) (sym read.is)
+    (record { force = refl; from = from; to = to; sides = read.sides }))
+    (λ spec read. (
+    let here = parts spec.pattern spec.source spec.destination read.from read.to read.sides in
+    record { is = same_spec spec forced pattern stem other read.force here.0 here.1 here.2; sides = here.3 }
+    ))
+
 pub both_stars : NamesAreClean → (forced : Bool) (source destination stem other : List ℕ) → source ≡ stem ++ codes "*" → destination ≡ other ++ codes "*" → (result : Result Refspec SpecFault)
     → Reads (HasSides forced true stem other) result → Reads (HasTexts forced source destination) result
-both_stars law forced source destination stem other from to result reads =
-    reads_same (HasSides forced true stem other) (HasTexts forced source destination) there back result reads
+both_stars law forced source destination stem other from to =
+    by_sides forced true source destination stem other from to by_pattern
   where
-    there : (spec : Refspec) → HasSides forced true stem other spec → HasTexts forced source destination spec
-    there spec read = subst (HasTexts forced source destination) (sym read.is) (record { force = refl; from = from; to = to; sides = read.sides })
-
     by_pattern : (pattern : Bool) (a b : List ℕ) → source ≡ side_text pattern a → destination ≡ side_text pattern b → AreSides pattern a b
         → (pattern ≡ true) × (a ≡ stem) × (b ≡ other) × AreSides true stem other
     by_pattern true a b f t sides =
@@ -207,29 +215,16 @@ both_stars law forced source destination stem other from to result reads =
         (refl, s, d, (subst IsStem s sides.0, subst IsStem d sides.1))
     by_pattern false a b f t sides = absurd (no_star law a stem sides.0 (sym f ∙ from))
 
-    back : (spec : Refspec) → HasTexts forced source destination spec → HasSides forced true stem other spec
-    back spec read =
-        let parts = by_pattern spec.pattern spec.source spec.destination read.from read.to read.sides in
-        record { is = same_spec spec forced true stem other read.force parts.0 parts.1 parts.2; sides = parts.3 }
-
 -- the texts of two sides are no patterns
 pub not_both_stars : (forced : Bool) (source destination : List ℕ) → ((a b : List ℕ) → source ≡ a ++ codes "*" → destination ≡ b ++ codes "*" → ⊥) → (result : Result Refspec SpecFault)
     → Reads (HasSides forced false source destination) result → Reads (HasTexts forced source destination) result
-not_both_stars forced source destination none result reads =
-    reads_same (HasSides forced false source destination) (HasTexts forced source destination) there back result reads
+not_both_stars forced source destination none =
+    by_sides forced false source destination source destination refl refl by_pattern
   where
-    there : (spec : Refspec) → HasSides forced false source destination spec → HasTexts forced source destination spec
-    there spec read = subst (HasTexts forced source destination) (sym read.is) (record { force = refl; from = refl; to = refl; sides = read.sides })
-
     by_pattern : (pattern : Bool) (a b : List ℕ) → source ≡ side_text pattern a → destination ≡ side_text pattern b → AreSides pattern a b
         → (pattern ≡ false) × (a ≡ source) × (b ≡ destination) × AreSides false source destination
     by_pattern true a b f t sides = absurd (none a b f t)
     by_pattern false a b f t sides = (refl, sym f, sym t, (subst IsRefName (sym f) sides.0, subst IsBelowRefs (sym t) sides.1))
-
-    back : (spec : Refspec) → HasTexts forced source destination spec → HasSides forced false source destination spec
-    back spec read =
-        let parts = by_pattern spec.pattern spec.source spec.destination read.from read.to read.sides in
-        record { is = same_spec spec forced false source destination read.force parts.0 parts.1 parts.2; sides = parts.3 }
 
 -- ---- one reading
 

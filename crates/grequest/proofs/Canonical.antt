@@ -7,7 +7,6 @@ use Rattle.std.proofs.lemmas.List.{length-append, length-map}
 use Rattle.std.proofs.lemmas.List.Elements.{All-nil, All-cons, All-append, All-map}
 use Rattle.gpkt.specs.Packets.{Packet, Data, Flush, Delim, text}
 use Rattle.gpkt.specs.Laws.{Fits}
-use Rattle.gname.specs.Formats.{format_name}
 use Rattle.gname.specs.Ids.{IsIdOf, id_text}
 use Rattle.gname.specs.declared.formats.Format.{Format}
 use Rattle.gname.specs.declared.formats.Format.TheVariants.{Sha1, Sha256}
@@ -16,8 +15,7 @@ use Rattle.gname.specs.Names.{IsPrefix}
 use Rattle.ggrammar.specs.Grammar.{Judge, LawsOf}
 use Rattle.ggrammar.specs.Kinds.{CanonicalSays}
 use Rattle.ggrammar.specs.Texts.{text_packet}
-use Rattle.grequest.proofs.AskedLemmas.{same_ls}
-use Rattle.grequest.proofs.FetchAskedLemmas.{same_fetch}
+use Rattle.grequest.proofs.AskedLemmas.{same_asked, same_ls}
 use Rattle.grequest.proofs.Sections.{at_most_one}
 use Rattle.grequest.specs.declared.command.Command.{Command}
 use Rattle.grequest.specs.declared.command.Command.TheVariants.{LsRefs, Fetch}
@@ -30,18 +28,19 @@ use Rattle.grequest.specs.RequestWriting.{agent_packets, format_packets, ls_argu
 use Rattle.grequest.specs.WellFormed.{IsAgent, IsLsRefsAsked, IsFetchAsked, IsAsked}
 use Rattle.grequest.specs.Manual.{IsCapability, IsArgument, NamesFormat, AreFew, IsCommandRequest, IsRequest}
 use Rattle.grequest.specs.Requests.{Says}
-use Rattle.grequest.proofs.StateLemmas.{list_of}
+use Rattle.std.specs.Option.{option_to_list}
 use Rattle.grequest.proofs.Texts.{text_of_line}
-use Rattle.grequest.proofs.ManualRequests.{judge_from_manual}
-use Rattle.grequest.proofs.WrittenLists.{flag_texts, flag_count, line_of, lines_are_packets, texts_of_lines, All-flag, All-imply}
-use Rattle.grequest.proofs.WrittenFlags.{flags_texts, flags_are, flags_count}
-use Rattle.grequest.proofs.WrittenTexts.{agent_text, agent_texts, format_texts, capability_words, prefix_text, want_text, have_text, ls_texts, fetch_texts, capability_lines, ls_lines, fetch_lines}
-use Rattle.grequest.proofs.WrittenCapabilities.{word_value_is_short, Capable, capable, AreSpelt, id_text_is_short}
-use Rattle.grequest.proofs.WrittenArguments.{says_ls, fetch_flags_said, wants_said, haves_said, are_fetch}
+use Rattle.grequest.proofs.WholeRequests.{judge_from_manual}
+use Rattle.grequest.proofs.WrittenTexts.{flag_count, line_of, lines_are_packets, texts_of_lines, All-flag}
+use Rattle.grequest.proofs.WrittenTexts.{All-imply, flags_texts, flags_are, flags_count, agent_texts}
+use Rattle.grequest.proofs.WrittenTexts.{format_texts, capability_words, prefix_text, want_text, have_text, ls_texts}
+use Rattle.grequest.proofs.WrittenTexts.{fetch_texts, capability_lines, ls_lines, fetch_lines}
+use Rattle.grequest.proofs.WrittenArguments.{word_value_is_short, Capable, capable, AreSpelt, id_text_is_short, says_ls}
+use Rattle.grequest.proofs.WrittenArguments.{fetch_flags_said, wants_said, haves_said, are_fetch}
 
 -- ---- the whole request
 
-first_of_list : (o : Option (List ℕ)) → first_of (list_of o) ≡ o
+first_of_list : (o : Option (List ℕ)) → first_of (option_to_list o) ≡ o
 first_of_list None = refl
 first_of_list (Some value) = refl
 
@@ -73,7 +72,7 @@ command_request format command agent packets texts asked e able are few room ask
       is_command = text_of_line (codes "command=" ++ command_name command);
       are_capabilities = subst (All (λ line. IsCapability format (capability_form line))) (sym read) able.are;
       are_arguments = subst (All (IsArgument format command)) (sym back) are;
-      one_agent = (let count : length (agents (map text (map line_of words))) ≡ length (list_of agent) = ap (λ (xs : List (List ℕ)). length (agents xs)) read ∙ ap length able.named in omega (arith, at_most_one agent));
+      one_agent = (let count : length (agents (map text (map line_of words))) ≡ length (option_to_list agent) = ap (λ (xs : List (List ℕ)). length (agents xs)) read ∙ ap length able.named in omega (arith, at_most_one agent));
       one_format = subst (NamesFormat format) (sym read) able.one_format;
       few = subst (AreFew format command) (sym back) few;
       few_arguments = omega (arith, room, length-map texts line_of);
@@ -89,18 +88,14 @@ count_values give values n h = omega (arith, length-map values give)
 
 ls_count : (asked : LsRefsAsked) → length asked.prefixes ≤ max_prefixes → length (ls_texts asked) ≤ length ls_flags + max_prefixes
 ls_count asked few =
-    count_both (flags_texts ls_flags asked.flags) (map prefix_text asked.prefixes) (length ls_flags) max_prefixes (flags_count ls_flags asked.flags) (count_values prefix_text asked.prefixes max_prefixes few)
+    count_both _ _ (length ls_flags) max_prefixes (flags_count ls_flags asked.flags) (count_values prefix_text asked.prefixes max_prefixes few)
 
 fetch_count : (asked : FetchAsked) → length asked.wants ≤ max_wants → length asked.haves ≤ max_haves → length (fetch_texts asked) ≤ length fetch_flags + max_wants + max_haves + 1
 fetch_count asked few many =
-    let early = (fetch_with asked Done false).flags in
-    let flags = flags_texts fetch_flags early in
-    let want = map want_text asked.wants in
-    let have = map have_text asked.haves in
-    count_both (flags ++ want ++ have) (flag_texts (codes "done") (fetch_has asked Done)) (length fetch_flags + max_wants + max_haves) 1
-    (count_both (flags ++ want) have (length fetch_flags + max_wants) max_haves
-    (count_both flags want (length fetch_flags) max_wants (flags_count fetch_flags early) (count_values want_text asked.wants max_wants few))
-    (count_values have_text asked.haves max_haves many))
+    count_both _ _ (length fetch_flags + max_wants + max_haves) 1
+    (count_both _ _ (length fetch_flags + max_wants) max_haves
+    (count_both _ _ (length fetch_flags) max_wants (flags_count fetch_flags (fetch_with asked Done false).flags)
+    (count_values want_text asked.wants max_wants few)) (count_values have_text asked.haves max_haves many))
     (flag_count (codes "done") (fetch_has asked Done))
 
 ls_request : (format : Format) (asked : LsRefsAsked) → IsLsRefsAsked asked → IsCommandRequest format (command_packets format LsRefs asked.agent (ls_argument_packets asked)) (Ls asked)
@@ -120,7 +115,7 @@ fetch_request spelt format asked h =
     command_request format Fetch asked.agent (fetch_argument_packets asked) (fetch_texts asked) (Fetches asked) (fetch_lines asked) able (are_fetch spelt format asked h)
     (omega (arith, ap length want, h.few_wants), omega (arith, ap length have, h.few_haves))
     (omega (arith, fetch_count asked h.few_wants h.few_haves))
-    (ap Fetches (same_fetch (sym (ap first_of able.named ∙ first_of_list asked.agent)) (sym want) (sym have) (sym (fetch_flags_said asked))))
+    (sym (ap Fetches (same_asked _ _ (ap first_of able.named ∙ first_of_list asked.agent) (want, have) (fetch_flags_said asked))))
 
 canonical_is_request : AreSpelt → (format : Format) (asked : Asked) → IsAsked format asked → IsRequest format (canonical_request format asked) asked
 unfolding canonical_request
@@ -148,57 +143,47 @@ command_fits LsRefs = omega arith
 command_fits Fetch = omega arith
 
 short_capabilities : (format : Format) (agent : Option (List ℕ)) → IsAgent agent → All IsShort (capability_words format agent)
-short_capabilities format agent h = All-append IsShort (agent_texts agent) (format_texts format) (short_agent agent h) (short_format format)
+short_capabilities format agent h = All-append IsShort _ _ (short_agent agent h) (short_format format)
   where
     short_agent : (agent : Option (List ℕ)) → IsAgent agent → All IsShort (agent_texts agent)
     short_agent None h = All-nil IsShort
-    short_agent (Some value) h = All-cons IsShort (agent_text value) [] (omega (arith, length-append (codes "agent=") value, word_value_is_short value h)) (All-nil IsShort)
+    short_agent (Some value) h =
+        All-cons IsShort _ [] (omega (arith, length-append (codes "agent=") value, word_value_is_short value h)) (All-nil IsShort)
 
     short_format : (format : Format) → All IsShort (format_texts format)
     short_format Sha1 = All-nil IsShort
-    short_format Sha256 = All-cons IsShort (codes "object-format=" ++ format_name Sha256) [] (omega arith) (All-nil IsShort)
+    short_format Sha256 = All-cons IsShort _ [] (omega arith) (All-nil IsShort)
 
 request_fits : (format : Format) (command : Command) (agent : Option (List ℕ)) (packets : List Packet) (texts : List (List ℕ)) → packets ≡ map text_packet texts → IsAgent agent → All IsShort texts
     → All Fits (command_packets format command agent packets)
 request_fits format command agent packets texts e able short =
-    All-cons Fits (text_packet (codes "command=" ++ command_name command)) (agent_packets agent ++ format_packets format ++ Delim ∷ (packets ++ Flush ∷ [])) (command_fits command)
-    (All-append Fits (agent_packets agent ++ format_packets format) (Delim ∷ (packets ++ Flush ∷ []))
-    (fit_texts (agent_packets agent ++ format_packets format) (capability_words format agent) (capability_lines format agent) (short_capabilities format agent able))
-    (All-cons Fits Delim (packets ++ Flush ∷ []) (omega arith)
-    (All-append Fits packets (Flush ∷ []) (fit_texts packets texts e short) (All-cons Fits Flush [] (omega arith) (All-nil Fits)))))
+    All-cons Fits _ _ (command_fits command)
+    (All-append Fits _ _ (fit_texts _ _ (capability_lines format agent) (short_capabilities format agent able))
+    (All-cons Fits Delim _ (omega arith)
+    (All-append Fits _ _ (fit_texts packets texts e short) (All-cons Fits Flush [] (omega arith) (All-nil Fits)))))
 
 -- so are the flags
-is_short_row : {F : Type 0} → F × List ℕ → Bool
+abbrev is_short_row : {F : Type 0} → F × List ℕ → Bool
 is_short_row row = nat_le (length row.1) longest
 
 short_flags : {F : Type 0} (table : Table F) (flags : FlagsOf table) → list_all is_short_row table ≡ true → All IsShort (flags_texts table flags)
-unfolding is_short_row
 short_flags table flags h = flags_are is_short_row IsShort (λ row is. leb-true (length row.1) longest is) table flags h
-
-short_ls_rows : list_all is_short_row ls_flags ≡ true
-unfolding is_short_row
-short_ls_rows = refl
-
-short_fetch_rows : list_all is_short_row fetch_flags ≡ true
-unfolding is_short_row
-short_fetch_rows = refl
 
 short_ls : PrefixesAreClean → (asked : LsRefsAsked) → IsLsRefsAsked asked → All IsShort (ls_texts asked)
 short_ls clean asked h =
-    All-append IsShort (flags_texts ls_flags asked.flags) (map prefix_text asked.prefixes) (short_flags ls_flags asked.flags short_ls_rows)
-    (All-map IsShort prefix_text asked.prefixes (All-imply IsPrefix (λ prefix. IsShort (prefix_text prefix)) (λ prefix well. omega (arith, length-append (codes "ref-prefix ") prefix, (clean prefix well).within)) asked.prefixes h.prefixes))
+    let short : (prefix : List ℕ) → IsPrefix prefix → IsShort (prefix_text prefix) =
+    λ prefix well. omega (arith, length-append (codes "ref-prefix ") prefix, (clean prefix well).within) in
+    All-append IsShort _ _ (short_flags ls_flags asked.flags refl)
+    (All-map IsShort prefix_text asked.prefixes (λ k d lt. short _ (h.prefixes k d lt)))
 
 short_fetch : AreSpelt → (format : Format) (asked : FetchAsked) → IsFetchAsked format asked → All IsShort (fetch_texts asked)
 short_fetch spelt format asked h =
-    let early = (fetch_with asked Done false).flags in
-    let flags = flags_texts fetch_flags early in
-    let want = map want_text asked.wants in
-    let have = map have_text asked.haves in
-    All-append IsShort (flags ++ want ++ have) (flag_texts (codes "done") (fetch_has asked Done))
-    (All-append IsShort (flags ++ want) have
-    (All-append IsShort flags want (short_flags fetch_flags early short_fetch_rows)
-    (All-map IsShort want_text asked.wants (All-imply (IsIdOf format) (λ id. IsShort (want_text id)) (λ id is. omega (arith, length-append (codes "want ") (id_text id), id_text_is_short spelt format id is)) asked.wants h.wants)))
-    (All-map IsShort have_text asked.haves (All-imply (IsIdOf format) (λ id. IsShort (have_text id)) (λ id is. omega (arith, length-append (codes "have ") (id_text id), id_text_is_short spelt format id is)) asked.haves h.haves)))
+    let few : (word id : List ℕ) → length word ≤ 5 → IsIdOf format id → IsShort (word ++ id_text id) =
+    λ word id few is. omega (arith, few, length-append word (id_text id), id_text_is_short spelt format id is) in
+    All-append IsShort _ _
+    (All-append IsShort _ _ (All-append IsShort _ _ (short_flags fetch_flags (fetch_with asked Done false).flags refl)
+    (All-map IsShort want_text asked.wants (λ k d lt. few (codes "want ") _ (omega arith) (h.wants k d lt))))
+    (All-map IsShort have_text asked.haves (λ k d lt. few (codes "have ") _ (omega arith) (h.haves k d lt))))
     (All-flag IsShort (codes "done") (fetch_has asked Done) (omega arith))
 
 pub canonical_fits : AreSpelt → PrefixesAreClean → (format : Format) (asked : Asked) → IsAsked format asked → All Fits (canonical_request format asked)

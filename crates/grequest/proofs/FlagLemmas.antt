@@ -1,8 +1,9 @@
 -- Facts on tables of flags.
-use Rattle.std.proofs.Common.{◌≡◌, ◌||◌, Bool, true, false, cond, [], ◌∷◌, refl, sym, ap, ◌∙◌, true≢false}
+use Rattle.std.proofs.Common.{◌≡◌, ℕ, ◌||◌, Bool, true, false, cond, List, [], ◌∷◌, ◌++◌, refl, sym, ap, ◌∙◌, true≢false}
 use Rattle.std.proofs.Math.Bool.{or-false, or-true}
 use Rattle.std.specs.Prelude.{IsTrue}
-use Rattle.std.specs.List.{list_all}
+use Rattle.std.specs.List.{list_all, list_any}
+use Rattle.std.proofs.lemmas.List.Folds.{list_any-append}
 use Rattle.std.specs.Bool.{beq}
 use Rattle.std.specs.Cmp.{booleans_Decides}
 use Rattle.std.proofs.lemmas.Bool.{and_parts, and_from}
@@ -54,13 +55,36 @@ module _ {F : Type 0} (same : F → F → Bool) (table : Table F) where
   abbrev pub HasEach : Type 0
   HasEach = (passes : F → Bool) (flag : F) → has_flag same table (flags_where table passes) flag ≡ passes flag
 
-  pub where_more : HasEach → (passes : F → Bool) (flag : F)
+  where_more : HasEach → (passes : F → Bool) (flag : F)
       → flags_where table (λ other. passes other || same other flag) ≡ with_flag same table (flags_where table passes) flag true
   where_more each passes flag = λ i. flags_where table (λ other.
       (or_is_cond (passes other) (same other flag) ∙ ap (λ (b : Bool). cond (same other flag) true b) (sym (each passes other))) i)
 
   pub where_same_as : (p q : F → Bool) → ((flag : F) → p flag ≡ q flag) → flags_where table p ≡ flags_where table q
   where_same_as p q each = λ i. flags_where table (λ flag. each flag i)
+
+-- the flags that are among some texts, and among these and a text of this form
+module _ {F X : Type 0} (same : F → F → Bool) (table : Table F) (form_of : List ℕ → X) (is_it : F → X → Bool)
+    (texts : List (List ℕ)) (line : List ℕ) (form : X) (is : form_of line ≡ form) where
+  abbrev among : F → List (List ℕ) → Bool
+  among flag lines = list_any (λ text. is_it flag (form_of text)) lines
+
+  among_more : (flag : F) → among flag (texts ++ line ∷ []) ≡ (among flag texts || is_it flag form)
+  among_more flag =
+      list_any-append (λ text. is_it flag (form_of text)) texts (line ∷ [])
+      ∙ ap (λ b. among flag texts || b) (or-false (is_it flag (form_of line)) ∙ ap (is_it flag) is)
+
+  pub flags_more : HasEach same table → (flag : F) → ((other : F) → is_it other form ≡ same other flag)
+      → flags_where table (λ other. among other (texts ++ line ∷ []))
+      ≡ with_flag same table (flags_where table (λ other. among other texts)) flag true
+  flags_more each flag tells =
+      where_same_as same table _ _ (λ other. among_more other ∙ ap (λ b. among other texts || b) (tells other))
+      ∙ where_more same table each (λ other. among other texts) flag
+
+  pub flags_same : ((flag : F) → is_it flag form ≡ false)
+      → flags_where table (λ flag. among flag (texts ++ line ∷ [])) ≡ flags_where table (λ flag. among flag texts)
+  flags_same none =
+      where_same_as same table _ _ (λ flag. among_more flag ∙ ap (λ b. among flag texts || b) (none flag) ∙ or-false _)
 
 -- ---- each flag is in its table; the case after the first is for all others
 

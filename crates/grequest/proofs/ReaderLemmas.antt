@@ -1,30 +1,38 @@
--- A packet that is taken by what was kept of the packets before it is taken after these packets.
-use Rattle.std.proofs.Common.{◌≡◌, Bool, List, [], ◌∷◌, ◌++◌, Result, Ok, Err, refl, sym, ap, subst, ◌∙◌}
-use Rattle.gpkt.specs.Packets.{Packet, Data, Flush, Delim, ResponseEnd}
+-- Reading a request: a packet that is taken by what was kept of the packets before it is taken after these packets; and a
+-- request is missing exactly where the input is empty.
+use Rattle.std.proofs.Common.{◌≡◌, Bool, List, [], ◌∷◌, ◌++◌, codes, Result, Ok, Err, refl, sym, ap, subst, ◌∙◌, ℕ, ◌<◌}
+use Rattle.std.proofs.Common.{length, Option, Some, None, arith}
+use Rattle.gpkt.specs.Packets.{Packet, Data, Flush, SpellsAll}
 use Rattle.gname.specs.declared.formats.Format.{Format}
-use Rattle.ggrammar.specs.Grammar.{Verdict, Open, Whole}
-use Rattle.ggrammar.specs.MessageReading.{IsAccepted, IsReason, TakesAs, TakesPacket}
+use Rattle.gname.specs.declared.formats.Format.TheVariants.{Sha1, Sha256}
+use Rattle.ggrammar.specs.Grammar.{Judge, Verdict, Open, Whole, Refused}
+use Rattle.ggrammar.specs.PeerErrors.{after_word}
+use Rattle.ggrammar.specs.declared.fault.Why.TheVariants.{Format as WrongFormat}
+use Rattle.grequest.specs.Arguments.{command_form}
+use Rattle.ggrammar.specs.MessageReading.{IsAccepted, IsReason, TakesAs, TakesPacket, IsReasonAfter}
 use Rattle.ggrammar.specs.declared.fault.Why.{Why}
 use Rattle.ggrammar.specs.declared.message.Step.{Step}
 use Rattle.ggrammar.specs.declared.message.Step.TheVariants as step
-use Rattle.grequest.specs.RequestLines.{place_of, asked_by_lines}
-use Rattle.grequest.specs.Requests.{State, state_of, judge, judge_at, brings}
-use Rattle.grequest.specs.steps.RequestState.{with_packet}
-use Rattle.grequest.specs.steps.RequestReading.{RequestSoFar, packet_brings, HoldsPackets, LeavesNothing}
+use Rattle.grequest.specs.RequestLines.{place_of, asked_by_lines, capability_texts, argument_texts}
+use Rattle.grequest.specs.Requests.{State, state_of, judge, judge_at, brings, Says}
+use Rattle.grequest.specs.steps.RequestState.{with_packet, RequestSoFar, packet_brings, HoldsPackets, LeavesNothing}
 use Rattle.grequest.proofs.StateLemmas.{state_of-push}
-use Rattle.grequest.proofs.FormatOfJudge.{format_of_judge}
+use Rattle.std.specs.Prelude.{IfErr}
+use Rattle.std.proofs.lemmas.List.{length-append}
+use Rattle.gpkt.specs.Laws.{HasFourBytes}
+use Rattle.gpkt.specs.LineReading.{Reads, ReadsLines}
+use Rattle.gpkt.specs.declared.fault.LineFault.{LineFault}
+use Rattle.gpkt.specs.declared.fault.LineFault.TheVariants as line_fault
+use Rattle.ggrammar.specs.Kinds.{ReadsIfAny}
+use Rattle.ggrammar.specs.MessageBytes.{known, IsOfBytes, LawsOfBytes}
+use Rattle.ggrammar.specs.declared.fault.Why.TheVariants as why
+use Rattle.ggrammar.specs.declared.fault.MessageFault.{MessageFault}
+use Rattle.grequest.specs.Asked.{Asked}
+use Rattle.grequest.specs.RequestReading.{IsMissingWhereEmpty, IsNotMissing}
 
 brings_is : (front : List Packet) (packet : Packet) → packet_brings (place_of front) packet ≡ brings front packet
 brings_is front (Data payload) = refl
-brings_is front Flush = refl
-brings_is front Delim = refl
-brings_is front ResponseEnd = refl
-
-open_is_accepted : (verdict : Verdict) → verdict ≡ Open → IsAccepted verdict
-open_is_accepted verdict is = subst IsAccepted (sym is) tt
-
-whole_is_accepted : (verdict : Verdict) → verdict ≡ Whole → IsAccepted verdict
-whole_is_accepted verdict is = subst IsAccepted (sym is) tt
+brings_is front _ = refl
 
 -- what is kept after a packet that the judge accepts
 holds_more : (old new : RequestSoFar) (front : List Packet) (packet : Packet) → HoldsPackets old front → new.format ≡ old.format
@@ -38,15 +46,38 @@ pub takes_after : (old new : RequestSoFar) (front : List Packet) (packet : Packe
     → TakesPacket (judge old.format) brings HoldsPackets LeavesNothing front packet new result
 takes_after old new front packet (Ok step.Open) held same taken =
     let judged : judge old.format front packet ≡ Open = ap (λ (state : State). judge_at old.format state packet) (sym held) ∙ taken.0 in
-    (judged, holds_more old new front packet held same (open_is_accepted _ judged) taken.1)
+    (judged, holds_more old new front packet held same (subst IsAccepted (sym judged) tt) taken.1)
 takes_after old new front packet (Ok step.Whole) held same taken =
     let judged : judge old.format front packet ≡ Whole = ap (λ (state : State). judge_at old.format state packet) (sym held) ∙ taken.0 in
-    (judged, holds_more old new front packet held same (whole_is_accepted _ judged) taken.1)
+    (judged, holds_more old new front packet held same (subst IsAccepted (sym judged) tt) taken.1)
 takes_after old new front packet (Err why) held same taken = (
   subst (λ (b : Bool). IsReason (judge old.format front packet) b why) (brings_is front packet)
       (subst (λ (state : State). IsReason (judge_at old.format state packet) (packet_brings state.place packet) why) held taken),
   tt,
 )
+
+-- ---- the judges of requests of the two formats differ
+
+-- a request that names no format
+abbrev unnamed : List Packet
+unnamed = Data (codes "command=fetch") ∷ []
+
+sha1_takes : judge Sha1 unnamed Flush ≡ Whole
+unfolding judge_at command_form after_word capability_texts argument_texts
+sha1_takes = refl
+
+sha256_refuses : judge Sha256 unnamed Flush ≡ Refused WrongFormat
+unfolding judge_at command_form after_word capability_texts argument_texts
+sha256_refuses = refl
+
+differ : judge Sha1 ≡ judge Sha256 → ⊥
+differ same = let both = sym sha1_takes ∙ (ap (λ (j : Judge). j unnamed Flush) same ∙ sha256_refuses) in cc
+
+format_of_judge : (format other : Format) → judge format ≡ judge other → format ≡ other
+format_of_judge Sha1 Sha1 same = refl
+format_of_judge Sha1 Sha256 same = absurd (differ same)
+format_of_judge Sha256 Sha1 same = absurd (differ (sym same))
+format_of_judge Sha256 Sha256 same = refl
 
 -- ---- the format, and what was asked
 
@@ -62,3 +93,72 @@ format_of_later format first reading start same = format_of_judge reading.format
 
 pub lines_ask : (format : Format) (reading : RequestSoFar) (lines : List Packet) → HoldsPackets reading lines → reading.format ≡ format → reading.state.asked ≡ asked_by_lines format lines
 lines_ask format reading lines held same = ap (λ (state : State). state.asked) held ∙ ap (λ (f : Format). asked_by_lines f lines) same
+
+-- ---- a request that is missing
+
+module _ (four : HasFourBytes) (format : Format) where
+  -- no packet is read of nothing
+  no_packet : (bytes new : List ℕ) (packet : Packet) → bytes ≡ [] → Reads (known bytes new) (Ok (Some packet)) → ⊥
+  no_packet bytes new packet empty read =
+      let long = ap length read.1 ∙ length-append read.0 new in
+      let none : length bytes ≡ 0 = ap length empty in
+      let some = four packet read.0 read.2 in
+      omega (arith, long, none, some)
+
+  -- nor is a packet refused for what its bytes are
+  no_fault : (bytes new : List ℕ) (fault : LineFault) → bytes ≡ [] → IsOfBytes (why.Line fault) → Reads (known bytes new) (Err fault) → ⊥
+  no_fault bytes new line_fault.TooLong empty certain read = let none : length bytes ≡ 0 = ap length empty in omega (arith, none, read.0.1.0)
+  no_fault bytes new line_fault.Io empty certain read = certain
+  no_fault bytes new line_fault.Failed empty certain read = certain
+  no_fault bytes new line_fault.Memory empty certain read = read
+  no_fault bytes new fault empty certain read = let none : length bytes ≡ 0 = ap length empty in omega (arith, none, read.0.0)
+
+  -- so nothing but the end comes at once
+  no_reason : (bytes new : List ℕ) (reason : Why) → bytes ≡ [] → IsOfBytes reason → (reason ≡ why.Ended → ⊥)
+      → IsReasonAfter (judge format) brings [] (known bytes new) reason → ⊥
+  no_reason bytes new (why.Line fault) empty certain later h = no_fault bytes new fault empty certain h
+  no_reason bytes new why.Ended empty certain later h = later refl
+  no_reason bytes new why.Memory empty certain later h = certain
+  no_reason bytes new reason empty certain later h = no_packet bytes new h.0 empty h.1
+
+  -- the empty input begins with no packets, and leaves nothing
+  left_of_nothing : (front : List Packet) (bytes spelling mid : List ℕ) → bytes ≡ [] → bytes ≡ spelling ++ mid → SpellsAll front spelling
+      → (front ≡ []) × (mid ≡ [])
+  left_of_nothing [] bytes spelling mid empty parts spelt =
+      (refl, nothing mid (let long = ap length parts ∙ length-append spelling mid in let none : length bytes ≡ 0 = ap length empty in omega (arith, long, none)))
+    where
+      nothing : (xs : List ℕ) → length xs ≡ 0 → xs ≡ []
+      nothing [] e = refl
+      nothing (x ∷ xs) e = absurd (omega (arith, e))
+  left_of_nothing (line ∷ more) bytes spelling mid empty parts spelt =
+      let long = ap length parts ∙ length-append spelling mid in
+      let front = ap length spelt.2 ∙ length-append spelt.0 spelt.1 in
+      let none : length bytes ≡ 0 = ap length empty in
+      let some = four line spelt.0 spelt.3 in
+      absurd (omega (arith, long, front, none, some))
+
+  -- where the bytes between are known
+  no_refusal : (front : List Packet) (bytes new : List ℕ) (between : Option (List ℕ)) (fault : MessageFault) → bytes ≡ [] → IsOfBytes fault.why
+      → (fault.why ≡ why.Ended → 0 < fault.frame) → fault.frame ≡ length front → ReadsLines (record { old = Some bytes; new = between }) front
+      → IsReasonAfter (judge format) brings front (record { old = between; new = Some new }) fault.why → ⊥
+  no_refusal front bytes new None fault empty certain later frame read h = read
+  no_refusal front bytes new (Some mid) fault empty certain later frame read h =
+      let left = left_of_nothing front bytes read.0 mid empty read.1 read.2 in
+      let at : fault.frame ≡ 0 = frame ∙ ap length left.0 in
+      no_reason mid new fault.why left.1 certain (λ ended. let some = later ended in omega (arith, at, some))
+      (subst (λ (lines : List Packet). IsReasonAfter (judge format) brings lines (known mid new) fault.why) left.0 h)
+
+  empty_is_missing : LawsOfBytes (judge format) → (bytes new : List ℕ) (result : Result (Option Asked) MessageFault)
+      → ReadsIfAny (judge format) brings (Says format) (known bytes new) result → IfErr result IsNotMissing → bytes ≡ [] → result ≡ Ok None
+  empty_is_missing laws bytes new (Ok None) read certain empty = refl
+  empty_is_missing laws bytes new (Ok (Some asked)) read certain empty =
+      let lines = read.read.bytes in
+      absurd (laws.ended read.lines bytes [] new (empty, refl) (record { front = lines.0; parts = lines.1; spelt = lines.2 }) read.read.whole)
+  empty_is_missing laws bytes new (Err fault) read certain empty =
+      absurd (no_refusal read.0 bytes new read.1.between fault empty certain.0 certain.1 read.1.frame read.1.before read.1.reason)
+
+  pub is_missing_where_empty : LawsOfBytes (judge format) → IsMissingWhereEmpty format
+  is_missing_where_empty laws bytes new result read certain = (
+    λ missing. (subst (ReadsIfAny (judge format) brings (Says format) (known bytes new)) missing read).0,
+    empty_is_missing laws bytes new result read certain,
+  )

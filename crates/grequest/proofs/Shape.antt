@@ -11,13 +11,13 @@ use Rattle.grequest.specs.declared.command.CommandForm.TheVariants.{Known}
 use Rattle.grequest.specs.Arguments.{command_name, command_form, capability_form}
 use Rattle.grequest.specs.Asked.{max_arguments}
 use Rattle.grequest.specs.RequestLines.{Place, InCapabilities, InArguments, place_of_command, next_place, capability_there, argument_there, capability_texts, argument_texts}
-use Rattle.grequest.specs.Requests.{State, state_of, judge_command, judge_at, judge}
+use Rattle.grequest.specs.Requests.{state_of, judge_command, judge_at, judge}
 use Rattle.grequest.specs.Manual.{IsCapability, IsArgument, NamesFormat}
-use Rattle.grequest.proofs.LineLemmas.{place_after-append, collected-append}
 use Rattle.grequest.proofs.StateLemmas.{state_at}
 use Rattle.grequest.proofs.Texts.{command_form-line, no_error, command_no_error, capability_no_error, argument_no_error}
 use Rattle.grequest.proofs.Sections.{AreCapabilities, AreCapabilities-nil, AreCapabilities-push, AreCapabilities-parts, TakesCapability, few_capabilities, AreArguments, AreArguments-nil, AreArguments-push, AreArguments-parts, TakesArgument}
-use Rattle.grequest.proofs.Verdicts.{text-open, open-text, known_command, judge-delim, response_end-never_open, flush-never_open, names_format, named-taken}
+use Rattle.grequest.proofs.Verdicts.{text-open, open-text, known_command, judge-delim, response_end-never_open}
+use Rattle.grequest.proofs.Verdicts.{flush-never_open, names_format, named-taken}
 
 -- ---- lists that grow
 
@@ -46,21 +46,9 @@ arguing-push first capabilities arguments line =
 
 -- ---- what they come to
 
-place-capabilities : (command : Command) (capabilities : List (List ℕ)) → place_after next_place (InCapabilities command) (map Data capabilities) ≡ InCapabilities command
-place-capabilities command [] = refl
-place-capabilities command (line ∷ capabilities) = place-capabilities command capabilities
-
 place-arguments : (command : Command) (arguments : List (List ℕ)) → place_after next_place (InArguments command) (map Data arguments) ≡ InArguments command
 place-arguments command [] = refl
 place-arguments command (line ∷ arguments) = place-arguments command arguments
-
-capabilities-there : (command : Command) (capabilities : List (List ℕ)) → collected next_place capability_there (InCapabilities command) (map Data capabilities) ≡ map text capabilities
-capabilities-there command [] = refl
-capabilities-there command (line ∷ capabilities) = ap (λ (xs : List (List ℕ)). text line ∷ xs) (capabilities-there command capabilities)
-
-no_arguments-there : (command : Command) (capabilities : List (List ℕ)) → collected next_place argument_there (InCapabilities command) (map Data capabilities) ≡ []
-no_arguments-there command [] = refl
-no_arguments-there command (line ∷ capabilities) = no_arguments-there command capabilities
 
 arguments-there : (command : Command) (arguments : List (List ℕ)) → collected next_place argument_there (InArguments command) (map Data arguments) ≡ map text arguments
 arguments-there command [] = refl
@@ -74,57 +62,51 @@ same_at : (format : Format) {place place' : Place} {capabilities capabilities' a
     → state_at format place capabilities arguments ≡ state_at format place' capabilities' arguments'
 same_at format place capabilities arguments = λ i. state_at format (place i) (capabilities i) (arguments i)
 
--- the first text is a command, and so is what follows it
-after_first : (first : List ℕ) (command : Command) → command_form (text first) ≡ Known command → place_of_command (command_form (text first)) ≡ InCapabilities command
-after_first first command is = ap place_of_command is
+-- capabilities stay in their section, whatever follows
+module _ (command : Command) (rest : List Packet) where
+  place_over : (capabilities : List (List ℕ)) → place_after next_place (InCapabilities command) (map Data capabilities ++ rest)
+      ≡ place_after next_place (InCapabilities command) rest
+  place_over [] = refl
+  place_over (line ∷ capabilities) = place_over capabilities
+
+  texts_over : (capabilities : List (List ℕ))
+      → collected next_place capability_there (InCapabilities command) (map Data capabilities ++ rest)
+      ≡ map text capabilities ++ collected next_place capability_there (InCapabilities command) rest
+  texts_over [] = refl
+  texts_over (line ∷ capabilities) = ap (λ xs. text line ∷ xs) (texts_over capabilities)
+
+  arguments_over : (capabilities : List (List ℕ))
+      → collected next_place argument_there (InCapabilities command) (map Data capabilities ++ rest)
+      ≡ collected next_place argument_there (InCapabilities command) rest
+  arguments_over [] = refl
+  arguments_over (line ∷ capabilities) = arguments_over capabilities
+
+  state_of-over : (format : Format) (first : List ℕ) (capabilities : List (List ℕ)) → command_form (text first) ≡ Known command
+      → state_of format (Data first ∷ (map Data capabilities ++ rest))
+      ≡ state_at format (place_after next_place (InCapabilities command) rest)
+      (map text capabilities ++ collected next_place capability_there (InCapabilities command) rest)
+      (collected next_place argument_there (InCapabilities command) rest)
+  unfolding capability_texts argument_texts
+  state_of-over format first capabilities is =
+      let packets = map Data capabilities ++ rest in
+      let at = ap place_of_command is in
+      same_at format (ap (λ place. place_after next_place place packets) at ∙ place_over capabilities)
+      (ap (λ place. collected next_place capability_there place packets) at ∙ texts_over capabilities)
+      (ap (λ place. collected next_place argument_there place packets) at ∙ arguments_over capabilities)
 
 pub state_of-listing : (format : Format) (command : Command) (first : List ℕ) (capabilities : List (List ℕ)) → command_form (text first) ≡ Known command
     → state_of format (listing first capabilities) ≡ state_at format (InCapabilities command) (map text capabilities) []
-unfolding capability_texts argument_texts
 state_of-listing format command first capabilities is =
-    let at = after_first first command is in
-    same_at format
-    (ap (λ (place : Place). place_after next_place place (map Data capabilities)) at ∙ place-capabilities command capabilities)
-    (ap (λ (place : Place). collected next_place capability_there place (map Data capabilities)) at ∙ capabilities-there command capabilities)
-    (ap (λ (place : Place). collected next_place argument_there place (map Data capabilities)) at ∙ no_arguments-there command capabilities)
-
-place-arguing : (command : Command) (capabilities arguments : List (List ℕ)) → place_after next_place (InCapabilities command) (map Data capabilities ++ Delim ∷ map Data arguments) ≡ InArguments command
-place-arguing command capabilities arguments =
-    place_after-append (InCapabilities command) (map Data capabilities) (Delim ∷ map Data arguments)
-    ∙ ap (λ (place : Place). place_after next_place place (Delim ∷ map Data arguments)) (place-capabilities command capabilities)
-    ∙ place-arguments command arguments
-
--- what the packets of both sections give
-both-there : (give : Place → Packet → List (List ℕ)) (command : Command) (capabilities arguments : List (List ℕ))
-    → collected next_place give (InCapabilities command) (map Data capabilities ++ Delim ∷ map Data arguments)
-    ≡ collected next_place give (InCapabilities command) (map Data capabilities) ++ collected next_place give (InCapabilities command) (Delim ∷ map Data arguments)
-both-there give command capabilities arguments =
-    collected-append give (InCapabilities command) (map Data capabilities) (Delim ∷ map Data arguments)
-    ∙ ap (λ (place : Place). collected next_place give (InCapabilities command) (map Data capabilities) ++ collected next_place give place (Delim ∷ map Data arguments)) (place-capabilities command capabilities)
-
-capabilities-arguing : (command : Command) (capabilities arguments : List (List ℕ))
-    → collected next_place capability_there (InCapabilities command) (map Data capabilities ++ Delim ∷ map Data arguments) ≡ map text capabilities
-capabilities-arguing command capabilities arguments =
-    both-there capability_there command capabilities arguments
-    ∙ ap (λ (xs : List (List ℕ)). collected next_place capability_there (InCapabilities command) (map Data capabilities) ++ xs) (no_capabilities-there command arguments)
-    ∙ append-nil (collected next_place capability_there (InCapabilities command) (map Data capabilities)) ∙ capabilities-there command capabilities
-
-arguments-arguing : (command : Command) (capabilities arguments : List (List ℕ))
-    → collected next_place argument_there (InCapabilities command) (map Data capabilities ++ Delim ∷ map Data arguments) ≡ map text arguments
-arguments-arguing command capabilities arguments =
-    both-there argument_there command capabilities arguments
-    ∙ ap (λ (xs : List (List ℕ)). xs ++ collected next_place argument_there (InArguments command) (map Data arguments)) (no_arguments-there command capabilities)
-    ∙ arguments-there command arguments
+    ap (λ xs. state_of format (Data first ∷ xs)) (sym (append-nil (map Data capabilities)))
+    ∙ state_of-over command [] format first capabilities is ∙ same_at format refl (append-nil (map text capabilities)) refl
 
 pub state_of-arguing : (format : Format) (command : Command) (first : List ℕ) (capabilities arguments : List (List ℕ)) → command_form (text first) ≡ Known command
     → state_of format (arguing first capabilities arguments) ≡ state_at format (InArguments command) (map text capabilities) (map text arguments)
-unfolding capability_texts argument_texts
 state_of-arguing format command first capabilities arguments is =
-    let at = after_first first command is in
-    same_at format
-    (ap (λ (place : Place). place_after next_place place (map Data capabilities ++ Delim ∷ map Data arguments)) at ∙ place-arguing command capabilities arguments)
-    (ap (λ (place : Place). collected next_place capability_there place (map Data capabilities ++ Delim ∷ map Data arguments)) at ∙ capabilities-arguing command capabilities arguments)
-    (ap (λ (place : Place). collected next_place argument_there place (map Data capabilities ++ Delim ∷ map Data arguments)) at ∙ arguments-arguing command capabilities arguments)
+    state_of-over command (Delim ∷ map Data arguments) format first capabilities is
+    ∙ same_at format (place-arguments command arguments)
+    (ap (λ xs. map text capabilities ++ xs) (no_capabilities-there command arguments) ∙ append-nil (map text capabilities))
+    (arguments-there command arguments)
 
 -- ---- what an open request is
 
@@ -156,10 +138,6 @@ listed_state format front h = ap (state_of format) h.parts ∙ state_of-listing 
 pub argued_state : (format : Format) (front : List Packet) (h : IsArgued format front) → state_of format front ≡ state_at format (InArguments h.command) (map text h.capabilities) (map text h.arguments)
 argued_state format front h = ap (state_of format) h.parts ∙ state_of-arguing format h.command h.first h.capabilities h.arguments h.is_command
 
--- the verdict by an equal state
-verdict_at : (format : Format) (front : List Packet) (packet : Packet) (state : State) → state_of format front ≡ state → judge format front packet ≡ Open → judge_at format state packet ≡ Open
-verdict_at format front packet state is goes = ap (λ (s : State). judge_at format s packet) (sym is) ∙ goes
-
 first_push : (format : Format) (packet : Packet) → judge format [] packet ≡ Open → Shape format (packet ∷ [])
 unfolding capability_texts argument_texts
 first_push format (Data payload) goes =
@@ -172,7 +150,7 @@ first_push format ResponseEnd goes = absurd (response_end-never_open format (sta
 listed_push : (format : Format) (front : List Packet) (packet : Packet) → IsListed format front → judge format front packet ≡ Open → Shape format (front ++ packet ∷ [])
 listed_push format front (Data payload) h goes =
     let state = state_at format (InCapabilities h.command) (map text h.capabilities) [] in
-    let takes : TakesCapability format h.command (map text h.capabilities) [] (capability_form (text payload)) = text-open format state payload (verdict_at format front (Data payload) state (listed_state format front h) goes) in
+    let takes : TakesCapability format h.command (map text h.capabilities) [] (capability_form (text payload)) = text-open format state payload (subst (λ s. judge_at format s (Data payload) ≡ Open) (listed_state format front h) goes) in
     inr (inl (record {
       command = h.command;
       first = h.first;
@@ -184,7 +162,7 @@ listed_push format front (Data payload) h goes =
 listed_push format front Flush h goes = absurd (flush-never_open format (state_of format front) goes)
 listed_push format front Delim h goes =
     let state = state_at format (InCapabilities h.command) (map text h.capabilities) [] in
-    let ends = sym (judge-delim format state) ∙ verdict_at format front Delim state (listed_state format front h) goes in
+    let ends = sym (judge-delim format state) ∙ subst (λ s. judge_at format s Delim ≡ Open) (listed_state format front h) goes in
     inr (inr (record {
       command = h.command;
       first = h.first;
@@ -201,7 +179,7 @@ listed_push format front ResponseEnd h goes = absurd (response_end-never_open fo
 argued_push : (format : Format) (front : List Packet) (packet : Packet) → IsArgued format front → judge format front packet ≡ Open → Shape format (front ++ packet ∷ [])
 argued_push format front (Data payload) h goes =
     let state = state_at format (InArguments h.command) (map text h.capabilities) (map text h.arguments) in
-    let takes : TakesArgument format h.command (map text h.capabilities) (map text h.arguments) (text payload) = text-open format state payload (verdict_at format front (Data payload) state (argued_state format front h) goes) in
+    let takes : TakesArgument format h.command (map text h.capabilities) (map text h.arguments) (text payload) = text-open format state payload (subst (λ s. judge_at format s (Data payload) ≡ Open) (argued_state format front h) goes) in
     inr (inr (record {
       command = h.command;
       first = h.first;
@@ -216,7 +194,7 @@ argued_push format front (Data payload) h goes =
 argued_push format front Flush h goes = absurd (flush-never_open format (state_of format front) goes)
 argued_push format front Delim h goes =
     let state = state_at format (InArguments h.command) (map text h.capabilities) (map text h.arguments) in
-    absurd (let refuses = sym (judge-delim format state) ∙ verdict_at format front Delim state (argued_state format front h) goes in cc)
+    absurd (let refuses = sym (judge-delim format state) ∙ subst (λ s. judge_at format s Delim ≡ Open) (argued_state format front h) goes in cc)
 argued_push format front ResponseEnd h goes = absurd (response_end-never_open format (state_of format front) goes)
 
 shape_push : (format : Format) (front : List Packet) (packet : Packet) → Shape format front → judge format front packet ≡ Open → Shape format (front ++ packet ∷ [])
@@ -233,9 +211,6 @@ shape_of_open laws format front =
 
 -- ---- and each of these is open
 
-verdict_from : (format : Format) (front : List Packet) (packet : Packet) (state : State) → state_of format front ≡ state → judge_at format state packet ≡ Open → judge format front packet ≡ Open
-verdict_from format front packet state is goes = ap (λ (s : State). judge_at format s packet) is ∙ goes
-
 first_open : (format : Format) (command : Command) (first : List ℕ) → text first ≡ codes "command=" ++ command_name command → judge format [] (Data first) ≡ Open
 unfolding capability_texts argument_texts
 first_open format command first is =
@@ -245,65 +220,56 @@ first_open format command first is =
 pub listing-is_open : ((j : Judge) → LawsOf j) → (format : Format) (command : Command) (first : List ℕ) (capabilities : List (List ℕ)) → text first ≡ codes "command=" ++ command_name command
     → AreCapabilities format (map text capabilities) → IsOpen (judge format) (listing first capabilities)
 listing-is_open laws format command first capabilities is =
-    let start : IsOpen (judge format) (listing first []) = (laws (judge format)).goes_on [] (Data first) (laws (judge format)).nothing (first_open format command first is) in
-    by_pushes (λ (xs : List (List ℕ)). AreCapabilities format (map text xs) → IsOpen (judge format) (listing first xs)) (step laws format command first is) [] capabilities (λ _. start)
-  where
-    step : ((j : Judge) → LawsOf j) → (format : Format) (command : Command) (first : List ℕ) → text first ≡ codes "command=" ++ command_name command → (xs : List (List ℕ)) (x : List ℕ)
-        → (AreCapabilities format (map text xs) → IsOpen (judge format) (listing first xs)) → AreCapabilities format (map text (xs ++ x ∷ [])) → IsOpen (judge format) (listing first (xs ++ x ∷ []))
-    step laws format command first is xs x before h =
-        let all = subst (AreCapabilities format) (map_push text xs x) h in
-        let parts = AreCapabilities-parts format command (map text xs) [] (text x) all in
-        let last = (All-parts (λ line. IsCapability format (capability_form line)) (map text xs) (text x) all.are).1 in
-        let state = state_at format (InCapabilities command) (map text xs) [] in
-        let goes : judge format (listing first xs) (Data x) ≡ Open =
-        verdict_from format (listing first xs) (Data x) state (state_of-listing format command first xs (command_form-line (text first) command is))
-        (open-text format state x (no_error x (λ rest. capability_no_error format (text x) rest last)) parts.1) in
-        subst (IsOpen (judge format)) (listing-push first xs x) ((laws (judge format)).goes_on (listing first xs) (Data x) (before parts.0) goes)
+    let exact = laws (judge format) in
+    let start = exact.goes_on [] (Data first) exact.nothing (first_open format command first is) in
+    by_pushes (λ (xs : List (List ℕ)). AreCapabilities format (map text xs) → IsOpen (judge format) (listing first xs))
+    (λ xs x before h.
+    let all = subst (AreCapabilities format) (map_push text xs x) h in
+    let parts = AreCapabilities-parts format command (map text xs) [] (text x) all in
+    let last = (All-parts (λ line. IsCapability format (capability_form line)) (map text xs) (text x) all.are).1 in
+    let state = state_at format (InCapabilities command) (map text xs) [] in
+    let goes : judge format (listing first xs) (Data x) ≡ Open =
+    subst (λ s. judge_at format s (Data x) ≡ Open)
+    (sym (state_of-listing format command first xs (command_form-line (text first) command is)))
+    (open-text format state x (no_error x (λ rest. capability_no_error format (text x) rest last)) parts.1) in
+    subst (IsOpen (judge format)) (listing-push first xs x) (exact.goes_on (listing first xs) (Data x) (before parts.0) goes))
+    [] capabilities (λ _. start)
 
 pub arguing-is_open : ((j : Judge) → LawsOf j) → (format : Format) (command : Command) (first : List ℕ) (capabilities arguments : List (List ℕ)) → text first ≡ codes "command=" ++ command_name command
     → AreCapabilities format (map text capabilities) → NamesFormat format (map text capabilities) → AreArguments format command (map text arguments)
     → IsOpen (judge format) (arguing first capabilities arguments)
 arguing-is_open laws format command first capabilities arguments is are named =
+    let exact = laws (judge format) in
     let known = command_form-line (text first) command is in
     let state = state_at format (InCapabilities command) (map text capabilities) [] in
     let delimited : judge format (listing first capabilities) Delim ≡ Open =
-    verdict_from format (listing first capabilities) Delim state (state_of-listing format command first capabilities known)
+    subst (λ s. judge_at format s Delim ≡ Open) (sym (state_of-listing format command first capabilities known))
     (judge-delim format state ∙ named-taken format command (map text capabilities) [] Open named) in
-    let start : IsOpen (judge format) (arguing first capabilities []) =
-    (laws (judge format)).goes_on (listing first capabilities) Delim (listing-is_open laws format command first capabilities is are) delimited in
-    by_pushes (λ (xs : List (List ℕ)). AreArguments format command (map text xs) → IsOpen (judge format) (arguing first capabilities xs)) (step laws format command first capabilities known) [] arguments (λ _. start)
-  where
-    step : ((j : Judge) → LawsOf j) → (format : Format) (command : Command) (first : List ℕ) (capabilities : List (List ℕ)) → command_form (text first) ≡ Known command → (xs : List (List ℕ)) (x : List ℕ)
-        → (AreArguments format command (map text xs) → IsOpen (judge format) (arguing first capabilities xs))
-        → AreArguments format command (map text (xs ++ x ∷ [])) → IsOpen (judge format) (arguing first capabilities (xs ++ x ∷ []))
-    step laws format command first capabilities known xs x before h =
-        let all = subst (AreArguments format command) (map_push text xs x) h in
-        let parts = AreArguments-parts format command (map text capabilities) (map text xs) (text x) all in
-        let last = (All-parts (IsArgument format command) (map text xs) (text x) all.are).1 in
-        let state = state_at format (InArguments command) (map text capabilities) (map text xs) in
-        let goes : judge format (arguing first capabilities xs) (Data x) ≡ Open =
-        verdict_from format (arguing first capabilities xs) (Data x) state (state_of-arguing format command first capabilities xs known)
-        (open-text format state x (no_error x (λ rest. argument_no_error format command (text x) rest last)) parts.1) in
-        subst (IsOpen (judge format)) (arguing-push first capabilities xs x) ((laws (judge format)).goes_on (arguing first capabilities xs) (Data x) (before parts.0) goes)
+    let start = exact.goes_on (listing first capabilities) Delim (listing-is_open laws format command first capabilities is are) delimited in
+    by_pushes (λ (xs : List (List ℕ)). AreArguments format command (map text xs) → IsOpen (judge format) (arguing first capabilities xs))
+    (λ xs x before h.
+    let all = subst (AreArguments format command) (map_push text xs x) h in
+    let parts = AreArguments-parts format command (map text capabilities) (map text xs) (text x) all in
+    let last = (All-parts (IsArgument format command) (map text xs) (text x) all.are).1 in
+    let state = state_at format (InArguments command) (map text capabilities) (map text xs) in
+    let goes : judge format (arguing first capabilities xs) (Data x) ≡ Open =
+    subst (λ s. judge_at format s (Data x) ≡ Open) (sym (state_of-arguing format command first capabilities xs known))
+    (open-text format state x (no_error x (λ rest. argument_no_error format command (text x) rest last)) parts.1) in
+    subst (IsOpen (judge format)) (arguing-push first capabilities xs x) (exact.goes_on _ (Data x) (before parts.0) goes))
+    [] arguments (λ _. start)
 
 -- ---- how long it gets
-
-length-listing : (first : List ℕ) (capabilities : List (List ℕ)) → length (listing first capabilities) ≡ suc (length capabilities)
-length-listing first capabilities = ap suc (length-map capabilities Data)
-
-length-arguing : (first : List ℕ) (capabilities arguments : List (List ℕ)) → length (arguing first capabilities arguments) ≡ length capabilities + length arguments + 2
-length-arguing first capabilities arguments =
-    let e = length-append (map Data capabilities) (Delim ∷ map Data arguments) in
-    omega (arith, length-map capabilities Data, length-map arguments Data)
 
 -- a command, two capabilities, a delimiter and the arguments at most
 bounded : (format : Format) (front : List Packet) → Shape format front → length front ≤ max_arguments + 4
 bounded format front (inl e) = let none : length front ≡ 0 = ap length e in omega arith
 bounded format front (inr (inl h)) =
-    let long : length front ≡ suc (length h.capabilities) = ap length h.parts ∙ length-listing h.first h.capabilities in
+    let long : length front ≡ suc (length h.capabilities) = ap length h.parts ∙ ap suc (length-map h.capabilities Data) in
     omega (arith, few_capabilities format (map text h.capabilities) h.are_capabilities, length-map h.capabilities text)
 bounded format front (inr (inr h)) =
-    let long : length front ≡ length h.capabilities + length h.arguments + 2 = ap length h.parts ∙ length-arguing h.first h.capabilities h.arguments in
+    let both = length-append (map Data h.capabilities) (Delim ∷ map Data h.arguments) in
+    let long : length front ≡ length h.capabilities + length h.arguments + 2 =
+    ap length h.parts ∙ omega (arith, both, length-map h.capabilities Data, length-map h.arguments Data) in
     let few = h.are_arguments.room in
     omega (arith, few_capabilities format (map text h.capabilities) h.are_capabilities, length-map h.capabilities text, length-map h.arguments text)
 

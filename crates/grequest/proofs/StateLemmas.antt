@@ -1,28 +1,43 @@
 -- What a packet that is taken adds to what the packets before it come to.
-use Rattle.std.proofs.Common.{◌≡◌, ℕ, Bool, true, false, List, [], ◌∷◌, ◌++◌, length, Option, Some, None, refl, sym, ap, subst, ◌∙◌, append-nil}
+use Rattle.std.proofs.Common.{◌≡◌, ℕ, Bool, true, false, List, [], ◌∷◌, ◌++◌, length, refl, sym, ap, subst, ◌∙◌, append-nil}
 use Rattle.std.specs.Prelude.{is_none}
+use Rattle.std.specs.Option.{option_to_list}
 use Rattle.std.proofs.lemmas.List.{length_push}
-use Rattle.std.proofs.lemmas.List.Elements.{filter_map-append}
 use Rattle.gpkt.specs.Packets.{Packet, Data, Flush, Delim, ResponseEnd, text}
 use Rattle.gname.specs.declared.formats.Format.{Format}
 use Rattle.ggrammar.specs.Grammar.{Verdict, Open, Whole}
 use Rattle.ggrammar.specs.MessageReading.{IsAccepted}
 use Rattle.ggrammar.specs.PeerErrors.{peer_error}
 use Rattle.ggrammar.specs.Places.{place_after, collected}
+use Rattle.ggrammar.proofs.PlaceLemmas.{place_after-push, collected-push, filter_map-push}
 use Rattle.ggrammar.proofs.VerdictLemmas.{accepted_unless}
 use Rattle.grequest.specs.declared.command.Command.{Command}
 use Rattle.grequest.specs.declared.command.Command.TheVariants.{LsRefs, Fetch}
 use Rattle.grequest.specs.declared.command.CommandForm.{CommandForm}
-use Rattle.grequest.specs.declared.command.CommandForm.TheVariants.{Known, Unknown as UnknownCommand, Bad as BadCommand}
-use Rattle.grequest.specs.Arguments.{command_form, CapabilityForm, Agent, ObjectFormat, UnknownCapability, BadCapability, capability_form, ls_argument, fetch_argument}
+use Rattle.grequest.specs.declared.command.CommandForm.TheVariants.{Known}
+use Rattle.grequest.specs.Arguments.{command_form, CapabilityForm, Agent, ObjectFormat, capability_form, ls_argument, fetch_argument}
 use Rattle.grequest.specs.Asked.{Asked, Ls, Fetches}
 use Rattle.grequest.specs.RequestLines.{Place, First, InCapabilities, InArguments, place_of_command, next_place, place_of, capability_there, argument_there, capability_texts, argument_texts, agent_value, format_value, agents, formats, first_of, ls_refs_asked, fetch_asked, asked_by_command, asked_by_texts}
 use Rattle.grequest.specs.Requests.{State, state_of, agent_of, once, judge_capability, judge_text, judge_at, judge}
 use Rattle.grequest.specs.steps.RequestState.{with_command, with_agent, with_capability, with_argument, with_text}
 use Rattle.grequest.specs.steps.RequestState.{with_packet}
-use Rattle.grequest.proofs.LineLemmas.{place_of-push, capability_texts-push, argument_texts-push}
-use Rattle.grequest.proofs.AskedLemmas.{ls_refs_asked-push}
-use Rattle.grequest.proofs.FetchAskedLemmas.{fetch_asked-push}
+use Rattle.grequest.proofs.AskedLemmas.{ls_refs_asked-push, fetch_asked-push}
+
+-- ---- what a packet more does to the place, and to the texts of each section
+
+place_of-push : (front : List Packet) (packet : Packet)
+    → place_of (front ++ packet ∷ []) ≡ next_place (place_of front) packet
+place_of-push front packet = place_after-push next_place First front packet
+
+capability_texts-push : (front : List Packet) (packet : Packet)
+    → capability_texts (front ++ packet ∷ []) ≡ capability_texts front ++ capability_there (place_of front) packet
+unfolding capability_texts
+capability_texts-push front packet = collected-push next_place capability_there First front packet
+
+argument_texts-push : (front : List Packet) (packet : Packet)
+    → argument_texts (front ++ packet ∷ []) ≡ argument_texts front ++ argument_there (place_of front) packet
+unfolding argument_texts
+argument_texts-push front packet = collected-push next_place argument_there First front packet
 
 -- ---- the state of a place and of the texts so far
 
@@ -40,11 +55,9 @@ same_state place formats arguments asked = λ i. record { place = place i; forma
 -- no packet leads back to the first place
 never_first : (place : Place) (lines : List Packet) → place_after next_place place lines ≡ First → place ≡ First
 never_first First lines e = refl
-never_first (InCapabilities command) [] e = e
-never_first (InCapabilities command) (Data payload ∷ lines) e = never_first (InCapabilities command) lines e
-never_first (InCapabilities command) (Flush ∷ lines) e = never_first (InCapabilities command) lines e
 never_first (InCapabilities command) (Delim ∷ lines) e = let no : InArguments command ≡ First = never_first (InArguments command) lines e in cc
-never_first (InCapabilities command) (ResponseEnd ∷ lines) e = never_first (InCapabilities command) lines e
+never_first (InCapabilities command) [] e = e
+never_first (InCapabilities command) (packet ∷ lines) e = never_first (InCapabilities command) lines e
 never_first (InArguments command) [] e = e
 never_first (InArguments command) (packet ∷ lines) e = never_first (InArguments command) lines e
 
@@ -57,15 +70,11 @@ none_first give none place (packet ∷ lines) e =
 
 no_capability_first : (packet : Packet) → capability_there First packet ≡ []
 no_capability_first (Data payload) = refl
-no_capability_first Flush = refl
-no_capability_first Delim = refl
-no_capability_first ResponseEnd = refl
+no_capability_first _ = refl
 
 no_argument_first : (packet : Packet) → argument_there First packet ≡ []
 no_argument_first (Data payload) = refl
-no_argument_first Flush = refl
-no_argument_first Delim = refl
-no_argument_first ResponseEnd = refl
+no_argument_first _ = refl
 
 pub capability_texts-first : (lines : List Packet) → place_of lines ≡ First → capability_texts lines ≡ []
 unfolding capability_texts
@@ -79,34 +88,19 @@ argument_texts-first lines e = none_first argument_there no_argument_first First
 
 command_adds : (format : Format) (form : CommandForm) → state_at format (place_of_command form) [] [] ≡ with_command format (state_at format First [] []) form
 command_adds format (Known command) = refl
-command_adds format UnknownCommand = refl
-command_adds format BadCommand = refl
+command_adds format _ = refl
 
 -- ---- a capability
 
-abbrev pub list_of : Option (List ℕ) → List (List ℕ)
-list_of None = []
-list_of (Some value) = value ∷ []
-
-one_agent : (line : List ℕ) (value : Option (List ℕ)) → agent_value (capability_form line) ≡ value → agents (line ∷ []) ≡ list_of value
-one_agent line None is = cc
-one_agent line (Some value) is = cc
-
 pub agents-push : (capabilities : List (List ℕ)) (line : List ℕ) (form : CapabilityForm) → capability_form line ≡ form
-    → agents (capabilities ++ line ∷ []) ≡ agents capabilities ++ list_of (agent_value form)
+    → agents (capabilities ++ line ∷ []) ≡ agents capabilities ++ option_to_list (agent_value form)
 agents-push capabilities line form is =
-    filter_map-append (λ text. agent_value (capability_form text)) capabilities (line ∷ [])
-    ∙ ap (λ (xs : List (List ℕ)). agents capabilities ++ xs) (one_agent line (agent_value form) (ap agent_value is))
-
-one_format : (line : List ℕ) (value : Option (List ℕ)) → format_value (capability_form line) ≡ value → formats (line ∷ []) ≡ list_of value
-one_format line None is = cc
-one_format line (Some value) is = cc
+    filter_map-push (λ text. agent_value (capability_form text)) capabilities line _ (ap agent_value is)
 
 pub formats-push : (capabilities : List (List ℕ)) (line : List ℕ) (form : CapabilityForm) → capability_form line ≡ form
-    → formats (capabilities ++ line ∷ []) ≡ formats capabilities ++ list_of (format_value form)
+    → formats (capabilities ++ line ∷ []) ≡ formats capabilities ++ option_to_list (format_value form)
 formats-push capabilities line form is =
-    filter_map-append (λ text. format_value (capability_form text)) capabilities (line ∷ [])
-    ∙ ap (λ (xs : List (List ℕ)). formats capabilities ++ xs) (one_format line (format_value form) (ap format_value is))
+    filter_map-push (λ text. format_value (capability_form text)) capabilities line _ (ap format_value is)
 
 -- what is asked, with these agents
 asked_with_agents : Format → Command → List (List ℕ) → List (List ℕ) → List (List ℕ) → Asked
@@ -163,8 +157,7 @@ capability_adds format command capabilities arguments line (Agent value) is h =
 capability_adds format command capabilities arguments line (ObjectFormat value) is h =
     same_state refl (ap length (formats-push capabilities line (ObjectFormat value) is) ∙ length_push (formats capabilities) value) refl
     (asked_by_command-agents format command capabilities (capabilities ++ line ∷ []) arguments (agents-push capabilities line (ObjectFormat value) is ∙ append-nil (agents capabilities)))
-capability_adds format command capabilities arguments line UnknownCapability is h = absurd h
-capability_adds format command capabilities arguments line BadCapability is h = absurd h
+capability_adds format command capabilities arguments line _ is h = absurd h
 
 -- ---- an argument
 
@@ -210,13 +203,10 @@ packet_adds : (format : Format) (place : Place) (capabilities arguments : List (
 unfolding state_more judge_at with_packet
 packet_adds format place capabilities arguments (Data payload) no_capability no_argument h =
     text_adds format place capabilities arguments payload no_capability no_argument (accepted_unless (peer_error payload) _ h)
-packet_adds format First capabilities arguments Flush no_capability no_argument h = no_text format First capabilities arguments
 packet_adds format (InCapabilities command) capabilities arguments Flush no_capability no_argument h = no_text format (InCapabilities command) capabilities arguments
-packet_adds format (InArguments command) capabilities arguments Flush no_capability no_argument h = no_text format (InArguments command) capabilities arguments
-packet_adds format First capabilities arguments Delim no_capability no_argument h = no_text format First capabilities arguments
 packet_adds format (InCapabilities command) capabilities arguments Delim no_capability no_argument h = no_text format (InArguments command) capabilities arguments
-packet_adds format (InArguments command) capabilities arguments Delim no_capability no_argument h = no_text format (InArguments command) capabilities arguments
 packet_adds format place capabilities arguments ResponseEnd no_capability no_argument h = absurd h
+packet_adds format place capabilities arguments packet no_capability no_argument h = no_text format place capabilities arguments
 
 state_of-more : (format : Format) (front : List Packet) (packet : Packet)
     → state_of format (front ++ packet ∷ []) ≡ state_more format (place_of front) (capability_texts front) (argument_texts front) packet

@@ -1,11 +1,9 @@
 -- The packets that are still to be written of a request.
 use Rattle.std.proofs.Common.{◌≡◌, ℕ, ◌+◌, ◌<◌, ◌≤◌, Bool, false, List, [], ◌∷◌, ◌++◌, length, map, drop, get_or, codes, Option, Some, None, sym, ap, ◌∙◌, suc, add-one, append_assoc}
 use Rattle.std.proofs.Math.Seq.{drop-cons}
-use Rattle.std.proofs.lemmas.Bool.{and_parts, leb-true}
-use Rattle.std.specs.Prelude.{IsTrue}
 use Rattle.gpkt.specs.Packets.{Packet, Delim, Flush}
 use Rattle.gname.specs.declared.formats.Format.{Format}
-use Rattle.ggrammar.specs.Capabilities.{is_word_value, has_length, max_capability}
+use Rattle.ggrammar.specs.Capabilities.{max_capability}
 use Rattle.std.specs.Borrow.{Bor}
 use Rattle.grequest.specs.declared.command.Command.{Command}
 use Rattle.grequest.specs.Flags.{Table, FlagsOf, flag_at, flags_at}
@@ -15,6 +13,7 @@ use Rattle.grequest.specs.declared.flag.FetchFlag.TheVariants.{Done}
 use Rattle.grequest.specs.Arguments.{ls_flags, fetch_flags}
 use Rattle.grequest.specs.Asked.{LsRefsAsked, FetchAsked, fetch_has, fetch_with}
 use Rattle.grequest.specs.WellFormed.{IsAgent}
+use Rattle.grequest.proofs.WrittenArguments.{word_value_is_short}
 
 -- ---- the next of some packets
 
@@ -75,12 +74,6 @@ head_first format command agent lent arguments rest is flat =
     ∙ sym (append_assoc (agent_packets lent ++ format_packets format) (Delim ∷ []) rest))
 
 -- an agent fits a packet
-word_is_short : (value : List ℕ) → IsTrue (is_word_value value) → length value ≤ max_capability
-unfolding is_word_value
-word_is_short value word =
-    let long = (and_parts (has_length value) _ word).0 in
-    leb-true (length value) max_capability (and_parts _ _ long).1
-
 pub agent_is_short : (agent : Option (List ℕ)) (value : List ℕ) → IsAgent agent → agent ≡ Some value → length value ≤ max_capability
 agent_is_short None value word is = cc
-agent_is_short (Some other) value word is = rw (let same : value ≡ other = cc in same) (word_is_short other word)
+agent_is_short (Some other) value word is = rw (let same : value ≡ other = cc in same) (word_value_is_short other word)

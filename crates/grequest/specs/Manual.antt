@@ -15,10 +15,9 @@ use Rattle.gname.specs.declared.formats.Format.TheVariants.{Sha1, Sha256}
 use Rattle.ggrammar.specs.Ids.{id_of_text}
 use Rattle.grequest.specs.declared.command.Command.{Command}
 use Rattle.grequest.specs.declared.command.Command.TheVariants.{LsRefs, Fetch}
-use Rattle.grequest.specs.Arguments.{command_name, CapabilityForm, Agent, ObjectFormat}
-use Rattle.grequest.specs.Arguments.{UnknownCapability, BadCapability, capability_form, LsArgument}
-use Rattle.grequest.specs.Arguments.{RefPrefix, UnknownLsArgument, ls_argument, FetchArgument, Want, Have}
-use Rattle.grequest.specs.Arguments.{UnknownFetchArgument, fetch_argument}
+use Rattle.grequest.specs.Arguments.{command_name, CapabilityForm, Agent, ObjectFormat, UnknownCapability}
+use Rattle.grequest.specs.Arguments.{BadCapability, capability_form, LsArgument, RefPrefix, UnknownLsArgument}
+use Rattle.grequest.specs.Arguments.{ls_argument, FetchArgument, Want, Have, UnknownFetchArgument, fetch_argument}
 use Rattle.grequest.specs.Asked.{Asked, Empty, max_prefixes, max_wants, max_haves, max_arguments}
 use Rattle.grequest.specs.RequestLines.{agents, formats, prefixes, wants, haves, asked_by_command}
 use Rattle.std.specs.Option.{IsSome}
@@ -27,8 +26,7 @@ use Rattle.std.specs.Option.{IsSome}
 abbrev pub IsCapability : Format → CapabilityForm → Type 0
 IsCapability format (Agent value) = Unit {0}
 IsCapability format (ObjectFormat value) = value ≡ format_name format
-IsCapability format UnknownCapability = ⊥
-IsCapability format BadCapability = ⊥
+IsCapability format _ = ⊥
 
 abbrev pub NamesFormat : Format → List Bytes → Type 0
 NamesFormat Sha1 capabilities = length (formats capabilities) ≤ 1

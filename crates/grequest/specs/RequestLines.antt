@@ -1,6 +1,5 @@
 -- What the packets of a request say: where each stands, and what all of a kind say together.
-use Rattle.std.specs.Prelude.{false}
-use Rattle.std.specs.Prelude.{Bool, List, [], ◌∷◌, Option, Some, None}
+use Rattle.std.specs.Prelude.{false, Bool, List, [], ◌∷◌, Option, Some, None}
 use Rattle.std.specs.List.{filter_map, list_any}
 use Rattle.gname.specs.Ids.{Id}
 use Rattle.gpkt.specs.Packets.{Bytes, Packet, Data, Flush, Delim, ResponseEnd, text}
@@ -29,19 +28,14 @@ pub data Place : Type 0 where
 -- the place after the first text
 abbrev pub place_of_command : CommandForm → Place
 place_of_command (Known command) = InCapabilities command
-place_of_command UnknownCommand = First
-place_of_command BadCommand = First
+place_of_command _ = First
 
 -- the first text is the command, and a delimiter separates the capabilities from the arguments
 abbrev pub next_place : Place → Packet → Place
 next_place First (Data payload) = place_of_command (command_form (text payload))
-next_place First Flush = First
-next_place First Delim = First
-next_place First ResponseEnd = First
-next_place (InCapabilities command) (Data payload) = InCapabilities command
-next_place (InCapabilities command) Flush = InCapabilities command
+next_place First _ = First
 next_place (InCapabilities command) Delim = InArguments command
-next_place (InCapabilities command) ResponseEnd = InCapabilities command
+next_place (InCapabilities command) _ = InCapabilities command
 next_place (InArguments command) packet = InArguments command
 
 -- the place after these packets

@@ -16,11 +16,10 @@ use Rattle.grequest.specs.declared.command.Command.{Command}
 use Rattle.grequest.specs.declared.command.Command.TheVariants.{LsRefs, Fetch}
 use Rattle.grequest.specs.declared.command.CommandForm.{CommandForm}
 use Rattle.grequest.specs.declared.command.CommandForm.TheVariants.{Known, Unknown as UnknownCommand, Bad as BadCommand}
-use Rattle.grequest.specs.Arguments.{command_form}
-use Rattle.grequest.specs.Arguments.{CapabilityForm, Agent, ObjectFormat, UnknownCapability, BadCapability}
-use Rattle.grequest.specs.Arguments.{capability_form, LsArgument, RefPrefix, UnknownLsArgument}
-use Rattle.grequest.specs.Arguments.{ls_argument, FetchArgument, Want}
-use Rattle.grequest.specs.Arguments.{Have, UnknownFetchArgument, fetch_argument, is_word}
+use Rattle.grequest.specs.Arguments.{command_form, CapabilityForm, Agent, ObjectFormat, UnknownCapability}
+use Rattle.grequest.specs.Arguments.{BadCapability, capability_form, LsArgument, RefPrefix, UnknownLsArgument}
+use Rattle.grequest.specs.Arguments.{ls_argument, FetchArgument, Want, Have, UnknownFetchArgument, fetch_argument}
+use Rattle.grequest.specs.Arguments.{is_word}
 use Rattle.grequest.specs.Asked.{Asked, Empty, Ls, Fetches, max_prefixes, max_wants, max_haves, max_arguments}
 use Rattle.grequest.specs.RequestLines.{Place, First, InCapabilities, InArguments, place_of, capability_texts}
 use Rattle.grequest.specs.RequestLines.{argument_texts, formats, asked_by_lines}
@@ -117,14 +116,12 @@ unless_unnamed Sha256 state verdict = if state.format_lines == 0 then Refused wh
 
 -- a flush ends the request; a lone one is the empty request
 abbrev pub judge_flush : Format → Place → State → Verdict
-judge_flush format First state = Whole
 judge_flush format (InCapabilities command) state = unless_unnamed format state Whole
-judge_flush format (InArguments command) state = Whole
+judge_flush format _ state = Whole
 
 abbrev pub judge_delim : Format → Place → State → Verdict
-judge_delim format First state = Refused why.UnexpectedFrame
 judge_delim format (InCapabilities command) state = unless_unnamed format state Open
-judge_delim format (InArguments command) state = Refused why.UnexpectedFrame
+judge_delim format _ state = Refused why.UnexpectedFrame
 
 unfoldable pub judge_at : Format → State → Packet → Verdict
 judge_at format state (Data payload) =

@@ -195,7 +195,7 @@ impl<A: Allocator + Copy> FetchRequest<A> {
 
     /// Whether the other request asks the same: the same client name, the same wants and haves in the same
     /// order, and the same flags. A request without ids may ask the same as one of another format.
-    #[tactic(auto, using(crate::proofs::SameAsked::same_asked, crate::proofs::SameAsked::same_parts))]
+    #[tactic(auto, using(crate::proofs::AskedLemmas::same_asked, crate::proofs::AskedLemmas::same_parts))]
     pub fn asks_as<B: Allocator + Copy>(&self, other: &FetchRequest<B>) -> bool
         ensures { IsTrue result ↔ (self.now.asked ≡ other.now.asked) }
     {

@@ -40,7 +40,7 @@
 //! # Stands on
 //!
 //! `ggrammar` for the reader and the laws that all messages share, `gpkt` for packets, `gname` for ids
-//! and prefixes, `hex` for what spells an id.
+//! and prefixes.
 #![tactic(auto)]
 
 mod command;

@@ -5,7 +5,7 @@ ghost use Rattle.ggrammar.specs.PeerErrors.{after_word};
 ghost use Rattle.std.specs.Option.{option_copied, option_map};
 ghost use Rattle.ggrammar.specs.CapabilityView.{capability_view};
 ghost use Rattle.grequest.specs.Arguments.{agent_with, format_with, known_capability, capability_form, ls_argument, fetch_argument, ref_prefix_or_unknown, want_or_else, have_or_unknown};
-ghost use Rattle.grequest.specs.steps.RequestReading.{CarriesWord};
+ghost use Rattle.grequest.specs.steps.RequestState.{CarriesWord};
 ghost use Rattle.grequest.specs.steps.Views.{capability_in, ls_argument_in, fetch_argument_in};
 
 use crate::flag::{FETCH_FLAGS, FetchFlag, LS_REFS_FLAGS, LsRefsFlag, flag_in};

@@ -1,44 +1,29 @@
 -- A text is that of one list of events.
-use Rattle.std.proofs.Common.{◌≡◌, ◌∙◌, inl, inr, ℕ, ◌<◌, ◌^◌, List, [], ◌∷◌, Result, Ok, Err, refl, sym, ap₂}
-use Rattle.std.proofs.Common.{subst, arith}
-use Rattle.std.specs.Prelude.{codes, decimal}
-use Rattle.std.specs.List.{AllZip}
-use Rattle.std.specs.Str.Parse.{IsNumeral}
+use Rattle.std.proofs.Common.{◌≡◌, ◌∙◌, inl, inr, ℕ, ◌<◌, ◌^◌, List, [], ◌∷◌, Ok, Err, refl, sym, ap₂, subst, arith}
 use Rattle.std.proofs.lemmas.Fmt.{decimal_injective, decimal_is_IsNumeral}
-use Rattle.hex.specs.Hex.{decode_of}
-use Rattle.hex.specs.declared.error.FromHexError.TheVariants.{OddLength}
-use Rattle.gname.specs.Ids.{IsIdText}
-use Rattle.gname.specs.Laws.{TextsSpellOneId}
-use Rattle.gobject.specs.declared.node.Entry.{Entry}
-use Rattle.gobject.specs.declared.node.Kind.{Kind}
-use Rattle.gobject.specs.declared.node.Kind.TheVariants.{Commit, Tag}
-use Rattle.gobject.specs.Objects.{entry_of, node_of}
-use Rattle.gobject.specs.PlainPackText.{ids_of, letter}
-use Rattle.grefspec.specs.Refspecs.{IsSpec, OneReading, Refspec}
-use Rattle.gscenario.specs.ScenarioText.{AreArguments, AreBytes, AreNumberAndCount, AreOneBytes, AreSpecs, IsCount}
-use Rattle.gscenario.specs.ScenarioText.{IsEntry, IsNumber, IsOneNumber, IsRef}
-use Rattle.gscenario.specs.ScenarioText.{IsLineOf, IsScenario, command_of, command_text}
-use Rattle.gscenario.specs.steps.Reading.{IsOf}
+use Rattle.std.specs.{List.AllZip, Prelude.{codes, decimal}, Str.Parse.IsNumeral}
+use Rattle.hex.specs.{Hex.decode_of, declared.error.FromHexError.TheVariants.OddLength}
+use Rattle.gname.specs.{Ids.IsIdText, Laws.TextsSpellOneId}
+use Rattle.gobject.specs.{Objects.{entry_of, node_of}, PlainPackText.{ids_of, letter}}
+use Rattle.gobject.specs.declared.node.{Entry.Entry, Kind.{Kind, TheVariants.{Commit, Tag}}}
+use Rattle.grefspec.specs.Refspecs.{IsSpec, OneReading}
 use Rattle.gscenario.specs.Laws.{IsSame}
-use Rattle.gscenario.specs.declared.command.Command.{Command}
-use Rattle.gscenario.specs.declared.event.Event.{Event}
+use Rattle.gscenario.specs.ScenarioText.{AreArguments, AreBytes, AreNumberAndCount, AreOneBytes, IsCount, IsEntry}
+use Rattle.gscenario.specs.ScenarioText.{IsNumber, IsOneNumber, IsRef, IsLineOf, IsScenario, command_of, command_text}
+use Rattle.gscenario.specs.{ScenarioText.words_of, declared.event.Event.Event}
 use Rattle.gscenario.specs.declared.event.Event.TheVariants as event
 use Rattle.gscenario.proofs.ArgumentLemmas.{first_same, one_same, two_same}
-use Rattle.gscenario.proofs.LineLemmas.{cons_head, heads_same, is_of_own, same_command, same_lines, unended_none}
+use Rattle.gscenario.proofs.LineLemmas.{same_command, same_lines, unended_none}
 
 -- ---- single words
 
 number_one : (text : List ℕ) (m n : ℕ) → IsNumber text m → IsNumber text n → m ≡ n
-number_one text m n h k =
-    let few = h.1 in
-    let fewer = k.1 in
-    decimal_injective m n (omega (arith, few)) (omega (arith, fewer)) (sym h.0 ∙ k.0)
+number_one text m n h k = decimal_injective m n (omega (arith, h.1)) (omega (arith, k.1)) (sym h.0 ∙ k.0)
 
 -- `all` is no number
 all_no_number : (n : ℕ) → n < 2 ^ 63 → codes "all" ≡ decimal n → ⊥
 all_no_number n few is =
-    let digits : IsNumeral 10 (codes "all") =
-    subst (IsNumeral 10) (sym is) (decimal_is_IsNumeral n (omega (arith, few))).0 in
+    let digits = subst (IsNumeral 10) (sym is) (decimal_is_IsNumeral n (omega (arith, few))).0 in
     let first : 10 < 10 = digits.1.0 in
     absurd (omega (arith, first))
 
@@ -47,9 +32,6 @@ count_one text m n (inl h) (inl k) = number_one text m n h k
 count_one text m n (inl h) (inr k) = absurd (all_no_number m h.1 (sym k.0 ∙ h.0))
 count_one text m n (inr h) (inl k) = absurd (all_no_number n k.1 (sym h.0 ∙ k.0))
 count_one text m n (inr h) (inr k) = h.1 ∙ sym k.1
-
-ok_one : {E : Type 0} (a b : List ℕ) (r : Result (List ℕ) E) → r ≡ Ok a → r ≡ Ok b → a ≡ b
-ok_one a b r h k = cc
 
 -- one digit is no byte
 dash_no_bytes : (text bytes : List ℕ) → text ≡ codes "-" → decode_of text ≡ Ok bytes → ⊥
@@ -61,7 +43,7 @@ bytes_one : (text a b : List ℕ) → AreBytes text a → AreBytes text b → a 
 bytes_one text a b (inl h) (inl k) = h.1 ∙ sym k.1
 bytes_one text a b (inl h) (inr k) = absurd (dash_no_bytes text b h.0 k.1)
 bytes_one text a b (inr h) (inl k) = absurd (dash_no_bytes text a k.0 h.1)
-bytes_one text a b (inr h) (inr k) = ok_one a b (decode_of text) h.1 k.1
+bytes_one text a b (inr h) (inr k) = cc
 
 letter_one : (a b : Kind) → letter a ≡ letter b → a ≡ b
 letter_one Commit Commit same = refl
@@ -98,14 +80,10 @@ number_and_count_one words m n c d h k =
     (number, count)
 
 module _ (specs_law : OneReading) (ids_law : TextsSpellOneId) where
-  specs_one : (words : List (List ℕ)) (a b : List Refspec) → AreSpecs words a → AreSpecs words b → a ≡ b
-  specs_one words a b h k = zip_one IsSpec specs_law words a b h.1 k.1
-
   entry_one : {A : Type 0} (words : List (List ℕ)) (a b : Entry A) → IsEntry words a → IsEntry words b → a ≡ b
   entry_one {A} words a b h k =
       let same = first_same (letter b.node.kind ∷ []) (letter a.node.kind ∷ []) k.0 h.0 words k.1 h.1 in
-      let kinds : b.node.kind ≡ a.node.kind =
-      letter_one b.node.kind a.node.kind (cons_head (letter b.node.kind) (letter a.node.kind) [] [] same.0) in
+      let kinds = letter_one b.node.kind a.node.kind (let l : letter b.node.kind ≡ letter a.node.kind = cc in l) in
       let lists : ids_of a ≡ ids_of b =
       zip_one IsIdText ids_law h.0 (ids_of a) (ids_of b) h.2
       (subst (λ (ids : List (List ℕ)). AllZip IsIdText ids (ids_of b)) same.1 k.2) in
@@ -123,9 +101,9 @@ module _ (specs_law : OneReading) (ids_law : TextsSpellOneId) where
   -- ---- lines
 
   module _ {A : Type 0} where
-    arguments_one : (words : List (List ℕ)) (e f : Event A) → IsOf (command_of e) f → AreArguments e words
+    arguments_one : (words : List (List ℕ)) (e f : Event A) → command_of e ≡ command_of f → AreArguments e words
         → AreArguments f words → IsSame e f
-    arguments_one words (event.Begin a) (event.Begin b) of h k = specs_one words a.items b.items h k
+    arguments_one words (event.Begin a) (event.Begin b) of h k = zip_one IsSpec specs_law words a.items b.items h.1 k.1
     arguments_one words event.Ask event.Ask of h k = tt
     arguments_one words (event.Serve m) (event.Serve n) of h k = one_number words m n h k
     arguments_one words (event.Deliver m c) (event.Deliver n d) of h k = number_and_count_one words m n c d h k
@@ -138,14 +116,14 @@ module _ (specs_law : OneReading) (ids_law : TextsSpellOneId) where
     arguments_one words (event.ServerRef name a) (event.ServerRef other b) of h k = ref_one words name other a b h k
     arguments_one words (event.ClientAdd a) (event.ClientAdd b) of h k = entry_one words a b h k
     arguments_one words (event.ClientRef name a) (event.ClientRef other b) of h k = ref_one words name other a b h k
-    arguments_one words _ _ of h k = absurd of
+    arguments_one words _ _ of h k = cc
 
     line_one : (line : List ℕ) (e f : Event A) → IsLineOf line e → IsLineOf line f → IsSame e f
     line_one line e f h k =
-        let same = heads_same (command_text (command_of e)) (command_text (command_of f)) h.0 k.0 (sym h.1 ∙ k.1) in
-        let of : IsOf (command_of e) f = subst (λ (c : Command). IsOf c f)
-        (same_command (command_of e) (command_of f) same.0) (is_of_own f) in
-        arguments_one h.0 e f of h.2 (subst (AreArguments f) (sym same.1) k.2)
+        let same = first_same (command_text (command_of e)) (command_text (command_of f)) h.0 k.0 (words_of line) h.1
+        k.1 in
+        arguments_one h.0 e f (same_command (command_of e) (command_of f) same.0) h.2
+        (subst (AreArguments f) (sym same.1) k.2)
 
     pub scenario_one : (text : List ℕ) (a b : List (Event A)) → IsScenario text a → IsScenario text b
         → AllZip IsSame a b
@@ -153,8 +131,7 @@ module _ (specs_law : OneReading) (ids_law : TextsSpellOneId) where
     scenario_one text [] (f ∷ b) h k = absurd (unended_none k.0 k.1 (sym h ∙ k.2))
     scenario_one text (e ∷ a) [] h k = absurd (unended_none h.0 h.1 (sym k ∙ h.2))
     scenario_one text (e ∷ a) (f ∷ b) h k =
-        let same = same_lines h.0 k.0 h.1 k.1 h.3 k.3 (sym h.2 ∙ k.2) in
-        let first : IsSame e f = line_one h.0 e f h.4 (subst (λ (l : List ℕ). IsLineOf l f) (sym same.0) k.4) in
-        let rest : AllZip IsSame a b =
-        scenario_one h.1 a b h.5 (subst (λ (t : List ℕ). IsScenario t b) (sym same.1) k.5) in
-        (first, rest)
+        let same = same_lines h.0 k.0 h.1 k.1 h.3 k.3 (sym h.2 ∙ k.2) in (
+          line_one h.0 e f h.4 (subst (λ (l : List ℕ). IsLineOf l f) (sym same.0) k.4),
+          scenario_one h.1 a b h.5 (subst (λ (t : List ℕ). IsScenario t b) (sym same.1) k.5),
+        )

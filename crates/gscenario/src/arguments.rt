@@ -65,6 +65,7 @@ fn begin<A: Allocator + Copy>(alloc: A, tail: &[u8]) -> Result<Option<Event<A>>,
     }
 }
 
+#[tactic(auto, using(crate::proofs::ArgumentLemmas::no_serve))]
 fn serve<A: Allocator + Copy>(tail: &[u8]) -> Option<Event<A>>
     ensures { MatchOption result (NoArguments A Command.Serve (words_after tail.now))
         (HasArguments Command.Serve (words_after tail.now)) }
@@ -75,6 +76,7 @@ fn serve<A: Allocator + Copy>(tail: &[u8]) -> Option<Event<A>>
     }
 }
 
+#[tactic(auto, using(crate::proofs::ArgumentLemmas::no_deliver))]
 fn deliver<A: Allocator + Copy>(tail: &[u8]) -> Option<Event<A>>
     ensures { MatchOption result (NoArguments A Command.Deliver (words_after tail.now))
         (HasArguments Command.Deliver (words_after tail.now)) }
@@ -85,6 +87,7 @@ fn deliver<A: Allocator + Copy>(tail: &[u8]) -> Option<Event<A>>
     }
 }
 
+#[tactic(auto, using(crate::proofs::ArgumentLemmas::no_forge))]
 fn forge<A: Allocator + Copy>(alloc: A, tail: &[u8]) -> Result<Option<Event<A>>, AllocError>
     ensures { ReadsArguments Command.Forge (words_after tail.now) result }
 {
@@ -94,6 +97,7 @@ fn forge<A: Allocator + Copy>(alloc: A, tail: &[u8]) -> Result<Option<Event<A>>,
     }
 }
 
+#[tactic(auto, using(crate::proofs::ArgumentLemmas::no_stranger))]
 fn strange_request<A: Allocator + Copy>(
     alloc: A,
     tail: &[u8],
@@ -106,6 +110,7 @@ fn strange_request<A: Allocator + Copy>(
     }
 }
 
+#[tactic(auto, using(crate::proofs::ArgumentLemmas::no_server_add))]
 fn server_add<A: Allocator + Copy>(alloc: A, tail: &[u8]) -> Result<Option<Event<A>>, AllocError>
     ensures { ReadsArguments Command.ServerAdd (words_after tail.now) result }
 {
@@ -115,6 +120,7 @@ fn server_add<A: Allocator + Copy>(alloc: A, tail: &[u8]) -> Result<Option<Event
     }
 }
 
+#[tactic(auto, using(crate::proofs::ArgumentLemmas::no_client_add))]
 fn client_add<A: Allocator + Copy>(alloc: A, tail: &[u8]) -> Result<Option<Event<A>>, AllocError>
     ensures { ReadsArguments Command.ClientAdd (words_after tail.now) result }
 {
@@ -124,6 +130,7 @@ fn client_add<A: Allocator + Copy>(alloc: A, tail: &[u8]) -> Result<Option<Event
     }
 }
 
+#[tactic(auto, using(crate::proofs::ArgumentLemmas::no_server_ref))]
 fn server_ref<A: Allocator + Copy>(alloc: A, tail: &[u8]) -> Result<Option<Event<A>>, AllocError>
     ensures { ReadsArguments Command.ServerRef (words_after tail.now) result }
 {
@@ -133,6 +140,7 @@ fn server_ref<A: Allocator + Copy>(alloc: A, tail: &[u8]) -> Result<Option<Event
     }
 }
 
+#[tactic(auto, using(crate::proofs::ArgumentLemmas::no_client_ref))]
 fn client_ref<A: Allocator + Copy>(alloc: A, tail: &[u8]) -> Result<Option<Event<A>>, AllocError>
     ensures { ReadsArguments Command.ClientRef (words_after tail.now) result }
 {

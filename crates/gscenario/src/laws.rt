@@ -8,6 +8,7 @@ use grefspec::laws::one_reading;
 use std::alloc::Allocator;
 
 /// A text is that of one list of events: what it names is settled.
+#[tactic(auto, using(crate::proofs::SameEvents::scenario_one))]
 pub fn texts_have_one_reading<A: Allocator + Copy>()
     ensures { TextsHaveOneReading A }
 {

@@ -1,31 +1,31 @@
--- A connection, request by request.
-use Rattle.std.proofs.Common.{◌≡◌, ℕ, ◌<◌, ◌+◌, ◌++◌, List, [], ◌∷◌, Bool, Option, Some, None, Result, Err, refl, sym, ap, subst, ◌∙◌, inl, inr, append_assoc, append-nil, length-append, arith}
+-- A connection, request by request, and what the packer answered in it.
+use Rattle.std.proofs.Common.{◌≡◌, ℕ, ◌<◌, ◌+◌, ◌++◌, List, [], ◌∷◌, Bool, Option, Some, None, IfSome, Result, Err}
+use Rattle.std.proofs.Common.{refl, sym, ap, subst, ◌∙◌, inl, inr, append_assoc, append-nil, length-append, arith}
+use Rattle.std.proofs.Common.{false}
 use Rattle.std.proofs.lemmas.List.Elements.{All-nil, All-push}
 use Rattle.std.proofs.lemmas.Grind.{flat_map-append}
 use Rattle.std.specs.List.{flat_map}
 use Rattle.gname.specs.declared.formats.Format.{Format}
-use Rattle.gpkt.specs.Change.{Change}
-use Rattle.gpkt.specs.Laws.{CanonicalJoins, ReadsJoin, ReadsNone}
-use Rattle.gpkt.specs.LineReading.{ReadsLines}
-use Rattle.gpkt.specs.Packets.{Packet, canonical_all}
 use Rattle.gpkt.specs.Sending.{Input, Output, input_of, output_of, IsUnread, Passes}
-use Rattle.gpkt.specs.declared.fault.LineFault.{LineFault}
-use Rattle.gpkt.specs.declared.fault.LineFault.TheVariants.{Memory as NoBuffer}
-use Rattle.ggrammar.specs.Capabilities.{Capability}
-use Rattle.ggrammar.specs.declared.ends.Ends.{Ends}
+use Rattle.gpkt.specs.{Packets.Packet, Packets.canonical_all, declared.fault.LineFault.TheVariants.Memory as NoBuffer}
+use Rattle.gpkt.specs.{Laws.CanonicalJoins, Laws.ReadsJoin, Laws.ReadsNone, declared.fault.LineFault.LineFault}
+use Rattle.gpkt.specs.{Change.Change, LineReading.ReadsLines}
+use Rattle.ggrammar.specs.{Capabilities.Capability, declared.ends.Ends.Ends}
 use Rattle.ghello.specs.Adverts.{canonical_advert}
 use Rattle.gobject.specs.Packs.{PackFails, Packs}
-use Rattle.ganswer.specs.Adverts.{advertised}
-use Rattle.ganswer.specs.Servers.{Server}
-use Rattle.ganswer.specs.declared.fault.ServeFault.{ServeFault}
+use Rattle.ganswer.specs.{Adverts.advertised, OnePack.has_failed, OnePack.packing_of_fault}
+use Rattle.ganswer.specs.{declared.fault.ServeFault.ServeFault, declared.one_pack.Packing.TheVariants.Unasked}
+use Rattle.ganswer.specs.{Servers.Server, declared.one_pack.Packing.Packing}
 use Rattle.ganswer.specs.declared.fault.ServeFault.TheVariants as serve
-use Rattle.gserve.specs.Refusals.{err_packets}
-use Rattle.gserve.specs.Exchanges.{Turn, Exchanges, IsDue, reply, refusal, IsRefused, IsTurn, ReadsEmpty, ReadsEnd, ReadsTurns, reply_packets}
-use Rattle.gserve.specs.Conversations.{advert_packets, talk, talk_bytes, CannotBegin, Converses, HasEnded, advert, refusal as refusal_first, Serves, max_requests, rest_of}
+use Rattle.gserve.specs.Exchanges.{Turn, Exchanges, IsDue, reply, refusal, IsRefused, IsTurn, ReadsEmpty, ReadsEnd}
+use Rattle.gserve.specs.Exchanges.{ReadsTurns, reply_packets}
+use Rattle.gserve.specs.Conversations.{advert_packets, talk, talk_bytes, CannotBegin, Converses, HasEnded, advert}
+use Rattle.gserve.specs.Conversations.{refusal as refusal_first, Serves, max_requests, rest_of}
 use Rattle.gserve.specs.steps.Connections.{Advertises, HasAnswered, PassesPackets, RefusesFirst, end_after}
-use Rattle.gserve.specs.declared.connection.End.{End}
+use Rattle.gserve.specs.steps.Connections.{ReportsRefusal}
+use Rattle.gserve.specs.{declared.connection.End.End, Packings.ReportsLastPacking, Packings.ReportsPacking}
+use Rattle.gserve.specs.{Refusals.err_packets, declared.exchange.ExchangeEnd.ExchangeEnd}
 use Rattle.gserve.specs.declared.connection.End.TheVariants as end
-use Rattle.gserve.specs.declared.exchange.ExchangeEnd.{ExchangeEnd}
 use Rattle.gserve.specs.declared.exchange.ExchangeEnd.TheVariants as exchange
 use Rattle.gpkt.proofs.SendingLemmas.{fails_after, passes_join, passes_still}
 
@@ -86,15 +86,7 @@ module _ {A : Type 0} (server : Server A) (packs : Packs A) (fails : PackFails A
   pub moved_refused : (cause : ServeFault) → IsRefused server fails (record { read = read; was_down = was; is_down = down }) cause
       → IsRefused server fails (record { read = read; was_down = before; is_down = down }) cause
   moved_refused (serve.Request cause) h = record { front = h.front; refused = h.refused; source = h.source; begun = h.begun }
-  moved_refused (serve.Reader cause) h =
-      record { packets = h.packets; asked = h.asked; lines = h.lines; says = h.says; declines = h.declines; up = h.up }
-  moved_refused serve.NoWants h =
-      record { packets = h.packets; asked = h.asked; lines = h.lines; says = h.says; declines = h.declines; up = h.up }
-  moved_refused (serve.NotOurs id) h =
-      record { packets = h.packets; asked = h.asked; lines = h.lines; says = h.says; declines = h.declines; up = h.up }
-  moved_refused (serve.Pack cause) h =
-      record { packets = h.packets; asked = h.asked; lines = h.lines; says = h.says; declines = h.declines; up = h.up }
-  moved_refused serve.Memory h =
+  moved_refused cause h =
       record { packets = h.packets; asked = h.asked; lines = h.lines; says = h.says; declines = h.declines; up = h.up }
 
   moved_due : (due : List Packet) → IsDue server packs fails ends (record { read = read; was_down = was; is_down = down }) due
@@ -106,16 +98,7 @@ module _ {A : Type 0} (server : Server A) (packs : Packs A) (fails : PackFails A
 
 pub none_is_answered : (ended : ExchangeEnd) → end_after ended ≡ None → ended ≡ exchange.Answered
 none_is_answered exchange.Answered is = refl
-none_is_answered exchange.Closed is = cc
-none_is_answered exchange.Ended is = cc
-none_is_answered (exchange.Refused cause) is = cc
-none_is_answered exchange.WriteFailed is = cc
-
-pub none_is_some : {x : End} → None ≡ Some x → ⊥
-none_is_some is = cc
-
-pub some_is : {x y : End} → Some x ≡ Some y → x ≡ y
-some_is is = cc
+none_is_answered _ is = cc
 
 module _ {A S W : Type 0} (server : Server A) (packs : Packs A) (fails : PackFails A) (ends : Ends)
     (remaining : S → Option (List ℕ)) (source_down : S → Bool)
@@ -166,46 +149,46 @@ module _ {A S W : Type 0} (server : Server A) (packs : Packs A) (fails : PackFai
       (before.turns, conversed r s s a b max_requests (HasEnded max_requests) before (inr (refl, refl, before.up (omega arith))), before.passed)
 
   -- a connection ends with an exchange
+  ended_as : (r s t : S) (a b c : W) (requests : ℕ) (ended : ExchangeEnd)
+      → HasAnswered server packs fails ends (input_of remaining source_down r s) (output_of contents passed_on sink_down a b) requests
+      → Exchanges server packs fails ends (input_of remaining source_down s t) (output_of contents passed_on sink_down b c) ended
+      → (requests < max_requests) → IfSome (end_after ended)
+      (Serves server packs fails ends (input_of remaining source_down r t) (output_of contents passed_on sink_down a c) requests)
+  ended_as r s t a b c requests exchange.Answered before h room = tt
+  ended_as r s t a b c requests exchange.Closed before h room = (
+    before.turns,
+    room,
+    conversed r s t a b requests (ReadsEmpty server.graph.format) before (moved_empty server packs fails ends _ _ _ _ h.0),
+    passes_still contents passed_on sink_down a b c _ before.passed h.1,
+  )
+  ended_as r s t a b c requests exchange.Ended before h room = (
+    before.turns,
+    conversed r s t a b requests (HasEnded requests) before (inl (room, moved_end server packs fails ends _ _ _ _ h.0)),
+    passes_still contents passed_on sink_down a b c _ before.passed h.1,
+  )
+  ended_as r s t a b c requests (exchange.Refused cause) before h room = inl (
+    before.turns,
+    room,
+    conversed r s t a b requests (λ rest. IsRefused server fails rest cause) before (moved_refused server packs fails ends _ _ _ _ cause h.0),
+    passes_join contents passed_on sink_down a b c _ _ before.passed h.1,
+  )
+  ended_as r s t a b c requests exchange.WriteFailed before h room = inl (
+    before.turns,
+    h.0,
+    room,
+    conversed r s t a b requests (λ rest. IsDue server packs fails ends rest h.0) before (moved_due server packs fails ends _ _ _ _ h.0 h.1),
+    fails_after contents passed_on sink_down a b c _ _ before.passed h.2 h.3,
+  )
+
   pub ended_by : (r s t : S) (a b c : W) (requests : ℕ) (ended : ExchangeEnd)
       → HasAnswered server packs fails ends (input_of remaining source_down r s) (output_of contents passed_on sink_down a b) requests
       → Exchanges server packs fails ends (input_of remaining source_down s t) (output_of contents passed_on sink_down b c) ended
       → (requests < max_requests) → (last : End) → end_after ended ≡ Some last
       → Serves server packs fails ends (input_of remaining source_down r t) (output_of contents passed_on sink_down a c) requests last
-  ended_by r s t a b c requests exchange.Answered before h room last is = absurd (none_is_some is)
-  ended_by r s t a b c requests exchange.Closed before h room last is =
-      let served : Serves server packs fails ends (input_of remaining source_down r t) (output_of contents passed_on sink_down a c) requests end.Closed = (
-        before.turns,
-        room,
-        conversed r s t a b requests (ReadsEmpty server.graph.format) before (moved_empty server packs fails ends _ _ _ _ h.0),
-        passes_still contents passed_on sink_down a b c _ before.passed h.1,
-      ) in
-      subst (λ (e : End). Serves server packs fails ends (input_of remaining source_down r t) (output_of contents passed_on sink_down a c) requests e) (some_is is) served
-  ended_by r s t a b c requests exchange.Ended before h room last is =
-      let served : Serves server packs fails ends (input_of remaining source_down r t) (output_of contents passed_on sink_down a c) requests end.Ended = (
-        before.turns,
-        conversed r s t a b requests (HasEnded requests) before (inl (room, moved_end server packs fails ends _ _ _ _ h.0)),
-        passes_still contents passed_on sink_down a b c _ before.passed h.1,
-      ) in
-      subst (λ (e : End). Serves server packs fails ends (input_of remaining source_down r t) (output_of contents passed_on sink_down a c) requests e) (some_is is) served
-  ended_by r s t a b c requests (exchange.Refused cause) before h room last is =
-      let served : Serves server packs fails ends (input_of remaining source_down r t) (output_of contents passed_on sink_down a c) requests (end.Refused cause) =
-      inl (
-        before.turns,
-        room,
-        conversed r s t a b requests (λ rest. IsRefused server fails rest cause) before (moved_refused server packs fails ends _ _ _ _ cause h.0),
-        passes_join contents passed_on sink_down a b c _ _ before.passed h.1,
-      ) in
-      subst (λ (e : End). Serves server packs fails ends (input_of remaining source_down r t) (output_of contents passed_on sink_down a c) requests e) (some_is is) served
-  ended_by r s t a b c requests exchange.WriteFailed before h room last is =
-      let served : Serves server packs fails ends (input_of remaining source_down r t) (output_of contents passed_on sink_down a c) requests end.WriteFailed =
-      inl (
-        before.turns,
-        h.0,
-        room,
-        conversed r s t a b requests (λ rest. IsDue server packs fails ends rest h.0) before (moved_due server packs fails ends _ _ _ _ h.0 h.1),
-        fails_after contents passed_on sink_down a b c _ _ before.passed h.2 h.3,
-      ) in
-      subst (λ (e : End). Serves server packs fails ends (input_of remaining source_down r t) (output_of contents passed_on sink_down a c) requests e) (some_is is) served
+  ended_by r s t a b c requests ended before h room last is =
+      subst (λ (o : Option End). IfSome o
+      (Serves server packs fails ends (input_of remaining source_down r t) (output_of contents passed_on sink_down a c) requests)) is
+      (ended_as r s t a b c requests ended before h room)
 
   -- ---- before the first request
 
@@ -213,13 +196,12 @@ module _ {A S W : Type 0} (server : Server A) (packs : Packs A) (fails : PackFai
   pub refused_first : (s : S) (a b : W) (cause : ServeFault) (last : End)
       → CannotBegin (input_of remaining source_down s s) cause → RefusesFirst cause (output_of contents passed_on sink_down a b) last
       → Serves server packs fails ends (input_of remaining source_down s s) (output_of contents passed_on sink_down a b) 0 last
-  refused_first s a b cause end.Closed cannot h = absurd h
-  refused_first s a b cause end.Ended cannot h = absurd h
   refused_first s a b cause (end.Refused reported) cannot h =
       let P : ServeFault → Type 0 = λ f. CannotBegin (input_of remaining source_down s s) f × Passes (output_of contents passed_on sink_down a b) (canonical_all (err_packets f)) in
       let both : P reported = subst P (sym h.0) (cannot, h.1) in
       inr (refl, both.0, both.1)
   refused_first s a b cause end.WriteFailed cannot h = inr (err_packets cause, refl, refusal_first cause cannot, h.0, h.1)
+  refused_first s a b cause last cannot h = absurd h
 
   unread : (s : S) → IsUnread (input_of remaining source_down s s)
   unread s = record { read = refl; down = refl }
@@ -228,12 +210,11 @@ module _ {A S W : Type 0} (server : Server A) (packs : Packs A) (fails : PackFai
   pub not_advertised : (s : S) (a b : W) (last : End)
       → Advertises server.graph.format (output_of contents passed_on sink_down a b) (Err last)
       → Serves server packs fails ends (input_of remaining source_down s s) (output_of contents passed_on sink_down a b) 0 last
-  not_advertised s a b end.Closed h = absurd h
-  not_advertised s a b end.Ended h = absurd h
   not_advertised s a b (end.Refused reported) h = refused_first s a b serve.Memory (end.Refused reported) (unread s) h
   not_advertised s a b end.WriteFailed (inl h) = refused_first s a b serve.Memory end.WriteFailed (unread s) h
   not_advertised s a b end.WriteFailed (inr h) =
       inr (advert_packets server.graph.format, refl, advert (unread s), h.0, h.1)
+  not_advertised s a b last h = absurd h
 
   -- there is no buffer
   pub no_buffer : (s : S) (a b : W) (cause : LineFault) (last : End) → cause ≡ NoBuffer
@@ -242,3 +223,34 @@ module _ {A S W : Type 0} (server : Server A) (packs : Packs A) (fails : PackFai
   no_buffer s a b cause last is h =
       refused_first s a b (serve.Reader cause) last
       (subst (λ (f : LineFault). CannotBegin (input_of remaining source_down s s) (serve.Reader f)) (sym is) (unread s)) h
+
+-- ---- what the packer answered, by how an exchange or a connection ended
+
+pub refused_packing : (fault : ServeFault) (output : Output) (ended : ExchangeEnd) (answered : Packing)
+    → ReportsRefusal fault output ended → answered ≡ packing_of_fault fault → ReportsPacking ended answered
+refused_packing fault output (exchange.Refused reported) answered h is = is ∙ ap packing_of_fault (sym h.0)
+refused_packing fault output exchange.WriteFailed answered h is = tt
+refused_packing fault output _ answered h is = absurd h
+
+-- a connection goes on after an answer alone
+pub goes_on_well : (ended : ExchangeEnd) (answered : Packing) → end_after ended ≡ None → ReportsPacking ended answered
+    → has_failed answered ≡ false
+goes_on_well exchange.Answered answered is h = h
+goes_on_well _ answered is h = cc
+
+pub last_packing : (ended : ExchangeEnd) (last : End) (answered : Packing) → end_after ended ≡ Some last
+    → ReportsPacking ended answered → ReportsLastPacking last answered
+last_packing exchange.Answered last answered is h = absurd cc
+last_packing _ last answered is h = subst (λ (o : Option End). IfSome o (λ e. ReportsLastPacking e answered)) is h
+
+pub first_packing : (fault : ServeFault) (output : Output) (last : End) (answered : Packing)
+    → RefusesFirst fault output last → answered ≡ packing_of_fault fault → ReportsLastPacking last answered
+first_packing fault output (end.Refused reported) answered h is = is ∙ ap packing_of_fault (sym h.0)
+first_packing fault output end.WriteFailed answered h is = tt
+first_packing fault output last answered h is = absurd h
+
+pub unadvertised_packing : (format : Format) (output : Output) (last : End) (answered : Packing)
+    → Advertises format output (Err last) → answered ≡ Unasked → ReportsLastPacking last answered
+unadvertised_packing format output (end.Refused reported) answered h is = is ∙ ap packing_of_fault (sym h.0)
+unadvertised_packing format output end.WriteFailed answered h is = tt
+unadvertised_packing format output last answered h is = absurd h

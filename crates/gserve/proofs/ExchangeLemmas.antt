@@ -1,33 +1,23 @@
 -- From the steps of an exchange to the whole.
-use Rattle.std.proofs.Common.{◌≡◌, ◌≢◌, ◌<◌, List, Bool, false, Result, Ok, Err, refl, sym, subst, ◌∙◌, arith}
+use Rattle.std.proofs.Common.{◌≡◌, ◌≢◌, ◌<◌, List, Bool, false, Result, Ok, Err, refl, sym, subst, arith}
 use Rattle.std.specs.Prelude.{OnOk}
-use Rattle.gpkt.specs.Packets.{Packet, canonical_all}
 use Rattle.gpkt.specs.Sending.{Input, Output, IsUp, IsUnread, Passes}
-use Rattle.gpkt.specs.LineReading.{ReadsLines}
-use Rattle.gpkt.specs.declared.fault.LineFault.{LineFault}
-use Rattle.gpkt.specs.declared.fault.LineFault.TheVariants.{Memory as NoBuffer}
-use Rattle.ggrammar.specs.declared.ends.Ends.{Ends}
-use Rattle.ggrammar.specs.declared.fault.MessageFault.{MessageFault}
-use Rattle.ggrammar.specs.declared.fault.Why.TheVariants.{Ended as EndedEarly}
+use Rattle.gpkt.specs.{Packets.Packet, Packets.canonical_all, declared.fault.LineFault.TheVariants.Memory as NoBuffer}
+use Rattle.gpkt.specs.{LineReading.ReadsLines, declared.fault.LineFault.LineFault}
+use Rattle.ggrammar.specs.{declared.ends.Ends.Ends, MessageReading.IsReadFailure, MessageReading.ReadsRefused}
+use Rattle.ggrammar.specs.{declared.fault.MessageFault.MessageFault, declared.fault.Why.TheVariants.Ended as EndedEarly}
 use Rattle.ggrammar.specs.Kinds.{ReadsMessage}
-use Rattle.ggrammar.specs.MessageReading.{IsReadFailure, ReadsRefused}
 use Rattle.gname.specs.declared.formats.Format.{Format}
-use Rattle.grequest.specs.Asked.{Asked, LsRefsAsked, Empty, Ls as LsAsked, Fetches}
-use Rattle.grequest.specs.RequestValues.{asked_by_request}
-use Rattle.grequest.specs.declared.request.Request.{Request}
-use Rattle.grequest.specs.declared.request.Request.TheVariants as request
-use Rattle.glsreply.specs.LsReplies.{LsReply}
-use Rattle.grequest.specs.Requests.{Says, brings, judge}
+use Rattle.grequest.specs.Asked.{Asked, Empty, Fetches}
+use Rattle.grequest.specs.{Requests.Says, Requests.brings, Requests.judge}
 use Rattle.gobject.specs.Packs.{PackFails, Packs}
-use Rattle.ganswer.specs.Answers.{Answers, Reply, Nothing, Ls, Fetch}
-use Rattle.ganswer.specs.Servers.{Server}
-use Rattle.ganswer.specs.declared.fault.ServeFault.{ServeFault}
+use Rattle.ganswer.specs.Answers.{Answers, Reply, Nothing}
+use Rattle.ganswer.specs.{Servers.Server, declared.fault.ServeFault.ServeFault}
 use Rattle.ganswer.specs.declared.fault.ServeFault.TheVariants as serve
-use Rattle.gserve.specs.Refusals.{err_packets}
 use Rattle.gserve.specs.Exchanges.{Turn, Declines, Exchanges, LacksBuffer, RefusesAtOnce, IsDue, reply as due_reply, refusal as due_refusal, IsRefused, ReadsTurn, RefusesToAnswer, RefusesToRead, reply_packets}
 use Rattle.gserve.specs.steps.Connections.{PassesPackets, IsDueFor, reply, refusal, Replies, ReportsRefusal}
 use Rattle.gserve.specs.steps.Connections.{end_of_reply}
-use Rattle.gserve.specs.declared.exchange.ExchangeEnd.{ExchangeEnd}
+use Rattle.gserve.specs.{Refusals.err_packets, declared.exchange.ExchangeEnd.ExchangeEnd}
 use Rattle.gserve.specs.declared.exchange.ExchangeEnd.TheVariants as end
 
 -- ---- a reply
@@ -35,10 +25,8 @@ use Rattle.gserve.specs.declared.exchange.ExchangeEnd.TheVariants as end
 module _ {A : Type 0} (server : Server A) (packs : Packs A) where
   asks_for_refs : (asked : Asked) (answer : Reply) → answer ≢ Nothing → Answers server packs asked answer → asked ≢ Empty
   asks_for_refs Empty Nothing other h = λ is. other refl
-  asks_for_refs Empty (Ls answer) other h = absurd h
-  asks_for_refs Empty (Fetch answer) other h = absurd h
-  asks_for_refs (LsAsked asked) answer other h = λ is. cc
-  asks_for_refs (Fetches asked) answer other h = λ is. cc
+  asks_for_refs Empty answer other h = absurd h
+  asks_for_refs asked answer other h = λ is. cc
 
 module _ {A : Type 0} (server : Server A) (packs : Packs A) (fails : PackFails A) (ends : Ends) (output : Output) where
   -- an answer is sent
@@ -59,41 +47,25 @@ module _ {A : Type 0} (server : Server A) (packs : Packs A) (fails : PackFails A
   -- a refusal is reported
   pub refused_reply : (asked : Asked) (fault : ServeFault) (ended : ExchangeEnd) → Declines server fails asked fault
       → ReportsRefusal fault output ended → Replies server packs fails ends asked output ended
-  refused_reply asked fault end.Answered refuses h = absurd h
-  refused_reply asked fault end.Closed refuses h = absurd h
-  refused_reply asked fault end.Ended refuses h = absurd h
   refused_reply asked fault (end.Refused reported) refuses h =
       let P : ServeFault → Type 0 = λ f. Declines server fails asked f × Passes output (canonical_all (err_packets f)) in
       subst P (sym h.0) (refuses, h.1)
   refused_reply asked fault end.WriteFailed refuses h = (err_packets fault, refusal fault refuses, h.0, h.1)
-
--- no reply goes on
-pub reported_not_answered : (fault : ServeFault) (output : Output) (ended : ExchangeEnd) → ReportsRefusal fault output ended
-    → ended ≢ end.Answered
-reported_not_answered fault output end.Answered h = absurd h
-reported_not_answered fault output end.Closed h = λ is. cc
-reported_not_answered fault output end.Ended h = λ is. cc
-reported_not_answered fault output (end.Refused reported) h = λ is. cc
-reported_not_answered fault output end.WriteFailed h = λ is. cc
+  refused_reply asked fault _ refuses h = absurd h
 
 -- ---- the whole
 
 -- no request that was read is refused as if it had not been
 never_reading : {A : Type 0} (server : Server A) (fails : PackFails A) (asked : Asked) (cause : MessageFault)
     → Declines server fails asked (serve.Request cause) → ⊥
-never_reading server fails Empty cause h = h
-never_reading server fails (LsAsked asked) cause h = h
 never_reading server fails (Fetches asked) cause h = h
+never_reading server fails asked cause h = h
 
 module _ {A : Type 0} (server : Server A) (packs : Packs A) (fails : PackFails A) (ends : Ends) (input : Input) (output : Output) where
   -- a request that is read and not answered is refused
   refused_to_answer : (cause : ServeFault) → RefusesToAnswer server fails input cause → IsRefused server fails input cause
-  refused_to_answer (serve.Reader cause) h = h
   refused_to_answer (serve.Request cause) h = absurd (never_reading server fails h.asked cause h.declines)
-  refused_to_answer serve.NoWants h = h
-  refused_to_answer (serve.NotOurs id) h = h
-  refused_to_answer (serve.Pack cause) h = h
-  refused_to_answer serve.Memory h = h
+  refused_to_answer cause h = h
 
   -- a request that asks this was read, and the source is well
   record Took (asked : Asked) : Type 0 where
@@ -162,23 +134,18 @@ module _ {A : Type 0} (server : Server A) (packs : Packs A) (fails : PackFails A
   -- reading was refused, and that was reported
   pub reading_refused : (cause : MessageFault) (ended : ExchangeEnd) → RefusesToRead server.graph.format input cause
       → ReportsRefusal (serve.Request cause) output ended → Exchanges server packs fails ends input output ended
-  reading_refused cause end.Answered refused h = absurd h
-  reading_refused cause end.Closed refused h = absurd h
-  reading_refused cause end.Ended refused h = absurd h
   reading_refused cause (end.Refused reported) refused h =
       let P : ServeFault → Type 0 = λ f. IsRefused server fails input f × Passes output (canonical_all (err_packets f)) in
       subst P (sym h.0) (refused, h.1)
   reading_refused cause end.WriteFailed refused h =
       (err_packets (serve.Request cause), due_refusal (serve.Request cause) refused, h.0, h.1)
-
-failed_is_answered : end.WriteFailed ≡ end.Answered → ⊥
-failed_is_answered is = cc
+  reading_refused cause _ refused h = absurd h
 
 -- how an exchange ends whose reply was sent, and that the writer goes on then
 pub goes_on_by : {E : Type 0} {P : Type 0} (sent : Result (Unit {0}) E) (how : ExchangeEnd) → how ≡ end_of_reply sent
     → OnOk sent P → how ≡ end.Answered → P
 goes_on_by (Ok done) how is holds answered = holds
-goes_on_by (Err fault) how is holds answered = absurd (failed_is_answered (sym is ∙ answered))
+goes_on_by (Err fault) how is holds answered = absurd cc
 
 -- why reading was refused, from what the reader says
 pub refused_to_read : (format own : Format) → format ≡ own → (input : Input) (cause : MessageFault) (failed : Bool) → failed ≡ false
@@ -196,12 +163,10 @@ refused_to_read format own same input cause failed ready refused source begun = 
 
 pub refused_at_once : (input : Input) (output : Output) (cause : LineFault) (ended : ExchangeEnd) → cause ≡ NoBuffer → IsUnread input
     → ReportsRefusal (serve.Reader cause) output ended → RefusesAtOnce input output ended
-refused_at_once input output cause end.Answered is unread h = absurd h
-refused_at_once input output cause end.Closed is unread h = absurd h
-refused_at_once input output cause end.Ended is unread h = absurd h
 refused_at_once input output cause (end.Refused reported) is unread h =
     let P : ServeFault → Type 0 = λ f. LacksBuffer input f × Passes output (canonical_all (err_packets f)) in
     let lacks : LacksBuffer input (serve.Reader cause) = subst (λ (f : LineFault). LacksBuffer input (serve.Reader f)) (sym is) unread in
     subst P (sym h.0) (lacks, h.1)
 refused_at_once input output cause end.WriteFailed is unread h =
     (serve.Reader cause, subst (λ (f : LineFault). LacksBuffer input (serve.Reader f)) (sym is) unread, h.0, h.1)
+refused_at_once input output cause _ is unread h = absurd h

@@ -1,7 +1,4 @@
 mod ConnectionLemmas
 mod ExchangeLemmas
-mod OneTalk
-mod PackingLemmas
-mod PhraseLemmas
 mod SendingLemmas
 mod TalkLemmas

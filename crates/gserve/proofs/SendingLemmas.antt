@@ -1,19 +1,20 @@
--- What is written and passed on, one after the other.
-use Rattle.std.proofs.Common.{◌≡◌, ℕ, ◌≤◌, Bool, false, List, [], ◌∷◌, ◌++◌, length, codes, Option, Some, None, Result, Ok, Err, ap, subst, append_assoc, length-append, arith}
-use Rattle.std.specs.Prelude.{IsErrAnd, IsSome}
-use Rattle.std.specs.Io.KnownBytes.{Appends, Keeps}
-use Rattle.gpkt.specs.Devices.{KeepsPassed}
+-- What is written and passed on, one after the other, and the text of a refusal.
+use Rattle.std.proofs.Common.{◌≡◌, ℕ, ◌≤◌, Bool, false, List, [], ◌∷◌, ◌++◌, length, codes, Option, Result}
+use Rattle.std.proofs.Common.{Ok, Err, ap, length-append, arith}
+use Rattle.std.specs.Prelude.{IsErrAnd}
+use Rattle.gpkt.specs.Sending.{output_of}
+use Rattle.gpkt.specs.{LineWriting.Writer, LineWriting.HasPushed, Packets.Packet, Packets.Data, Packets.line_feed}
+use Rattle.gpkt.specs.{declared.fault.WriteFault.WriteFault, declared.fault.LineFault.LineFault}
 use Rattle.gpkt.specs.Laws.{Fits, PushesWritten}
-use Rattle.gpkt.specs.LineWriting.{Writer, HasPushed}
-use Rattle.gpkt.specs.Packets.{Packet, Data, line_feed}
-use Rattle.gpkt.specs.Sending.{output_of, IsUnwritten, Passes, SendsAndFails, SendsSome}
-use Rattle.gpkt.specs.declared.fault.WriteFault.{WriteFault}
+use Rattle.ggrammar.specs.{Writing.WritesLines, Faults.line_phrase, Faults.why_row, declared.fault.Why.Why}
 use Rattle.ggrammar.specs.Texts.{text_packet}
-use Rattle.ggrammar.specs.Writing.{WritesLines}
-use Rattle.ganswer.specs.declared.fault.ServeFault.{ServeFault}
+use Rattle.ganswer.specs.{declared.fault.ServeFault.ServeFault, Faults.serve_fault_row}
 use Rattle.ggrammar.proofs.PassingLemmas.{push_fails, pushed_passes, write_fails}
 use Rattle.gserve.specs.Refusals.{err_packets, err_text, max_err_text}
-use Rattle.gserve.specs.steps.Connections.{PassesPackets}
+use Rattle.gserve.specs.steps.Connections.{PassesPackets, max_phrase}
+use Rattle.gpkt.specs.declared.fault.LineFault.TheVariants as line
+use Rattle.ggrammar.specs.declared.fault.Why.TheVariants as why
+use Rattle.ganswer.specs.declared.fault.ServeFault.TheVariants as serve
 
 -- ---- the packet of a refusal
 
@@ -45,3 +46,18 @@ module _ {W : Type 0} (contents passed_on : W → Option (List ℕ)) (is_down : 
   passed_failed a b packets fault (Ok done) ready wrote answered = absurd answered
   passed_failed a b packets fault (Err other) ready wrote answered =
       write_fails contents passed_on is_down loans a b packets fault ready wrote
+
+-- ---- what a client reads of a fault is short
+
+line_is_short : (fault : LineFault) → length (line_phrase fault) ≤ max_phrase
+line_is_short line.Memory = omega arith
+line_is_short fault = omega arith
+
+why_is_short : (cause : Why) → length (why_row cause).phrase ≤ max_phrase
+why_is_short (why.Line fault) = line_is_short fault
+why_is_short cause = omega arith
+
+pub phrase_is_short : (fault : ServeFault) → length (serve_fault_row fault).phrase ≤ max_phrase
+phrase_is_short (serve.Reader fault) = line_is_short fault
+phrase_is_short (serve.Request cause) = why_is_short cause.why
+phrase_is_short fault = omega arith

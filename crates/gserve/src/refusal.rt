@@ -4,7 +4,7 @@ ghost use Rattle.std.specs.Prelude.{◌≡◌, ◌≤◌, ◌+◌, ◌++◌, dro
 ghost use Rattle.ggrammar.specs.Writing.{WritesLines};
 ghost use Rattle.ganswer.specs.Faults.{serve_fault_row};
 ghost use Rattle.gserve.specs.Refusals.{detail_of, err_packets, err_text, max_err_text};
-ghost use Rattle.gserve.specs.steps.Refusals.{max_detail, max_phrase};
+ghost use Rattle.gserve.specs.steps.Connections.{max_detail, max_phrase};
 
 use arrayvec::ArrayVec;
 use ganswer::ServeFault;
@@ -42,7 +42,7 @@ fn text_of(fault: &ServeFault) -> ArrayVec<u8, MAX_ERR_TEXT>
 }
 
 // Why the request is refused, in a client's words.
-#[tactic(auto, using(crate::proofs::PhraseLemmas::phrase_is_short))]
+#[tactic(auto, using(crate::proofs::SendingLemmas::phrase_is_short))]
 fn add_phrase(fault: &ServeFault, text: &mut ArrayVec<u8, MAX_ERR_TEXT>)
     requires { length text.old.items + max_phrase ≤ max_err_text }
     ensures text { text.new.items ≡ text.old.items ++ (serve_fault_row fault.now).phrase }

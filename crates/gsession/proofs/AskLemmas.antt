@@ -1,269 +1,282 @@
--- What refspecs ask for, refspec by refspec and line by line.
-use Rattle.std.proofs.Common.{◌≡◌, ◌≢◌, ℕ, ◌+◌, ◌<◌, if◌then◌else◌, true, false, inl, inr, List, [], ◌∷◌, ◌++◌, length}
-use Rattle.std.proofs.Common.{map, filter, take, drop, get_or, All, Some, Err, refl, sym, ap, subst, append_assoc, ◌∙◌}
-use Rattle.std.proofs.lemmas.Option.{none-some}
-use Rattle.std.proofs.lemmas.List.{append-nil, map-append, take_more}
-use Rattle.std.proofs.lemmas.List.Elements.{All-append, All-cons, All-filter, All-head, All-map, All-nil, All-push}
-use Rattle.std.proofs.lemmas.List.Elements.{All-tail, All-weaker, filter-append}
+-- What is asked for, refspec by refspec and line by line, and which asks are the first for their refs.
+use Rattle.std.proofs.Common.{◌≡◌, ◌≢◌, ℕ, ◌+◌, ◌<◌, true, false, if◌then◌else◌, inl, inr, List, [], ◌∷◌, ◌++◌, length}
+use Rattle.std.proofs.Common.{get_or, map, filter, take, drop, All, Contains, Err, refl, sym, ap, subst, append_assoc}
+use Rattle.std.proofs.Common.{arith, ◌∙◌}
+use Rattle.std.specs.Str.{bytes_eq}
 use Rattle.std.proofs.lemmas.Grind.{flat_map-append}
+use Rattle.std.proofs.lemmas.List.{map-append}
+use Rattle.std.proofs.lemmas.List.Elements.{All-append, All-cons, All-contains, All-contains_itself, All-filter}
+use Rattle.std.proofs.lemmas.List.Elements.{All-head, All-map, All-nil, All-push, All-tail, Contains-append_left}
+use Rattle.std.proofs.lemmas.List.Elements.{Contains-append_right, Contains-get_or, Contains-push, filter-append}
+use Rattle.std.proofs.lemmas.List.Elements.{filter_passes}
+use Rattle.std.proofs.lemmas.List.Folds.{Any-from_list_any}
+use Rattle.std.proofs.lemmas.Option.{none-some}
+use Rattle.std.proofs.lemmas.Slice.Eq.{bytes_eq-Decides}
 use Rattle.gname.specs.Ids.{IsIdOf}
 use Rattle.gname.specs.Laws.{RulesNeverReportMemory}
 use Rattle.gname.specs.Names.{IsRefName, Owns, name_fault}
 use Rattle.gname.specs.declared.formats.Format.{Format}
 use Rattle.gname.specs.declared.faults.NameFault.{NameFault}
-use Rattle.gname.specs.declared.faults.NameFault.TheVariants.{Empty, TooLong, NotRef, BadByte, Component, DoubleDot}
-use Rattle.gname.specs.declared.faults.NameFault.TheVariants.{AtBrace, End, Memory}
+use Rattle.gname.specs.declared.faults.NameFault.TheVariants.{Memory}
 use Rattle.glsreply.specs.RefTexts.{RefLine}
 use Rattle.glsreply.specs.WellFormed.{IsRefLine}
+use Rattle.gdag.proofs.Growing.{at_front, take_one}
+use Rattle.gdag.proofs.IdLists.{contains_head, either_way, flat_map-from}
 use Rattle.grefspec.specs.Refspecs.{Refspec, destination_of, matches}
 use Rattle.gclientrepo.specs.declared.ask.Ask.{Ask}
-use Rattle.gclientrepo.specs.Asks.{is_asked, with_ask}
-use Rattle.gsession.specs.Asking.{AreNamed, AreNamedTo, ask_of, asked_of, asks_by, asks_by_all, line_matches, with_asks}
-use Rattle.gsession.specs.steps.Calls.{AddsAsks, FindsAsks}
-use Rattle.gsession.proofs.ListLemmas.{all_left, all_right, split_at, with_asks-append}
+use Rattle.gclientrepo.specs.Asks.{NamesDiffer, is_asked, with_ask}
+use Rattle.gclientrepo.proofs.AskLemmas.{differ_push, with_ask_new, with_ask_there}
+use Rattle.gsession.specs.Asking.{AreNamed, ask_of, asked_of, asks_by, asks_by_all, line_matches, with_asks}
+use Rattle.gsession.specs.Laws.{AsksAreOfLines, FirstIsAsked, IsAskOf, IsFirstFor, LeadsElsewhere}
+use Rattle.gsession.specs.steps.Calls.{IsAskFault}
 
--- ---- asks of more lines, and of more refspecs
+-- the ask of one line: its destination is no ref name; or it is one, out of memory
+pub fails_one : (A : Type 0) → RulesNeverReportMemory → (spec : Refspec) (line : RefLine) (fault : NameFault)
+    → matches spec line.name ≡ true
+    → Owns name_fault (destination_of spec line.name) (Err fault)
+    → IsAskFault {A = A} (asks_by spec (line ∷ [])) fault
+fails_one A law spec line Memory e owns = rw e (elim owns [
+  | inl found ↦ absurd ((law (destination_of spec line.name)).0 found)
+  | inr out ↦ record {
+    front = [];
+    ask = ask_of spec line;
+    rest = [];
+    parts = refl;
+    named = All-cons (λ (ask : Ask A). IsRefName ask.name) (ask_of spec line) [] out.1
+        (All-nil (λ (ask : Ask A). IsRefName ask.name));
+  }
+])
+fails_one A law spec line _ e owns = rw e (λ named. elim owns [
+  | inl found ↦ none-some _ (sym (All-head (λ (ask : Ask A). IsRefName ask.name) (ask_of spec line) [] named) ∙ found)
+  | inr memory ↦ cc
+])
 
 module _ {A : Type 0} where
+  -- ---- asks of more lines, and of more refspecs
+
   pub asks_by-append : (spec : Refspec) (xs ys : List RefLine)
       → asks_by {A = A} spec (xs ++ ys) ≡ asks_by spec xs ++ asks_by spec ys
   asks_by-append spec xs ys =
       ap (map (ask_of spec)) (filter-append (line_matches spec) xs ys)
       ∙ map-append (ask_of spec) (filter (line_matches spec) xs) (filter (line_matches spec) ys)
 
-  pub asks_by_all-append : (specs more : List Refspec) (lines : List RefLine)
+  pub asks_by_all-append : (lines : List RefLine) (specs more : List Refspec)
       → asks_by_all {A = A} (specs ++ more) lines ≡ asks_by_all specs lines ++ asks_by_all more lines
-  asks_by_all-append specs more lines = flat_map-append (λ spec. asks_by {A = A} spec lines) specs more
+  asks_by_all-append lines specs more = flat_map-append (λ spec. asks_by {A = A} spec lines) specs more
 
-  pub asks_by_all-one : (spec : Refspec) (lines : List RefLine)
-      → asks_by_all {A = A} (spec ∷ []) lines ≡ asks_by spec lines
-  asks_by_all-one spec lines = append-nil (asks_by {A = A} spec lines)
+  -- ---- more asks
 
-  -- ---- adding
+  with_asks-append : (asks xs ys : List (Ask A)) → with_asks asks (xs ++ ys) ≡ with_asks (with_asks asks xs) ys
+  with_asks-append asks [] ys = refl
+  with_asks-append asks (x ∷ xs) ys = with_asks-append (with_ask asks x) xs ys
+
+  -- what holds of each ask still does with more of which it holds
+  asks_more : (P : Ask A → Type 0) (asks more : List (Ask A)) → All P asks → All P more → All P (with_asks asks more)
+  asks_more P asks [] all new = all
+  asks_more P asks (ask ∷ more) all new =
+      asks_more P (with_ask asks ask) more
+      (elim (is_asked asks ask.name) as (λ b. All P (if b then asks else asks ++ ask ∷ [])) [
+        | true ↦ all
+        | false ↦ All-push P asks ask all (All-head P ask more new)
+      ])
+      (All-tail P ask more new)
 
   -- these asks were added to the old ones, and each is for a ref name
   abbrev pub HasAdded : List (Ask A) → List (Ask A) → List (Ask A) → Type 0
   HasAdded old more new = (new ≡ with_asks old more) × AreNamed more
 
-  pub added_none : (old : List (Ask A)) → HasAdded old [] old
-  added_none old = (refl, All-nil (λ (ask : Ask A). IsRefName ask.name))
-
-  pub added_more : (old mid new before more : List (Ask A)) → HasAdded old before mid → HasAdded mid more new
-      → HasAdded old (before ++ more) new
-  added_more old mid new before more first next = (
-    next.0 ∙ ap (λ (l : List (Ask A)). with_asks l more) first.0 ∙ sym (with_asks-append old before more),
-    All-append (λ (ask : Ask A). IsRefName ask.name) before more first.1 next.1,
-  )
-
-  -- ---- why none are added
-
-  -- an ask that is named, after others that are
-  named_to : (before more rest whole : List (Ask A)) → whole ≡ (before ++ more) ++ rest → AreNamed before
-      → AreNamedTo more → AreNamedTo whole
-  named_to before more rest whole is first to = record {
+  -- a fault of some asks is one of all, where those before them are named
+  fails_among : (before more rest : List (Ask A)) (fault : NameFault) → AreNamed before → IsAskFault more fault
+      → IsAskFault (before ++ (more ++ rest)) fault
+  fails_among before more rest Memory first to = record {
     front = before ++ to.front;
     ask = to.ask;
     rest = to.rest ++ rest;
-    parts = is ∙ ap (λ (l : List (Ask A)). (before ++ l) ++ rest) to.parts
-        ∙ append_assoc before (to.front ++ to.ask ∷ to.rest) rest
-        ∙ ap (λ (l : List (Ask A)). before ++ l) (append_assoc to.front (to.ask ∷ to.rest) rest)
-        ∙ sym (append_assoc before to.front (to.ask ∷ (to.rest ++ rest)));
+    parts = ap (λ (l : List (Ask A)). before ++ (l ++ rest)) to.parts ∙ simp append_assoc;
     named = subst AreNamed (sym (append_assoc before to.front (to.ask ∷ [])))
         (All-append (λ (ask : Ask A). IsRefName ask.name) before (to.front ++ to.ask ∷ []) first to.named);
   }
+  fails_among before more rest _ first unnamed = λ named. unnamed (λ k d low.
+      All-contains (λ (ask : Ask A). IsRefName ask.name) (before ++ (more ++ rest)) _ named
+      (Contains-append_right before (more ++ rest) _ (Contains-append_left more rest _ (Contains-get_or more k d low))))
 
-  named_one : (spec : Refspec) (line : RefLine) → IsRefName (destination_of spec line.name)
-      → AreNamedTo {A = A} (ask_of spec line ∷ [])
-  named_one spec line named = record {
-    front = [];
-    ask = ask_of spec line;
-    rest = [];
-    parts = refl;
-    named = All-cons (λ (ask : Ask A). IsRefName ask.name) (ask_of spec line) [] named
-        (All-nil (λ (ask : Ask A). IsRefName ask.name));
-  }
+  -- of the asks that lines or refspecs give: those up to a position, and those at it
+  module _ {X : Type 0} (f : List X → List (Ask A)) (joins : (xs ys : List X) → f (xs ++ ys) ≡ f xs ++ f ys)
+      (xs : List X) (i : ℕ) (x : X) (low : i < length xs) (at : x ≡ get_or xs i x) (one : List (Ask A))
+      (is_one : f (x ∷ []) ≡ one) where
+    pub added_more : (old mid new : List (Ask A)) → HasAdded old (f (take i xs)) mid → HasAdded mid one new
+        → HasAdded old (f (take (i + 1) xs)) new
+    added_more old mid new first next =
+        subst (λ (l : List (Ask A)). HasAdded old l new)
+        (sym (ap f (take_one xs i x low at) ∙ joins (take i xs) (x ∷ []) ∙ ap (λ l. f (take i xs) ++ l) is_one)) (
+          next.0 ∙ ap (λ (l : List (Ask A)). with_asks l one) first.0 ∙ sym (with_asks-append old (f (take i xs)) one),
+          All-append (λ (ask : Ask A). IsRefName ask.name) (f (take i xs)) one first.1 next.1,
+        )
 
-  -- a fault but out of memory says that an ask is for no ref name, and that one is met at an ask that is for one
-  fails_unless : (more a b : List (Ask A)) (fault : NameFault) → (fault ≢ Memory → ¬ (AreNamed more))
-      → (fault ≡ Memory → AreNamedTo more) → AddsAsks a more b (Err fault)
-  fails_unless more a b Memory unnamed named = named refl
-  fails_unless more a b Empty unnamed named = unnamed (λ e. cc)
-  fails_unless more a b TooLong unnamed named = unnamed (λ e. cc)
-  fails_unless more a b NotRef unnamed named = unnamed (λ e. cc)
-  fails_unless more a b (BadByte at) unnamed named = unnamed (λ e. cc)
-  fails_unless more a b (Component at) unnamed named = unnamed (λ e. cc)
-  fails_unless more a b (DoubleDot at) unnamed named = unnamed (λ e. cc)
-  fails_unless more a b (AtBrace at) unnamed named = unnamed (λ e. cc)
-  fails_unless more a b End unnamed named = unnamed (λ e. cc)
+    pub fails_at : (fault : NameFault) → AreNamed (f (take i xs)) → IsAskFault one fault → IsAskFault (f xs) fault
+    fails_at fault first fails =
+        subst (λ (l : List (Ask A)). IsAskFault l fault)
+        (sym (ap f (at_front xs i x low at) ∙ joins (take i xs) (x ∷ drop (i + 1) xs)
+        ∙ ap (λ l. f (take i xs) ++ l) (joins (x ∷ []) (drop (i + 1) xs) ∙ ap (λ l. l ++ f (drop (i + 1) xs)) is_one)))
+        (fails_among (f (take i xs)) one (f (drop (i + 1) xs)) fault first fails)
 
-  unless_fails : (more a b : List (Ask A)) (fault : NameFault) → AddsAsks a more b (Err fault) → fault ≢ Memory
-      → ¬ (AreNamed more)
-  unless_fails more a b Memory fails other = absurd (other refl)
-  unless_fails more a b Empty fails other = fails
-  unless_fails more a b TooLong fails other = fails
-  unless_fails more a b NotRef fails other = fails
-  unless_fails more a b (BadByte at) fails other = fails
-  unless_fails more a b (Component at) fails other = fails
-  unless_fails more a b (DoubleDot at) fails other = fails
-  unless_fails more a b (AtBrace at) fails other = fails
-  unless_fails more a b End fails other = fails
+  -- ---- of which refspecs and lines asks are
 
-  memory_at : (more a b : List (Ask A)) (fault : NameFault) → AddsAsks a more b (Err fault) → fault ≡ Memory
-      → AreNamedTo more
-  memory_at more a b fault fails is = subst (λ (f : NameFault). AddsAsks a more b (Err f)) is fails
+  asks_of_spec : (specs : List Refspec) (lines : List RefLine) (spec : Refspec) → Contains specs spec
+      → All (IsAskOf {A = A} specs lines) (asks_by spec lines)
+  asks_of_spec specs lines spec among =
+      let chosen : List RefLine = filter (line_matches spec) lines in
+      All-map (IsAskOf {A = A} specs lines) (ask_of spec) chosen (λ k d low. record {
+        spec = spec;
+        line = get_or chosen k d;
+        among = among;
+        told = All-filter (line_matches spec) (Contains lines) lines (All-contains_itself lines) k d low;
+        matched = filter_passes (line_matches spec) lines k d low;
+        is = refl;
+      })
 
-  -- a fault of some asks is one of all, where those before them are named
-  pub fails_among : (before more rest whole a b c d : List (Ask A)) (fault : NameFault)
-      → whole ≡ (before ++ more) ++ rest → AreNamed before
-      → AddsAsks a more b (Err fault) → AddsAsks c whole d (Err fault)
-  fails_among before more rest whole a b c d fault is first fails =
-      fails_unless whole c d fault
-      (λ other named. unless_fails more a b fault fails other
-      (all_right (λ (ask : Ask A). IsRefName ask.name) before more
-      (all_left (λ (ask : Ask A). IsRefName ask.name) (before ++ more) rest (subst AreNamed is named))))
-      (λ memory. named_to before more rest whole is first (memory_at more a b fault fails memory))
+  asks_of_specs : (specs : List Refspec) (lines : List RefLine)
+      → All (IsAskOf {A = A} specs lines) (asks_by_all specs lines)
+  asks_of_specs specs lines = λ k d low.
+      let all : List (Ask A) = asks_by_all specs lines in
+      let from = flat_map-from (λ spec. asks_by {A = A} spec lines) specs (get_or all k d)
+      (Contains-get_or all k d low) in
+      All-contains (IsAskOf specs lines) (asks_by from.0 lines) (get_or all k d)
+      (asks_of_spec specs lines from.0 from.1) from.2
 
-  -- ---- one line
-
-  pub asks_none : (spec : Refspec) (line : RefLine) → matches spec line.name ≡ false → asks_by {A = A} spec (line ∷ []) ≡ []
-  asks_none spec line e = rw e refl
-
-  pub asks_one : (spec : Refspec) (line : RefLine) → matches spec line.name ≡ true
-      → asks_by {A = A} spec (line ∷ []) ≡ ask_of spec line ∷ []
-  asks_one spec line e = rw e refl
-
-  -- no ask comes of a line that the refspec does not match
-  pub adds_none : (spec : Refspec) (line : RefLine) (old : List (Ask A)) → matches spec line.name ≡ false
-      → HasAdded old (asks_by spec (line ∷ [])) old
-  adds_none spec line old e =
-      subst (λ (l : List (Ask A)). HasAdded old l old) (sym (asks_none spec line e)) (added_none old)
-
-  -- and one of a line that it matches
-  pub adds_one : (spec : Refspec) (line : RefLine) (old new : List (Ask A)) (ask : Ask A)
-      → matches spec line.name ≡ true
-      → ask ≡ ask_of spec line → IsRefName (destination_of spec line.name) → new ≡ with_ask old ask
-      → HasAdded old (asks_by spec (line ∷ [])) new
-  adds_one spec line old new ask e is named made =
-      subst (λ (l : List (Ask A)). HasAdded old l new) (sym (asks_one spec line e)) (
-        made ∙ ap (with_ask old) is,
-        All-cons (λ (ask : Ask A). IsRefName ask.name) (ask_of spec line) [] named
-            (All-nil (λ (ask : Ask A). IsRefName ask.name)),
-      )
-
-  -- or its destination is no ref name; or it is one, out of memory
-  pub fails_one : RulesNeverReportMemory → (spec : Refspec) (line : RefLine) (a b : List (Ask A)) (fault : NameFault)
-      → matches spec line.name ≡ true
-      → Owns name_fault (destination_of spec line.name) (Err fault)
-      → AddsAsks a (asks_by spec (line ∷ [])) b (Err fault)
-  fails_one law spec line a b fault e owns =
-      subst (λ (l : List (Ask A)). AddsAsks a l b (Err fault)) (sym (asks_one spec line e))
-      (fails_unless (ask_of spec line ∷ []) a b fault
-      (λ other named. elim owns [
-        | inl found ↦ none-some fault
-            (sym (All-head (λ (ask : Ask A). IsRefName ask.name) (ask_of spec line) [] named) ∙ found)
-        | inr memory ↦ other memory.0
-      ])
-      (λ memory. elim owns [
-        | inl found ↦ absurd ((law (destination_of spec line.name)).0 (found ∙ ap Some memory))
-        | inr out ↦ named_one spec line out.1
-      ]))
-
-  pub lacks_memory : (spec : Refspec) (line : RefLine) (a b : List (Ask A)) → matches spec line.name ≡ true
-      → IsRefName (destination_of spec line.name) → AddsAsks a (asks_by spec (line ∷ [])) b (Err Memory)
-  lacks_memory spec line a b e named =
-      subst (λ (l : List (Ask A)). AddsAsks a l b (Err Memory)) (sym (asks_one spec line e)) (named_one spec line named)
-
-  -- ---- many
-
-  -- what the lines up to a position ask for, and the line at it
-  pub asks_by-more : (spec : Refspec) (lines : List RefLine) (i : ℕ) (line : RefLine) → i < length lines
-      → get_or lines i line ≡ line
-      → asks_by {A = A} spec (take (i + 1) lines) ≡ asks_by spec (take i lines) ++ asks_by spec (line ∷ [])
-  asks_by-more spec lines i line low at =
-      ap (asks_by spec) (take_more lines i line low ∙ ap (λ (l : RefLine). take i lines ++ l ∷ []) at)
-      ∙ asks_by-append spec (take i lines) (line ∷ [])
-
-  pub asks_by-split : (spec : Refspec) (lines : List RefLine) (i : ℕ) (line : RefLine) → i < length lines
-      → get_or lines i line ≡ line
-      → asks_by {A = A} spec lines ≡ (asks_by spec (take i lines) ++ asks_by spec (line ∷ []))
-      ++ asks_by spec (drop (i + 1) lines)
-  asks_by-split spec lines i line low at =
-      ap (asks_by spec) (split_at lines i line low at)
-      ∙ asks_by-append spec (take i lines ++ line ∷ []) (drop (i + 1) lines)
-      ∙ ap (λ (l : List (Ask A)). l ++ asks_by spec (drop (i + 1) lines))
-      (asks_by-append spec (take i lines) (line ∷ []))
-
-  -- what the refspecs up to a position ask for, and the one at it
-  pub asks_by_all-more : (specs : List Refspec) (lines : List RefLine) (i : ℕ) (spec : Refspec) → i < length specs
-      → get_or specs i spec ≡ spec
-      → asks_by_all {A = A} (take (i + 1) specs) lines ≡ asks_by_all (take i specs) lines ++ asks_by spec lines
-  asks_by_all-more specs lines i spec low at =
-      ap (λ (l : List Refspec). asks_by_all l lines)
-      (take_more specs i spec low ∙ ap (λ (s : Refspec). take i specs ++ s ∷ []) at)
-      ∙ asks_by_all-append (take i specs) (spec ∷ []) lines
-      ∙ ap (λ (l : List (Ask A)). asks_by_all (take i specs) lines ++ l) (asks_by_all-one spec lines)
-
-  pub asks_by_all-split : (specs : List Refspec) (lines : List RefLine) (i : ℕ) (spec : Refspec) → i < length specs
-      → get_or specs i spec ≡ spec
-      → asks_by_all {A = A} specs lines ≡ (asks_by_all (take i specs) lines ++ asks_by spec lines)
-      ++ asks_by_all (drop (i + 1) specs) lines
-  asks_by_all-split specs lines i spec low at =
-      ap (λ (l : List Refspec). asks_by_all l lines) (split_at specs i spec low at)
-      ∙ asks_by_all-append (take i specs ++ spec ∷ []) (drop (i + 1) specs) lines
-      ∙ ap (λ (l : List (Ask A)). l ++ asks_by_all (drop (i + 1) specs) lines)
-      (asks_by_all-append (take i specs) (spec ∷ []) lines
-      ∙ ap (λ (l : List (Ask A)). asks_by_all (take i specs) lines ++ l) (asks_by_all-one spec lines))
-
-  -- asking fails as adding all asks does
-  pub finds_as_adds : (specs : List Refspec) (lines : List RefLine) (a b : List (Ask A)) (fault : NameFault)
-      → AddsAsks a (asks_by_all specs lines) b (Err fault) → FindsAsks {A = A} specs lines (Err fault)
-  finds_as_adds specs lines a b Memory fails = fails
-  finds_as_adds specs lines a b Empty fails = fails
-  finds_as_adds specs lines a b TooLong fails = fails
-  finds_as_adds specs lines a b NotRef fails = fails
-  finds_as_adds specs lines a b (BadByte at) fails = fails
-  finds_as_adds specs lines a b (Component at) fails = fails
-  finds_as_adds specs lines a b (DoubleDot at) fails = fails
-  finds_as_adds specs lines a b (AtBrace at) fails = fails
-  finds_as_adds specs lines a b End fails = fails
-
-  -- ---- the ids of asks
-
-  abbrev pub HasIdOf : Format → Ask A → Type 0
-  HasIdOf format ask = IsIdOf format ask.id
-
-  with_ask_ids : (format : Format) (asks : List (Ask A)) (ask : Ask A) → All (HasIdOf format) asks → HasIdOf format ask
-      → All (HasIdOf format) (with_ask asks ask)
-  with_ask_ids format asks ask all here =
-      elim (is_asked asks ask.name) as (λ b. All (HasIdOf format) (if b then asks else asks ++ ask ∷ [])) [
-        | true ↦ all
-        | false ↦ All-push (HasIdOf format) asks ask all here
-      ]
-
-  with_asks_ids : (format : Format) (asks more : List (Ask A)) → All (HasIdOf format) asks → All (HasIdOf format) more
-      → All (HasIdOf format) (with_asks asks more)
-  with_asks_ids format asks [] all new = all
-  with_asks_ids format asks (ask ∷ more) all new =
-      with_asks_ids format (with_ask asks ask) more
-      (with_ask_ids format asks ask all (All-head (HasIdOf format) ask more new))
-      (All-tail (HasIdOf format) ask more new)
-
-  line_ids : (format : Format) (spec : Refspec) (lines : List RefLine) → All (IsRefLine format) lines
-      → All (HasIdOf format) (asks_by spec lines)
-  line_ids format spec lines are =
-      All-map (HasIdOf format) (ask_of spec) (filter (line_matches spec) lines)
-      (All-filter (line_matches spec) (λ (line : RefLine). IsIdOf format line.id) lines
-      (All-weaker (IsRefLine format) (λ (line : RefLine). IsIdOf format line.id) (λ line is. is.id) lines are))
-
-  spec_ids : (format : Format) (specs : List Refspec) (lines : List RefLine) → All (IsRefLine format) lines
-      → All (HasIdOf format) (asks_by_all specs lines)
-  spec_ids format [] lines are = All-nil (HasIdOf format)
-  spec_ids format (spec ∷ specs) lines are =
-      All-append (HasIdOf format) (asks_by spec lines) (asks_by_all specs lines) (line_ids format spec lines are)
-      (spec_ids format specs lines are)
+  pub asks_are_of_lines : AsksAreOfLines A
+  asks_are_of_lines specs lines =
+      let P : Ask A → Type 0 = IsAskOf specs lines in
+      asks_more P [] (asks_by_all specs lines) (All-nil P) (asks_of_specs specs lines)
 
   pub asked_have_ids : (specs : List Refspec) (lines : List RefLine) (asks : List (Ask A)) → asks ≡ asked_of specs lines
-      → (format : Format) → All (IsRefLine format) lines → All (HasIdOf format) asks
-  asked_have_ids specs lines asks is format are =
-      subst (All (HasIdOf format)) (sym is)
-      (with_asks_ids format [] (asks_by_all specs lines) (All-nil (HasIdOf format)) (spec_ids format specs lines are))
+      → (format : Format) → All (IsRefLine format) lines → All (λ (ask : Ask A). IsIdOf format ask.id) asks
+  asked_have_ids specs lines asks is format are = rw is (λ k d low.
+      let of = asks_are_of_lines specs lines k d low in
+      subst (λ (ask : Ask A). IsIdOf format ask.id) (sym of.is)
+      (All-contains (IsRefLine format) lines of.line are of.told).id)
+
+  -- ---- the first ask for a ref
+
+  -- something is asked of the ref
+  abbrev HasAsk : List (Ask A) → List ℕ → Type 0
+  HasAsk asks name = (ask : Ask A) × Contains asks ask × (ask.name ≡ name)
+
+  -- each ask is for another ref
+  abbrev AreElsewhere : List ℕ → List (Ask A) → Type 0
+  AreElsewhere name asks = All (λ ask. ask.name ≢ name) asks
+
+  asked_has : (asks : List (Ask A)) (name : List ℕ) → is_asked asks name ≡ true → HasAsk asks name
+  asked_has asks name is =
+      let (k, ask, low, at, same) = Any-from_list_any (λ (ask : Ask A). bytes_eq ask.name name) asks is in
+      (ask, (k, low, at), (bytes_eq-Decides ask.name name).0 same)
+
+  keeps : (asks : List (Ask A)) (ask a : Ask A) → Contains asks a → Contains (with_ask asks ask) a
+  keeps asks ask a there =
+      elim (is_asked asks ask.name) as (λ b. Contains (if b then asks else asks ++ ask ∷ []) a) [
+        | true ↦ there
+        | false ↦ Contains-append_left asks (ask ∷ []) a there
+      ]
+
+  keeps_all : (asks more : List (Ask A)) (a : Ask A) → Contains asks a → Contains (with_asks asks more) a
+  keeps_all asks [] a there = there
+  keeps_all asks (x ∷ more) a there = keeps_all (with_ask asks x) more a (keeps asks x a there)
+
+  has_it : (asks : List (Ask A)) (ask : Ask A) → HasAsk (with_ask asks ask) ask.name
+  has_it asks ask =
+      either_way (is_asked asks ask.name)
+      (λ e. let has = asked_has asks ask.name e in (has.0, keeps asks ask has.0 has.1, has.2))
+      (λ e. (ask, rw (with_ask_new A asks ask e) (Contains-push asks ask), refl))
+
+  has_each : (asks more : List (Ask A)) → All (λ ask. HasAsk (with_asks asks more) ask.name) more
+  has_each asks [] = All-nil (λ (ask : Ask A). HasAsk asks ask.name)
+  has_each asks (x ∷ more) =
+      let here = has_it asks x in
+      All-cons (λ (ask : Ask A). HasAsk (with_asks (with_ask asks x) more) ask.name) x more
+      (here.0, keeps_all (with_ask asks x) more here.0 here.1, here.2) (has_each (with_ask asks x) more)
+
+  differ_all : (asks more : List (Ask A)) → NamesDiffer asks → NamesDiffer (with_asks asks more)
+  differ_all asks [] differ = differ
+  differ_all asks (x ∷ more) differ =
+      differ_all (with_ask asks x) more
+      (either_way (is_asked asks x.name)
+      (λ e. subst NamesDiffer (sym (with_ask_there A asks x e)) differ)
+      (λ e. subst NamesDiffer (sym (with_ask_new A asks x e)) (differ_push A asks x differ e)))
+
+  -- the first ask for a ref counts
+  first_counts : (front : List (Ask A)) (ask : Ask A) (back : List (Ask A)) → AreElsewhere ask.name front
+      → Contains (with_asks [] (front ++ ask ∷ back)) ask
+  first_counts front ask back others =
+      let P : Ask A → Type 0 = λ a. a.name ≢ ask.name in
+      let mid : List (Ask A) = with_asks [] front in
+      let apart : All P mid = asks_more P [] front (All-nil P) others in
+      let none : is_asked mid ask.name ≡ false =
+      either_way (is_asked mid ask.name)
+      (λ e. let has = asked_has mid ask.name e in absurd (All-contains P mid has.0 apart has.1 has.2)) (λ e. e) in
+      rw (with_asks-append [] front (ask ∷ back))
+      (keeps_all (with_ask mid ask) back ask (rw (with_ask_new A mid ask none) (Contains-push mid ask)))
+
+  -- what comes before the ask of a refspec and a line, that ask, and the rest
+  all_parts : (before : List Refspec) (spec : Refspec) (after : List Refspec) (above : List RefLine) (line : RefLine)
+      (below : List RefLine) → matches spec line.name ≡ true
+      → asks_by_all {A = A} (before ++ spec ∷ after) (above ++ line ∷ below)
+      ≡ (asks_by_all before (above ++ line ∷ below) ++ asks_by spec above)
+      ++ ask_of spec line ∷ (asks_by spec below ++ asks_by_all after (above ++ line ∷ below))
+  all_parts before spec after above line below e =
+      asks_by_all-append (above ++ line ∷ below) before (spec ∷ after)
+      ∙ rw (asks_by-append spec above (line ∷ below), e) (simp append_assoc)
+
+  -- no ask of these refspecs and lines is for a ref to which none of them leads
+  by_specs : (name : List ℕ) (specs : List Refspec) (lines : List RefLine) (asks : List (Ask A))
+      → All (IsAskOf specs lines) asks → All (λ spec. All (LeadsElsewhere name spec) lines) specs
+      → AreElsewhere name asks
+  by_specs name specs lines asks are none = λ k d low same.
+      let of = are k d low in
+      All-contains (LeadsElsewhere name of.spec) lines of.line
+      (All-contains (λ spec. All (LeadsElsewhere name spec) lines) specs of.spec none of.among) of.told of.matched
+      (sym (ap (λ (ask : Ask A). ask.name) of.is) ∙ same)
+
+  is_first : (specs : List Refspec) (lines : List RefLine) (spec : Refspec) (line : RefLine)
+      → IsFirstFor specs lines spec line → Contains {X = Ask A} (asked_of specs lines) (ask_of spec line)
+  is_first specs lines spec line is =
+      let name = destination_of spec line.name in
+      let told = is.above ++ line ∷ is.below in
+      let front : List (Ask A) = asks_by_all is.before told ++ asks_by spec is.above in
+      let none = subst (λ (l : List RefLine). All (λ other. All (LeadsElsewhere name other) l) is.before) is.lines_are
+      is.no_spec in
+      let rest : List (Ask A) = asks_by spec is.below ++ asks_by_all is.after told in
+      let parts : asks_by_all specs lines ≡ front ++ ask_of spec line ∷ rest =
+      ap (λ l. asks_by_all specs l) is.lines_are ∙ ap (λ s. asks_by_all s told) is.specs_are
+      ∙ all_parts is.before spec is.after is.above line is.below is.matched in
+      rw parts (first_counts front (ask_of spec line) rest
+      (All-append (λ (ask : Ask A). ask.name ≢ name) (asks_by_all is.before told) (asks_by spec is.above)
+      (by_specs name is.before told (asks_by_all is.before told) (asks_of_specs is.before told) none)
+      (by_specs name (spec ∷ []) is.above (asks_by spec is.above)
+      (asks_of_spec (spec ∷ []) is.above spec (contains_head spec []))
+      (All-cons (λ s. All (LeadsElsewhere name s) is.above) spec [] is.no_line
+      (All-nil (λ s. All (LeadsElsewhere name s) is.above))))))
+
+  has_ask : (specs : List Refspec) (lines : List RefLine) (spec : Refspec) (line : RefLine) → Contains specs spec
+      → Contains lines line → matches spec line.name ≡ true
+      → HasAsk (asked_of specs lines) (destination_of spec line.name)
+  has_ask specs lines spec line among told e =
+      let i = among.0 in
+      let j = told.0 in
+      let ls = take j lines ++ line ∷ drop (j + 1) lines in
+      let ask : Ask A = ask_of spec line in
+      let front : List (Ask A) = asks_by_all (take i specs) ls ++ asks_by spec (take j lines) in
+      let rest : List (Ask A) = asks_by spec (drop (j + 1) lines) ++ asks_by_all (drop (i + 1) specs) ls in
+      let all : List (Ask A) = asks_by_all specs lines in
+      let parts : all ≡ front ++ ask ∷ rest =
+      ap (λ (l : List RefLine). asks_by_all specs l) (at_front lines j line told.1 (sym told.2))
+      ∙ ap (λ (s : List Refspec). asks_by_all s ls) (at_front specs i spec among.1 (sym among.2))
+      ∙ all_parts (take i specs) spec (drop (i + 1) specs) (take j lines) line (drop (j + 1) lines) e in
+      All-contains (λ (a : Ask A). HasAsk (asked_of specs lines) a.name) all ask (has_each [] all)
+      (rw parts (Contains-append_right front (ask ∷ rest) ask (contains_head ask rest)))
+
+  pub first_is_asked : FirstIsAsked A
+  first_is_asked = record {
+    each = has_ask;
+    once = λ specs lines. differ_all [] (asks_by_all specs lines) (λ i j d before in'. absurd (omega arith));
+    first = is_first;
+  }

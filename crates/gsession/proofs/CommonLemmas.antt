@@ -1,37 +1,52 @@
--- Ids of a session: what is common stays among what was offered, and what is offered has the session's format.
-use Rattle.std.proofs.Common.{◌≡◌, ◌≢◌, ℕ, ◌<◌, ◌≤◌, None, arith, List, ◌++◌, length, All, Contains}
-use Rattle.std.proofs.Common.{inl, inr, sym, subst, ◌∙◌}
-use Rattle.std.specs.List.{slice_get}
+-- Ids of a session: the distinct ones of a list, what is offered, and which are connected.
+use Rattle.std.proofs.Common.{◌≡◌, ◌≢◌, ◌↔◌, ℕ, ◌+◌, ◌<◌, ◌≤◌, Bool, true, false, true≢false, if◌then◌else◌, not, arith}
+use Rattle.std.proofs.Common.{List, [], ◌∷◌, ◌++◌, length, get_or, All, Contains, Option, Some, None, bytes_eq}
+use Rattle.std.proofs.Common.{inl, inr, refl, sym, ap, subst, append_assoc, ◌∙◌}
+use Rattle.std.specs.Bool.{IsTrue}
+use Rattle.std.specs.List.{IsDistinct, list_any, slice_get}
+use Rattle.std.specs.Option.{is_none, is_some}
+use Rattle.std.specs.Prelude.{slice_index_or}
+use Rattle.std.proofs.lemmas.Bool.{false≢true, le-leb, lt-leb}
 use Rattle.std.proofs.lemmas.Cmp.{nat_list_eq_equiv}
-use Rattle.std.proofs.lemmas.List.Elements.{All-append, All-contains, All-contains_itself}
-use Rattle.std.proofs.lemmas.List.Elements.{All-weaker}
-use Rattle.std.proofs.lemmas.Map.Made.{length-le_from_is_member}
-use Rattle.std.proofs.lemmas.Option.{none-some, slice_get_cases}
+use Rattle.std.proofs.lemmas.List.{append-nil}
+use Rattle.std.proofs.lemmas.List.Elements.{All-contains, All-from_recursion, All-head, All-map, Contains-get_or}
+use Rattle.std.proofs.lemmas.List.Elements.{Contains-push_cases}
+use Rattle.std.proofs.lemmas.Map.Keys.{IsDistinct-head, IsDistinct-push, IsDistinct-tail}
+use Rattle.std.proofs.lemmas.Option.{none-some, same_Some, slice_get_cases}
+use Rattle.std.proofs.lemmas.Slice.Eq.{bytes_eq-Decides}
 use Rattle.gname.specs.Ids.{IsIdOf}
 use Rattle.gname.specs.Laws.{IdsHaveOneFormat}
 use Rattle.gname.specs.declared.formats.Format.{Format}
 use Rattle.gobject.specs.declared.node.Entry.{Entry}
-use Rattle.gobject.specs.declared.node.Node.{Node}
-use Rattle.gobject.specs.Objects.{entry_of}
-use Rattle.gdag.specs.Graphs.{History, HasIdsOf, HasParent, IsGraph, IsNode}
+use Rattle.gobject.specs.Objects.{IdsDiffer, entry_of, place_of}
+use Rattle.gdag.specs.Graphs.{History, Holds, IsGraph}
 use Rattle.gdag.specs.Laws.{DistinctAreOnce, OffersAreExact, PlacesAreNodes}
 use Rattle.gdag.specs.Levels.{distinct_of}
 use Rattle.gdag.specs.Offer.{IsOffer}
-use Rattle.gdag.specs.Reach.{Reaches, here, onward}
-use Rattle.gdag.proofs.Growing.{all_standing}
-use Rattle.gdag.proofs.IdLists.{any_from_contains, contains_from_any}
+use Rattle.gdag.specs.Reach.{IsFull, Reaches, here, onward}
+use Rattle.gdag.specs.Walks.{Misses}
+use Rattle.gdag.proofs.Choosing.{chosen_all}
+use Rattle.gdag.proofs.IdLists.{contains_from_any, contains_head, contains_tail, either_way, only_one}
+use Rattle.gdag.proofs.Places.{held_id}
+use Rattle.gwalk.specs.Marks.{AreFull}
+use Rattle.gclientrepo.specs.declared.ask.Ask.{Ask}
+use Rattle.gclientrepo.specs.Asks.{asked_ids}
+use Rattle.grequest.specs.Asked.{max_haves}
+use Rattle.gsession.specs.Asking.{AreWants}
+use Rattle.gsession.specs.Requesting.{batch_of}
+use Rattle.gsession.specs.Sessions.{SessionState, IsSession}
+use Rattle.gsession.specs.steps.Calls.{FitsBatch}
 
 -- ---- lists
 
 -- what holds of each id of a list holds of each of others that are all in it
 pub all_of_members : (P : List ℕ → Type 0) (list ids : List (List ℕ)) → All P list → All (Contains list) ids → All P ids
-all_of_members P list ids all in_it =
-    All-weaker (Contains list) P (λ a there. All-contains P list a all there) ids in_it
+all_of_members P list ids all in_it = λ k d low. All-contains P list (get_or ids k d) all (in_it k d low)
 
 pub all_distinct : DistinctAreOnce → (P : List ℕ → Type 0) (ids : List (List ℕ)) → All P ids → All P (distinct_of ids)
-all_distinct law P ids all =
-    All-weaker (Contains (distinct_of ids)) P (λ a there. All-contains P ids a all (((law ids).same a).0 there))
-    (distinct_of ids) (All-contains_itself (distinct_of ids))
+all_distinct law P ids all = λ k d low.
+    let a = get_or (distinct_of ids) k d in
+    All-contains P ids a all (((law ids).same a).0 (Contains-get_or (distinct_of ids) k d low))
 
 -- something stands at each position of a list
 pub none_inside : {X : Type 0} (xs : List X) (i : ℕ) → i < length xs → slice_get xs i ≢ None
@@ -41,64 +56,118 @@ none_inside xs i low empty =
       | inr past ↦ omega (arith, past.0)
     ]
 
--- ---- common ids
+-- ---- lists without repeats
 
--- the common ids with those that are acknowledged are haves of the request where all of them are
-pub commons_are_named : DistinctAreOnce → (haves commons acks : List (List ℕ)) → All (Contains haves) commons
-    → All (Contains haves) acks
-    → All (Contains haves) (distinct_of (commons ++ acks))
-commons_are_named law haves commons acks old new =
-    all_distinct law (Contains haves) (commons ++ acks) (All-append (Contains haves) commons acks old new)
+-- the first id of such a list is none of the others
+apart_head : (y : List ℕ) (ys : List (List ℕ)) (a : List ℕ) → IsDistinct bytes_eq (y ∷ ys) → Contains ys a → ¬ (y ≡ a)
+apart_head y ys a once there same =
+    let P : List ℕ → Type 0 = λ z. bytes_eq y z ≡ false in
+    let no = All-contains P ys a (All-from_recursion P ys (IsDistinct-head bytes_eq y ys once)) there in
+    false≢true (sym no ∙ (bytes_eq-Decides y a).1 same)
 
--- so there are no more of them
-pub few_commons : DistinctAreOnce → (haves commons acks : List (List ℕ)) → All (Contains haves) commons
-    → All (Contains haves) acks
-    → length (distinct_of (commons ++ acks)) ≤ length haves
-few_commons law haves commons acks old new =
-    length-le_from_is_member nat_list_eq_equiv (distinct_of (commons ++ acks)) haves (law (commons ++ acks)).once
-    (λ a there. any_from_contains haves a (All-contains (Contains haves) (distinct_of (commons ++ acks)) a
-    (commons_are_named law haves commons acks old new) (contains_from_any (distinct_of (commons ++ acks)) a there)))
+pub joined_once : (xs ys : List (List ℕ)) → IsDistinct bytes_eq xs → IsDistinct bytes_eq ys
+    → ((a : List ℕ) → Contains ys a → ¬ (Contains xs a)) → IsDistinct bytes_eq (xs ++ ys)
+joined_once xs [] once also apart = rw (append-nil xs) once
+joined_once xs (y ∷ ys) once also apart =
+    subst (IsDistinct bytes_eq) (append_assoc xs (y ∷ []) ys)
+    (joined_once (xs ++ y ∷ []) ys
+    (IsDistinct-push nat_list_eq_equiv xs y once
+    (either_way (list_any (bytes_eq y) xs)
+    (λ any. absurd (apart y (contains_head y ys) (contains_from_any xs y any))) (λ none. none)))
+    (IsDistinct-tail bytes_eq y ys also)
+    (λ a there among. elim (Contains-push_cases xs y a among) [
+      | inl before ↦ apart a (contains_tail y ys a there) before
+      | inr same ↦ apart_head y ys a also there same
+    ]))
 
--- and they have the format of these
-pub common_ids : DistinctAreOnce → (format : Format) (haves commons acks : List (List ℕ)) → All (IsIdOf format) haves
-    → All (Contains haves) commons → All (Contains haves) acks → All (IsIdOf format) (distinct_of (commons ++ acks))
-common_ids law format haves commons acks ids old new =
-    all_of_members (IsIdOf format) haves (distinct_of (commons ++ acks)) ids
-    (commons_are_named law haves commons acks old new)
+-- ---- the batch
 
--- ---- offered ids
+-- it is the whole offer where there is room for that
+pub batch_room : (commons offer : List (List ℕ)) → length commons + length offer ≤ max_haves
+    → offer ≡ batch_of commons offer
+batch_room commons offer room =
+    ap (λ (b : Bool). if b then offer else []) (sym (le-leb (length commons + length offer) max_haves room))
+
+-- and else it is empty
+pub batch_none : (commons offer : List (List ℕ)) → max_haves < length commons + length offer
+    → [] ≡ batch_of commons offer
+batch_none commons offer over =
+    ap (λ (b : Bool). if b then offer else []) (sym (lt-leb (length commons + length offer) max_haves over))
+
+-- ---- which ids are connected
+
+-- what `is_none` answers
+pub none_by : {X : Type 0} (found : Option X) (answer : Bool) → is_some found ≡ not answer → is_none found ≡ answer
+none_by None true e = refl
+none_by None false e = absurd (true≢false (sym e))
+none_by (Some x) true e = absurd (true≢false e)
+none_by (Some x) false e = refl
 
 module _ {A : Type 0} where
-  -- what holds of each entry holds of an id with its node
-  node_has : PlacesAreNodes A → (P : Entry A → Type 0) (g : History A) (a : List ℕ) (node : Node A) → IsGraph g
-      → All P g.entries → IsNode g.entries a node → P (entry_of a node)
-  node_has places P g a node is all at =
-      let stands = ((places g.entries is.differ).0 a node).0 at in
-      all_standing P g.entries stands.0 (entry_of a node) stands.1 all
+  -- a marked id
+  pub known_full : PlacesAreNodes A → (g : List (Entry A)) (marks : List Bool) (a : List ℕ) (place : ℕ) → IdsDiffer g
+      → AreFull g marks
+      → place_of g a ≡ Some place → slice_index_or marks place false ≡ true → IsFull g a
+  known_full places g marks a place differ full at marked =
+      let entry = full place marked in
+      let stands = ((places g differ).1 a place).0 at in
+      subst (λ b. IsFull g b) (ap (λ (e : Entry A). e.id)
+      (same_Some entry.0 (entry_of a stands.0) (sym entry.1 ∙ stands.1))) entry.2
 
-  -- a parent of an id of the format is of the format
-  parent_id : PlacesAreNodes A → IdsHaveOneFormat → (format : Format) (g : History A) (a b : List ℕ) → IsGraph g
-      → IsIdOf format a → HasParent g.entries a b → IsIdOf format b
-  parent_id places one format g a b is id parent =
-      let has : HasIdsOf g.format (entry_of a parent.0) =
-      node_has places (HasIdsOf g.format) g a parent.0 is is.ids parent.1 in
-      let same : g.format ≡ format = sym ((one g.format a has.id).1) ∙ (one format a id).1 in
-      subst (λ f. IsIdOf f b) same (All-contains (IsIdOf g.format) parent.0.parents b has.parents parent.2)
+  -- a walk from one id
+  pub full_unless_missing : (g : List (Entry A)) (a : List ℕ) (found : Option (List ℕ)) → Misses g (a ∷ []) found
+      → IsTrue (is_none found) ↔ IsFull g a
+  full_unless_missing g a None full = (λ _. All-head (IsFull g) a [] full, λ _. refl)
+  full_unless_missing g a (Some b) lost =
+      let from = lost.0 in
+      let path : Reaches g a b = subst (λ c. Reaches g c b) (only_one a from.0 from.1) from.2 in
+      (λ none. absurd (true≢false (sym none)), λ full. absurd (true≢false (sym (full b path) ∙ ap is_some lost.1)))
 
+  -- an id that is not held
+  pub unheld_not_full : (g : List (Entry A)) (a : List ℕ) (held : Bool) → IsTrue held ↔ Holds g a → held ≡ false
+      → IsTrue false ↔ IsFull g a
+  unheld_not_full g a held is out =
+      (λ none. absurd (true≢false (sym none)), λ full. absurd (true≢false (sym (is.1 (full a here)) ∙ out)))
+
+  -- the wants have the format of the asks
+  pub want_ids : DistinctAreOnce → (g : List (Entry A)) (asks : List (Ask A)) (wants : List (List ℕ))
+      → AreWants g asks wants
+      → (format : Format) → All (λ (ask : Ask A). IsIdOf format ask.id) asks → All (IsIdOf format) wants
+  want_ids law g asks wants are format ids =
+      chosen_all (λ a. ¬ (IsFull g a)) (IsIdOf format) (distinct_of (asked_ids asks)) wants are
+      (all_distinct law (IsIdOf format) (asked_ids asks) (All-map (IsIdOf format) (λ (ask : Ask A). ask.id) asks ids))
+
+  -- so the tips have the format of the graph
+  pub tip_ids : DistinctAreOnce → PlacesAreNodes A → (g : History A) (ids : List (List ℕ)) → IsGraph g
+      → All (IsFull g.entries) ids → All (IsIdOf g.format) (distinct_of ids)
+  tip_ids law places g ids is full =
+      all_distinct law (IsIdOf g.format) ids
+      (λ k d low. held_id places g is (get_or ids k d) (full k d low (get_or ids k d) here))
+
+  -- ---- offered ids
+
+  -- an id of the format leads to held ids of the format alone, whatever the format of the graph
   reached_id : PlacesAreNodes A → IdsHaveOneFormat → (format : Format) (g : History A) (a b : List ℕ) → IsGraph g
-      → IsIdOf format a → Reaches g.entries a b → IsIdOf format b
-  reached_id places one format g a b is id here = id
-  reached_id places one format g a b is id (onward {b = next} parent rest) =
-      reached_id places one format g next b is (parent_id places one format g a next is id parent) rest
+      → IsIdOf format a → Holds g.entries b → Reaches g.entries a b → IsIdOf format b
+  reached_id places one format g a b is id held here = id
+  reached_id places one format g a b is id held (onward parent rest) =
+      subst (λ f. IsIdOf f b)
+      (sym (one g.format a (held_id places g is a (ap is_some parent.1))).1 ∙ (one format a id).1)
+      (held_id places g is b held)
 
-  -- tips of the format lead to ids of the format alone, whatever the format of the graph
-  pub batch_ids : OffersAreExact A → PlacesAreNodes A → IdsHaveOneFormat
-      → (format : Format) (g : History A) (tips commons sent : List (List ℕ)) (n : ℕ) (list : List (List ℕ))
-      → IsGraph g → All (IsIdOf format) tips → IsOffer g.entries tips commons sent n list → All (IsIdOf format) list
-  batch_ids exact places one format g tips commons sent n list is ids offer =
-      All-weaker (Contains list) (IsIdOf format)
-      (λ a there.
-      let reached = ((exact g.entries tips commons sent n).each list a offer there).1 in
-      reached_id places one format g reached.0 a is (All-contains (IsIdOf format) tips reached.0 ids reached.1)
-      reached.2)
-      list (All-contains_itself list)
+  pub offer_fits : OffersAreExact A → PlacesAreNodes A → IdsHaveOneFormat
+      → (s : SessionState A) (g : History A) (n : ℕ) (offer : List (List ℕ)) → IsSession s → IsGraph g
+      → IsOffer g.entries s.tips s.commons s.sent n offer → length s.commons + length offer ≤ max_haves
+      → FitsBatch s offer
+  offer_fits exact places one s g n offer is graph offered room =
+      let offers = exact g.entries s.tips s.commons s.sent n in
+      record {
+        ids = λ k d low.
+            let a = get_or offer k d in
+            let of = offers.each offer a offered (Contains-get_or offer k d low) in
+            reached_id places one s.format g of.1.0 a graph
+            (All-contains (IsIdOf s.format) s.tips of.1.0 is.tips of.1.1) of.0.held of.1.2;
+        room = room;
+        fresh = joined_once s.sent offer is.sent (offers.once offer offered)
+            (λ a there. (offers.each offer a offered there).0.unsent);
+      }

@@ -1,17 +1,9 @@
-pub mod ListLemmas
 pub mod BoundLemmas
 pub mod CommonLemmas
 pub mod AskLemmas
-pub mod FirstLemmas
-pub mod WantLemmas
 pub mod BuildLemmas
 pub mod SessionLemmas
-pub mod BatchLemmas
 pub mod ReplyLemmas
-pub mod LsLemmas
-pub mod TakingLaws
 pub mod NextLaws
 pub mod CallLemmas
-pub mod LastLemmas
-pub mod NamedLemmas
 pub mod LawLemmas

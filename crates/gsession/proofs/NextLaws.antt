@@ -1,44 +1,57 @@
--- How a session begins, that each request offers something new, and which one is the last.
-use Rattle.std.proofs.Common.{◌≡◌, ◌∙◌, ℕ, true, false, List, [], ◌∷◌, ◌++◌, All, Contains}
-use Rattle.std.proofs.Common.{sym, ap, subst}
+-- How a session begins, and its next request: what is offered in it, and that there is one.
+use Rattle.std.proofs.Common.{◌≡◌, ◌⊎◌, ◌∙◌, ℕ, ◌+◌, true, false, List, [], ◌∷◌, length, All, Contains, bytes_eq}
+use Rattle.std.proofs.Common.{nat_le, if◌then◌else◌, inl, inr, sym, ap, ap₂, get_or}
+use Rattle.std.specs.List.{IsDistinct}
 use Rattle.std.specs.Map.{values_of}
 use Rattle.std.proofs.lemmas.Bool.{false≢true}
-use Rattle.std.proofs.lemmas.List.Elements.{All-contains_itself, All-head, All-nil, All-weaker}
-use Rattle.std.proofs.lemmas.List.Elements.{Contains-append_left, Contains-append_right, Contains-push}
-use Rattle.gfetchreply.specs.FetchReplies.{FetchReply}
+use Rattle.std.proofs.lemmas.List.Elements.{All-append, All-contains, All-head, All-nil}
+use Rattle.std.proofs.lemmas.List.Elements.{Contains-append_right, Contains-get_or}
 use Rattle.gobject.specs.declared.node.Entry.{Entry}
-use Rattle.gobject.specs.Packs.{Indexes, IndexFails}
 use Rattle.gdag.specs.Graphs.{Holds}
-use Rattle.gdag.specs.Laws.{DistinctAreOnce, OffersAreExact}
+use Rattle.gdag.specs.Laws.{DistinctAreOnce, FullStaysFull, GrowingKeeps, OffersAreExact, ReachingGoesOn}
 use Rattle.gdag.specs.Levels.{distinct_of}
 use Rattle.gdag.specs.Reach.{IsFull, SomeReaches}
+use Rattle.gdag.proofs.IdLists.{contains_head}
 use Rattle.gclientrepo.specs.Repos.{RepoState, IsWhole}
 use Rattle.grequest.specs.declared.flag.FetchFlag.TheVariants.{Done}
-use Rattle.grequest.specs.Asked.{Asked, Empty, Ls, Fetches, FetchAsked, is_direct, fetch_has}
-use Rattle.gsession.specs.Bounds.{BeganBegins, BeganOn, OffersAreNew}
-use Rattle.gsession.specs.Laws.{OneNext}
+use Rattle.grequest.specs.Asked.{Asked, Empty, Ls, Fetches, FetchAsked, fetch_has, max_haves}
+use Rattle.gsession.specs.Bounds.{BeganBegins, BeganStays, OffersAreNew}
+use Rattle.gsession.specs.Laws.{HavesAreFull, HavesAreNew, OneNext}
 use Rattle.gsession.specs.Requesting.{IsBatch, IsNext, batch_of, batch_size, fetch_request, waiting_for}
 use Rattle.gsession.specs.Sessions.{SessionState}
-use Rattle.gsession.specs.TakingReplies.{DoneIsLast, HasPack, TakesHead, reading_for}
-use Rattle.gsession.specs.declared.stage.Stage.TheVariants.{Settling}
-use Rattle.gsession.specs.declared.taken.Taken.{Taken}
-use Rattle.gsession.specs.declared.taken.Taken.TheVariants.{Round, PackTaken}
-use Rattle.gsession.proofs.BoundLemmas.{in_batch}
-use Rattle.gsession.proofs.CallLemmas.{done_direct, says_pack}
 use Rattle.gsession.proofs.CommonLemmas.{all_distinct}
-use Rattle.gsession.proofs.SessionLemmas.{listing_fetches}
-use Rattle.gsession.proofs.TakingLaws.{one_asked}
 
 module _ {A : Type 0} where
-  -- no id of a batch was offered before
-  fresh_batch : OffersAreExact A → (s : SessionState A) (g : List (Entry A)) (batch : List (List ℕ)) → IsBatch s g batch
-      → All (λ a. ¬ (Contains s.sent a)) batch
-  fresh_batch exact s g batch is =
-      let P : List ℕ → Type 0 = λ a. ¬ (Contains s.sent a) in
-      subst (All P) (sym is.is) (in_batch P s.commons is.offer
-      (All-weaker (Contains is.offer) P
-      (λ a there. ((exact g s.tips s.commons s.sent (batch_size s.rounds)).each is.offer a is.offered there).0.unsent)
-      is.offer (All-contains_itself is.offer)))
+  -- ---- a batch
+
+  -- what holds of each id that may be offered
+  batch_has : OffersAreExact A → (P : List ℕ → Type 0) (g : List (Entry A)) (s : SessionState A)
+      (batch : List (List ℕ)) → IsBatch s g batch
+      → ((a : List ℕ) → ¬ (Contains s.sent a) → SomeReaches g s.tips a → P a) → All P batch
+  batch_has exact P g s batch is each =
+      let all : All P is.offer = λ k d low.
+      let of = (exact g s.tips s.commons s.sent (batch_size s.rounds)).each is.offer (get_or is.offer k d) is.offered
+      (Contains-get_or is.offer k d low) in
+      each (get_or is.offer k d) of.0.unsent of.1 in
+      rw is.is (elim (nat_le (length s.commons + length is.offer) max_haves)
+      as (λ b. All P (if b then is.offer else [])) [ true ↦ all | false ↦ All-nil P ])
+
+  pub batch_unsent : OffersAreExact A → (g : List (Entry A)) (s : SessionState A) (batch : List (List ℕ))
+      → IsBatch s g batch → All (λ a. ¬ (Contains s.sent a)) batch
+  batch_unsent exact g s batch is =
+      batch_has exact (λ a. ¬ (Contains s.sent a)) g s batch is (λ a unsent reached. unsent)
+
+  pub batch_once : OffersAreExact A → (g : List (Entry A)) (s : SessionState A) (batch : List (List ℕ))
+      → IsBatch s g batch → IsDistinct bytes_eq batch
+  unfolding IsDistinct
+  batch_once exact g s batch is =
+      rw is.is (elim (nat_le (length s.commons + length is.offer) max_haves)
+      as (λ b. IsDistinct bytes_eq (if b then is.offer else [])) [
+        | true ↦ (exact g s.tips s.commons s.sent (batch_size s.rounds)).once is.offer is.offered
+        | false ↦ tt
+      ])
+
+  -- ---- each request offers something new
 
   new_id : (s : SessionState A) (asked : FetchAsked) (batch : List (List ℕ))
       → asked ≡ fetch_request s.wants s.commons batch → All (λ a. ¬ (Contains s.sent a)) batch
@@ -46,46 +59,50 @@ module _ {A : Type 0} where
       → ((a : List ℕ) × Contains asked.haves a × ¬ (Contains s.sent a))
   new_id s asked [] is fresh goes_on =
       absurd (false≢true (sym goes_on ∙ ap (λ (r : FetchAsked). fetch_has r Done) is))
-  new_id s asked (b ∷ rest) is fresh goes_on =
-      let among : Contains (s.commons ++ b ∷ rest) b =
-      Contains-append_right s.commons (b ∷ rest) b (Contains-append_left (b ∷ []) rest b (Contains-push [] b)) in (
-        b,
-        subst (λ (r : FetchAsked). Contains r.haves b) (sym is) among,
-        All-head (λ a. ¬ (Contains s.sent a)) b rest fresh,
-      )
+  new_id s asked (b ∷ rest) is fresh goes_on = (
+    b,
+    rw is (Contains-append_right s.commons (b ∷ rest) b (contains_head b rest)),
+    All-head (λ a. ¬ (Contains s.sent a)) b rest fresh,
+  )
 
   pub offers_are_new : OffersAreExact A → OffersAreNew A
   offers_are_new exact g old new asked made goes_on =
-      new_id old asked made.0 made.1.1 (fresh_batch exact old g made.0 made.1.2) goes_on
+      new_id old asked made.0 made.1.1 (batch_unsent exact g old made.0 made.1.2) goes_on
 
-  one_batch : OffersAreExact A → (s : SessionState A) (g : List (Entry A)) (batch other : List (List ℕ))
-      → IsBatch s g batch → IsBatch s g other → batch ≡ other
-  one_batch exact s g batch other is also =
-      let same : is.offer ≡ also.offer =
-      (exact g s.tips s.commons s.sent (batch_size s.rounds)).one is.offer also.offer is.offered also.offered in
-      is.is ∙ ap (batch_of s.commons) same ∙ sym also.is
+  pub haves_are_full : OffersAreExact A → ReachingGoesOn A → HavesAreFull A
+  haves_are_full exact goes_on g old new asked tips commons made =
+      rw made.1.1 (All-append (IsFull g) old.commons made.0 commons
+      (batch_has exact (IsFull g) g old made.0 made.1.2 (λ a unsent reached b path.
+      All-contains (IsFull g) old.tips reached.0 tips reached.1 b (goes_on g reached.0 a b reached.2 path))))
 
-  -- what is asked next is one
+  pub haves_are_new : OffersAreExact A → HavesAreNew A
+  haves_are_new exact g old new asked made =
+      rw made.1.1 (All-append (λ a. Contains old.commons a ⊎ ¬ (Contains old.sent a)) old.commons made.0
+      (λ k d low. inl (Contains-get_or old.commons k d low))
+      (λ k d low. inr (batch_unsent exact g old made.0 made.1.2 k d low)))
+
+  -- ---- there is one next request
+
   one_request : OffersAreExact A → (s : SessionState A) (g : List (Entry A)) (asked also : Asked)
       (batch other : List (List ℕ)) → IsNext s g asked batch → IsNext s g also other
       → (asked ≡ also) × (batch ≡ other)
   one_request exact s g Empty also batch other is too = absurd is
-  one_request exact s g (Ls asked) Empty batch other is too = absurd too
-  one_request exact s g (Ls asked) (Ls also) batch other is too =
-      (ap Ls (is.1 ∙ sym too.1), is.2 ∙ sym too.2)
-  one_request exact s g (Ls asked) (Fetches also) batch other is too = absurd (listing_fetches (sym is.0 ∙ too.0))
-  one_request exact s g (Fetches asked) Empty batch other is too = absurd too
-  one_request exact s g (Fetches asked) (Ls also) batch other is too = absurd (listing_fetches (sym too.0 ∙ is.0))
+  one_request exact s g asked Empty batch other is too = absurd too
+  one_request exact s g (Ls asked) (Ls also) batch other is too = (ap Ls (is.1 ∙ sym too.1), is.2 ∙ sym too.2)
+  one_request exact s g (Ls asked) (Fetches also) batch other is too = cc
+  one_request exact s g (Fetches asked) (Ls also) batch other is too = cc
   one_request exact s g (Fetches asked) (Fetches also) batch other is too =
-      let same : batch ≡ other = one_batch exact s g batch other is.2 too.2 in
+      let offers = exact g s.tips s.commons s.sent (batch_size s.rounds) in
+      let offer = offers.one is.2.offer too.2.offer is.2.offered too.2.offered in
+      let same : batch ≡ other = is.2.is ∙ ap (batch_of s.commons) offer ∙ sym too.2.is in
       (ap Fetches (is.1 ∙ ap (fetch_request s.wants s.commons) same ∙ sym too.1), same)
 
   pub one_next : OffersAreExact A → OneNext A
   one_next exact g old new other asked also made too =
-      let same = one_request exact old g asked also made.0 too.0 made.1 too.1 in (
-        same.0,
-        made.2 ∙ ap (λ (r : Asked). waiting_for old r made.0) same.0 ∙ ap (waiting_for old also) same.1 ∙ sym too.2,
-      )
+      let same = one_request exact old g asked also made.0 too.0 made.1 too.1 in
+      (same.0, made.2 ∙ ap₂ (waiting_for old) same.0 same.1 ∙ sym too.2)
+
+  -- ---- the graph on which a session began
 
   -- each tip is connected
   pub tips_are_full : DistinctAreOnce → (r : RepoState A) → IsWhole r
@@ -93,25 +110,21 @@ module _ {A : Type 0} where
   tips_are_full once r whole = all_distinct once (IsFull r.graph.entries) (values_of r.refs) whole.safe
 
   pub began_begins : DistinctAreOnce → BeganBegins A
-  began_begins once r refspecs limit ends session whole begins =
-      subst (BeganOn r.graph.entries) (sym begins.1) (record {
-        full = tips_are_full once r whole;
-        sent = All-nil (λ a. Holds r.graph.entries a
-            × SomeReaches r.graph.entries (distinct_of (values_of r.refs)) a);
+  began_begins once r refspecs limit ends session whole begins = rw begins.1 (record {
+    full = tips_are_full once r whole;
+    sent = All-nil (λ a. Holds r.graph.entries a × SomeReaches r.graph.entries (distinct_of (values_of r.refs)) a);
+  })
+
+  pub began_stays : OffersAreExact A → GrowingKeeps A → FullStaysFull A → BeganStays A
+  began_stays exact keeps full g h old new Empty grows began made = absurd made.1
+  began_stays exact keeps full g h old new (Ls asked) grows began made =
+      rw made.2 (record { full = began.full; sent = began.sent })
+  began_stays exact keeps full g h old new (Fetches asked) grows began made =
+      let P : List ℕ → Type 0 = λ a. Holds g a × SomeReaches g old.tips a in
+      rw made.2 (record {
+        full = began.full;
+        sent = All-append P old.sent made.0 began.sent (batch_has exact P h old made.0 made.1.2 (λ a unsent reached.
+            let is_full = All-contains (IsFull g) old.tips reached.0 began.full reached.1 in
+            let back = (full g h reached.0 (keeps g h grows) is_full).1 a reached.2 in
+            (is_full a back, (reached.0, reached.1, back))));
       })
-
-module _ {A : Type 0} (indexes : Indexes A) (index_fails : IndexFails) where
-  settles_next : (old new : SessionState A) (s repo_new : RepoState A) (reply : FetchReply) (taken : Taken)
-      → HasPack reply → TakesHead indexes index_fails old s reply new repo_new taken → new.stage ≡ Settling
-  settles_next old new s repo_new reply (Round common) has takes = absurd (takes.0 has)
-  settles_next old new s repo_new reply (PackTaken added) has takes =
-      ap (λ (o : SessionState A). o.stage) takes.1
-
-  pub done_is_last : DoneIsLast indexes index_fails
-  done_is_last old new s repo_new change asked taken waits done takes =
-      let same : takes.0 ≡ asked = one_asked old asked takes.0 waits takes.1 in
-      let direct : is_direct takes.0 ≡ true =
-      subst (λ (r : FetchAsked). is_direct r ≡ true) (sym same) (done_direct asked done) in
-      let reads = takes.2.1 in
-      let has = says_pack (reading_for old takes.0) reads.lines takes.2.0 direct reads.says.says in
-      settles_next old new s repo_new takes.2.0 taken has takes.2.2.1

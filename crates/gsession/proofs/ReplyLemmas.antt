@@ -1,12 +1,15 @@
--- Taking a reply to fetch, step by step.
-use Rattle.std.proofs.Common.{◌≡◌, ℕ, Bool, true, false, List, [], ◌++◌, length, All, Contains, None}
-use Rattle.std.proofs.Common.{Result, Ok, Err, MatchResult, if◌then◌else◌, refl, sym, ap, subst}
-use Rattle.std.proofs.Common.{arith, ◌∙◌}
+-- Taking a reply, step by step.
+use Rattle.std.proofs.Common.{◌≡◌, ◌≤◌, ℕ, Bool, List, ◌++◌, length, All, Contains, None, Result, Ok, Err, inr}
+use Rattle.std.proofs.Common.{MatchResult, refl, sym, ap, subst, arith, ◌∙◌}
+use Rattle.std.proofs.lemmas.Cmp.{nat_list_eq_equiv}
+use Rattle.std.proofs.lemmas.List.Elements.{All-append, All-contains}
+use Rattle.std.proofs.lemmas.Map.Made.{length-le_from_is_member}
+use Rattle.gname.specs.Ids.{IsIdOf}
 use Rattle.gpkt.specs.Change.{Change}
-use Rattle.gpkt.specs.LineReading.{Reader}
-use Rattle.gpkt.specs.Packets.{Packet}
-use Rattle.ggrammar.specs.MessageReading.{LeavesReader}
-use Rattle.gfetchreply.specs.FetchReplies.{Reading, FetchReply, Acks, Ready, Pack, reply_of}
+use Rattle.glsreply.specs.LsReplies.{LsReply}
+use Rattle.gobject.specs.declared.node.Entry.{Entry}
+use Rattle.gdag.proofs.IdLists.{any_from_contains, contains_from_any}
+use Rattle.gfetchreply.specs.FetchReplies.{FetchReply, Acks, Ready, Pack}
 use Rattle.gfetchreply.specs.FetchHeads.{FetchHead, acknowledged_by, head_of, pack_of}
 use Rattle.gfetchreply.specs.FetchHeads as head
 use Rattle.gobject.specs.Packs.{Indexes, IndexFails}
@@ -20,20 +23,22 @@ use Rattle.gdag.specs.declared.fault.GraphFault.TheVariants as graph
 use Rattle.grefs.specs.RefLists.{RefList}
 use Rattle.gclientrepo.specs.declared.fault.RepoFault.TheVariants as repo
 use Rattle.gclientrepo.specs.Repos.{RepoState}
-use Rattle.grequest.specs.Asked.{FetchAsked, is_direct}
-use Rattle.gsession.specs.Sessions.{SessionState, AreCommons, IsOpenFetch, LeavesReplies, after_fault}
-use Rattle.gsession.specs.steps.Calls.{AnswersRead, AnswersReply, FitsHead, IsAcksFault}
+use Rattle.grequest.specs.Asked.{FetchAsked}
+use Rattle.gsession.specs.Sessions.{SessionState, AreCommons, IsOpenFetch}
+use Rattle.gsession.specs.steps.Calls.{AnswersLs, AnswersRead, AnswersRefs, AnswersReply, IsAcksFault}
+use Rattle.gsession.specs.TakingRefs.{AwaitsRefs, IsLsFault, IsRefsFault, ReadsRefs}
 use Rattle.gsession.specs.TakingReplies.{Awaits, HasPack, IsFirstStrange, IsReplyFault, IsTakeFault, ReadsFetch}
-use Rattle.gsession.specs.TakingReplies.{RefusesPack, TakesHead, TakesReply}
+use Rattle.gsession.specs.TakingReplies.{RefusesPack, TakesHead}
 use Rattle.gsession.specs.TakingReplies.{after_acks, reading_for}
 use Rattle.gsession.specs.declared.fault.ClientFault.{ClientFault}
-use Rattle.gsession.specs.declared.fault.ClientFault.TheVariants.{Index, Message, NoOpenRequest, Repo, StrangeAck}
-use Rattle.gsession.specs.declared.fault.ClientFault.TheVariants.{TooManySpecs, TooManyWants}
+use Rattle.gsession.specs.declared.fault.ClientFault.TheVariants.{Index, Message, Repo, StrangeAck}
+use Rattle.gsession.specs.declared.fault.ClientFault.TheVariants.{TooManyWants}
 use Rattle.gsession.specs.declared.stage.Stage.{Stage}
 use Rattle.gsession.specs.declared.stage.Stage.TheVariants.{Fetching}
+use Rattle.gsession.specs.declared.taken.LsTaken.{LsTaken}
 use Rattle.gsession.specs.declared.taken.Taken.{Taken}
 use Rattle.gsession.specs.declared.taken.Taken.TheVariants.{Round, PackTaken}
-use Rattle.gsession.proofs.CommonLemmas.{common_ids, few_commons}
+use Rattle.gsession.proofs.CommonLemmas.{all_distinct, all_of_members}
 
 -- ---- replies by their heads
 
@@ -42,53 +47,47 @@ acks_reply (Acks also) ids same = cc
 acks_reply (Ready also pack) ids same = cc
 acks_reply (Pack pack) ids same = cc
 
-pub ready_acks : (reply : FetchReply) (ids : List (List ℕ)) → head.Ready ids ≡ head_of reply
-    → acknowledged_by reply ≡ ids
-ready_acks (Acks also) ids same = cc
-ready_acks (Ready also pack) ids same = cc
-ready_acks (Pack pack) ids same = cc
-
-pub ready_pack : (reply : FetchReply) (ids : List (List ℕ)) → head.Ready ids ≡ head_of reply → HasPack reply
-ready_pack (Acks also) ids same = cc
-ready_pack (Ready also pack) ids same = tt
-ready_pack (Pack pack) ids same = tt
-
-pub pack_acks : (reply : FetchReply) → head.Pack ≡ head_of reply → acknowledged_by reply ≡ []
-pack_acks (Acks also) same = cc
-pack_acks (Ready also pack) same = cc
-pack_acks (Pack pack) same = refl
-
-pub pack_pack : (reply : FetchReply) → head.Pack ≡ head_of reply → HasPack reply
-pack_pack (Acks also) same = cc
-pack_pack (Ready also pack) same = tt
-pack_pack (Pack pack) same = tt
-
--- a direct reply has no acknowledgments alone
-no_acks : (direct : Bool) (pack : List ℕ) (other : FetchReply) (ids : List (List ℕ))
-    → head.Acks ids ≡ head_of (if direct then Pack pack else other) → direct ≡ false
-no_acks true pack other ids same = cc
-no_acks false pack other ids same = refl
-
-pub fits_head : (reading : Reading) (asked : FetchAsked) (h : FetchHead) (reply : FetchReply) (lines : List Packet)
-    → reading.direct ≡ is_direct asked
-    → h ≡ head_of reply → reply ≡ reply_of reading lines → FitsHead asked h
-fits_head reading asked (head.Acks ids) reply lines direct is_head says =
-    sym direct ∙ no_acks reading.direct _ _ ids (is_head ∙ ap head_of says)
-fits_head reading asked (head.Ready ids) reply lines direct is_head says = tt
-fits_head reading asked head.Pack reply lines direct is_head says = tt
-
 -- ---- common ids
 
 pub are_commons : {A : Type 0} (s : SessionState A) (asked : FetchAsked) (acks list : List (List ℕ)) → DistinctAreOnce
     → IsOpenFetch s asked
     → All (Contains asked.haves) acks → list ≡ distinct_of (s.commons ++ acks) → AreCommons s.format list
-are_commons s asked acks list law opened named is = subst (AreCommons s.format) (sym is) (record {
-  ids = common_ids law s.format asked.haves s.commons acks opened.ids opened.commons named;
-  few = omega (arith, few_commons law asked.haves s.commons acks opened.commons named, opened.few);
-  once = (law (s.commons ++ acks)).once;
-})
+are_commons s asked acks list law opened named is =
+    let haves = asked.haves in
+    let ids = distinct_of (s.commons ++ acks) in
+    let all : All (Contains haves) ids =
+    all_distinct law (Contains haves) (s.commons ++ acks)
+    (All-append (Contains haves) s.commons acks opened.commons named) in
+    let few : length ids ≤ length haves =
+    length-le_from_is_member nat_list_eq_equiv ids haves (law (s.commons ++ acks)).once (λ a there.
+    any_from_contains haves a (All-contains (Contains haves) ids a all (contains_from_any ids a there))) in
+    rw is (record {
+      ids = all_of_members (IsIdOf s.format) haves ids opened.ids all;
+      few = omega (arith, few, opened.few);
+      once = (law (s.commons ++ acks)).once;
+    })
 
 module _ {A : Type 0} where
+  -- ---- a reply to ls-refs
+
+  refs_fault : (s : SessionState A) (g : List (Entry A)) (change : Change) (reply : LsReply) (fault : ClientFault A)
+      → AwaitsRefs s → ReadsRefs s change reply
+      → IsRefsFault s g reply fault → IsLsFault s g change fault
+  refs_fault s g change reply (Message fault) waits reads is = (waits, inr (reply, reads, is))
+  refs_fault s g change reply TooManyWants waits reads is = (waits, (reply, reads, is))
+  refs_fault s g change reply (Repo fault) waits reads is = (waits, (reply, reads, is))
+  refs_fault s g change reply _ waits reads is = absurd is
+
+  pub refs_answer : (old : SessionState A) (g : List (Entry A)) (change : Change) (reply : LsReply)
+      (new : SessionState A) (result : Result (LsTaken A) (ClientFault A))
+      → AwaitsRefs old → ReadsRefs old change reply → AnswersRefs old g reply new result
+      → AnswersLs old g change new result
+  refs_answer old g change reply new (Ok taken) waits reads answers = (waits, (reply, reads, answers))
+  refs_answer old g change reply new (Err fault) waits reads answers =
+      (refs_fault old g change reply fault waits reads answers.0, answers.1)
+
+  -- ---- a reply to fetch
+
   -- the session with those common ids, made of what it was before
   pub acked : (stage : Stage) (was s : SessionState A) (acks list : List (List ℕ)) → was ≡ s
       → list ≡ distinct_of (s.commons ++ acks)
@@ -168,15 +167,11 @@ module _ {A : Type 0} where
         → Awaits s asked → ReadsFetch (reading_for s asked) change reply
         → IsReplyFault indexes index_fails asked.haves repo_old reply fault
         → IsTakeFault indexes index_fails s repo_old change fault
-    read_fault s repo_old change asked reply NoOpenRequest waits reads is = absurd is
-    read_fault s repo_old change asked reply (Message fault) waits reads is = absurd is
     read_fault s repo_old change asked reply (Index fault) waits reads is = (asked, waits, (reply, reads, is))
-    read_fault s repo_old change asked reply TooManySpecs waits reads is = absurd is
     read_fault s repo_old change asked reply (StrangeAck id) waits reads is = (asked, waits, (reply, reads, is))
-    read_fault s repo_old change asked reply TooManyWants waits reads is = absurd is
     read_fault s repo_old change asked reply (Repo (repo.Graph fault)) waits reads is =
         (asked, waits, (reply, reads, is))
-    read_fault s repo_old change asked reply (Repo _) waits reads is = absurd is
+    read_fault s repo_old change asked reply _ waits reads is = absurd is
 
     pub read_answer : (old : SessionState A) (repo_old : RepoState A) (change : Change) (asked : FetchAsked)
         (reply : FetchReply) (new : SessionState A) (repo_new : RepoState A)
@@ -187,32 +182,3 @@ module _ {A : Type 0} where
         (asked, waits, (reply, reads, answers))
     read_answer old repo_old change asked reply new repo_new (Err fault) waits reads answers =
         (read_fault old repo_old change asked reply fault waits reads answers.0, answers.1, answers.2)
-
-    -- the reader goes on
-    read_leaves : {S : Type 0} (is_down : S → Bool) (was now : Reader S) (haves : List (List ℕ)) (s : RepoState A)
-        (reply : FetchReply) (fault : ClientFault A)
-        → LeavesReader {M = Unit {0}} is_down was now (Ok tt) → IsReplyFault indexes index_fails haves s reply fault
-        → LeavesReplies {T = Taken} is_down was now (Err fault)
-    read_leaves is_down was now haves s reply NoOpenRequest leaves is = absurd is
-    read_leaves is_down was now haves s reply (Message fault) leaves is = absurd is
-    read_leaves is_down was now haves s reply _ leaves is = leaves
-
-    pub answer_leaves : {S : Type 0} (is_down : S → Bool) (was now : Reader S) (haves : List (List ℕ))
-        (old : SessionState A) (repo_old : RepoState A) (reply : FetchReply)
-        (new : SessionState A) (repo_new : RepoState A) (result : Result Taken (ClientFault A))
-        → LeavesReader {M = Unit {0}} is_down was now (Ok tt)
-        → AnswersRead indexes index_fails haves old repo_old reply new repo_new result
-        → LeavesReplies is_down was now result
-    answer_leaves is_down was now haves old repo_old reply new repo_new (Ok taken) leaves answers = leaves
-    answer_leaves is_down was now haves old repo_old reply new repo_new (Err fault) leaves answers =
-        read_leaves is_down was now haves repo_old reply fault leaves answers.0
-
-    -- ---- a fault ends the session
-
-    pub fault_ends : (old : SessionState A) (repo_old : RepoState A) (change : Change) (between new : SessionState A)
-        (repo_new : RepoState A) (fault : ClientFault A)
-        → AnswersReply indexes index_fails old repo_old change between repo_new (Err fault)
-        → new ≡ after_fault between fault
-        → TakesReply indexes index_fails old repo_old change new repo_new (Err fault)
-    fault_ends old repo_old change between new repo_new fault answers ends =
-        (answers.0, ends ∙ ap (λ (s : SessionState A). after_fault s fault) answers.1, answers.2)

@@ -71,11 +71,13 @@ pub fn offers_are_new<A: Allocator + Copy>()
 }
 
 /// Once the reply to a request with `done` is taken, it is time to settle: no request follows.
+#[tactic(auto, using(crate::proofs::LawLemmas::done_is_last))]
 pub fn done_is_last<A: Allocator + Copy, K: Indexer<A>>()
     ensures { (k : K) → DoneIsLast (K.indexes k) (K.index_fails k) }
 {}
 
 /// No request follows one with `done`, whatever the calls after it answer.
+#[tactic(auto, using(crate::proofs::BoundLemmas::done_laws))]
 pub fn none_follows_done<A: Allocator + Copy, K: Indexer<A>>()
     ensures last { DoneAsksLast A }
     ensures stays { (k : K) → LastStays (K.indexes k) (K.index_fails k) }
@@ -118,17 +120,20 @@ pub fn calls_do<A: Allocator + Copy, K: Indexer<A>>()
 
 /// A request for objects that waits has the session's wants, and each common id among its haves, which a request has
 /// room for. Where it is not direct, another one may follow.
+#[tactic(auto, using(crate::proofs::SessionLemmas::open_fetch))]
 pub fn open_is_the_sessions<A: Allocator + Copy>()
     ensures { OpenIsTheSessions A }
 {}
 
 /// Something is asked of each ref to which a refspec takes a line, and only one thing: what the first refspec and line
 /// ask for that lead there, refspec by refspec and line by line.
+#[tactic(auto, using(crate::proofs::AskLemmas::first_is_asked))]
 pub fn first_is_asked<A: Allocator + Copy>()
     ensures { FirstIsAsked A }
 {}
 
 /// Each ask is what one of the refspecs asks for of one of the lines of the reply.
+#[tactic(auto, using(crate::proofs::AskLemmas::asks_are_of_lines))]
 pub fn asks_are_of_lines<A: Allocator + Copy>()
     ensures { AsksAreOfLines A }
 {}
@@ -167,12 +172,14 @@ pub fn commons_are_haves<A: Allocator + Copy, K: Indexer<A>>()
 }
 
 /// To the graph of a repository objects only come where a reply is taken or refused; refs and marks stay.
+#[tactic(auto, using(crate::proofs::LawLemmas::taking_only_grows))]
 pub fn taking_only_grows<A: Allocator + Copy, K: Indexer<A>>()
     ensures { (k : K) → TakingOnlyGrows (K.indexes k) (K.index_fails k) }
 {}
 
 /// Where the bytes to come are known, they and what is answered decide the session after a reply to fetch, whatever
 /// list the indexer makes of its pack.
+#[tactic(auto, using(crate::proofs::LawLemmas::taking_is_decided))]
 pub fn taking_is_decided<A: Allocator + Copy, K: Indexer<A>>()
     ensures { (k : K) → TakingIsDecided (K.indexes k) (K.index_fails k) }
 {
@@ -180,6 +187,7 @@ pub fn taking_is_decided<A: Allocator + Copy, K: Indexer<A>>()
 }
 
 /// Where the bytes to come are known, they and what is answered decide the session after a reply to ls-refs.
+#[tactic(auto, using(crate::proofs::LawLemmas::listing_is_decided))]
 pub fn listing_is_decided<A: Allocator + Copy>()
     ensures { ListingIsDecided A }
 {
@@ -187,6 +195,7 @@ pub fn listing_is_decided<A: Allocator + Copy>()
 }
 
 /// Each call of a session that is over is refused with `NoOpenRequest`, and reads and changes nothing.
+#[tactic(auto, using(crate::proofs::LawLemmas::over_laws))]
 pub fn over_refuses<A: Allocator + Copy, K: Indexer<A>>()
     ensures hear { OverHearsNone A }
     ensures request { OverRequestsNone A }

@@ -27,7 +27,8 @@
 //! # Stands on
 //!
 //! `gworld` for worlds and `gscenario` for scenarios, `gcmd` for what programs share, `ggraph` for plain packs and
-//! refs, `gname` for ids and names, `gpkt` for sinks, `arrayvec` for texts of bounded length, `itoa` for numbers.
+//! refs, `gname` for ids and names, `gpkt` for sinks, `ggrammar` and `arrayvec` for texts of bounded length, `itoa` for
+//! numbers.
 #![tactic(auto)]
 
 mod fault;

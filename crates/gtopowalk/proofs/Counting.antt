@@ -52,79 +52,64 @@ module _ (wanted known : List Bool) where
         | inr other ↦ (let before = open_least q n (omega arith) is in omega (arith, before))
       ]
 
-  next_suc : (n : ℕ) → open_below wanted known (suc n) ≡ open_below wanted known n + one (is_open wanted known n)
-  unfolding open_below
-  next_suc n = refl
-
-  -- the position that comes next
-  pub open_next : (n : ℕ) → open_below wanted known (n + 1) ≡ open_below wanted known n + one (is_open wanted known n)
-  open_next n = rw add-one (next_suc n)
-
-  pub open_none : open_below wanted known zero ≡ 0
-  unfolding open_below
-  open_none = refl
+-- where something is open below, a position comes next
+pub counts : (wanted known : List Bool) (next pending : ℕ) → length known ≡ length wanted → next ≤ length wanted →
+    pending ≡ open_below wanted known next → IsCounted wanted known next pending
+unfolding open_below
+counts wanted known next pending long inside count =
+    record { long = long; inside = inside; count = count; some = by next count }
+  where
+    by : (n : ℕ) → pending ≡ open_below wanted known n → 0 < pending → 1 ≤ n
+    by zero is some = absurd (omega arith)
+    by (suc n) is some = omega arith
 
 -- ---- one position is marked
 
 -- a position below `next` is in the count
 pub in_count : (wanted known : List Bool) (next pending place : ℕ) → IsCounted wanted known next pending → place < next → one (is_open wanted known place) ≤ pending
 in_count wanted known next pending place counted below =
-    let count = counted.count in
     elim (cases_Bool (is_open wanted known place)) [
-      | inl e ↦ (let c : one (is_open wanted known place) ≡ 1 = ap one e in let least = open_least wanted known place next below e in omega (arith, c, least))
-      | inr e ↦ (let c : one (is_open wanted known place) ≡ 0 = ap one e in omega (arith, c))
+      | inl e ↦ (let c : one (is_open wanted known place) ≡ 1 = ap one e in let least = open_least wanted known place next below e in omega arith)
+      | inr e ↦ (let c : one (is_open wanted known place) ≡ 0 = ap one e in omega arith)
     ]
 
 pub wants_count : (wanted known : List Bool) (next pending place : ℕ) → IsCounted wanted known next pending → place < next → IsCounted (set wanted place true) known next (pending - one (is_open wanted known place) + one (is_open (set wanted place true) known place))
 wants_count wanted known next pending place counted below =
-    let count = counted.count in
     let in' = in_count wanted known next pending place counted below in
     let change = changed_at wanted known (set wanted place true) known place next below (λ p other. ap (λ b. b && not (is_marked known p)) (sym (set_elsewhere wanted p place other))) in
-    record {
-      long = counted.long ∙ sym (length-set wanted place true);
-      inside = (let l = length-set wanted place true in let i = counted.inside in omega arith);
-      count = omega (arith, in', change, count);
-    }
+    let l = length-set wanted place true in
+    counts (set wanted place true) known next _ (counted.long ∙ sym l) (omega arith) (omega arith)
 
 pub knows_count : (wanted known : List Bool) (next pending place : ℕ) → IsCounted wanted known next pending → place < next → IsCounted wanted (set known place true) next (pending - one (is_open wanted known place) + one (is_open wanted (set known place true) place))
 knows_count wanted known next pending place counted below =
-    let count = counted.count in
     let in' = in_count wanted known next pending place counted below in
     let change = changed_at wanted known wanted (set known place true) place next below (λ p other. ap (λ b. is_marked wanted p && not b) (sym (set_elsewhere known p place other))) in
-    record {
-      long = length-set known place true ∙ counted.long;
-      inside = counted.inside;
-      count = omega (arith, in', change, count);
-    }
+    let l = length-set known place true in
+    counts wanted (set known place true) next _ (l ∙ counted.long) counted.inside (omega arith)
 
 -- the count fits a word
 pub count_fits : (wanted known : List Bool) (next pending : ℕ) → IsCounted wanted known next pending → pending ≤ length wanted
-count_fits wanted known next pending counted =
-    let most = open_most wanted known next in let count = counted.count in let inside = counted.inside in omega arith
+count_fits wanted known next pending counted = let most = open_most wanted known next in omega arith
 
 -- ---- the next position down
 
 -- the count below the next position, by what that position is
 module _ (wanted known : List Bool) (next place pending : ℕ) (counted : IsCounted wanted known next pending) (is : next ≡ place + 1) where
   step_count : pending ≡ open_below wanted known place + one (is_open wanted known place)
-  step_count = counted.count ∙ ap (open_below wanted known) is ∙ open_next wanted known place
+  unfolding open_below
+  step_count = counted.count ∙ ap (open_below wanted known) (is ∙ add-one place)
 
   pub next_open : is_open wanted known place ≡ true → (1 ≤ pending) × IsCounted wanted known place (pending - 1)
   next_open is_so =
-      let count = step_count in let inside = counted.inside in
+      let count = step_count in
       let c : one (is_open wanted known place) ≡ 1 = ap one is_so in
-      (omega (arith, count, c), record { long = counted.long; inside = omega arith; count = omega (arith, count, c) })
+      (omega arith, counts wanted known place (pending - 1) counted.long (omega arith) (omega arith))
 
   pub next_shut : is_open wanted known place ≡ false → IsCounted wanted known place pending
   next_shut shut =
-      let count = step_count in let inside = counted.inside in
+      let count = step_count in
       let c : one (is_open wanted known place) ≡ 0 = ap one shut in
-      record { long = counted.long; inside = omega arith; count = omega (arith, count, c) }
-
--- where something is open below, a position comes next
-pub some_next : (wanted known : List Bool) (next pending : ℕ) → IsCounted wanted known next pending → 0 < pending → 1 ≤ next
-some_next wanted known zero pending counted some = let n = open_none wanted known in let count = counted.count in absurd (omega (arith, n))
-some_next wanted known (suc next) pending counted some = omega arith
+      counts wanted known place pending counted.long (omega arith) (omega arith)
 
 pub open_if : (wanted known : List Bool) (p : ℕ) → is_marked wanted p ≡ true → is_marked known p ≡ false → is_open wanted known p ≡ true
 open_if wanted known p w k = and_from (is_marked wanted p) (not (is_marked known p)) w (not_from_false (is_marked known p) k)
@@ -137,20 +122,17 @@ shut_idle wanted known p w = and_left (is_marked wanted p) (not (is_marked known
 
 -- ---- at the start
 
-open_unmarked : (n p : ℕ) → is_open (replicate n false) (replicate n false) p ≡ false
-open_unmarked n p = shut_idle (replicate n false) (replicate n false) p (false_from_ne_true (is_marked (replicate n false) p) (none_marked n p))
-
 count_unmarked : (n m : ℕ) → open_below (replicate n false) (replicate n false) m ≡ 0
 unfolding open_below
 count_unmarked n zero = refl
 count_unmarked n (suc m) =
+    let none = replicate n false in
     let before = count_unmarked n m in
-    let c : one (is_open (replicate n false) (replicate n false) m) ≡ 0 = ap one (open_unmarked n m) in
-    omega (arith, before, c)
+    let free = false_from_ne_true (is_marked none m) (none_marked n m) in
+    let c : one (is_open none none m) ≡ 0 = ap one (shut_idle none none m free) in
+    omega arith
 
 pub counted_none : (n : ℕ) → IsCounted (replicate n false) (replicate n false) n 0
-counted_none n = record {
-  long = refl;
-  inside = (let l = length-replicate n false in omega arith);
-  count = sym (count_unmarked n n);
-}
+counted_none n =
+    let none = replicate n false in
+    let l = length-replicate n false in counts none none n 0 refl (omega arith) (sym (count_unmarked n n))

@@ -8,12 +8,10 @@ use Rattle.gobject.specs.Objects.{place_of}
 use Rattle.gdag.specs.Graphs.{HasParent}
 use Rattle.gdag.specs.Reach.{here, SomeReaches}
 use Rattle.gtopowalk.specs.steps.Passes.{IsEdge, IsPlaceOf, IsReachedAt, IsNewAt, MarksAll, IsPassed, IsDone, is_marked}
-use Rattle.gtopowalk.specs.steps.Passes.{is_open, open_below}
+use Rattle.gtopowalk.specs.steps.Passes.{IsMarked, is_open, open_below}
 use Rattle.gdag.proofs.Reaching.{place_same, place_of_node, kept_along, some_reaches}
 use Rattle.gtopowalk.proofs.Places.{HasParentsFirst, edge_place, place_edge, edge_down, marked_inside, none_marked}
 use Rattle.gtopowalk.proofs.Counting.{open_least, open_if}
-
--- ---- reaching
 
 -- ---- what is reached, position by position
 
@@ -60,80 +58,78 @@ module _ {A : Type 0} (g : List (Entry A)) (wants commons : List (List ℕ)) (en
 
 -- ---- one position down
 
-module _ {A : Type 0} (g : List (Entry A)) (wants commons : List (List ℕ)) (wanted known : List Bool) (next place : ℕ) (is : next ≡ place + 1) (old : IsPassed g wants commons wanted known next) (ordered : HasParentsFirst g) (parents : List (List ℕ)) (are : option_map (λ entry. entry.node.parents) (slice_get g place) ≡ Some parents) where
-  -- a later position is not marked by the parents
-  not_ahead : (ids : List (List ℕ)) (marks marks' : List Bool) → MarksAll g parents marks marks' → ((q : ℕ) → IsPlaceOf g parents q → q < place) → (p : ℕ) → place ≤ p → is_marked marks' p ≡ true → is_marked marks p ≡ true
-  not_ahead ids marks marks' more below p past m =
-      elim (more.only p m) [ inl before ↦ before | inr x ↦ (let h = below p x in absurd (omega arith)) ]
+-- marks of what some ids reach grew, at earlier positions alone
+record IsGrown {A : Type 0} (g : List (Entry A)) (place : ℕ) (ids : List (List ℕ)) (old new : List Bool) : Type 0 where
+  kept : (p : ℕ) → is_marked old p ≡ true → is_marked new p ≡ true
+  before : (p : ℕ) → place ≤ p → is_marked new p ≡ true → is_marked old p ≡ true
+  sound : (p : ℕ) → is_marked new p ≡ true → IsReachedAt g ids p
 
-  -- sound marks stay sound
-  stays_sound : (ids : List (List ℕ)) (marks marks' : List Bool) → MarksAll g parents marks marks' → is_marked marks place ≡ true → ((p : ℕ) → is_marked marks p ≡ true → IsReachedAt g ids p) → (p : ℕ) → is_marked marks' p ≡ true → IsReachedAt g ids p
-  stays_sound ids marks marks' more at sound p m =
-      elim (more.only p m) [
-        | inl before ↦ sound p before
-        | inr x ↦ (let r = sound place at in reached_edge g ids place p r (place_edge g place parents are r.id p r.at x))
+module _ {A : Type 0} (g : List (Entry A)) (wants commons : List (List ℕ)) (wanted known : List Bool) (next place : ℕ) (is : next ≡ place + 1) (old : IsPassed g wants commons wanted known next) where
+  same_marks : (ids : List (List ℕ)) (marks : List Bool) → ((p : ℕ) → is_marked marks p ≡ true → IsReachedAt g ids p) →
+      IsGrown g place ids marks marks
+  same_marks ids marks sound = record { kept = λ p m. m; before = λ p past m. m; sound = sound }
+
+  -- where a position is marked, its parents are now marked as it is
+  goes_down : (wanted' known' : List Bool) → IsGrown g place wants wanted wanted' →
+      IsGrown g place commons known known' →
+      ((q : ℕ) → IsEdge g place q → IsMarked wanted place → IsMarked wanted' q ⊎ IsMarked known' q) →
+      ((q : ℕ) → IsEdge g place q → IsMarked known place → IsMarked known' q) →
+      IsPassed g wants commons wanted' known' place
+  goes_down wanted' known' w k wants_on knows_on = record {
+    wants_in = λ p x. w.kept p (old.wants_in p x);
+    commons_in = λ p x. k.kept p (old.commons_in p x);
+    wanted_sound = w.sound;
+    known_sound = k.sound;
+    wanted_ahead = λ p q e past m. elim (cases_eq p place) [
+      | inl same ↦
+          wants_on q (subst (λ (n : ℕ). IsEdge g n q) same e) (ap (is_marked wanted) (sym same) ∙ w.before p past m)
+      | inr other ↦ elim (old.wanted_ahead p q e (omega arith) (w.before p past m)) [
+        | inl h ↦ inl (w.kept q h)
+        | inr h ↦ inr (k.kept q h)
       ]
+    ];
+    known_ahead = λ p q e past m. elim (cases_eq p place) [
+      | inl same ↦
+          knows_on q (subst (λ (n : ℕ). IsEdge g n q) same e) (ap (is_marked known) (sym same) ∙ k.before p past m)
+      | inr other ↦ k.kept q (old.known_ahead p q e (omega arith) (k.before p past m))
+    ];
+  }
 
-  parent_marked : (marks marks' : List Bool) → MarksAll g parents marks marks' → place < length marks → ((q : ℕ) → IsPlaceOf g parents q → q < place) → (p q : ℕ) → IsEdge g p q → p ≡ place → is_marked marks' q ≡ true
-  parent_marked marks marks' more inside below p q e same =
-      let P : ℕ → Type 0 = λ n. IsEdge g n q in
-      let x = edge_place g place parents are q (subst P same e) in
-      more.marked q x (let h = below q x in omega arith)
+  -- an idle position
+  pub goes_by : is_marked wanted place ≡ false → is_marked known place ≡ false → IsPassed g wants commons wanted known place
+  goes_by idle free =
+      goes_down wanted known (same_marks wants wanted old.wanted_sound) (same_marks commons known old.known_sound)
+      (λ q e m. absurd (false≢true (sym idle ∙ m))) (λ q e m. absurd (false≢true (sym free ∙ m)))
 
-  module _ (below : (q : ℕ) → IsPlaceOf g parents q → q < place) where
+  module _ (parents : List (List ℕ)) (are : option_map (λ entry. entry.node.parents) (slice_get g place) ≡ Some parents)
+      (below : (q : ℕ) → IsPlaceOf g parents q → q < place) where
+    parents_marked : (ids : List (List ℕ)) (marks marks' : List Bool) → MarksAll g parents marks marks' → is_marked marks place ≡ true → ((p : ℕ) → is_marked marks p ≡ true → IsReachedAt g ids p) → IsGrown g place ids marks marks'
+    parents_marked ids marks marks' more at sound = record {
+      kept = more.kept;
+      before = λ p past m. elim (more.only p m) [ inl old ↦ old | inr x ↦ (let h = below p x in absurd (omega arith)) ];
+      sound = λ p m. elim (more.only p m) [
+        | inl old ↦ sound p old
+        | inr x ↦ (let r = sound place at in reached_edge g ids place p r (place_edge g place parents are r.id p r.at x))
+      ];
+    }
+
+    parent_marked : (marks marks' : List Bool) → MarksAll g parents marks marks' → is_marked marks place ≡ true → (q : ℕ) → IsEdge g place q → is_marked marks' q ≡ true
+    parent_marked marks marks' more at q e =
+        let x = edge_place g place parents are q e in
+        more.marked q x (let h = below q x in let inside = marked_inside marks place at in omega arith)
+
     pub knows : (known' : List Bool) → MarksAll g parents known known' → is_marked known place ≡ true → IsPassed g wants commons wanted known' place
     knows known' more at =
-        let inside = marked_inside known place at in
-        record {
-          wants_in = old.wants_in;
-          commons_in = λ p x. more.kept p (old.commons_in p x);
-          wanted_sound = old.wanted_sound;
-          known_sound = stays_sound commons known known' more at old.known_sound;
-          wanted_ahead = λ p q e past m. elim (cases_eq p place) [
-            | inl same ↦ inr (parent_marked known known' more inside below p q e same)
-            | inr other ↦ elim (old.wanted_ahead p q e (omega arith) m) [ inl h ↦ inl h | inr h ↦ inr (more.kept q h) ]
-          ];
-          known_ahead = λ p q e past m. elim (cases_eq p place) [
-            | inl same ↦ parent_marked known known' more inside below p q e same
-            | inr other ↦ more.kept q (old.known_ahead p q e (omega arith) (not_ahead parents known known' more below p past m))
-          ];
-        }
+        let on = parent_marked known known' more at in
+        let grown = parents_marked commons known known' more at old.known_sound in
+        goes_down wanted known' (same_marks wants wanted old.wanted_sound) grown
+        (λ q e m. inr (on q e)) (λ q e m. on q e)
 
     pub wants_more : (wanted' : List Bool) → MarksAll g parents wanted wanted' → is_marked wanted place ≡ true → is_marked known place ≡ false → IsPassed g wants commons wanted' known place
     wants_more wanted' more at free =
-        let inside = marked_inside wanted place at in
-        record {
-          wants_in = λ p x. more.kept p (old.wants_in p x);
-          commons_in = old.commons_in;
-          wanted_sound = stays_sound wants wanted wanted' more at old.wanted_sound;
-          known_sound = old.known_sound;
-          wanted_ahead = λ p q e past m. elim (cases_eq p place) [
-            | inl same ↦ inl (parent_marked wanted wanted' more inside below p q e same)
-            | inr other ↦ elim (old.wanted_ahead p q e (omega arith) (not_ahead parents wanted wanted' more below p past m)) [ inl h ↦ inl (more.kept q h) | inr h ↦ inr h ]
-          ];
-          known_ahead = λ p q e past m. elim (cases_eq p place) [
-            | inl same ↦ absurd (false≢true (sym free ∙ ap (is_marked known) (sym same) ∙ m))
-            | inr other ↦ old.known_ahead p q e (omega arith) m
-          ];
-        }
-
--- an idle position
-module _ {A : Type 0} (g : List (Entry A)) (wants commons : List (List ℕ)) (wanted known : List Bool) (next place : ℕ) (is : next ≡ place + 1) (old : IsPassed g wants commons wanted known next) where
-  pub goes_by : is_marked wanted place ≡ false → is_marked known place ≡ false → IsPassed g wants commons wanted known place
-  goes_by idle free = record {
-    wants_in = old.wants_in;
-    commons_in = old.commons_in;
-    wanted_sound = old.wanted_sound;
-    known_sound = old.known_sound;
-    wanted_ahead = λ p q e past m. elim (cases_eq p place) [
-      | inl same ↦ absurd (false≢true (sym idle ∙ ap (is_marked wanted) (sym same) ∙ m))
-      | inr other ↦ old.wanted_ahead p q e (omega arith) m
-    ];
-    known_ahead = λ p q e past m. elim (cases_eq p place) [
-      | inl same ↦ absurd (false≢true (sym free ∙ ap (is_marked known) (sym same) ∙ m))
-      | inr other ↦ old.known_ahead p q e (omega arith) m
-    ];
-  }
+        let grown = parents_marked wants wanted wanted' more at old.wanted_sound in
+        goes_down wanted' known grown (same_marks commons known old.known_sound)
+        (λ q e m. inl (parent_marked wanted wanted' more at q e)) (λ q e m. absurd (false≢true (sym free ∙ m)))
 
 -- ---- at the end
 

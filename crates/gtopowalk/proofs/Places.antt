@@ -1,27 +1,30 @@
 -- Positions of ids, the parents at a position, and marks by position.
-use Rattle.std.proofs.Common.{◌≡◌, ◌⊎◌, inl, inr, ℕ, zero, suc, ◌+◌, ◌<◌, ◌≤◌, Bool, true, false, List, [], ◌∷◌, ◌++◌, length, get_or, set, take, Contains, Option, Some, None, IsSome, rules, max, refl, sym, ap, ◌∙◌, subst, arith, replicate}
+use Rattle.std.proofs.Common.{◌≡◌, ◌⊎◌, inl, inr, ℕ, zero, suc, ◌+◌, ◌<◌, Bool, true, false, List, [], ◌∷◌, ◌++◌, length, get_or, set, take, Contains, Option, Some, None, max, refl, sym, ap, ◌∙◌, subst, arith, replicate}
 use Rattle.std.specs.List.{slice_get}
 use Rattle.std.specs.Option.{option_map}
 use Rattle.std.proofs.lemmas.List.{get_or-set_same, get_or-set_other, length-set}
 use Rattle.std.proofs.lemmas.List.Elements.{All-contains, Contains-append_left, Contains-push, Contains-push_cases}
-use Rattle.std.proofs.lemmas.Option.{none-some, same_Some}
+use Rattle.std.proofs.lemmas.Option.{none-some, same_Some, slice_get_cases}
 use Rattle.std.specs.Ordering.{ord_max, nat_cmp}
 use Rattle.std.proofs.lemmas.Bool.{false≢true, cases_eq}
 use Rattle.std.proofs.lemmas.Bool.Decides.{nat_tests}
 use Rattle.gobject.specs.declared.node.Node.{Node}
 use Rattle.gobject.specs.declared.node.Entry.{Entry}
-use Rattle.gobject.specs.Objects.{node_at, place_of, IdsDiffer}
+use Rattle.gobject.specs.Objects.{place_of, IdsDiffer}
 use Rattle.gdag.specs.Graphs.{History, Holds, HasParent, IsNode, IsGraph, IsOrdered}
 use Rattle.gtopowalk.specs.steps.Passes.{IsEdge, IsInOrder, IsPlaceOf, MarksAll, is_marked}
 use Rattle.gdag.proofs.Growing.{take_one}
 use Rattle.gdag.proofs.Holding.{own_place}
 use Rattle.gdag.proofs.IdLists.{only_one}
-use Rattle.gdag.proofs.Reaching.{place_inside, node_at_place, place_of_node}
-use Rattle.gtopowalk.proofs.Ids.{entry_there, one_place}
-use Rattle.gdag.proofs.Places.{id_at_place}
+use Rattle.gdag.proofs.Reaching.{place_inside, node_at_place, place_at}
 
-pub contains_none : {X : Type 0} (x : X) → Contains [] x → ⊥
-contains_none x h = let k : h.0 < 0 = h.1 in omega arith
+pub one_place : {A : Type 0} (g : List (Entry A)) (a : List ℕ) (p q : ℕ) → place_of g a ≡ Some p → place_of g a ≡ Some q → p ≡ q
+one_place g a p q e f = same_Some p q (sym e ∙ f)
+
+-- an entry stands at each position
+pub entry_there : {A : Type 0} (g : List (Entry A)) (p : ℕ) → p < length g → (entry : Entry A) × (slice_get g p ≡ Some entry)
+entry_there {A} g p inside =
+    elim (slice_get_cases g p).1 [ inl w ↦ (w.0, w.2) | inr w ↦ absurd (omega (arith, w.0)) ]
 
 -- ---- parents
 
@@ -66,14 +69,11 @@ taken (y ∷ xs) (suc n) zero x at = (omega arith, at)
 taken (y ∷ xs) (suc n) (suc p) x at = let h = taken xs n p x at in let low = h.0 in (omega arith, h.1)
 
 -- an id that the first entries hold has one of their positions
-held_before : {A : Type 0} (g : List (Entry A)) (n : ℕ) (b : List ℕ) (o : Option (Node A)) → node_at (take n g) b ≡ o → IsSome o → IdsDiffer g → (q : ℕ) × (place_of g b ≡ Some q) × (q < n)
-held_before g n b None e held differ = absurd (search (rules, held))
-held_before {A} g n b (Some node) e held differ =
-    let at = place_of_node (take n g) b node e in
-    let there = entry_there (take n g) at.0 (place_inside (take n g) b at.0 at.1) in
-    let low = taken g n at.0 there.0 there.1 in
-    let P : List ℕ → Type 0 = λ a. place_of g a ≡ Some at.0 in
-    (at.0, subst P (id_at_place (take n g) b at.0 there.0 at.1 there.1) (own_place g at.0 there.0 differ low.1), low.0)
+held_before : {A : Type 0} (g : List (Entry A)) (n : ℕ) (b : List ℕ) → Holds (take n g) b → IdsDiffer g → (q : ℕ) × (place_of g b ≡ Some q) × (q < n)
+held_before {A} g n b held differ =
+    let at = place_at (take n g) b held in
+    let low = taken g n at.0 at.1 at.2 in
+    (at.0, subst (λ (a : List ℕ). place_of g a ≡ Some at.0) at.3 (own_place g at.0 at.1 differ low.1), low.0)
 
 pub parents_first : {A : Type 0} (g : List (Entry A)) → IsInOrder g → HasParentsFirst g
 parents_first {A} g order a b p at h =
@@ -83,7 +83,7 @@ parents_first {A} g order a b p at h =
     let P : List (List ℕ) → Type 0 = λ xs. Contains xs b in
     let among = subst P (ap (λ (node : Node A). node.parents) (sym same)) h.2 in
     let held = All-contains (λ x. Holds (take p g) x) (there.0).node.parents b (order.ordered p there.0 there.1) among in
-    held_before g p b (node_at (take p g) b) refl held order.differ
+    held_before g p b held order.differ
 
 -- a parent comes first
 pub edge_down : {A : Type 0} (g : List (Entry A)) (p q : ℕ) → HasParentsFirst g → IsEdge g p q → q < p
@@ -133,25 +133,17 @@ none_marked zero p m = false≢true m
 none_marked (suc n) zero m = false≢true m
 none_marked (suc n) (suc p) m = none_marked n p m
 
-pub marks_none : {A : Type 0} (g : List (Entry A)) (marks : List Bool) → MarksAll g [] marks marks
-marks_none g marks = record {
-  long = refl;
-  kept = λ p m. m;
-  marked = λ p x inside. absurd (contains_none x.id x.among);
-  only = λ p m. inl m;
-}
+before_or_here : {A : Type 0} (g : List (Entry A)) (ids : List (List ℕ)) (a : List ℕ) (p : ℕ) →
+    IsPlaceOf g (ids ++ a ∷ []) p → IsPlaceOf g ids p ⊎ (place_of g a ≡ Some p)
+before_or_here g ids a p x =
+    elim (Contains-push_cases ids a x.id x.among) [
+      | inl c ↦ inl (record { id = x.id; among = c; at = x.at })
+      | inr e ↦ inr (subst (λ (b : List ℕ). place_of g b ≡ Some p) (sym e) x.at)
+    ]
 
 module _ {A : Type 0} (g : List (Entry A)) (ids : List (List ℕ)) (old new : List Bool) (a : List ℕ) (before : MarksAll g ids old new) where
   wider : (p : ℕ) → IsPlaceOf g ids p → IsPlaceOf g (ids ++ a ∷ []) p
   wider p x = record { id = x.id; among = Contains-append_left ids (a ∷ []) x.id x.among; at = x.at }
-
-  before_or_here : (p : ℕ) → IsPlaceOf g (ids ++ a ∷ []) p → IsPlaceOf g ids p ⊎ (place_of g a ≡ Some p)
-  before_or_here p x =
-      let P : List ℕ → Type 0 = λ b. place_of g b ≡ Some p in
-      elim (Contains-push_cases ids a x.id x.among) [
-        | inl c ↦ inl (record { id = x.id; among = c; at = x.at })
-        | inr e ↦ inr (subst P (sym e) x.at)
-      ]
 
   only_wider : (p : ℕ) → (is_marked old p ≡ true) ⊎ IsPlaceOf g ids p → (is_marked old p ≡ true) ⊎ IsPlaceOf g (ids ++ a ∷ []) p
   only_wider p (inl m) = inl m
@@ -162,7 +154,7 @@ module _ {A : Type 0} (g : List (Entry A)) (ids : List (List ℕ)) (old new : Li
   marks_stay never = record {
     long = before.long;
     kept = before.kept;
-    marked = λ p x inside. elim (before_or_here p x) [ inl y ↦ before.marked p y inside | inr e ↦ absurd (never p e inside) ];
+    marked = λ p x inside. elim (before_or_here g ids a p x) [ inl y ↦ before.marked p y inside | inr e ↦ absurd (never p e inside) ];
     only = λ p m. only_wider p (before.only p m);
   }
 
@@ -170,7 +162,7 @@ module _ {A : Type 0} (g : List (Entry A)) (ids : List (List ℕ)) (old new : Li
   marks_more q at = record {
     long = length-set new q true ∙ before.long;
     kept = λ p m. set_kept new p q (before.kept p m);
-    marked = λ p x within. elim (before_or_here p x) [
+    marked = λ p x within. elim (before_or_here g ids a p x) [
       | inl y ↦ set_kept new p q (before.marked p y within)
       | inr e ↦ ap (λ n. get_or (set new q true) n false) (one_place g a p q e at) ∙ set_there new q (let same = one_place g a p q e at in let l = before.long in omega arith)
     ];
@@ -197,21 +189,11 @@ module _ {A : Type 0} (g : List (Entry A)) (ids : List (List ℕ)) (i : ℕ) (a 
   pub place_next : (p : ℕ) → IsPlaceOf g (take (i + 1) ids) p → IsPlaceOf g (take i ids) p ⊎ (place_of g a ≡ Some p)
   place_next p x =
       let P : List (List ℕ) → Type 0 = λ xs. IsPlaceOf g xs p in
-      let y = subst P (take_one ids i a inside is) x in
-      let Q : List ℕ → Type 0 = λ b. place_of g b ≡ Some p in
-      elim (Contains-push_cases (take i ids) a y.id y.among) [
-        | inl c ↦ inl (record { id = y.id; among = c; at = y.at })
-        | inr e ↦ inr (subst Q (sym e) y.at)
-      ]
+      before_or_here g (take i ids) a p (subst P (take_one ids i a inside is) x)
 
 pub is_none : {X : Type 0} (o : Option X) → ((p : X) → o ≡ Some p → ⊥) → o ≡ None
 is_none None never = refl
 is_none (Some p) never = absurd (never p refl)
-
-pub set_past : (marks : List Bool) (p : ℕ) (b : Bool) → length marks ≤ p → set marks p b ≡ marks
-set_past [] p b past = refl
-set_past (mark ∷ marks) zero b past = absurd (omega arith)
-set_past (mark ∷ marks) (suc p) b past = ap (λ xs. mark ∷ xs) (set_past marks p b (omega arith))
 
 -- a mark that was read
 pub read_mark : (marks slice : List Bool) (p : ℕ) (r b : Bool) → slice ≡ marks → r ≡ is_marked slice p → r ≡ b → is_marked marks p ≡ b

@@ -16,7 +16,7 @@ use Rattle.gtopowalk.specs.steps.Passes.{is_marked}
 use Rattle.gdag.proofs.Holding.{own_place}
 use Rattle.gdag.proofs.Reaching.{place_same, place_of_node}
 use Rattle.gdag.proofs.IdLists.{only_one}
-use Rattle.gtopowalk.proofs.Ids.{entry_there}
+use Rattle.gtopowalk.proofs.Places.{entry_there}
 use Rattle.gtopowalk.proofs.Places.{HasParentsFirst, parents_first, edge_place, place_edge, edge_down, set_cases, set_there, set_kept, none_marked}
 
 -- ---- one of the goals
@@ -56,8 +56,7 @@ module _ {A : Type 0} (g : List (Entry A)) (goals : List (List ℕ)) where
   way_down ordered p a b (onward {b = m} h way) at =
       let on = ordered a m p at h in
       let down = way_down ordered on.0 m b way on.1 in
-      let first : on.0 < p = on.2 in let then : down.0 ≤ on.0 = down.2 in
-      (down.0, down.1, omega arith)
+      (down.0, down.1, omega (arith, on.2, down.2))
 
   -- a goal that is reached stands no later
   pub reaching_low : HasParentsFirst g → (p : ℕ) → IsReachingAt g goals p → (q : ℕ) × IsPlaceOf g goals q × (q ≤ p)
@@ -131,9 +130,6 @@ module _ {A : Type 0} (g : List (Entry A)) (goals : List (List ℕ)) (end : ℕ)
         | inr other ↦ before.all p (omega arith) r
       ];
     }
-
-  pub rising_ends : (place : ℕ) (good : List Bool) → IsRising g goals end place good → end ≤ place → MarksReaching g goals end good
-  rising_ends place good last past = record { sound = last.sound; all = λ p below r. last.all p (omega arith) r }
 
 -- ---- one id
 

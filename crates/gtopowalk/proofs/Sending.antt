@@ -14,7 +14,7 @@ use Rattle.gdag.proofs.Choosing.{selects_keep, selects_skip}
 use Rattle.gdag.proofs.Holding.{own_place}
 use Rattle.gdag.proofs.PeelLemmas.{tags_on}
 use Rattle.gdag.proofs.Reaching.{place_same, place_of_node}
-use Rattle.gtopowalk.proofs.Ids.{entry_there}
+use Rattle.gtopowalk.proofs.Places.{entry_there}
 use Rattle.gtopowalk.proofs.Places.{parents_first, marked_inside}
 use Rattle.gtopowalk.proofs.TagChains.{chain_peels, commit_below}
 use Rattle.gtopowalk.proofs.Counting.{shut_idle}
@@ -58,14 +58,12 @@ module _ {A : Type 0} (g : List (Entry A)) (wants commons tips : List (List ℕ)
     own : place_of g entry.id ≡ Some p
     own = own_place g p entry order.differ at
 
-    open_sent : is_open wanted known p ≡ true → IsToSend g wants commons tips entry
-    open_sent is =
+    sent : (is_open wanted known p ≡ true) ⊎ (is_marked tagged p ≡ true) → IsToSend g wants commons tips entry
+    sent (inl is) =
         let new = done.new p is in
         let N : List ℕ → Type 0 = λ a. IsNew g wants commons a in
         inl (subst N (place_same g new.id entry.id p new.at own) new.new)
-
-    tagged_sent : is_marked tagged p ≡ true → IsToSend g wants commons tips entry
-    tagged_sent is = inr (open_tag_sends p (marks.only p is) entry.id own)
+    sent (inr is) = inr (open_tag_sends p (marks.only p is) entry.id own)
 
     not_sent : is_open wanted known p ≡ false → is_marked tagged p ≡ false → ¬ (IsToSend g wants commons tips entry)
     not_sent shut bare (inl new) = false≢true (sym shut ∙ done.all p (record { id = entry.id; at = own; new = new }))
@@ -104,11 +102,8 @@ module _ {A : Type 0} (g : List (Entry A)) (wants commons tips : List (List ℕ)
 
   pub sends_place : (list : List (Entry A)) (p : ℕ) (entry : Entry A) → slice_get g p ≡ Some entry → (is_open wanted known p ≡ true) ⊎ (is_marked tagged p ≡ true) → Selects (IsToSend g wants commons tips) (take p g) list → Selects (IsToSend g wants commons tips) (take (p + 1) g) (list ++ entry ∷ [])
   sends_place list p entry at is before =
-      let sent : IsToSend g wants commons tips entry = elim is [
-        | inl o ↦ open_sent g wants commons tips wanted known next done order tagged marks p entry at o
-        | inr t ↦ tagged_sent g wants commons tips wanted known next done order tagged marks p entry at t
-      ] in
-      rw (take_there g p entry at) (selects_keep (IsToSend g wants commons tips) (take p g) list entry before sent)
+      let here = sent g wants commons tips wanted known next done order tagged marks p entry at is in
+      rw (take_there g p entry at) (selects_keep (IsToSend g wants commons tips) (take p g) list entry before here)
 
   pub drops_place : (list : List (Entry A)) (p : ℕ) → p < length g → is_open wanted known p ≡ false → is_marked tagged p ≡ false → Selects (IsToSend g wants commons tips) (take p g) list → Selects (IsToSend g wants commons tips) (take (p + 1) g) list
   drops_place list p inside shut bare before =

@@ -1,9 +1,9 @@
 -- Chains of tags, position by position.
-use Rattle.std.proofs.Common.{◌≡◌, ◌⊎◌, inl, inr, ℕ, zero, suc, ◌+◌, ◌<◌, ◌≤◌, Bool, true, false, List, [], ◌∷◌, length, get_or, set, take, replicate, Contains, Some, None, MatchOption, refl, sym, ap, ◌∙◌, subst, arith}
+use Rattle.std.proofs.Common.{◌≡◌, ◌⊎◌, inl, inr, ℕ, zero, suc, ◌+◌, ◌<◌, ◌≤◌, Bool, true, false, List, [], ◌∷◌, length, get_or, set, take, replicate, Some, None, MatchOption, refl, sym, ap, ◌∙◌, subst, arith}
 use Rattle.std.specs.List.{slice_get}
 use Rattle.std.specs.Option.{option_map}
 use Rattle.std.proofs.lemmas.List.{length-set}
-use Rattle.std.proofs.lemmas.List.Elements.{All-contains, Contains-append_left, Contains-push}
+use Rattle.std.proofs.lemmas.List.Elements.{Contains-append_left, Contains-push}
 use Rattle.std.proofs.lemmas.Option.{none-some, same_Some}
 use Rattle.std.proofs.lemmas.Bool.{false≢true}
 use Rattle.gobject.specs.declared.node.Kind.TheVariants.{Commit, Tag}
@@ -13,61 +13,53 @@ use Rattle.gobject.specs.Objects.{place_of, IsShaped}
 use Rattle.gdag.specs.Peeling.{IsTagOf, IsCommit, Tags, PeelsTo}
 use Rattle.gtopowalk.specs.steps.Passes.{IsInOrder, IsPlaceOf, IsCommitAt, IsTagAt, IsLedTo, IsPeeledAt, IsOnChain}
 use Rattle.gtopowalk.specs.steps.Passes.{MarksChain, IsOpenTag, MarksTags, is_marked, is_open}
-use Rattle.gdag.proofs.Growing.{take_one}
+use Rattle.gdag.proofs.Growing.{take_one, all_standing}
+use Rattle.gdag.specs.Graphs.{IsNode}
+use Rattle.gdag.proofs.IdLists.{nothing_in_nil}
 use Rattle.gdag.proofs.Holding.{own_place}
 use Rattle.gdag.proofs.PeelLemmas.{no_tag, one_next, onward, peel_ends, tags_more}
 use Rattle.gdag.proofs.Reaching.{place_same, node_at_place}
 use Rattle.gdag.proofs.Sharing.{names_parent}
-use Rattle.gtopowalk.proofs.Ids.{one_place, entry_there}
-use Rattle.gtopowalk.proofs.Places.{HasParentsFirst, parents_first, contains_none, set_cases, set_there, set_kept, none_marked, place_next}
+use Rattle.gtopowalk.proofs.Places.{one_place, entry_there}
+use Rattle.gtopowalk.proofs.Places.{HasParentsFirst, parents_first, set_cases, set_there, set_kept, none_marked, place_next}
 
 first_none : (xs : List (List ℕ)) → length xs ≡ 1 → slice_get xs 0 ≡ None → ⊥
 first_none [] one none = omega arith
 first_none (x ∷ xs) one none = none-some x (sym none)
 
-contains_get : {X : Type 0} (xs : List X) (p : ℕ) (x : X) → slice_get xs p ≡ Some x → Contains xs x
-contains_get [] p x at = absurd (none-some x at)
-contains_get (y ∷ xs) zero x at = (0, omega arith, same_Some y x at)
-contains_get (y ∷ xs) (suc p) x at = let h = contains_get xs p x at in let inside = h.1 in (suc h.0, omega arith, h.2)
-
 -- ---- what stands at a position
 
 module _ {A : Type 0} (g : List (Entry A)) (order : IsInOrder g) (p : ℕ) (inside : p < length g) where
+  there : (entry : Entry A) × (slice_get g p ≡ Some entry)
+  there = entry_there g p inside
+
+  own : place_of g (there.0).id ≡ Some p
+  own = own_place g p there.0 order.differ there.1
+
   pub led_none : IsLedTo g p p
-  led_none =
-      let there = entry_there g p inside in
-      let at = own_place g p there.0 order.differ there.1 in
-      record { id = (there.0).id; at = at; end = (there.0).id; end_at = at; steps = zero; leads = refl }
+  led_none = record { id = (there.0).id; at = own; end = (there.0).id; end_at = own; steps = zero; leads = refl }
 
   module _ (node : Node A) (are : option_map (λ entry. entry.node) (slice_get g p) ≡ Some node) where
+    held : IsNode g (there.0).id node
+    held = node_at_place g (there.0).id p own ∙ are
+
     pub commit_at : node.kind ≡ Commit → IsCommitAt g p
     commit_at kind =
-        let there = entry_there g p inside in
-        let at = own_place g p there.0 order.differ there.1 in
-        record { id = (there.0).id; at = at; commit = record { node = node; held = node_at_place g (there.0).id p at ∙ are; commit = kind } }
+        record { id = (there.0).id; at = own; commit = record { node = node; held = held; commit = kind } }
 
     -- a tag names an object
     pub tag_named : node.kind ≡ Tag → slice_get node.parents 0 ≡ None → ⊥
     tag_named kind none =
-        let there = entry_there g p inside in
-        let is : Some (there.0).node ≡ Some node = sym (ap (option_map (λ (entry : Entry A). entry.node)) there.1) ∙ are in
-        let same = same_Some (there.0).node node is in
-        let shaped = (All-contains (λ (entry : Entry A). IsShaped entry.node) g there.0 order.shaped (contains_get g p there.0 there.1)).tag in
-        let S : Node A → Type 0 = λ n. n.kind ≡ Tag → length n.parents ≡ 1 in
-        let one = subst S same shaped kind in
-        first_none node.parents one none
-
-    tag_place : (b : List ℕ) → node.kind ≡ Tag → slice_get node.parents 0 ≡ Some b → (q : ℕ) × (place_of g b ≡ Some q) × IsTagAt g p q
-    tag_place b kind names =
-        let there = entry_there g p inside in
-        let a : List ℕ = (there.0).id in
-        let at = own_place g p there.0 order.differ there.1 in
-        let tag : IsTagOf g a b = record { node = node; held = node_at_place g a p at ∙ are; tag = kind; names = names } in
-        let q = parents_first g order a b p at (names_parent g a b tag) in
-        (q.0, q.1, record { id = a; at = at; named = b; named_at = q.1; tag = tag; below = q.2 })
+        let same = same_Some (there.0).node node (sym (ap (option_map (λ (entry : Entry A). entry.node)) there.1) ∙ are) in
+        let shaped = all_standing (λ (entry : Entry A). IsShaped entry.node) g p there.0 there.1 order.shaped in
+        first_none node.parents ((subst (λ (n : Node A). IsShaped n) same shaped).tag kind) none
 
     pub tag_at : (b : List ℕ) → node.kind ≡ Tag → slice_get node.parents 0 ≡ Some b → MatchOption (place_of g b) (IsCommitAt g p) (λ q. IsTagAt g p q)
-    tag_at b kind names = let q = tag_place b kind names in rw q.1 q.2
+    tag_at b kind names =
+        let a = (there.0).id in
+        let tag : IsTagOf g a b = record { node = node; held = held; tag = kind; names = names } in
+        let q = parents_first g order a b p own (names_parent g a b tag) in
+        rw q.1 (record { id = a; at = own; named = b; named_at = q.1; tag = tag; below = q.2 })
 
 -- ---- along a chain
 
@@ -135,26 +127,27 @@ module _ {A : Type 0} (g : List (Entry A)) where
       let below : on.0 < p = on.2 in
       omega arith
 
-  -- the commit of a chain stands before its tags
-  pub commit_below : HasParentsFirst g → (p q r : ℕ) → IsOnChain g p q → IsPeeledAt g p r → r ≤ q
-  commit_below ordered p q r x y =
+  -- the chain goes on from each of its tags to the commit
+  chain_on : (p q r : ℕ) (x : IsOnChain g p q) (y : IsPeeledAt g p r) → PeelsTo g x.led.end y.commit.id
+  chain_on p q r x y =
       let peels = peels_at p r y in
       let start = place_same g x.led.id y.led.id p x.led.at y.led.at in
       let P : List ℕ → Type 0 = λ a. Tags g x.led.steps a x.led.end in
       let on = onward g peels.0 x.led.steps y.led.id x.led.end y.commit.id peels.1 peels.2 (subst P start x.led.leads) in
-      tags_down ordered on.0 x.led.end y.commit.id q r x.led.end_at y.commit.at on.2
+      (on.0, on.2, y.commit.commit)
+
+  -- the commit of a chain stands before its tags
+  pub commit_below : HasParentsFirst g → (p q r : ℕ) → IsOnChain g p q → IsPeeledAt g p r → r ≤ q
+  commit_below ordered p q r x y =
+      let on = chain_on p q r x y in
+      tags_down ordered on.0 x.led.end y.commit.id q r x.led.end_at y.commit.at on.1
 
   -- a tag on a chain peels to the commit at its end
   pub chain_peels : (p q r : ℕ) → IsOnChain g p q → IsPeeledAt g p r → (a c : List ℕ) → place_of g a ≡ Some q → place_of g c ≡ Some r → PeelsTo g a c
   chain_peels p q r x y a c at there =
-      let peels = peels_at p r y in
-      let start = place_same g x.led.id y.led.id p x.led.at y.led.at in
-      let P : List ℕ → Type 0 = λ b. Tags g x.led.steps b x.led.end in
-      let on = onward g peels.0 x.led.steps y.led.id x.led.end y.commit.id peels.1 peels.2 (subst P start x.led.leads) in
       let Q : List ℕ → Type 0 = λ b. PeelsTo g b y.commit.id in
-      let R : List ℕ → Type 0 = λ d. PeelsTo g a d in
-      let from : PeelsTo g x.led.end y.commit.id = (on.0, on.2, y.commit.commit) in
-      subst R (place_same g y.commit.id c r y.commit.at there) (subst Q (place_same g x.led.end a q x.led.end_at at) from)
+      let from = subst Q (place_same g x.led.end a q x.led.end_at at) (chain_on p q r x y) in
+      subst (λ (d : List ℕ). PeelsTo g a d) (place_same g y.commit.id c r y.commit.at there) from
 
 -- ---- the chain as it is marked
 
@@ -214,7 +207,7 @@ module _ {A : Type 0} (g : List (Entry A)) (start at : ℕ) (old now : List Bool
 
 pub tags_none : {A : Type 0} (g : List (Entry A)) (wanted known : List Bool) (end : ℕ) → MarksTags g [] wanted known (replicate end false)
 tags_none g wanted known end = record {
-  marked = λ p x. absurd (contains_none x.tip.id x.tip.among);
+  marked = λ p x. nothing_in_nil x.tip.id x.tip.among;
   only = λ p m. absurd (none_marked end p m);
 }
 

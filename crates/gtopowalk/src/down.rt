@@ -14,6 +14,7 @@ use gname::Oid;
 use std::alloc::Allocator;
 
 // Goes down until nothing that is wanted and not known is left below.
+#[tactic(auto, using(crate::proofs::Places::in_order))]
 pub(crate) fn pass_down<A: Allocator + Copy>(
     graph: &Graph<A>,
     wants: &[Oid],

@@ -24,6 +24,7 @@ use std::alloc::Allocator;
 ///
 /// It fails with `Memory` alone. It takes memory from the graph's allocator for the list, and for up to three bytes
 /// an object, as far as the last of the ids.
+#[tactic(auto, using(crate::proofs::Places::in_order))]
 pub fn send_list<A: Allocator + Copy>(
     graph: &Graph<A>,
     wants: &[Oid],

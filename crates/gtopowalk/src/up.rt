@@ -22,6 +22,7 @@ use std::alloc::Allocator;
 /// store from the first common id to the last want.
 ///
 /// It fails with `Memory` alone. It takes memory for a byte an object, as far as the last want.
+#[tactic(auto, using(crate::proofs::Places::in_order))]
 pub fn ready<A: Allocator + Copy>(
     graph: &Graph<A>,
     wants: &[Oid],
@@ -53,6 +54,7 @@ pub fn ready<A: Allocator + Copy>(
 /// store from the second id to the first.
 ///
 /// It fails with `Memory` alone. It takes memory for a byte an object, as far as the first id.
+#[tactic(auto, using(crate::proofs::Places::in_order))]
 pub fn reaches<A: Allocator + Copy>(graph: &Graph<A>, a: &Oid, b: &Oid) -> Result<bool, GraphFault>
     requires { IsOrdered graph.now.entries }
     ensures answer { IfOk result (λ answer. IsTrue answer

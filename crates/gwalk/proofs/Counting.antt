@@ -1,63 +1,58 @@
 -- How much a walk counts.
-use Rattle.std.proofs.Common.{◌≡◌, ℕ, zero, suc, ◌+◌, ◌*◌, ◌^◌, ◌<◌, ◌≤◌, Bool, true, false, cond, List, [], ◌∷◌, length, get_or, set, count_by, Some, replicate, refl, arith}
+use Rattle.std.proofs.Common.{◌≡◌, ℕ, zero, suc, ◌+◌, ◌^◌, ◌<◌, ◌≤◌, Bool, true, false, List, [], ◌∷◌, length, get_or}
+use Rattle.std.proofs.Common.{set, All, Some, replicate, refl, sym, arith}
 use Rattle.std.specs.List.{slice_get}
 use Rattle.std.specs.Option.{option_map}
-use Rattle.std.proofs.lemmas.List.Sums.{sum_by-set, sum_by-cons, count_by-le-length}
-use Rattle.std.proofs.lemmas.List.Folds.{sum_by-replicate}
-use Rattle.std.proofs.lemmas.List.{length-set}
+use Rattle.std.proofs.lemmas.Bool.{false≢true}
+use Rattle.std.proofs.lemmas.Option.{none-some, same_Some}
+use Rattle.std.proofs.lemmas.List.Elements.{All-nil, All-cons}
+use Rattle.std.proofs.lemmas.List.Sums.{sum_by-cons, sum_by-le}
 use Rattle.gobject.specs.declared.node.Entry.{Entry}
-use Rattle.gwalk.specs.steps.Walks.{marked_parents}
+use Rattle.gwalk.specs.steps.Walks.{marked, parents_in}
+use Rattle.gwalk.proofs.Stopping.{mapped}
 
-abbrev pub count_marks : List Bool → ℕ
-count_marks marks = count_by (λ mark. mark) marks
+pub marked_none : {A : Type 0} (g : List (Entry A)) (n : ℕ) → marked g (replicate n false) ≡ []
+marked_none [] n = refl
+marked_none (entry ∷ g) zero = refl
+marked_none (entry ∷ g) (suc n) = marked_none g n
 
-pub count_none : (n : ℕ) → count_marks (replicate n false) ≡ 0
-count_none n = let e = sum_by-replicate (λ mark. cond mark 1 0) n false in omega (arith, e)
+-- an entry more is marked
+pub marked_more : {A : Type 0} (g : List (Entry A)) (marks : List Bool) (p : ℕ) (entry : Entry A) → p < length marks →
+    get_or marks p false ≡ false → slice_get g p ≡ Some entry →
+    (length (marked g (set marks p true)) ≡ length (marked g marks) + 1) ×
+    (parents_in (marked g (set marks p true)) ≡ parents_in (marked g marks) + length entry.node.parents)
+marked_more [] marks p entry inside free at = absurd (none-some entry at)
+marked_more (first ∷ g) [] p entry inside free at = absurd (omega arith)
+marked_more (first ∷ g) (true ∷ marks) zero entry inside free at = absurd (false≢true (sym free))
+marked_more {A} (first ∷ g) (false ∷ marks) zero entry inside free at =
+    let c = sum_by-cons (λ (e : Entry A). length e.node.parents) first (marked g marks) in
+    rw (sym (same_Some first entry at)) (omega arith, omega arith)
+marked_more {A} (first ∷ g) (true ∷ marks) (suc p) entry inside free at =
+    let e = marked_more g marks p entry (omega arith) free at in
+    let c = sum_by-cons (λ (e : Entry A). length e.node.parents) first in
+    let old = c (marked g marks) in let new = c (marked g (set marks p true)) in
+    (omega arith, omega arith)
+marked_more (first ∷ g) (false ∷ marks) (suc p) entry inside free at = marked_more g marks p entry (omega arith) free at
 
-pub count_more : (marks : List Bool) (p : ℕ) → p < length marks → get_or marks p false ≡ false → count_marks (set marks p true) ≡ count_marks marks + 1
-count_more marks p inside free =
-    let e = sum_by-set (λ mark. cond mark 1 0) marks p true false inside in
-    let f = rw free at e in
-    omega (arith, f)
+pub marked_few : {A : Type 0} (g : List (Entry A)) (marks : List Bool) → length (marked g marks) ≤ length g
+marked_few [] marks = omega arith
+marked_few (entry ∷ g) [] = omega arith
+marked_few (entry ∷ g) (true ∷ marks) = let l = marked_few g marks in omega arith
+marked_few (entry ∷ g) (false ∷ marks) = let l = marked_few g marks in omega arith
 
-pub count_less : (marks : List Bool) → count_marks marks ≤ length marks
-count_less marks = count_by-le-length (λ mark. mark) marks
-
-pub parents_none : {A : Type 0} (g : List (Entry A)) (n : ℕ) → marked_parents g (replicate n false) ≡ 0
-parents_none [] n = refl
-parents_none (entry ∷ g) zero = refl
-parents_none (entry ∷ g) (suc n) = let e = parents_none g n in omega (arith, e)
-
-pub parents_more : {A : Type 0} (g : List (Entry A)) (marks : List Bool) (p : ℕ) (parents : List (List ℕ)) → p < length marks → get_or marks p false ≡ false → option_map (λ entry. entry.node.parents) (slice_get g p) ≡ Some parents → marked_parents g (set marks p true) ≡ marked_parents g marks + length parents
-parents_more [] marks p parents inside free are = cc
-parents_more (entry ∷ g) [] p parents inside free are = absurd (omega arith)
-parents_more (entry ∷ g) (mark ∷ marks) zero parents inside free are =
-    let same : entry.node.parents ≡ parents = cc in
-    let m : mark ≡ false = free in
-    rw (m, same) (omega arith)
-parents_more (entry ∷ g) (mark ∷ marks) (suc p) parents inside free are =
-    let e = parents_more g marks p parents (omega arith) free are in omega (arith, e)
-
-count_cons : (mark : Bool) (marks : List Bool) → count_marks (mark ∷ marks) ≡ cond mark 1 0 + count_marks marks
-count_cons mark marks = sum_by-cons (λ m. cond m 1 0) mark marks
-
-pub parents_few : {A : Type 0} (g : List (Entry A)) (marks : List Bool) → ((p : ℕ) (entry : Entry A) → slice_get g p ≡ Some entry → length entry.node.parents ≤ 64) → marked_parents g marks ≤ 64 * count_marks marks
-parents_few [] marks narrow = omega arith
-parents_few (entry ∷ g) [] narrow = omega arith
-parents_few (entry ∷ g) (true ∷ marks) narrow =
-    let e = parents_few g marks (λ p. narrow (suc p)) in
-    let few = narrow 0 entry refl in
-    let c = count_cons true marks in
-    omega (arith, e, few, c)
-parents_few (entry ∷ g) (false ∷ marks) narrow =
-    let e = parents_few g marks (λ p. narrow (suc p)) in
-    let c = count_cons false marks in
-    omega (arith, e, c)
+marked_all : {A : Type 0} (P : Entry A → Type 0) (g : List (Entry A)) (marks : List Bool) → ((p : ℕ) (entry : Entry A) → slice_get g p ≡ Some entry → P entry) → All P (marked g marks)
+marked_all P [] marks each = All-nil P
+marked_all P (entry ∷ g) [] each = All-nil P
+marked_all P (entry ∷ g) (true ∷ marks) each =
+    All-cons P entry (marked g marks) (each 0 entry refl) (marked_all P g marks (λ p. each (suc p)))
+marked_all P (entry ∷ g) (false ∷ marks) each = marked_all P g marks (λ p. each (suc p))
 
 -- few parents were counted with this one
-pub counts_fit : {A : Type 0} (g : List (Entry A)) (marks : List Bool) (parents p : ℕ) (more : List (List ℕ)) → parents ≡ marked_parents g marks → p < length marks → get_or marks p false ≡ false → option_map (λ entry. entry.node.parents) (slice_get g p) ≡ Some more → length marks ≡ length g → length g ≤ 1048576 → ((q : ℕ) (entry : Entry A) → slice_get g q ≡ Some entry → length entry.node.parents ≤ 64) → parents + length more < 2 ^ 64
-counts_fit g marks parents p more are inside free is long small narrow =
-    let e = parents_more g marks p more inside free is in
-    let few = parents_few g (set marks p true) narrow in
-    let l = count_less (set marks p true) in let s = length-set marks p true in
-    omega (arith, e, few, l, s, are, long, small)
+pub counts_fit : {A : Type 0} (g : List (Entry A)) (marks : List Bool) (parents p : ℕ) (more : List (List ℕ)) → parents ≡ parents_in (marked g marks) → p < length marks → get_or marks p false ≡ false → option_map (λ entry. entry.node.parents) (slice_get g p) ≡ Some more → length g ≤ 1048576 → ((q : ℕ) (entry : Entry A) → slice_get g q ≡ Some entry → length entry.node.parents ≤ 64) → parents + length more < 2 ^ 64
+counts_fit {A} g marks parents p more are inside free is small narrow =
+    let w = mapped (λ (entry : Entry A). entry.node.parents) (slice_get g p) more is in
+    let e = marked_more g marks p w.0 inside free w.1 in
+    let all = marked_all (λ (entry : Entry A). length entry.node.parents ≤ 64) g (set marks p true) narrow in
+    let few = sum_by-le (λ (entry : Entry A). length entry.node.parents) 64 (marked g (set marks p true)) all in
+    let l = marked_few g (set marks p true) in
+    rw (sym w.2) (omega arith)

@@ -3,9 +3,25 @@ use Rattle.std.proofs.Common.{◌≡◌, ℕ, suc, ◌<◌, ◌≤◌, ◌+◌, 
 use Rattle.std.proofs.Math.Seq.{get_or-append_seam}
 use Rattle.std.proofs.lemmas.List.{nil_from_length}
 use Rattle.gobject.specs.declared.node.Entry.{Entry}
-use Rattle.gdag.specs.Levels.{new_ids, parents_of, parents_of_each, level, levels_below, AreLevels}
-use Rattle.gdag.proofs.IdLists.{with_new}
-use Rattle.gwalk.proofs.IdLists.{with_new-nil, with_new-append}
+use Rattle.gdag.specs.Levels.{new_ids, parents_of, parents_of_each, level, levels_below, AreLevels, is_in}
+use Rattle.gdag.proofs.IdLists.{either_way, with_new, with_new-old, with_new-new}
+use Rattle.gdag.proofs.LevelReach.{in_reached, reached_in}
+use Rattle.gdag.specs.Reach.{SomeReaches}
+use Rattle.std.proofs.Common.{Contains, subst}
+
+-- ---- a list of ids with those of others that are new to it
+
+pub with_new-nil : (s : List (List ℕ)) → with_new s [] ≡ s
+with_new-nil s = append-nil s
+
+pub with_new-append : (s xs ys : List (List ℕ)) → with_new s (xs ++ ys) ≡ with_new (with_new s xs) ys
+with_new-append s [] ys = ap (λ l. with_new l ys) (sym (append-nil s))
+with_new-append s (x ∷ xs) ys =
+    either_way (is_in s x)
+    (λ e. with_new-old s x (xs ++ ys) e ∙ with_new-append s xs ys ∙ ap (λ l. with_new l ys) (sym (with_new-old s x xs e)))
+    (λ e. with_new-new s x (xs ++ ys) e ∙ with_new-append (s ++ x ∷ []) xs ys ∙ ap (λ l. with_new l ys) (sym (with_new-new s x xs e)))
+
+-- ---- the walk
 
 -- the walk stands in level k, at its position `at` of all ids: the ids of the levels down to there are those taken up
 -- and the rest; after them stand new parents; and with the parents of the rest the next level would be whole
@@ -32,23 +48,6 @@ module _ {A : Type 0} (g : List (Entry A)) (tips : List (List ℕ)) where
     ahead = ap (λ l. with_new l (parents_of_each g (new_ids [] tips))) e;
   }
 
-  -- at the end of a level the next one is the rest
-  next_level : (ids : List (List ℕ)) (at k : ℕ) (done more : List (List ℕ)) → levels_below g tips (suc k) ≡ done ++ [] → ids ≡ (done ++ []) ++ more → length done ≡ at → with_new ids [] ≡ levels_below g tips (suc (suc k)) → IsWalked g tips ids at
-  next_level ids at k done more levels has place ahead =
-      let whole : ids ≡ levels_below g tips (suc (suc k)) = sym (with_new-nil ids) ∙ ahead in
-      let parts : levels_below g tips (suc (suc k)) ≡ done ++ level g tips (suc k) =
-      ap (λ l. l ++ level g tips (suc k)) (levels ∙ append-nil done) in
-      record {
-        k = suc k;
-        done = done;
-        rest = level g tips (suc k);
-        more = [];
-        levels = parts;
-        has = whole ∙ parts ∙ sym (append-nil (done ++ level g tips (suc k)));
-        place = place;
-        ahead = ap (λ l. with_new l (parents_of_each g (level g tips (suc k)))) whole;
-      }
-
   -- one id further in a level
   next_id : (ids : List (List ℕ)) (at k : ℕ) (done : List (List ℕ)) (y : List ℕ) (rest more : List (List ℕ)) → levels_below g tips (suc k) ≡ done ++ y ∷ rest → ids ≡ (done ++ y ∷ rest) ++ more → length done ≡ at → with_new ids (parents_of_each g (y ∷ rest)) ≡ levels_below g tips (suc (suc k)) → (x : List ℕ) → x ≡ get_or ids at x → (ids2 : List (List ℕ)) → ids2 ≡ with_new ids (parents_of g x) → IsWalked g tips ids2 (at + 1)
   next_id ids at k done y rest more levels has place ahead x item ids2 is =
@@ -68,7 +67,6 @@ module _ {A : Type 0} (g : List (Entry A)) (tips : List (List ℕ)) where
 
   -- an id is taken up
   pub walk_goes : (ids : List (List ℕ)) (at : ℕ) → IsWalked g tips ids at → at < length ids → (x : List ℕ) → x ≡ get_or ids at x → (ids2 : List (List ℕ)) → ids2 ≡ with_new ids (parents_of g x) → IsWalked g tips ids2 (at + 1)
-  unfolding next_level
   walk_goes ids at w inside x item ids2 is = in_level ids at w.k w.done w.rest w.more w.levels w.has w.place w.ahead inside x item ids2 is
     where
       within : (ids : List (List ℕ)) (at k : ℕ) (done rest more : List (List ℕ)) → levels_below g tips (suc k) ≡ done ++ rest → ids ≡ (done ++ rest) ++ [] → length done ≡ at → with_new ids (parents_of_each g rest) ≡ levels_below g tips (suc (suc k)) → at < length ids → (x : List ℕ) → x ≡ get_or ids at x → (ids2 : List (List ℕ)) → ids2 ≡ with_new ids (parents_of g x) → IsWalked g tips ids2 (at + 1)
@@ -78,10 +76,14 @@ module _ {A : Type 0} (g : List (Entry A)) (tips : List (List ℕ)) where
       within ids at k done (y ∷ rest) more levels has place ahead inside x item ids2 is =
           next_id ids at k done y rest [] levels has place ahead x item ids2 is
 
+      -- at the end of a level the next one is the rest
       in_level : (ids : List (List ℕ)) (at k : ℕ) (done rest more : List (List ℕ)) → levels_below g tips (suc k) ≡ done ++ rest → ids ≡ (done ++ rest) ++ more → length done ≡ at → with_new ids (parents_of_each g rest) ≡ levels_below g tips (suc (suc k)) → at < length ids → (x : List ℕ) → x ≡ get_or ids at x → (ids2 : List (List ℕ)) → ids2 ≡ with_new ids (parents_of g x) → IsWalked g tips ids2 (at + 1)
       in_level ids at k done [] more levels has place ahead inside x item ids2 is =
-          let n = next_level ids at k done more levels has place ahead in
-          within ids at n.k n.done n.rest [] n.levels n.has n.place n.ahead inside x item ids2 is
+          let next = level g tips (suc k) in
+          let whole : ids ≡ levels_below g tips (suc (suc k)) = sym (with_new-nil ids) ∙ ahead in
+          let parts = ap (λ l. l ++ next) (levels ∙ append-nil done) in
+          within ids at (suc k) done next [] parts (whole ∙ parts ∙ sym (append-nil (done ++ next))) place
+          (ap (λ l. with_new l (parents_of_each g next)) whole) inside x item ids2 is
       in_level ids at k done (y ∷ rest) more levels has place ahead inside x item ids2 is =
           next_id ids at k done y rest more levels has place ahead x item ids2 is
 
@@ -100,3 +102,11 @@ module _ {A : Type 0} (g : List (Entry A)) (tips : List (List ℕ)) where
       let e1 = ap length joined in
       let e2 = ap length next in
       record { count = suc w.k; joined = joined; last = nil_from_length (level g tips (suc w.k)) (omega arith) }
+
+-- the ids of all levels about some tips are those that a tip reaches
+module _ {A : Type 0} (g : List (Entry A)) (tips ids : List (List ℕ)) (levels : AreLevels g tips ids) where
+  pub met_reached : (a : List ℕ) → Contains ids a → SomeReaches g tips a
+  met_reached a c = in_reached g tips levels.count a (subst (λ (l : List (List ℕ)). Contains l a) levels.joined c)
+
+  pub reached_met : (a : List ℕ) → SomeReaches g tips a → Contains ids a
+  reached_met a s = subst (λ (l : List (List ℕ)). Contains l a) (sym levels.joined) (reached_in g tips levels.count levels.last a s)

@@ -1,16 +1,11 @@
 pub mod Counting
-pub mod IdLists
-pub mod LevelReach
 pub mod LevelWalk
 pub mod Looking
 pub mod Marking
-pub mod Misses
 pub mod Offering
 pub mod Passing
 pub mod Reached
-pub mod SentMarks
 pub mod Staying
 pub mod Stopping
 pub mod Tagging
-pub mod Untold
 pub mod Walking

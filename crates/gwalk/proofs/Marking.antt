@@ -1,165 +1,138 @@
 -- Lists of marks.
-use Rattle.std.proofs.Common.{◌≡◌, ◌⊎◌, inl, inr, ℕ, zero, suc, ◌+◌, ◌<◌, ◌≤◌, Bool, true, false, ◌||◌, List, [], ◌∷◌, ◌++◌, length, get_or, set, take, All, refl, sym, ap, ap₂, ◌∙◌, subst, arith}
-use Rattle.std.proofs.Math.Seq.{get_or-append_seam}
-use Rattle.std.proofs.lemmas.Bool.{false≢true, cases_eq, cases_lt}
-use Rattle.std.proofs.lemmas.List.{get_or_past, get_or_append_left, get_or-take, get_or-set_same, get_or-set_other, length-set, length-append, length-take, take_more, take_all}
-use Rattle.std.proofs.lemmas.Option.{slice_get_cases}
+use Rattle.std.proofs.Common.{◌≡◌, inl, inr, ℕ, ◌+◌, ◌<◌, ◌≤◌, Bool, true, false, ◌||◌, ◌&&◌, not, List, [], ◌∷◌, ◌++◌}
+use Rattle.std.proofs.Common.{length, get_or, set, drop, max, All, Some, refl, sym, ap, ◌∙◌, subst, arith}
+use Rattle.std.specs.List.{slice_get}
+use Rattle.std.proofs.lemmas.Bool.{false≢true, cases_eq, cases_lt, cases_order, or_cases, or_left, or_right, and_parts}
+use Rattle.std.proofs.lemmas.Bool.{and_from, and_right, not-true, not_from_true, not_from_false, false_from_ne_true}
+use Rattle.std.proofs.lemmas.List.{get_or_past, get_or_push, get_or_append_left, get_or-set_same, get_or-set_other}
+use Rattle.std.proofs.lemmas.List.{length-set, length_push, drop_more}
+use Rattle.std.proofs.lemmas.List.Elements.{All-contains}
+use Rattle.std.proofs.lemmas.Option.{slice_get_cases, slice_get_within, get_or_from_slice_get}
 use Rattle.gobject.specs.declared.node.Entry.{Entry}
-use Rattle.gwalk.specs.Marks.{AreFull, MarksReached}
 use Rattle.gdag.specs.Reach.{IsFull, SomeReaches}
-use Rattle.gwalk.specs.steps.Walks.{AreMarked}
+use Rattle.gdag.specs.Sending.{IsNew}
+use Rattle.gwalk.specs.Marks.{AreFull, MarksReached}
+use Rattle.gwalk.specs.steps.Walks.{AreMarked, marked}
 use Rattle.gdag.proofs.Reaching.{reaches_on}
 
--- a mark more of a list
-pub take_same : (marks : List Bool) (i : ℕ) (b : Bool) → i < length marks → get_or marks i false ≡ b → get_or (take (i + 1) marks) i false ≡ b
-take_same marks i b inside is =
-    let long : length (take i marks) ≡ i = let l = length-take i marks in omega (arith, l) in
-    ap (λ l. get_or l i false) (take_more marks i false inside)
-    ∙ ap (λ k. get_or (take i marks ++ get_or marks i false ∷ []) k false) (sym long)
-    ∙ get_or-append_seam (take i marks) (get_or marks i false) [] false ∙ is
-
-pub take_other : (marks : List Bool) (i p : ℕ) → (i ≡ p → ⊥) → get_or (take (i + 1) marks) p false ≡ get_or (take i marks) p false
-take_other marks i p other =
-    elim (cases_lt p i) [
-      | inl less ↦ get_or-take (i + 1) marks p false (omega (arith, less)) ∙ sym (get_or-take i marks p false less)
-      | inr more ↦
-          let l1 = length-take (i + 1) marks in let l2 = length-take i marks in
-          let far : i + 1 ≤ p = above p other more in
-          get_or_past (take (i + 1) marks) p false (omega (arith, l1, far)) ∙ sym (get_or_past (take i marks) p false (omega (arith, l2, more)))
-    ]
-  where
-    above : (p : ℕ) → (i ≡ p → ⊥) → i ≤ p → i + 1 ≤ p
-    above p other more = elim (cases_lt i p) [ inl l ↦ omega (arith, l) | inr l ↦ absurd (other (omega (arith, l, more))) ]
-
-pub take_past : (marks : List Bool) (i : ℕ) → get_or (take i marks) i false ≡ false
-take_past marks i = let l = length-take i marks in get_or_past (take i marks) i false (omega (arith, l))
-
--- ---- marks of either list
-
-pub record IsEither (reached old marks : List Bool) (i : ℕ) : Type 0 where
-  pub longer : i ≤ length marks
-  pub long : length reached ≤ length marks
-  pub each : (p : ℕ) → get_or marks p false ≡ (get_or reached p false || get_or (take i old) p false)
-
 pub none_in : (p : ℕ) → get_or [] p false ≡ false
-none_in zero = refl
-none_in (suc p) = refl
+none_in p = get_or_past [] p false (omega arith)
 
-or_false : (b : Bool) → b ≡ (b || false)
-or_false true = refl
-or_false false = refl
+-- ---- two lists of marks become one, position by position: before `i` stand joined marks, from there the first list's
 
-or_true : (b c : Bool) → c ≡ true → true ≡ (b || c)
-or_true true c e = refl
-or_true false c e = sym e
+pub record AreJoined (join : Bool → Bool → Bool) (xs ys marks : List Bool) (i : ℕ) : Type 0 where
+  pub long : length marks ≡ max (length xs) i
+  pub done : (p : ℕ) → p < i → get_or marks p false ≡ join (get_or xs p false) (get_or ys p false)
+  pub left : (p : ℕ) → i ≤ p → get_or marks p false ≡ get_or xs p false
 
-pub either_begins : (reached old : List Bool) → IsEither reached old reached 0
-either_begins reached old = record {
-  longer = omega arith;
-  long = omega arith;
-  each = λ p. or_false (get_or reached p false) ∙ ap (λ b. get_or reached p false || b) (sym (none_in p));
+module _ (join : Bool → Bool → Bool) (xs ys : List Bool) where
+  abbrev joined : ℕ → Bool
+  joined p = join (get_or xs p false) (get_or ys p false)
+
+  pub join_begins : AreJoined join xs ys xs 0
+  join_begins = record { long = omega arith; done = λ p below. absurd (omega arith); left = λ p past. refl }
+
+  module _ (marks : List Bool) (i : ℕ) (now : AreJoined join xs ys marks i) where
+    -- a step changes one position
+    join_goes : (new : List Bool) → length new ≡ max (length xs) (i + 1) → get_or new i false ≡ joined i →
+        ((p : ℕ) → (i ≡ p → ⊥) → get_or new p false ≡ get_or marks p false) → AreJoined join xs ys new (i + 1)
+    join_goes new long here others = record {
+      long = long;
+      done = λ p below. elim (cases_eq i p) [
+        | inl same ↦ subst (λ (k : ℕ). get_or new k false ≡ joined k) same here
+        | inr other ↦ others p other ∙ now.done p (omega arith)
+      ];
+      left = λ p past. others p (λ same. omega arith) ∙ now.left p (omega arith);
+    }
+
+    pub join_sets : (mark : Bool) → i < length marks → mark ≡ joined i → AreJoined join xs ys (set marks i mark) (i + 1)
+    join_sets mark small is =
+        let l = now.long in let s = length-set marks i mark in
+        join_goes (set marks i mark) (omega arith) (get_or-set_same marks i mark false small ∙ is)
+        (λ p other. get_or-set_other marks i p mark false (λ h. other (sym h)))
+
+    pub join_stays : i < length marks → get_or xs i false ≡ joined i → AreJoined join xs ys marks (i + 1)
+    join_stays small is =
+        let l = now.long in join_goes marks (omega arith) (now.left i (omega arith) ∙ is) (λ p other. refl)
+
+    pub join_grows : (mark : Bool) → length marks ≤ i → mark ≡ joined i → AreJoined join xs ys (marks ++ mark ∷ [])
+        (i + 1)
+    join_grows mark end is =
+        let l = now.long in let s = length_push marks mark in let here : length marks ≡ i = omega arith in
+        join_goes (marks ++ mark ∷ []) (omega arith) (get_or_push marks mark false i here ∙ is)
+        (λ p other. elim (cases_order i p) [
+          | inl same ↦ absurd (other same)
+          | inr (inl less) ↦ get_or_past (marks ++ mark ∷ []) p false (omega arith) ∙ sym (get_or_past marks p false (omega arith))
+          | inr (inr more) ↦ get_or_append_left marks (mark ∷ []) false p (omega arith)
+        ])
+
+    pub join_ends : ((b : Bool) → join b false ≡ b) → length ys ≤ i → (p : ℕ) → get_or marks p false ≡ joined p
+    join_ends keeps end p =
+        elim (cases_lt p i) [
+          | inl below ↦ now.done p below
+          | inr past ↦
+              now.left p past ∙ sym (keeps (get_or xs p false))
+              ∙ ap (join (get_or xs p false)) (sym (get_or_past ys p false (omega arith)))
+        ]
+
+-- ---- what was wanted, without what is known
+
+abbrev pub less : Bool → Bool → Bool
+less x y = x && not y
+
+pub less_none : (b : Bool) → less b false ≡ b
+less_none b = search arith
+
+pub less_known : (b c : Bool) → c ≡ true → less b c ≡ false
+less_known b c e = and_right b (not c) (not_from_true c e)
+
+pub less_ends : {A : Type 0} (g : List (Entry A)) (wants commons : List (List ℕ)) (wanted known marks : List Bool) →
+    AreMarked (SomeReaches g wants) g wanted → AreMarked (SomeReaches g commons) g known →
+    length marks ≡ length wanted →
+    ((p : ℕ) → get_or marks p false ≡ less (get_or wanted p false) (get_or known p false)) →
+    AreMarked (IsNew g wants commons) g marks
+less_ends g wants commons wanted known marks w k long is = record {
+  long = long ∙ w.long;
+  each = λ p entry at.
+      let x = get_or wanted p false in let y = get_or known p false in (
+        λ t. (let b = and_parts x (not y) (sym (is p) ∙ t) in
+            record { wanted = (w.each p entry at).0 b.0; unknown = λ s. false≢true (sym (not-true y b.1) ∙ (k.each p entry at).1 s) }),
+        λ new. is p ∙ and_from x (not y) ((w.each p entry at).1 new.wanted)
+            (not_from_false y (false_from_ne_true y (λ t. new.unknown ((k.each p entry at).0 t)))),
+      );
 }
 
-module _ (reached old marks : List Bool) (i : ℕ) (mark : Bool) (now : IsEither reached old marks i) (inside : i < length old) (is : get_or old i false ≡ mark) where
-  -- the next mark is that of the old ones alone
-  pub either_grows : length marks ≤ i → IsEither reached old (marks ++ mark ∷ []) (i + 1)
-  either_grows end =
-      let l = length-append marks (mark ∷ []) in let a = now.longer in let b = now.long in
-      let here : length marks ≡ i = omega (arith, a, end) in
-      record {
-        longer = omega (arith, l, a);
-        long = omega (arith, l, b);
-        each = λ p.
-            elim (cases_eq i p) [
-              | inl same ↦
-                  ap (λ k. get_or (marks ++ mark ∷ []) k false) (sym same ∙ sym here) ∙ get_or-append_seam marks mark [] false
-                  ∙ ap₂ (λ x y. x || y)
-                  (sym (get_or_past reached p false (omega (arith, same, b, here))))
-                  (sym (take_same old i mark inside is) ∙ ap (λ k. get_or (take (i + 1) old) k false) same)
-              | inr other ↦
-                  same_before p other here
-                  ∙ now.each p ∙ ap (λ y. get_or reached p false || y) (sym (take_other old i p other))
-            ];
-      }
-    where
-      same_before : (p : ℕ) → (i ≡ p → ⊥) → length marks ≡ i → get_or (marks ++ mark ∷ []) p false ≡ get_or marks p false
-      same_before p other here =
-          elim (cases_lt p i) [
-            | inl less ↦ get_or_append_left marks (mark ∷ []) false p (omega (arith, less, here))
-            | inr more ↦ far p other here more (length-append marks (mark ∷ []))
-          ]
-        where
-          far : (p : ℕ) → (i ≡ p → ⊥) → length marks ≡ i → i ≤ p → length (marks ++ mark ∷ []) ≡ length marks + length (mark ∷ []) → get_or (marks ++ mark ∷ []) p false ≡ get_or marks p false
-          far p other here more l =
-              elim (cases_lt i p) [
-                | inl above ↦ get_or_past (marks ++ mark ∷ []) p false (omega (arith, l, above, here)) ∙ sym (get_or_past marks p false (omega (arith, above, here)))
-                | inr below ↦ absurd (other (omega (arith, below, more)))
-              ]
-
-  pub either_sets : i < length marks → mark ≡ true → IsEither reached old (set marks i true) (i + 1)
-  either_sets small t =
-      let s = length-set marks i true in let b = now.long in
-      record {
-        longer = omega (arith, s, small);
-        long = omega (arith, s, b);
-        each = λ p.
-            elim (cases_eq i p) [
-              | inl same ↦
-                  ap (λ k. get_or (set marks i true) k false) (sym same) ∙ get_or-set_same marks i true false small
-                  ∙ or_true (get_or reached p false) (get_or (take (i + 1) old) p false) (ap (λ k. get_or (take (i + 1) old) k false) (sym same) ∙ take_same old i mark inside is ∙ t)
-              | inr other ↦ get_or-set_other marks i p true false (λ h. other (sym h)) ∙ now.each p ∙ ap (λ y. get_or reached p false || y) (sym (take_other old i p other))
-            ];
-      }
-
-  pub either_stays : i < length marks → mark ≡ false → IsEither reached old marks (i + 1)
-  either_stays small f = record {
-    longer = omega (arith, small);
-    long = now.long;
-    each = λ p.
-        elim (cases_eq i p) [
-          | inl same ↦
-              now.each p ∙ ap (λ y. get_or reached p false || y)
-              (ap (λ k. get_or (take i old) k false) (sym same) ∙ take_past old i ∙ sym f ∙ sym (take_same old i mark inside is) ∙ ap (λ k. get_or (take (i + 1) old) k false) same)
-          | inr other ↦ now.each p ∙ ap (λ y. get_or reached p false || y) (sym (take_other old i p other))
-        ];
-  }
-
-pub either_ends : (reached old marks : List Bool) (i : ℕ) → IsEither reached old marks i → length old ≤ i → (p : ℕ) → get_or marks p false ≡ (get_or reached p false || get_or old p false)
-either_ends reached old marks i now end p = now.each p ∙ ap (λ l. get_or reached p false || get_or l p false) (take_all i old end)
-
-one_of : (a b : Bool) → (a || b) ≡ true → (b ≡ true) ⊎ (a ≡ true)
-one_of true b e = inr refl
-one_of false b e = inl e
-
-of_one : (a b : Bool) → (b ≡ true) ⊎ (a ≡ true) → (a || b) ≡ true
-of_one true b h = refl
-of_one false b (inl e) = e
-of_one false b (inr e) = absurd (false≢true e)
+-- the entries at marked positions, from one position on
+pub marked_next : {A : Type 0} (g : List (Entry A)) (marks : List Bool) (i : ℕ) (entry : Entry A) →
+    slice_get g i ≡ Some entry → i < length marks → marked (drop i g) (drop i marks) ≡ marked (entry ∷ drop (i + 1) g)
+    (get_or marks i false ∷ drop (i + 1) marks)
+marked_next g marks i entry at inside =
+    let rest : drop i g ≡ entry ∷ drop (i + 1) g = drop_more g i entry (slice_get_within g i entry at)
+    ∙ ap (λ x. x ∷ drop (i + 1) g) (get_or_from_slice_get g i entry entry at) in
+    rw (rest, drop_more marks i false inside) refl
 
 -- ---- marking what is reached
 
-module _ {A : Type 0} (g : List (Entry A)) (ids : List (List ℕ)) (reached old new : List Bool) (w : AreMarked (SomeReaches g ids) g reached) (is : (p : ℕ) → get_or new p false ≡ (get_or reached p false || get_or old p false)) where
-  pub marks_more : MarksReached g ids old new
-  marks_more = record {
-    each = λ p entry at. (
-      λ t. elim (one_of (get_or reached p false) (get_or old p false) (sym (is p) ∙ t)) [ inl b ↦ inl b | inr a ↦ inr ((w.each p entry at).0 a) ],
-      λ h. is p ∙ of_one (get_or reached p false) (get_or old p false) (elim h [ inl b ↦ inl b | inr s ↦ inr ((w.each p entry at).1 s) ]),
-    );
+module _ {A : Type 0} (g : List (Entry A)) (ids : List (List ℕ)) (old new : List Bool) where
+  pub marks_more : (reached : List Bool) → AreMarked (SomeReaches g ids) g reached →
+      ((p : ℕ) → get_or new p false ≡ (get_or reached p false || get_or old p false)) → MarksReached g ids old new
+  marks_more reached w is = record {
+    each = λ p entry at.
+        let x = get_or reached p false in let y = get_or old p false in (
+          λ t. elim (or_cases x y (sym (is p) ∙ t)) [ inl a ↦ inr ((w.each p entry at).0 a) | inr b ↦ inl b ],
+          λ h. is p ∙ elim h [ inl b ↦ or_right x y b | inr s ↦ or_left x y ((w.each p entry at).1 s) ],
+        );
     others = λ p past.
-        is p ∙ ap (λ b. b || get_or old p false) (get_or_past reached p false (let l = w.long in omega (arith, l, past)));
+        is p ∙ ap (λ b. b || get_or old p false) (get_or_past reached p false (let l = w.long in omega arith));
   }
 
--- what a connected id reaches is connected
-full_along : {A : Type 0} (g : List (Entry A)) (ids : List (List ℕ)) (c : List ℕ) → All (IsFull g) ids → SomeReaches g ids c → IsFull g c
-full_along g ids c full (a, (k, inside, same), r) = λ b q.
-    subst (IsFull g) same (full k a inside) b (reaches_on g a c b r q)
-
-pub full_more : {A : Type 0} (g : List (Entry A)) (ids : List (List ℕ)) (old new : List Bool) → All (IsFull g) ids → MarksReached g ids old new → AreFull g old → AreFull g new
-full_more {A} g ids old new full m before p t =
-    elim (slice_get_cases g p).1 [
-      | inl w ↦ elim ((m.each p w.0 w.2).0 t) [
-        | inl b ↦ before p b
-        | inr s ↦ (w.0, w.2, full_along g ids (w.0).id full s)
+  -- what a connected id reaches is connected
+  pub full_more : All (IsFull g) ids → MarksReached g ids old new → AreFull g old → AreFull g new
+  full_more full m before p t =
+      elim (slice_get_cases g p).1 [
+        | inl w ↦ elim ((m.each p w.0 w.2).0 t) [
+          | inl b ↦ before p b
+          | inr s ↦ (w.0, w.2, λ b q. All-contains (IsFull g) ids s.0 full s.1 b (reaches_on g s.0 (w.0).id b s.2 q))
+        ]
+        | inr past ↦ before p (sym (m.others p past.0) ∙ t)
       ]
-      | inr past ↦ before p (sym (m.others p past.0) ∙ t)
-    ]

@@ -1,5 +1,5 @@
 -- What is counted where marked objects have lost their parents.
-use Rattle.std.proofs.Common.{◌≡◌, ℕ, zero, suc, Bool, true, false, List, [], ◌∷◌, length, get_or, sum_by, Some, refl, sym, ◌∙◌, subst, arith}
+use Rattle.std.proofs.Common.{◌≡◌, ℕ, zero, suc, Bool, true, false, List, [], ◌∷◌, length, get_or, Some, refl, sym, ◌∙◌, subst, arith}
 use Rattle.std.specs.List.{slice_get}
 use Rattle.std.proofs.lemmas.Bool.{false≢true}
 use Rattle.std.proofs.lemmas.List.Sums.{sum_by-cons}
@@ -14,9 +14,7 @@ use Rattle.gdag.proofs.Holding.{own_place}
 use Rattle.gwalk.specs.Marks.{CountsPast, IsUnmarked, SomeReachesPast, StopsAtMarks, stop_at}
 use Rattle.gwalk.proofs.Reached.{past_from, past_to}
 use Rattle.gwalk.proofs.Stopping.{bare_if}
-
-abbrev parents_in : {A : Type 0} → List (Entry A) → ℕ
-parents_in list = sum_by (λ entry. length entry.node.parents) list
+use Rattle.gwalk.specs.steps.Walks.{parents_in}
 
 -- a mark says of each entry whether it is left
 abbrev Marks : {A : Type 0} → (Entry A → Type 0) → List Bool → List (Entry A) → Type 0
@@ -33,8 +31,9 @@ record Whole {A : Type 0} (Q : List ℕ → Type 0) (R : Entry A → Type 0) (g 
   sum : parents_in chosen ≡ parents_in left
 
 module _ {A : Type 0} (Q : List ℕ → Type 0) (R : Entry A → Type 0) where
-  later : (marks : List Bool) (mark : Bool) (entry : Entry A) (g : List (Entry A)) → Marks R (mark ∷ marks) (entry ∷ g) → Marks R marks g
-  later marks mark entry g are place = are (suc place)
+  none_later : (entry : Entry A) (g : List (Entry A)) → Marks R [] (entry ∷ g) → Marks R [] g
+  none_later entry g are zero = are 1
+  none_later entry g are (suc place) = are (suc (suc place))
 
   keeps_one : (mark : Bool) (entry : Entry A) (g chosen : List (Entry A)) → (mark ≡ false → R entry) × (mark ≡ true → ¬ (R entry)) → Q entry.id → Whole Q R g chosen → Whole Q R (entry ∷ g) (bare_if mark entry ∷ chosen)
   keeps_one true entry g chosen is q rest = record {
@@ -69,32 +68,22 @@ module _ {A : Type 0} (Q : List ℕ → Type 0) (R : Entry A → Type 0) where
   nothing : Whole Q R [] []
   nothing = record { list = []; reached = none; long = refl; left = []; unmarked = none; sum = refl }
 
-  unmarked_whole : (g chosen : List (Entry A)) → Marks R [] g → Selects (λ entry. Q entry.id) g chosen → Whole Q R g chosen
-  unmarked_whole g chosen are none = nothing
-  unmarked_whole g chosen are (keep {x = entry} {xs = others} {ys = more} q rest) =
-      keeps_one false entry others more (are 0 entry refl) q (unmarked_whole others more (unshift entry others are) rest)
-    where
-      unshift : (entry : Entry A) (others : List (Entry A)) → Marks R [] (entry ∷ others) → Marks R [] others
-      unshift entry others are zero = are 1
-      unshift entry others are (suc place) = are (suc (suc place))
-  unmarked_whole g chosen are (skip {x = entry} {xs = others} out rest) =
-      skips_one entry others chosen out (unmarked_whole others chosen (unshift entry others are) rest)
-    where
-      unshift : (entry : Entry A) (others : List (Entry A)) → Marks R [] (entry ∷ others) → Marks R [] others
-      unshift entry others are zero = are 1
-      unshift entry others are (suc place) = are (suc (suc place))
+  adds : (mark : Bool) (entry : Entry A) (g rest chosen : List (Entry A)) → (mark ≡ false → R entry) ×
+      (mark ≡ true → ¬ (R entry)) → ((more : List (Entry A)) → Selects (λ x. Q x.id) rest more → Whole Q R g more) →
+      Selects (λ x. Q x.id) (bare_if mark entry ∷ rest) chosen → Whole Q R (entry ∷ g) chosen
+  adds true entry g rest chosen is on (keep {ys = more} q s) = keeps_one true entry g more is q (on more s)
+  adds true entry g rest chosen is on (skip out s) = skips_one entry g chosen out (on chosen s)
+  adds false entry g rest chosen is on (keep {ys = more} q s) = keeps_one false entry g more is q (on more s)
+  adds false entry g rest chosen is on (skip out s) = skips_one entry g chosen out (on chosen s)
 
   whole : (marks : List Bool) (g chosen : List (Entry A)) → Marks R marks g → Selects (λ entry. Q entry.id) (stop_at marks g) chosen → Whole Q R g chosen
-  whole [] g chosen are chooses = unmarked_whole g chosen are chooses
+  whole [] [] chosen are none = nothing
   whole (mark ∷ marks) [] chosen are none = nothing
-  whole (true ∷ marks) (entry ∷ g) chosen are (keep {ys = more} q rest) =
-      keeps_one true entry g more (are 0 entry refl) q (whole marks g more (later marks true entry g are) rest)
-  whole (true ∷ marks) (entry ∷ g) chosen are (skip out rest) =
-      skips_one entry g chosen out (whole marks g chosen (later marks true entry g are) rest)
-  whole (false ∷ marks) (entry ∷ g) chosen are (keep {ys = more} q rest) =
-      keeps_one false entry g more (are 0 entry refl) q (whole marks g more (later marks false entry g are) rest)
-  whole (false ∷ marks) (entry ∷ g) chosen are (skip out rest) =
-      skips_one entry g chosen out (whole marks g chosen (later marks false entry g are) rest)
+  whole [] (entry ∷ g) chosen are chooses =
+      adds false entry g g chosen (are 0 entry refl) (λ more. whole [] g more (none_later entry g are)) chooses
+  whole (mark ∷ marks) (entry ∷ g) chosen are chooses =
+      let on = λ (more : List (Entry A)). whole marks g more (λ place. are (suc place)) in
+      adds mark entry g (stop_at marks g) chosen (are 0 entry refl) on chooses
 
 module _ {A : Type 0} (g : List (Entry A)) (marks : List Bool) (differ : IdsDiffer g) where
   marks_say : Marks (λ (entry : Entry A). IsUnmarked g marks entry.id) marks g

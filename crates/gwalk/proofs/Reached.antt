@@ -1,24 +1,26 @@
 -- What the marks of a walk say of the ids that are reached.
-use Rattle.std.proofs.Common.{◌≡◌, ◌⊎◌, inl, inr, ◌↔◌, ℕ, suc, ◌<◌, Bool, true, false, cond, List, [], ◌∷◌, length, get_or, sum_by, Contains, IsSome, Option, Some, None, refl, sym, ap, ◌∙◌, subst, arith, rules}
+use Rattle.std.proofs.Common.{◌≡◌, ◌⊎◌, inl, inr, ◌↔◌, ℕ, suc, Bool, true, false, List, [], ◌∷◌, length, get_or, Contains, Option, Some, None, refl, sym, ap, ◌∙◌, subst, arith, rules}
 use Rattle.std.specs.List.{slice_get}
-use Rattle.std.specs.Option.{option_map}
-use Rattle.std.proofs.lemmas.List.Sums.{sum_by-cons}
-use Rattle.std.proofs.lemmas.List.Elements.{Contains-get_or}
-use Rattle.std.proofs.lemmas.Option.{slice_get_cases, same_Some}
+use Rattle.std.specs.Option.{option_map, MatchOption}
+use Rattle.std.proofs.lemmas.List.Elements.{Contains-get_or, Contains-append_right}
+use Rattle.std.proofs.lemmas.Option.{same_Some}
 use Rattle.std.proofs.lemmas.Bool.{false≢true}
 use Rattle.gobject.specs.declared.node.Node.{Node}
 use Rattle.gobject.specs.declared.node.Entry.{Entry}
 use Rattle.gobject.specs.Objects.{node_at, place_of, IdsDiffer}
-use Rattle.gdag.specs.Graphs.{Holds, HasParent, IsNode}
+use Rattle.gdag.specs.Graphs.{Holds, HasParent, IsNode, IsFirstAbsent}
 use Rattle.gdag.specs.Reach.{Reaches, here, onward, SomeReaches, IsFull}
 use Rattle.gwalk.specs.Marks.{AreFull, IsUnmarked, ReachesPast, there, further, stop_at}
 use Rattle.gdag.specs.Selecting.{Selects, none, keep, skip}
 use Rattle.gdag.specs.Walks.{CountsReached, Misses}
-use Rattle.gwalk.specs.steps.Walks.{IsWalk, AreMarked, marked, marked_parents}
-use Rattle.gdag.proofs.Reaching.{held_at_place, node_at_place, node_at_none, place_inside, kept_along, some_reaches, place_of_node}
-use Rattle.gdag.proofs.Holding.{own_place}
-use Rattle.gwalk.proofs.Counting.{count_marks}
-use Rattle.gwalk.proofs.LevelReach.{met_reached, reached_met}
+use Rattle.gwalk.proofs.Marking.{none_in}
+use Rattle.gtopowalk.proofs.Places.{entry_there}
+use Rattle.gdag.proofs.IdLists.{either_way, nothing_in_nil}
+use Rattle.gdag.proofs.Holding.{held_node, not_held, own_place}
+use Rattle.std.proofs.Common.{All, zero, ◌++◌, ◌≡◌}
+use Rattle.gwalk.specs.steps.Walks.{IsWalk, AreMarked, marked}
+use Rattle.gdag.proofs.Reaching.{held_at_place, node_at_place, place_inside, kept_along, some_reaches, place_of_node}
+use Rattle.gwalk.proofs.LevelWalk.{met_reached, reached_met}
 use Rattle.gwalk.proofs.Stopping.{bare_if, stop_place, stop_slice, stopped_entry, mapped}
 use Rattle.gdag.proofs.Places.{id_at_place}
 
@@ -43,34 +45,14 @@ marked_selects P (entry ∷ g) (true ∷ marks) long each =
 marked_selects P (entry ∷ g) (false ∷ marks) long each =
     skip (λ p. false≢true ((each 0 entry refl).1 p)) (marked_selects P g marks (omega arith) (λ k. each (suc k)))
 
-marked_length : {A : Type 0} (g : List (Entry A)) (marks : List Bool) → length marks ≡ length g → count_marks marks ≡ length (marked g marks)
-marked_length [] [] long = refl
-marked_length [] (mark ∷ marks) long = absurd (omega arith)
-marked_length (entry ∷ g) [] long = absurd (omega arith)
-marked_length (entry ∷ g) (true ∷ marks) long =
-    let c = sum_by-cons (λ m. cond m 1 0) true marks in let e = marked_length g marks (omega arith) in omega (arith, c, e)
-marked_length (entry ∷ g) (false ∷ marks) long =
-    let c = sum_by-cons (λ m. cond m 1 0) false marks in let e = marked_length g marks (omega arith) in omega (arith, c, e)
-
-abbrev all_parents : {A : Type 0} → List (Entry A) → ℕ
-all_parents list = sum_by (λ entry. length entry.node.parents) list
-
-marked_sum : {A : Type 0} (g : List (Entry A)) (marks : List Bool) → length marks ≡ length g → marked_parents g marks ≡ all_parents (marked g marks)
-marked_sum [] marks long = refl
-marked_sum (entry ∷ g) [] long = absurd (omega arith)
-marked_sum {A} (entry ∷ g) (true ∷ marks) long =
-    let c = sum_by-cons (λ (e : Entry A). length e.node.parents) entry (marked g marks) in let e = marked_sum g marks (omega arith) in omega (arith, c, e)
-marked_sum (entry ∷ g) (false ∷ marks) long =
-    let e = marked_sum g marks (omega arith) in omega (arith, e)
-
 pub counts_reached : {A : Type 0} (g : List (Entry A)) (starts : List (List ℕ)) (marks : List Bool) (met : List ℕ) (lost : Option (List ℕ)) (parents : ℕ) → IdsDiffer g → IsWalk g starts marks met lost parents → CountsReached g starts (length met) parents
 counts_reached {A} g starts marks met lost parents differ walk =
     let m = marks_reached g starts marks met lost parents differ walk in
     record {
       list = marked g marks;
       reached = marked_selects (λ entry. SomeReaches g starts entry.id) g marks m.long m.each;
-      held_are = walk.has_met.once ∙ marked_length g marks m.long;
-      parents_are = walk.has_met.parents_are ∙ marked_sum g marks m.long;
+      held_are = walk.has_met.once;
+      parents_are = walk.has_met.parents_are;
     }
 
 -- ---- what is missing, where the walk stopped at connected ids
@@ -85,11 +67,8 @@ pub record IsHeldBy {A : Type 0} (g : List (Entry A)) (a : List ℕ) (node : Nod
   pub id_is : entry.id ≡ a
 
 pub found_at : {A : Type 0} (g : List (Entry A)) (a : List ℕ) (p : ℕ) → place_of g a ≡ Some p → (entry : Entry A) × (slice_get g p ≡ Some entry) × (entry.id ≡ a)
-found_at {A} g a p e =
-    elim (slice_get_cases g p).1 [
-      | inl w ↦ (w.0, w.2, id_at_place g a p w.0 e w.2)
-      | inr w ↦ absurd (let h = place_inside g a p e in omega (arith, w.0, h))
-    ]
+found_at g a p e =
+    let there = entry_there g p (place_inside g a p e) in (there.0, there.1, id_at_place g a p there.0 e there.1)
 
 pub held_by : {A : Type 0} (g : List (Entry A)) (a : List ℕ) (node : Node A) → IsNode g a node → IsHeldBy g a node
 held_by {A} g a node held =
@@ -97,42 +76,22 @@ held_by {A} g a node held =
     let m = mapped (λ (entry : Entry A). entry.node) (slice_get g p.0) node (sym (node_at_place g a p.0 p.1) ∙ held) in
     record { place = p.0; place_is = p.1; entry = m.0; at = m.1; node_is = m.2; id_is = id_at_place g a p.0 m.0 p.1 m.1 }
 
+-- graphs with the same positions hold the same ids
+module _ {A : Type 0} (g h : List (Entry A)) (a : List ℕ) (same : place_of g a ≡ place_of h a) where
+  same_holds : Holds g a → Holds h a
+  same_holds held =
+      let n = held_node g a held in let p = place_of_node g a n.0 n.1 in held_at_place h a p.0 (sym same ∙ p.1)
+
+  same_absent : node_at h a ≡ None → node_at g a ≡ None
+  same_absent empty = not_held g a (λ held. (let k = rw empty at (same_holds held) in search (rules, k)))
+
 module _ {A : Type 0} (known : List Bool) (g : List (Entry A)) where
-  stopped_at : (p : ℕ) (mark : Bool) (entry : Entry A) → get_or known p false ≡ mark → slice_get g p ≡ Some entry → slice_get (stop_at known g) p ≡ Some (bare_if mark entry)
-  stopped_at p mark entry is at = rw (stop_slice known g p, is, at) refl
+  -- a step here leaves an unmarked id, and is a step there
+  bare_parent : (mark : Bool) (entry : Entry A) (b : List ℕ) → Contains (bare_if mark entry).node.parents b → (mark ≡ false) × Contains entry.node.parents b
+  bare_parent true entry b c = nothing_in_nil b c
+  bare_parent false entry b c = (refl, c)
 
-  node_then : (a : List ℕ) (node : Node A) (h : IsHeldBy g a node) (mark : Bool) → get_or known h.place false ≡ mark → node_at (stop_at known g) a ≡ Some (bare_if mark h.entry).node
-  node_then a node h mark is =
-      node_at_place (stop_at known g) a h.place (stop_place known g a ∙ h.place_is)
-      ∙ ap (option_map (λ (entry : Entry A). entry.node)) (stopped_at h.place mark h.entry is h.at)
-
-  pub stop_absent : (a : List ℕ) → node_at (stop_at known g) a ≡ None → node_at g a ≡ None
-  stop_absent a empty = by (place_of g a) refl
-    where
-      not_held : (o : Option (Node A)) → IsSome o → o ≡ None → ⊥
-      not_held o held gone = let h = rw gone at held in search (rules, h)
-
-      by : (o : Option ℕ) → place_of g a ≡ o → node_at g a ≡ None
-      by None e = node_at_none g a e
-      by (Some p) e = absurd (not_held (node_at (stop_at known g) a) (held_at_place (stop_at known g) a p (stop_place known g a ∙ e)) empty)
-
-  pub stop_holds : (a : List ℕ) → Holds (stop_at known g) a → Holds g a
-  stop_holds a held = by (place_of g a) refl
-    where
-      gone : place_of g a ≡ None → ⊥
-      gone e =
-          let empty = node_at_none (stop_at known g) a (stop_place known g a ∙ e) in
-          let h = rw empty at held in search (rules, h)
-
-      by : (o : Option ℕ) → place_of g a ≡ o → Holds g a
-      by None e = absurd (gone e)
-      by (Some p) e = held_at_place g a p e
-
-  bare_parent : (mark : Bool) (entry : Entry A) (b : List ℕ) → Contains (bare_if mark entry).node.parents b → Contains entry.node.parents b
-  bare_parent true entry b c = absurd (let k : c.0 < 0 = c.1 in omega arith)
-  bare_parent false entry b c = c
-
-  stop_parent : (a b : List ℕ) → HasParent (stop_at known g) a b → HasParent g a b
+  stop_parent : (a b : List ℕ) → HasParent (stop_at known g) a b → IsUnmarked g known a × (HasParent g a b)
   stop_parent a b parent =
       let h = held_by (stop_at known g) a parent.0 parent.1 in
       let w = stopped_entry known g h.place h.entry h.at in
@@ -140,32 +99,21 @@ module _ {A : Type 0} (known : List Bool) (g : List (Entry A)) where
       let is : node_at g a ≡ Some (w.0).node = node_at_place g a h.place place ∙ ap (option_map (λ (entry : Entry A). entry.node)) w.1 in
       let c : Contains (bare_if (get_or known h.place false) w.0).node.parents b =
       subst (λ (node : Node A). Contains node.parents b) (sym (ap (λ (entry : Entry A). entry.node) w.2 ∙ h.node_is)) parent.2 in
-      ((w.0).node, is, bare_parent (get_or known h.place false) w.0 b c)
-
-  -- a step here leaves an unmarked id
-  bare_free : (mark : Bool) (entry : Entry A) (b : List ℕ) → Contains (bare_if mark entry).node.parents b → mark ≡ false
-  bare_free true entry b c = absurd (let k : c.0 < 0 = c.1 in omega arith)
-  bare_free false entry b c = refl
-
-  stop_leaves : (a b : List ℕ) → HasParent (stop_at known g) a b → IsUnmarked g known a
-  stop_leaves a b parent =
-      let h = held_by (stop_at known g) a parent.0 parent.1 in
-      let w = stopped_entry known g h.place h.entry h.at in
-      let c : Contains (bare_if (get_or known h.place false) w.0).node.parents b =
-      subst (λ (node : Node A). Contains node.parents b) (sym (ap (λ (entry : Entry A). entry.node) w.2 ∙ h.node_is)) parent.2 in
-      (h.place, sym (stop_place known g a) ∙ h.place_is, bare_free (get_or known h.place false) w.0 b c)
+      let free = bare_parent (get_or known h.place false) w.0 b c in
+      ((h.place, place, free.0), ((w.0).node, is, free.1))
 
   parent_left : (a b : List ℕ) → IsUnmarked g known a → HasParent g a b → HasParent (stop_at known g) a b
   parent_left a b free parent =
       let h = held_by g a parent.0 parent.1 in
       let same : free.0 ≡ h.place = same_Some free.0 h.place (sym free.1 ∙ h.place_is) in
       let is : get_or known h.place false ≡ false = subst (λ (p : ℕ). get_or known p false ≡ false) same free.2 in
+      let node = node_at_place (stop_at known g) a h.place (stop_place known g a ∙ h.place_is) in
       let c = subst (λ (node : Node A). Contains node.parents b) (sym h.node_is) parent.2 in
-      ((h.entry).node, node_then a parent.0 h false is, c)
+      ((h.entry).node, rw (node, stop_slice known g h.place, is, h.at) refl, c)
 
   pub past_from : (a b : List ℕ) → Reaches (stop_at known g) a b → ReachesPast g known a b
   past_from a b here = there
-  past_from a b (onward {b = c} parent more) = further (stop_leaves a c parent) (stop_parent a c parent) (past_from c b more)
+  past_from a b (onward {b = c} parent more) = let s = stop_parent a c parent in further s.0 s.1 (past_from c b more)
 
   pub past_to : (a b : List ℕ) → ReachesPast g known a b → Reaches (stop_at known g) a b
   past_to a b there = here
@@ -173,23 +121,18 @@ module _ {A : Type 0} (known : List Bool) (g : List (Entry A)) where
 
   pub stop_reaches : (a b : List ℕ) → Reaches (stop_at known g) a b → Reaches g a b
   stop_reaches a b here = here
-  stop_reaches a b (onward {b = c} parent more) = onward (stop_parent a c parent) (stop_reaches c b more)
+  stop_reaches a b (onward {b = c} parent more) = onward (stop_parent a c parent).1 (stop_reaches c b more)
 
   -- a step leaves a connected id, or is a step here
   step_here : AreFull g known → (a b : List ℕ) → HasParent g a b → IsFull g b ⊎ HasParent (stop_at known g) a b
-  step_here full a b parent = by (get_or known h.place false) refl
-    where
-      h : IsHeldBy g a parent.0
-      h = held_by g a parent.0 parent.1
-
-      by : (mark : Bool) → get_or known h.place false ≡ mark → IsFull g b ⊎ HasParent (stop_at known g) a b
-      by true is =
-          let f = full h.place is in
-          let same : (f.0).id ≡ a = ap (λ (e : Entry A). e.id) (same_Some f.0 h.entry (sym f.1 ∙ h.at)) ∙ h.id_is in
-          inl (λ c r. f.2 c (subst (λ (x : List ℕ). Reaches g x c) (sym same) (onward parent r)))
-      by false is =
-          let c = subst (λ (node : Node A). Contains node.parents b) (sym h.node_is) parent.2 in
-          inr ((h.entry).node, node_then a parent.0 h false is, c)
+  step_here full a b parent =
+      let h = held_by g a parent.0 parent.1 in
+      either_way (get_or known h.place false)
+      (λ is.
+      let f = full h.place is in
+      let same : (f.0).id ≡ a = ap (λ (e : Entry A). e.id) (same_Some f.0 h.entry (sym f.1 ∙ h.at)) ∙ h.id_is in
+      inl (λ c r. f.2 c (subst (λ (x : List ℕ). Reaches g x c) (sym same) (onward parent r))))
+      (λ is. inr (parent_left a b (h.place, h.place_is, is) parent))
 
   module _ (full : AreFull g known) (starts : List (List ℕ)) where
     goes_on : (a b : List ℕ) → SomeReaches (stop_at known g) starts a ⊎ IsFull g a → HasParent g a b → SomeReaches (stop_at known g) starts b ⊎ IsFull g b
@@ -207,27 +150,32 @@ module _ {A : Type 0} (known : List Bool) (g : List (Entry A)) where
     pub misses : (marks : List Bool) (met : List ℕ) (lost : Option (List ℕ)) (parents : ℕ) → IsWalk (stop_at known g) starts marks met lost parents → Misses g starts lost
     misses marks met None parents walk = λ k d inside b r.
         elim (reached_here (get_or starts k d) b (Contains-get_or starts k d inside) r) [
-          | inl s ↦ stop_holds b (walk.has_met.lost_is b (reached_met (stop_at known g) starts walk.ids walk.levels b s))
+          | inl s ↦ same_holds (stop_at known g) g b (stop_place known g b) (walk.has_met.lost_is b (reached_met (stop_at known g) starts walk.ids walk.levels b s))
           | inr f ↦ f b here
         ]
     misses marks met (Some b) parents walk =
         let is = walk.has_met.lost_is in
         let s = met_reached (stop_at known g) starts walk.ids walk.levels b is.0 in
-        ((s.0, s.1, stop_reaches s.0 b s.2), stop_absent b is.1)
+        ((s.0, s.1, stop_reaches s.0 b s.2), same_absent g (stop_at known g) b (sym (stop_place known g b)) is.1)
 
 -- ids differ where some have lost their parents
 stop_none : {A : Type 0} (marks : List Bool) (g : List (Entry A)) (a : List ℕ) → node_at g a ≡ None → node_at (stop_at marks g) a ≡ None
-stop_none {A} marks g a empty = by (place_of g a) refl
-  where
-    gone : (p : ℕ) → place_of g a ≡ Some p → ⊥
-    gone p e = let held = held_at_place g a p e in let h = rw empty at held in search (rules, h)
-
-    by : (o : Option ℕ) → place_of g a ≡ o → node_at (stop_at marks g) a ≡ None
-    by None e = node_at_none (stop_at marks g) a (stop_place marks g a ∙ e)
-    by (Some p) e = absurd (gone p e)
+stop_none marks g a empty = same_absent (stop_at marks g) g a (stop_place marks g a) empty
 
 pub stop_differ : {A : Type 0} (marks : List Bool) (g : List (Entry A)) → IdsDiffer g → IdsDiffer (stop_at marks g)
 stop_differ [] g differ = differ
 stop_differ (mark ∷ marks) [] differ = tt
 stop_differ (true ∷ marks) (entry ∷ g) differ = (stop_none marks g entry.id differ.0, stop_differ marks g differ.1)
 stop_differ (false ∷ marks) (entry ∷ g) differ = (stop_none marks g entry.id differ.0, stop_differ marks g differ.1)
+
+-- ---- what is missing where the graph is closed, and where nothing is marked
+
+-- where each id that is held is connected, the ids themselves are looked up
+pub held_misses : {A : Type 0} (g : List (Entry A)) (ids : List (List ℕ)) (o : Option (List ℕ)) → ((a : List ℕ) → Holds g a → IsFull g a) → MatchOption o (All (Holds g) ids) (IsFirstAbsent g ids) → Misses g ids o
+held_misses g ids None full all = λ k d inside. full (get_or ids k d) (all k d inside)
+held_misses g ids (Some b) full found =
+    let there : Contains (found.front ++ b ∷ found.rest) b = Contains-append_right found.front (b ∷ found.rest) b (zero, omega arith, refl) in
+    ((b, subst (λ (xs : List (List ℕ)). Contains xs b) (sym found.parts) there, here), found.absent)
+
+pub nothing_full : {A : Type 0} (g : List (Entry A)) → AreFull g []
+nothing_full g p t = absurd (false≢true (sym (none_in p) ∙ t))

@@ -1,10 +1,12 @@
 -- The graph whose marked objects have no parents.
-use Rattle.std.proofs.Common.{◌≡◌, inl, inr, ℕ, zero, suc, ◌<◌, ◌≤◌, Bool, true, false, cond, List, [], ◌∷◌, length, get_or, All, Option, Some, None, refl, sym, ap, ◌∙◌, subst, arith}
+use Rattle.std.proofs.Common.{◌≡◌, ℕ, zero, suc, ◌<◌, ◌≤◌, Bool, true, false, cond, List, [], ◌∷◌, length, get_or, All, Option, Some, None, refl, sym, ap, ◌∙◌, subst, arith}
 use Rattle.std.specs.List.{position_or_len, slice_get}
 use Rattle.std.specs.Option.{option_map}
-use Rattle.std.proofs.lemmas.Option.{none-some, slice_get_within, get_or_from_slice_get, slice_get_cases}
+use Rattle.std.proofs.lemmas.Option.{none-some}
 use Rattle.gobject.specs.declared.node.Entry.{Entry}
 use Rattle.gobject.specs.Objects.{has_id, place_of, entry_of, node_of, IsShaped}
+use Rattle.gdag.proofs.Growing.{all_standing}
+use Rattle.gtopowalk.proofs.Places.{entry_there}
 use Rattle.gwalk.specs.Marks.{stop_at}
 use Rattle.gwalk.proofs.Marking.{none_in}
 
@@ -56,24 +58,15 @@ mapped f (Some x) y e = (x, refl, let e2 : Some (f x) ≡ Some y = e in cc)
 pub stopped_entry : {A : Type 0} (marks : List Bool) (g : List (Entry A)) (p : ℕ) (entry : Entry A) → slice_get (stop_at marks g) p ≡ Some entry → (whole : Entry A) × (slice_get g p ≡ Some whole) × (bare_if (get_or marks p false) whole ≡ entry)
 stopped_entry marks g p entry at = mapped (bare_if (get_or marks p false)) (slice_get g p) entry (sym (stop_slice marks g p) ∙ at)
 
-pub shaped_narrow : {A : Type 0} (g : List (Entry A)) → All (λ entry. IsShaped entry.node) g → (p : ℕ) (entry : Entry A) → slice_get g p ≡ Some entry → length entry.node.parents ≤ 64
-shaped_narrow {A} g shaped p entry at =
-    let inside = slice_get_within g p entry at in
-    (subst (λ (e : Entry A). IsShaped e.node) (get_or_from_slice_get g p entry entry at) (shaped p entry inside)).few
-
 pub stop_narrow : {A : Type 0} (marks : List Bool) (g : List (Entry A)) → All (λ entry. IsShaped entry.node) g → (p : ℕ) (entry : Entry A) → slice_get (stop_at marks g) p ≡ Some entry → length entry.node.parents ≤ 64
 stop_narrow {A} marks g shaped p entry at =
     let w = stopped_entry marks g p entry at in
-    subst (λ (e : Entry A). length e.node.parents ≤ 64) w.2 (narrow_if (get_or marks p false) w.0 (shaped_narrow g shaped p w.0 w.1))
+    subst (λ (e : Entry A). length e.node.parents ≤ 64) w.2 (narrow_if (get_or marks p false) w.0 (all_standing (λ (e : Entry A). IsShaped e.node) g p w.0 w.1 shaped).few)
 
 -- ---- the parents that are lent
 
 pub lends_none : {A : Type 0} (marks : List Bool) (g : List (Entry A)) (p : ℕ) → get_or marks p false ≡ true → p < length g → option_map (λ (entry : Entry A). entry.node.parents) (slice_get (stop_at marks g) p) ≡ Some []
-lends_none {A} marks g p marked inside =
-    elim (slice_get_cases g p).1 [
-      | inl w ↦ rw (stop_slice marks g p, marked, w.2) refl
-      | inr w ↦ absurd (omega (arith, w.0))
-    ]
+lends_none marks g p marked inside = rw (stop_slice marks g p, marked, (entry_there g p inside).1) refl
 
 pub lends_all : {A : Type 0} (marks : List Bool) (g : List (Entry A)) (p : ℕ) (parents : List (List ℕ)) → get_or marks p false ≡ false → option_map (λ (entry : Entry A). entry.node.parents) (slice_get g p) ≡ Some parents → option_map (λ (entry : Entry A). entry.node.parents) (slice_get (stop_at marks g) p) ≡ Some parents
 lends_all {A} marks g p parents free are =

@@ -11,7 +11,7 @@ use Rattle.gdag.specs.Sending.{IsNew, IsTagToSend, IsToSend}
 use Rattle.gwalk.specs.steps.Tags.{AreTagged, IsTagAmong, IsTagFrom, LeadsToMarked}
 use Rattle.gwalk.specs.steps.Walks.{AreMarked, marked}
 use Rattle.gdag.proofs.Holding.{own_place}
-use Rattle.gdag.proofs.PeelLemmas.{onward, rest_of, tags_more}
+use Rattle.gdag.proofs.PeelLemmas.{onward, rest_of, tags_more, tags_on}
 use Rattle.gdag.proofs.Reaching.{place_inside, place_same}
 use Rattle.gdag.proofs.IdLists.{nothing_in_nil}
 use Rattle.gwalk.proofs.Reached.{held_by, marked_selects}
@@ -20,12 +20,8 @@ use Rattle.std.proofs.lemmas.Option.{same_Some}
 -- ---- one chain
 
 -- the tags of the chain that fewer steps lead to
-pub record IsPassed {A : Type 0} (g : List (Entry A)) (tip : List ℕ) (i : ℕ) (a : List ℕ) : Type 0 where
-  pub steps : ℕ
-  pub fewer : steps < i
-  pub leads : Tags g steps tip a
-  pub next : List ℕ
-  pub tag : IsTagOf g a next
+abbrev pub IsPassed : {A : Type 0} → List (Entry A) → List ℕ → ℕ → List ℕ → Type 0
+IsPassed g tip i a = (from : IsTagFrom g tip a) × (from.steps < i)
 
 -- the marks before, and those of the tags that were passed
 pub record HasPassed {A : Type 0} (g : List (Entry A)) (tip : List ℕ) (old new : List Bool) (i : ℕ) (at : List ℕ) : Type 0 where
@@ -37,7 +33,7 @@ pub passed_none : {A : Type 0} (g : List (Entry A)) (tip : List ℕ) (old : List
 passed_none g tip old long = record {
   leads = refl;
   long = long;
-  each = λ place a e. (λ t. inl t, λ h. elim h [ inl t ↦ t | inr p ↦ absurd (let l = p.fewer in omega arith) ]);
+  each = λ place a e. (λ t. inl t, λ h. elim h [ inl t ↦ t | inr p ↦ absurd (let l = p.1 in omega arith) ]);
 }
 
 module _ {A : Type 0} (g : List (Entry A)) (tip : List ℕ) (old new : List Bool) (i : ℕ) (at : List ℕ) (now : HasPassed g tip old new i at) where
@@ -53,18 +49,18 @@ module _ {A : Type 0} (g : List (Entry A)) (tip : List ℕ) (old new : List Bool
             elim (cases_eq p q) [
               | inl same ↦
                   let is : at ≡ a = place_same g at a p e (at_q ∙ ap Some (sym same)) in (
-                    λ t. inr (subst (λ (x : List ℕ). IsPassed g tip (i + 1) x) is record { steps = i; fewer = omega arith; leads = now.leads; next = next; tag = tag }),
+                    λ t. inr (subst (λ (x : List ℕ). IsPassed g tip (i + 1) x) is (record { steps = i; leads = now.leads; next = next; tag = tag }, omega arith)),
                     λ h. ap (λ k. get_or (set new p true) k false) (sym same) ∙ get_or-set_same new p true false inside,
                   )
               | inr other ↦
                   let kept : get_or (set new p true) q false ≡ get_or new q false = get_or-set_other new p q true false (λ h. other (sym h)) in (
                     λ t. elim ((now.each q a at_q).0 (sym kept ∙ t)) [
                       | inl before ↦ inl before
-                      | inr w ↦ inr (record { steps = w.steps; fewer = let l = w.fewer in omega arith; leads = w.leads; next = w.next; tag = w.tag })
+                      | inr w ↦ inr (w.0, let l = w.1 in omega arith)
                     ],
                     λ h. kept ∙ (now.each q a at_q).1 (elim h [
                       | inl before ↦ inl before
-                      | inr w ↦ inr (record { steps = w.steps; fewer = sooner_then q a at_q other w.steps w.fewer w.leads; leads = w.leads; next = w.next; tag = w.tag })
+                      | inr w ↦ inr (w.0, sooner_then q a at_q other (w.0).steps w.1 (w.0).leads)
                     ]),
                   )
             ];
@@ -83,8 +79,8 @@ module _ {A : Type 0} (g : List (Entry A)) (tip : List ℕ) (old new : List Bool
   -- the chain has no further tag
   pub passes_all : ((b : List ℕ) → IsTagOf g at b → ⊥) → (place : ℕ) (a : List ℕ) → place_of g a ≡ Some place → (get_or new place false ≡ true) ↔ ((get_or old place false ≡ true) ⊎ IsTagFrom g tip a)
   passes_all last place a e = (
-    λ t. elim ((now.each place a e).0 t) [ inl before ↦ inl before | inr w ↦ inr (record { steps = w.steps; leads = w.leads; next = w.next; tag = w.tag }) ],
-    λ h. (now.each place a e).1 (elim h [ inl before ↦ inl before | inr w ↦ inr (record { steps = w.steps; fewer = sooner a w; leads = w.leads; next = w.next; tag = w.tag }) ]),
+    λ t. elim ((now.each place a e).0 t) [ inl before ↦ inl before | inr w ↦ inr w.0 ],
+    λ h. (now.each place a e).1 (elim h [ inl before ↦ inl before | inr w ↦ inr (w, sooner a w) ]),
   )
     where
       stuck : (d : ℕ) (a b : List ℕ) → Tags g d at a → IsTagOf g a b → ⊥
@@ -121,16 +117,8 @@ module _ {A : Type 0} (g : List (Entry A)) (wants commons : List (List ℕ)) (ne
         marked = (are.each h.place h.entry h.at).1 (subst (λ (x : List ℕ). IsNew g wants commons x) (sym h.id_is) is);
       }
 
-tags_join : {A : Type 0} (g : List (Entry A)) (m n k : ℕ) (a b c : List ℕ) → k ≡ m + n → Tags g m a b → Tags g n b c → Tags g k a c
-tags_join {A} g zero n k a b c e start more =
-    let same : n ≡ k = omega (arith, e) in
-    subst (λ (i : ℕ). Tags g i a c) same (subst (λ (x : List ℕ). Tags g n x c) (sym start) more)
-tags_join {A} g (suc m) n zero a b c e start more = absurd (omega (arith, e))
-tags_join {A} g (suc m) n (suc k) a b c e (next, tag, rest) more = (next, tag, tags_join g m n k next b c (omega (arith, e)) rest more)
-
-module _ {A : Type 0} (g : List (Entry A)) (wants commons : List (List ℕ)) (new : List Bool) (differ : IdsDiffer g) (are : AreMarked (IsNew g wants commons) g new) (tips : List (List ℕ)) (a : List ℕ) where
-  pub tag_sent : IsTagAmong g new tips a → IsTagToSend g wants commons tips a
-  tag_sent t =
+  tag_sent : (tips : List (List ℕ)) (a : List ℕ) → IsTagAmong g new tips a → IsTagToSend g wants commons tips a
+  tag_sent tips a t =
       let f = t.from in
       let more = onward g ((t.lead).peels).0 f.steps t.tip a (t.lead).commit ((t.lead).peels).1 ((t.lead).peels).2 f.leads in
       record {
@@ -142,18 +130,34 @@ module _ {A : Type 0} (g : List (Entry A)) (wants commons : List (List ℕ)) (ne
         tag = f.tag;
         commit = (t.lead).commit;
         peels = (more.0, more.2, ((t.lead).peels).2);
-        new = leads_new g wants commons new differ are t.tip t.lead;
+        new = leads_new t.tip t.lead;
       }
 
-  pub sent_tag : IsTagToSend g wants commons tips a → IsTagAmong g new tips a
-  sent_tag t =
-      let all : PeelsTo g t.tip t.commit = (t.steps + (t.peels).0, tags_join g t.steps (t.peels).0 (t.steps + (t.peels).0) t.tip a t.commit refl t.leads (t.peels).1, (t.peels).2) in
+  sent_tag : (tips : List (List ℕ)) (a : List ℕ) → IsTagToSend g wants commons tips a → IsTagAmong g new tips a
+  sent_tag tips a t =
+      let on = tags_on g t.steps (t.peels).0 t.tip a t.commit t.leads (t.peels).1 in
       record {
         tip = t.tip;
         among = t.among;
-        lead = new_leads g wants commons new differ are t.tip t.commit all t.new;
+        lead = new_leads t.tip t.commit (on.0, on.1, (t.peels).2) t.new;
         from = record { steps = t.steps; leads = t.leads; next = t.next; tag = t.tag };
       }
+
+  -- the list to send
+  pub tags_end : (tips : List (List ℕ)) (marks : List Bool) → AreTagged g new tips marks → Selects (IsToSend g wants commons tips) g (marked g marks)
+  tags_end tips marks now =
+      marked_selects (IsToSend g wants commons tips) g marks now.long
+      (λ k entry at.
+      let own = own_place g k entry differ at in (
+        λ t. elim ((now.each k entry.id own).0 t) [
+          | inl n ↦ inl ((are.each k entry at).0 n)
+          | inr w ↦ inr (tag_sent tips entry.id w)
+        ],
+        λ h. (now.each k entry.id own).1 (elim h [
+          | inl n ↦ inl ((are.each k entry at).1 n)
+          | inr w ↦ inr (sent_tag tips entry.id w)
+        ]),
+      ))
 
 -- ---- all tags to send
 
@@ -204,26 +208,6 @@ module _ {A : Type 0} (g : List (Entry A)) (new : List Bool) (tips : List (List 
             | inl c ↦ (then place a e).1 (inl ((now.each place a e).1 (inr (record { tip = w.tip; among = c; lead = w.lead; from = w.from }))))
             | inr same ↦ (then place a e).1 (inr (subst (λ (x : List ℕ). IsTagFrom g x a) (sym same) w.from))
           ]
-
--- the list to send
-module _ {A : Type 0} (g : List (Entry A)) (wants commons : List (List ℕ)) (new : List Bool) (differ : IdsDiffer g) (are : AreMarked (IsNew g wants commons) g new) where
-  pub tags_end : (tips : List (List ℕ)) (marks : List Bool) → AreTagged g new tips marks → Selects (IsToSend g wants commons tips) g (marked g marks)
-  tags_end tips marks now =
-      marked_selects (IsToSend g wants commons tips) g marks now.long
-      (λ k entry at.
-      let own = own_place g k entry differ at in (
-        λ t. elim ((now.each k entry.id own).0 t) [
-          | inl n ↦ inl ((are.each k entry at).0 n)
-          | inr w ↦ inr (tag_sent g wants commons new differ are tips entry.id w)
-        ],
-        λ h. (now.each k entry.id own).1 (elim h [
-          | inl n ↦ inl ((are.each k entry at).1 n)
-          | inr w ↦ inr (sent_tag g wants commons new differ are tips entry.id w)
-        ]),
-      ))
-
-  pub new_end : Selects (IsToSend g wants commons []) g (marked g new)
-  new_end = tags_end [] new (tags_none g new are.long)
 
 pub none_held : {X : Type 0} (o : Option X) → IsSome o → o ≡ None → ⊥
 none_held o held empty = let h = rw empty at held in search (rules, h)

@@ -3,22 +3,39 @@ use Rattle.std.proofs.Common.{◌≡◌, inl, inr, ℕ, zero, suc, ◌+◌, ◌<
 use Rattle.std.specs.List.{slice_get, cons_option}
 use Rattle.std.specs.Option.{option_map}
 use Rattle.std.proofs.Math.Seq.{get_or-append_seam}
-use Rattle.std.proofs.lemmas.List.{nil_from_length, get_or-set_same, get_or-set_other, length-set, length-replicate, take_more}
+use Rattle.std.proofs.Common.{◌⊎◌, drop}
+use Rattle.std.proofs.lemmas.List.{drop_at, drop_more, drop_all, length_push, get_or-set_same, get_or-set_other, length-set, length-replicate}
 use Rattle.std.proofs.lemmas.Option.{none-some, same_Some}
 use Rattle.std.proofs.lemmas.Bool.{false≢true, cases_eq}
-use Rattle.std.proofs.lemmas.List.Elements.{Contains-append_left, Contains-push, Contains-push_cases, filter_map-append}
+use Rattle.std.proofs.lemmas.List.Elements.{All-nil, All-push, Contains-append_left, Contains-push, Contains-push_cases}
+use Rattle.std.proofs.lemmas.List.Elements.{filter_map-append}
 use Rattle.gobject.specs.declared.node.Node.{Node}
 use Rattle.gobject.specs.declared.node.Entry.{Entry}
 use Rattle.gobject.specs.Objects.{place_of}
 use Rattle.gdag.specs.Graphs.{Holds}
 use Rattle.gdag.specs.Levels.{is_in, new_ids, parents_of, AreLevels}
-use Rattle.gwalk.specs.steps.Walks.{HasMet, IsLost, IsWalk, places}
+use Rattle.gwalk.specs.steps.Walks.{HasMet, IsLost, IsWalk, parents_in, places}
 use Rattle.gdag.proofs.IdLists.{either_way, nothing_in_nil, in_or_not, in_from_contains, new_ids-old, new_ids-new, contains_from_in, with_new}
+use Rattle.gdag.proofs.Growing.{take_one}
 use Rattle.gdag.proofs.Reaching.{place_inside, place_same, node_at_none, held_at_place}
-use Rattle.gwalk.proofs.Counting.{count_none, count_more, count_less, parents_none, parents_more}
-use Rattle.gwalk.proofs.IdLists.{with_new-nil, with_new-append}
-use Rattle.gwalk.proofs.LevelWalk.{IsWalked, walk_begins, walk_goes, walk_ends}
+use Rattle.gwalk.proofs.Counting.{marked_none, marked_more, marked_few}
+use Rattle.gwalk.proofs.Stopping.{mapped}
+use Rattle.gwalk.proofs.LevelWalk.{with_new-nil, with_new-append, IsWalked, walk_begins, walk_goes, walk_ends}
 use Rattle.gtopowalk.proofs.Places.{parents_are}
+
+-- an id has a position or has none
+pub place_cases : {A : Type 0} (g : List (Entry A)) (a : List ℕ) →
+    (place_of g a ≡ None) ⊎ ((p : ℕ) × (place_of g a ≡ Some p))
+place_cases g a = by (place_of g a) refl
+  where
+    by : (o : Option ℕ) → place_of g a ≡ o → (place_of g a ≡ None) ⊎ ((p : ℕ) × (place_of g a ≡ Some p))
+    by None e = inl e
+    by (Some p) e = inr (p, e)
+
+-- an id with a position gives that position
+pub placed : {A : Type 0} (g : List (Entry A)) (b : List ℕ) (bs : List (List ℕ)) (o : Option ℕ) → place_of g b ≡ o → places g (b ∷ bs) ≡ [] → (o ≡ None) × (places g bs ≡ [])
+placed g b bs None e none = (refl, sym (ap (λ o. cons_option o (places g bs)) e) ∙ none)
+placed g b bs (Some p) e none = absurd (let some : p ∷ places g bs ≡ [] = sym (ap (λ o. cons_option o (places g bs)) e) ∙ none in cc)
 
 -- ---- the start
 
@@ -32,9 +49,11 @@ meets_nothing g n long = record {
   long = length-replicate n false ∙ long;
   marked = λ a p e. (λ t. absurd (false≢true (sym (none_marked n p) ∙ t)), λ c. nothing_in_nil a c);
   met_are = refl;
-  once = sym (count_none n);
+  few = omega arith;
+  inside = All-nil (λ p. p < length g);
+  once = ap length (sym (marked_none g n));
   lost_is = λ a c. nothing_in_nil a c;
-  parents_are = sym (parents_none g n);
+  parents_are = ap parents_in (sym (marked_none g n));
 }
 
 -- ---- one id
@@ -62,6 +81,8 @@ module _ {A : Type 0} (g : List (Entry A)) (ids : List (List ℕ)) (marks : List
           marked = old.marked;
           met_are = old.met_are;
           once = old.once;
+          few = old.few;
+          inside = old.inside;
           lost_is = (c, node_at_none g a e);
           parents_are = old.parents_are;
         }
@@ -76,6 +97,8 @@ module _ {A : Type 0} (g : List (Entry A)) (ids : List (List ℕ)) (marks : List
           );
           met_are = old.met_are ∙ sym (append-nil (places g ids)) ∙ sym (places_push g ids a None e);
           once = old.once;
+          few = old.few;
+          inside = old.inside;
           lost_is = (Contains-push ids a, node_at_none g a e);
           parents_are = old.parents_are;
         }
@@ -101,9 +124,9 @@ module _ {A : Type 0} (g : List (Entry A)) (ids : List (List ℕ)) (marks : List
       let P : List (List ℕ) → Type 0 = λ l. HasMet g l (set marks p true) (met ++ p ∷ []) lost (parents + length more) in
       let inside : p < length marks = let h = place_inside g a p e in let l = old.long in omega arith in
       let out : ¬ (Contains ids a) = λ c. false≢true (sym free ∙ (old.marked a p e).1 c) in
-      let counted = count_more marks p inside free in
-      let summed = parents_more g marks p more inside free are in
-      let before = old.parents_are in let once = old.once in
+      let w = mapped (λ (entry : Entry A). entry.node.parents) (slice_get g p) more are in
+      let counted = marked_more g marks p w.0 inside free w.1 in
+      let before = old.parents_are in let once = old.once in let many = ap length w.2 in
       let long = length-append met (p ∷ []) in
       subst P (sym (new_id ids a out)) record {
         long = length-set marks p true ∙ old.long;
@@ -125,6 +148,8 @@ module _ {A : Type 0} (g : List (Entry A)) (ids : List (List ℕ)) (marks : List
             ];
         met_are = ap (λ l. l ++ p ∷ []) old.met_are ∙ sym (places_push g ids a (Some p) e);
         once = omega arith;
+        few = (let most = marked_few g (set marks p true) in omega arith);
+        inside = All-push (λ q. q < length g) met p old.inside (place_inside g a p e);
         lost_is = lost_more lost p e old.lost_is;
         parents_are = omega arith;
       }
@@ -133,7 +158,7 @@ module _ {A : Type 0} (g : List (Entry A)) (ids : List (List ℕ)) (marks : List
 
 pub with_one_more : (before ids : List (List ℕ)) (i : ℕ) (x : List ℕ) → i < length ids → x ≡ get_or ids i x → with_new before (take (i + 1) ids) ≡ with_new (with_new before (take i ids)) (x ∷ [])
 with_one_more before ids i x inside is =
-    ap (λ l. with_new before l) (take_more ids i x inside ∙ ap (λ y. take i ids ++ y ∷ []) (sym is)) ∙ with_new-append before (take i ids) (x ∷ [])
+    ap (λ l. with_new before l) (take_one ids i x inside is) ∙ with_new-append before (take i ids) (x ∷ [])
 
 -- ---- the walk: the ids of the front were taken up, those of the back were not
 
@@ -141,11 +166,6 @@ pub record IsUnderway {A : Type 0} (g : List (Entry A)) (starts front back : Lis
   pub walked : IsWalked g starts (front ++ back) (length front)
   pub has_met : HasMet g (front ++ back) marks met lost parents
   pub place : length (places g front) ≡ at
-
--- at most as many were met as there are entries
-pub met_few : {A : Type 0} (g : List (Entry A)) (ids : List (List ℕ)) (marks : List Bool) (met : List ℕ) (lost : Option (List ℕ)) (parents : ℕ) → HasMet g ids marks met lost parents → length met ≤ length g
-met_few g ids marks met lost parents h =
-    let c = count_less marks in let o = h.once in let l = h.long in omega (arith, c, o, l)
 
 pub underway : {A : Type 0} (g : List (Entry A)) (starts : List (List ℕ)) (marks : List Bool) (met : List ℕ) (lost : Option (List ℕ)) (parents : ℕ) → HasMet g (with_new [] starts) marks met lost parents → IsUnderway g starts [] (with_new [] starts) marks met lost parents 0
 underway g starts marks met lost parents h = record {
@@ -167,97 +187,60 @@ pub record IsNext {A : Type 0} (g : List (Entry A)) (starts front back : List (L
   pub place : place_of g id ≡ Some x
   pub walked : IsWalked g starts (front ++ back) (length front + length mid)
 
-module _ {A : Type 0} (g : List (Entry A)) (starts : List (List ℕ)) where
-  -- an id that is not held is passed
-  pass : (ids : List (List ℕ)) (at : ℕ) (b : List ℕ) → IsWalked g starts ids at → at < length ids → b ≡ get_or ids at b → place_of g b ≡ None → IsWalked g starts ids (at + 1)
-  pass ids at b walked inside is e =
-      walk_goes g starts ids at walked inside b is ids (sym (ap (λ l. with_new ids l) (no_parents g b e) ∙ with_new-nil ids))
+module _ {A : Type 0} (g : List (Entry A)) where
+  -- ids that are not held are passed
+  passes : (starts mid front rest : List (List ℕ)) → places g mid ≡ [] → IsWalked g starts (front ++ (mid ++ rest))
+      (length front) → IsWalked g starts (front ++ (mid ++ rest)) (length front + length mid)
+  passes starts [] front rest none walked = let z : length front + 0 ≡ length front = omega arith in rw z walked
+  passes starts (b ∷ mid) front rest none walked =
+      let ids = front ++ b ∷ (mid ++ rest) in
+      let r = placed g b mid (place_of g b) refl none in
+      let inside : length front < length ids = omega (arith, length-append front (b ∷ (mid ++ rest))) in
+      let item : b ≡ get_or ids (length front) b = sym (get_or-append_seam front b (mid ++ rest) b) in
+      let goes = walk_goes g starts ids (length front) walked inside b item ids in
+      let one = goes (sym (ap (λ l. with_new ids l) (no_parents g b r.0) ∙ with_new-nil ids)) in
+      let again : (front ++ b ∷ []) ++ (mid ++ rest) ≡ ids = simp append_assoc in
+      let on = passes starts mid (front ++ b ∷ []) rest r.1 (rw (again, length_push front b) one) in
+      let sum : length front + 1 + length mid ≡ length front + length (b ∷ mid) = omega arith in
+      rw (again, length_push front b, sum) at on
 
-  regroup : (front : List (List ℕ)) (b : List ℕ) (bs : List (List ℕ)) → (front ++ b ∷ []) ++ bs ≡ front ++ b ∷ bs
-  regroup front b bs = simp append_assoc
-
-  pass_one : (front : List (List ℕ)) (b : List ℕ) (bs : List (List ℕ)) → IsWalked g starts (front ++ b ∷ bs) (length front) → place_of g b ≡ None → IsWalked g starts ((front ++ b ∷ []) ++ bs) (length (front ++ b ∷ []))
-  pass_one front b bs walked e =
-      let long = length-append front (b ∷ bs) in
-      let longer : length front + 1 ≡ length (front ++ b ∷ []) = let l = length-append front (b ∷ []) in omega (arith, l) in
-      let inside : length front < length (front ++ b ∷ bs) = omega (arith, long) in
-      let next = pass (front ++ b ∷ bs) (length front) b walked inside (sym (get_or-append_seam front b bs b)) e in
-      subst (λ (l : List (List ℕ)). IsWalked g starts l (length (front ++ b ∷ []))) (sym (regroup front b bs))
-      (subst (λ (i : ℕ). IsWalked g starts (front ++ b ∷ bs) i) longer next)
-
-  find_next : (front back : List (List ℕ)) (x : ℕ) (xs : List ℕ) → IsWalked g starts (front ++ back) (length front) → places g back ≡ x ∷ xs → IsNext g starts front back x
-  find_next front [] x xs walked are = absurd (let e : [] ≡ x ∷ xs = are in cc)
-  find_next front (b ∷ bs) x xs walked are = by (place_of g b) refl (find_next (front ++ b ∷ []) bs x xs)
-    where
-      by : (o : Option ℕ) → place_of g b ≡ o → (IsWalked g starts ((front ++ b ∷ []) ++ bs) (length (front ++ b ∷ [])) → places g bs ≡ x ∷ xs → IsNext g starts (front ++ b ∷ []) bs x) → IsNext g starts front (b ∷ bs) x
-      by None e more =
-          let later : places g bs ≡ x ∷ xs = sym (ap (λ o. cons_option o (places g bs)) e) ∙ are in
-          let n = more (pass_one front b bs walked e) later in
-          let l = length-append front (b ∷ []) in
-          record {
-            mid = b ∷ n.mid;
-            id = n.id;
-            rest = n.rest;
-            parts = ap (λ t. b ∷ t) n.parts;
-            absent = ap (λ o. cons_option o (places g n.mid)) e ∙ n.absent;
-            place = n.place;
-            walked = let same : length (front ++ b ∷ []) + length n.mid ≡ length front + length (b ∷ n.mid) = omega (arith, l) in
-                subst (λ (i : ℕ). IsWalked g starts (front ++ b ∷ bs) i) same
-                (subst (λ (t : List (List ℕ)). IsWalked g starts t (length (front ++ b ∷ []) + length n.mid)) (regroup front b bs) n.walked);
-          }
-      by (Some p) e more =
-          let all : p ∷ places g bs ≡ x ∷ xs = sym (ap (λ o. cons_option o (places g bs)) e) ∙ are in
-          let same : p ≡ x = cc in
-          record {
-            mid = [];
-            id = b;
-            rest = bs;
-            parts = refl;
-            absent = refl;
-            place = e ∙ ap Some same;
-            walked = let z : length front ≡ length front + 0 = omega arith in subst (λ (i : ℕ). IsWalked g starts (front ++ b ∷ bs) i) z walked;
-          }
-
-  pass_all : (front back : List (List ℕ)) → IsWalked g starts (front ++ back) (length front) → places g back ≡ [] → IsWalked g starts (front ++ back) (length (front ++ back))
-  pass_all front [] walked are =
-      let l = length-append front [] in let same : length front ≡ length (front ++ []) = omega (arith, l) in
-      subst (λ (i : ℕ). IsWalked g starts (front ++ []) i) same walked
-  pass_all front (b ∷ bs) walked are = by (place_of g b) refl (pass_all (front ++ b ∷ []) bs)
-    where
-      by : (o : Option ℕ) → place_of g b ≡ o → (IsWalked g starts ((front ++ b ∷ []) ++ bs) (length (front ++ b ∷ [])) → places g bs ≡ [] → IsWalked g starts ((front ++ b ∷ []) ++ bs) (length ((front ++ b ∷ []) ++ bs))) → IsWalked g starts (front ++ b ∷ bs) (length (front ++ b ∷ bs))
-      by None e more =
-          let later : places g bs ≡ [] = sym (ap (λ o. cons_option o (places g bs)) e) ∙ are in
-          subst (λ (l : List (List ℕ)). IsWalked g starts l (length l)) (regroup front b bs) (more (pass_one front b bs walked e) later)
-      by (Some p) e more = absurd (let some : p ∷ places g bs ≡ [] = sym (ap (λ o. cons_option o (places g bs)) e) ∙ are in cc)
+  -- the first id that is held
+  split_back : (back : List (List ℕ)) (x : ℕ) (xs : List ℕ) → places g back ≡ x ∷ xs → (mid : List (List ℕ)) ×
+      (id : List ℕ) × (rest : List (List ℕ)) × (back ≡ mid ++ id ∷ rest) × (places g mid ≡ []) ×
+      (place_of g id ≡ Some x)
+  split_back [] x xs are = absurd (let e : [] ≡ x ∷ xs = are in cc)
+  split_back (b ∷ bs) x xs are =
+      elim (place_cases g b) [
+        | inl e ↦ (let n = split_back bs x xs (rw e at are) in (b ∷ n.0, n.1, n.2, ap (λ t. b ∷ t) n.3, rw e n.4, n.5))
+        | inr w ↦ (let all : w.0 ∷ places g bs ≡ x ∷ xs = rw w.1 at are in let same : w.0 ≡ x = cc in
+            ([], b, bs, refl, refl, w.1 ∙ ap Some same))
+      ]
 
 module _ {A : Type 0} (g : List (Entry A)) (starts front back : List (List ℕ)) (marks : List Bool) (met : List ℕ) (lost : Option (List ℕ)) (parents at : ℕ) (now : IsUnderway g starts front back marks met lost parents at) where
   met_parts : met ≡ places g front ++ places g back
   met_parts = now.has_met.met_are ∙ filter_map-append (place_of g) front back
 
-  first_of : (before after : List ℕ) (i x : ℕ) → length before ≡ i → i < length (before ++ after) → x ≡ get_or (before ++ after) i x → (xs : List ℕ) × (after ≡ x ∷ xs)
-  first_of before [] i x long inside is = absurd (let l = length-append before [] in omega (arith, l))
-  first_of before (y ∷ ys) i x long inside is =
-      let same : x ≡ y = is ∙ ap (λ k. get_or (before ++ y ∷ ys) k x) (sym long) ∙ get_or-append_seam before y ys x in
-      (ys, ap (λ z. z ∷ ys) (sym same))
+  left_are : places g back ≡ drop at met
+  left_are = sym (drop_at (places g front) (places g back) at now.place) ∙ ap (drop at) (sym met_parts)
 
   pub next : (x : ℕ) → at < length met → x ≡ get_or met at x → IsNext g starts front back x
   next x inside is =
-      let parts = met_parts in
-      let inside2 : at < length (places g front ++ places g back) = subst (λ (l : List ℕ). at < length l) parts inside in
-      let first = first_of (places g front) (places g back) at x now.place inside2 (is ∙ ap (λ l. get_or l at x) parts) in
-      find_next g starts front back x first.0 now.walked first.1
+      let here = left_are ∙ drop_more met at x inside ∙ ap (λ y. y ∷ drop (at + 1) met) (sym is) in
+      let s = split_back g back x (drop (at + 1) met) here in
+      let W : ℕ → List (List ℕ) → Type 0 = λ i l. IsWalked g starts (front ++ l) i in
+      let on = passes g starts s.0 front (s.1 ∷ s.2) s.4 (subst (W (length front)) s.3 now.walked) in
+      let walked = subst (W (length front + length s.0)) (sym s.3) on in
+      record { mid = s.0; id = s.1; rest = s.2; parts = s.3; absent = s.4; place = s.5; walked = walked }
 
   pub none_left : length met ≤ at → places g back ≡ []
-  none_left end =
-      let parts = ap length met_parts in
-      let l = length-append (places g front) (places g back) in
-      let place = now.place in
-      nil_from_length (places g back) (omega arith)
+  none_left end = left_are ∙ drop_all at met end
 
   -- all were taken up
   pub ends_levels : length met ≤ at → AreLevels g starts (front ++ back)
   ends_levels end =
-      walk_ends g starts (front ++ back) (length (front ++ back)) (pass_all g starts front back now.walked (none_left end)) (omega arith)
+      let walked = passes g starts back front [] (none_left end) (rw (append-nil back) now.walked) in
+      let long = length-append front back in
+      walk_ends g starts (front ++ back) (length front + length back) (rw (append-nil back) at walked) (omega arith)
 
   pub finishes : length met ≤ at → IsWalk g starts marks met lost parents
   finishes end = record { ids = front ++ back; levels = ends_levels end; has_met = now.has_met }
@@ -299,6 +282,6 @@ lent_parents {A} g a p parents e are =
     let n = parents_are g a p parents e are in
     sym (ap (λ (o : Option (Node A)). unwrap_or (option_map (λ (node : Node A). node.parents) o) []) n.1 ∙ n.2)
 
--- the position of an id is inside the marks, and the mark there was read
+-- the position of an id is inside the marks
 pub mark_inside : {A : Type 0} (g : List (Entry A)) (ids : List (List ℕ)) (marks : List Bool) (met : List ℕ) (lost : Option (List ℕ)) (parents : ℕ) (a : List ℕ) (p : ℕ) → HasMet g ids marks met lost parents → place_of g a ≡ Some p → p < length marks
 mark_inside g ids marks met lost parents a p h e = let i = place_inside g a p e in let l = h.long in omega arith

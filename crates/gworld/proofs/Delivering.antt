@@ -1,7 +1,6 @@
 -- What a kept reply says and brings, where nothing was forged.
-use Rattle.std.proofs.Common.{◌≡◌, ℕ, ◌≤◌, List, length, All}
-use Rattle.std.proofs.Common.{refl, sym, ap, subst, ◌∙◌, arith, take}
-use Rattle.std.proofs.lemmas.List.Elements.{All-weaker}
+use Rattle.std.proofs.Common.{◌≡◌, ℕ, ◌≤◌, List, length, All, refl, sym, ap, subst, ◌∙◌, arith, take, inl, inr}
+use Rattle.std.proofs.lemmas.List.Elements.{All-weaker, All-contains}
 use Rattle.gname.specs.Limits.{max_pack}
 use Rattle.gname.specs.declared.formats.Format.{Format}
 use Rattle.ggrammar.specs.Kinds.{ReadsMessage}
@@ -17,34 +16,25 @@ use Rattle.gfetchreply.specs.WellFormed.{IsReplyIn}
 use Rattle.gobject.specs.declared.node.Entry.{Entry}
 use Rattle.gdag.specs.Graphs.{Holds, IsNode}
 use Rattle.gdag.specs.Insert.{Inserts}
-use Rattle.gdag.specs.Laws.{AgreeingStays, AgreesWith, HasAll, KeepingHasAll}
-use Rattle.gdag.specs.Reach.{Agree, Grows, IsFull, Keeps}
+use Rattle.gdag.specs.Laws.{AgreesWith, HasAll}
+use Rattle.gdag.specs.Reach.{Agree, Grows, IsFull, Reaches}
 use Rattle.grequest.specs.Asked.{Asked, Empty, Ls, Fetches, FetchAsked, is_direct, max_haves}
 use Rattle.gclientrepo.specs.Repos.{RepoState}
 use Rattle.ganswer.specs.Answers.{Answers, Reply, Ls as Refs, Fetch as Objects}
-use Rattle.ganswer.specs.FetchAnswers.{FetchAnswer, RepliesWith}
-use Rattle.ganswer.specs.Laws.{AcksAreCommon, FetchAnswersFit, IsEnough, LsAnswersAreHeld, LsAnswersFit, PacksAreEnough}
-use Rattle.ganswer.specs.Laws.{ServesWhatIsHeld}
+use Rattle.ganswer.specs.FetchAnswers.{FetchAnswer, RepliesWith, SendsPack}
+use Rattle.ganswer.specs.Laws.{IsEnough}
 use Rattle.ganswer.specs.Servers.{IsServer, Server}
-use Rattle.gsession.specs.Sessions.{SessionState}
-use Rattle.gsession.specs.TakingReplies.{InsertsAll, ReadsFetch, reading_for}
-use Rattle.gworld.specs.Sound.{IsUnforgedAndFaithful, IsSoundKept, IsSoundRequest}
+use Rattle.gsession.specs.Sessions.{SessionState, IsSession}
+use Rattle.gsession.specs.TakingReplies.{ReadsFetch, reading_for, Awaits, HasPack, after_acks, InsertsPack}
+use Rattle.gworld.specs.Sound.{IsUnforgedAndFaithful, IsSoundKept, IsSoundRequest, IsSoundFetch, IsSoundSession}
+use Rattle.gworld.specs.Sound.{IsWantedOrFull, IsSound}
 use Rattle.gworld.specs.Worlds.{Kept, PackTools, WorldState, reply_bytes}
-use Rattle.gworld.proofs.Growth.{GrowthLaws, all_held, held_in}
-use Rattle.gworld.proofs.Reading.{ReadingLaws, objects_read, objects_unlike, refs_read, refs_unlike}
-use Rattle.gworld.proofs.Taking.{Tells}
-
-pub record AnswerLaws {A : Type 0} (tools : PackTools A) : Type 0 where
-  pub growth : GrowthLaws A
-  pub reading : ReadingLaws
-  pub refs_fit : LsAnswersFit A
-  pub refs_held : LsAnswersAreHeld A
-  pub objects_fit : FetchAnswersFit A tools.packs
-  pub acks : AcksAreCommon A tools.packs
-  pub enough : PacksAreEnough A tools.packs
-  pub serves : ServesWhatIsHeld A tools.pack_fails
-  pub has_all : KeepingHasAll A
-  pub agreeing : AgreeingStays A
+use Rattle.gworld.proofs.Reading.{objects_read, objects_unlike, refs_read, refs_unlike}
+use Rattle.gclientrepo.specs.Asks.{asked_ids}
+use Rattle.gsession.specs.declared.stage.Stage.TheVariants.{Settling}
+use Rattle.gworld.specs.Taking.{TakesObjects}
+use Rattle.gworld.specs.declared.outcome.Outcome.TheVariants.{PackTaken}
+use Rattle.gworld.proofs.Sessions.{Tells, WorldLaws, all_held}
 
 -- how a reply to fetch is read by one who takes any pack
 abbrev pub any_reading : Format → FetchAsked → Reading
@@ -54,48 +44,19 @@ any_reading format asked = record { format = format; direct = is_direct asked; l
 pub largest : max_pack ≤ max_pack
 largest = omega arith
 
-module _ {A : Type 0} (tools : PackTools A) where
+module _ {A : Type 0} {tools : PackTools A} (laws : WorldLaws tools) where
   pack_small : (server : Server A) (asked : FetchAsked) (reply : FetchReply)
-      → RepliesWith server tools.packs asked reply
-      → length (pack_of reply) ≤ max_pack
+      → RepliesWith server tools.packs asked reply → length (pack_of reply) ≤ max_pack
   pack_small server asked (Acks ids) replies = omega arith
   pack_small server asked (Ready ids pack) replies = replies.3.packed.few
   pack_small server asked (Pack pack) replies = replies.1.packed.few
 
-  pub reply_fits : AnswerLaws tools → (server : Server A) (asked : FetchAsked) (reply : FetchReply)
-      → IsServer server → length asked.haves ≤ max_haves → FetchAnswer server tools.packs asked reply
+  pub reply_fits : {server : Server A} {asked : FetchAsked} {reply : FetchReply} → IsServer server
+      → length asked.haves ≤ max_haves → FetchAnswer server tools.packs asked reply
       → IsReplyIn (any_reading server.graph.format asked) reply
-  reply_fits laws server asked reply is few answers =
+  reply_fits {server} {asked} {reply} is few answers =
       laws.objects_fit server asked reply (any_reading server.graph.format asked) is few answers refl refl
       (pack_small server asked reply answers.replies)
-
-  -- ---- refs
-
-  -- the server holds what the first bytes of a kept reply say of refs
-  lines_told : AnswerLaws tools → (w : WorldState A) (server : Server A) (asked : Asked) (reply : Reply)
-      (told : LsReply) (count : ℕ)
-      (left : List ℕ) → IsServer server → Grows server.graph.entries w.server.graph.entries
-      → Answers server tools.packs asked reply → IsSoundRequest w asked
-      → ReadsMessage (refs.judge server.graph.format Plain) (refs.Says server.graph.format Plain)
-      (known (take count (reply_bytes reply)) left) told
-      → All (λ (line : RefLine). Holds w.server.graph.entries line.id) told.lines
-  lines_told laws w server (Ls asked) (Refs reply) told count left is grown answers sound reads =
-      let g = server.graph.entries in
-      let same = refs_read laws.reading server.graph.format reply told count left
-      (laws.refs_fit server asked reply is answers) reads in
-      let held = laws.refs_held server asked reply is answers in
-      let all : All (λ (line : RefLine). Holds g line.id) told.lines =
-      subst (λ (r : LsReply). All (λ (line : RefLine). Holds g line.id) r.lines) (sym same) held in
-      All-weaker (λ (line : RefLine). Holds g line.id) (λ (line : RefLine). Holds w.server.graph.entries line.id)
-      (λ (line : RefLine) there. held_in laws.growth g w.server.graph.entries grown line.id there) told.lines all
-  lines_told laws w server (Fetches asked) (Objects reply) told count left is grown answers sound reads =
-      absurd (refs_unlike laws.reading server.graph.format (any_reading server.graph.format asked) reply told count left
-      refl largest
-      (reply_fits laws server asked reply is sound.few answers) reads)
-  lines_told laws w server Empty reply told count left is grown answers sound reads = absurd sound
-  lines_told laws w server asked reply told count left is grown answers sound reads = absurd answers
-
-  -- ---- objects
 
   -- a reply to fetch that is read of a kept reply: it is the kept one, and answers a request for objects
   pub record IsKeptFetch (server : Server A) (asked : Asked) (reply : Reply) (read : FetchReply) : Type 0 where
@@ -104,75 +65,72 @@ module _ {A : Type 0} (tools : PackTools A) where
     pub is_reply : reply ≡ Objects read
     pub answers : FetchAnswer server tools.packs fetch read
 
-  pub kept_fetch : AnswerLaws tools → (w : WorldState A) (server : Server A) (asked : Asked) (reply : Reply)
-      (read : FetchReply) (count : ℕ)
-      (left : List ℕ) (reading : Reading) → IsServer server → server.graph.format ≡ reading.format
-      → reading.ends ≡ Plain
-      → Answers server tools.packs asked reply → IsSoundRequest w asked
-      → ReadsFetch reading (known (take count (reply_bytes reply)) left) read
-      → IsKeptFetch server asked reply read
-  kept_fetch laws w server (Ls asked) (Refs reply) read count left reading is format plain answers sound reads =
-      absurd (objects_unlike laws.reading server.graph.format reading reply read count left
-      (laws.refs_fit server asked reply is answers) reads)
-  kept_fetch laws w server (Fetches asked) (Objects reply) read count left reading is format plain answers sound reads =
-      let same : read ≡ reply = objects_read laws.reading reading (any_reading server.graph.format asked) reply read
-      count left format plain refl largest
-      (reply_fits laws server asked reply is sound.few answers) reads in record {
-        fetch = asked;
-        is_asked = refl;
-        is_reply = ap Objects (sym same);
-        answers = subst (FetchAnswer server tools.packs asked) (sym same) answers;
-      }
-  kept_fetch laws w server Empty reply read count left reading is format plain answers sound reads = absurd sound
-  kept_fetch laws w server asked reply read count left reading is format plain answers sound reads = absurd answers
+  module _ (w : WorldState A) (server : Server A) (count : ℕ) (left : List ℕ) (is : IsServer server) where
+    -- the server holds what the first bytes of a kept reply say of refs
+    lines_told : (asked : Asked) (reply : Reply) (told : LsReply) → Grows server.graph.entries w.server.graph.entries
+        → Answers server tools.packs asked reply → IsSoundRequest w asked
+        → ReadsMessage (refs.judge server.graph.format Plain) (refs.Says server.graph.format Plain)
+        (known (take count (reply_bytes reply)) left) told
+        → All (λ (line : RefLine). Holds w.server.graph.entries line.id) told.lines
+    lines_told (Ls asked) (Refs reply) told grown answers sound reads =
+        let g = server.graph.entries in
+        let h = w.server.graph.entries in
+        let same = refs_read laws.reading server.graph.format reply told count left
+        (laws.refs_fit server asked reply is answers) reads in
+        All-weaker (λ (line : RefLine). Holds g line.id) (λ (line : RefLine). Holds h line.id)
+        (λ (line : RefLine) there. laws.holds g h line.id (laws.keeps g h grown) there) told.lines
+        (subst (λ (r : LsReply). All (λ (line : RefLine). Holds g line.id) r.lines) (sym same)
+        (laws.refs_held server asked reply is answers))
+    lines_told (Fetches asked) (Objects reply) told grown answers sound reads =
+        absurd (refs_unlike laws.reading server.graph.format (any_reading server.graph.format asked) reply told count
+        left refl largest (reply_fits is sound.few answers) reads)
+    lines_told Empty reply told grown answers sound reads = absurd sound
+    lines_told asked reply told grown answers sound reads = absurd answers
 
-  -- the server holds what a kept reply acknowledges
-  acks_told : AnswerLaws tools → (w : WorldState A) (server : Server A) (asked : Asked) (reply : Reply)
-      (read : FetchReply)
-      → Grows server.graph.entries w.server.graph.entries → IsKeptFetch server asked reply read
-      → All (Holds w.server.graph.entries) (acknowledged_by read)
-  acks_told laws w server asked reply read grown is =
-      let common = laws.acks server is.fetch read is.answers in
-      all_held laws.growth server.graph.entries w.server.graph.entries grown (acknowledged_by read) common.held
+    pub kept_fetch : (reading : Reading) (asked : Asked) (reply : Reply) (read : FetchReply)
+        → server.graph.format ≡ reading.format → reading.ends ≡ Plain
+        → Answers server tools.packs asked reply → IsSoundRequest w asked
+        → ReadsFetch reading (known (take count (reply_bytes reply)) left) read → IsKeptFetch server asked reply read
+    kept_fetch reading (Ls asked) (Refs reply) read format plain answers sound reads =
+        absurd (objects_unlike laws.reading server.graph.format reading reply read count left
+        (laws.refs_fit server asked reply is answers) reads)
+    kept_fetch reading (Fetches asked) (Objects reply) read format plain answers sound reads =
+        let same : read ≡ reply = objects_read laws.reading reading (any_reading server.graph.format asked) reply read
+        count left format plain refl largest (reply_fits is sound.few answers) reads in record {
+          fetch = asked;
+          is_asked = refl;
+          is_reply = ap Objects (sym same);
+          answers = subst (FetchAnswer server tools.packs asked) (sym same) answers;
+        }
+    kept_fetch reading Empty reply read format plain answers sound reads = absurd sound
+    kept_fetch reading asked reply read format plain answers sound reads = absurd answers
 
   -- so it says what the server holds
-  pub kept_tells : AnswerLaws tools → (w : WorldState A) (s : SessionState A) (kept : Kept) (count : ℕ)
-      → IsSoundKept tools.packs w kept → s.format ≡ w.server.graph.format → s.ends ≡ Plain
-      → Tells w s (take count (reply_bytes kept.reply))
-  kept_tells laws w s kept count is format plain =
-      let same : s.format ≡ is.server.graph.format = format ∙ sym is.format in record {
+  pub kept_tells : {w : WorldState A} {kept : Kept} (s : SessionState A) (count : ℕ) → IsSoundKept tools.packs w kept
+      → s.format ≡ w.server.graph.format → s.ends ≡ Plain → Tells w s (take count (reply_bytes kept.reply))
+  kept_tells {w} {kept} s count is format plain =
+      let same : s.format ≡ is.server.graph.format = format ∙ sym is.format in
+      let bytes = take count (reply_bytes kept.reply) in record {
         refs = λ unforged left reply reads.
-            lines_told laws w is.server kept.asked kept.reply reply count left is.is is.grown is.answers is.request
-            (subst (λ (f : Format). ReadsMessage (refs.judge f Plain) (refs.Says f Plain)
-            (known (take count (reply_bytes kept.reply)) left) reply) same
-            (subst (λ (e : Ends). ReadsMessage (refs.judge s.format e) (refs.Says s.format e)
-            (known (take count (reply_bytes kept.reply)) left) reply) plain reads));
+            lines_told w is.server count left is.is kept.asked kept.reply reply is.grown is.answers is.request
+            (subst (λ (f : Format). ReadsMessage (refs.judge f Plain) (refs.Says f Plain) (known bytes left) reply) same
+            (subst (λ (e : Ends). ReadsMessage (refs.judge s.format e) (refs.Says s.format e) (known bytes left) reply)
+            plain reads));
         objects = λ unforged asked left reply reads.
-            acks_told laws w is.server kept.asked kept.reply reply is.grown
-            (kept_fetch laws w is.server kept.asked kept.reply reply count left (reading_for s asked) is.is (sym same)
-            plain is.answers is.request reads);
+            let read = kept_fetch w is.server count left is.is (reading_for s asked) kept.asked kept.reply reply
+            (sym same) plain is.answers is.request reads in
+            all_held laws is.server.graph.entries w.server.graph.entries is.grown (acknowledged_by reply)
+            (laws.acks is.server read.fetch reply read.answers).held;
       }
 
   -- ---- packs
 
-  pub agree_before : (old new : List (Entry A)) (h : List (Entry A)) → Keeps old new → Agree new h → Agree old h
-  agree_before old new h keeps agree a m n here there = agree a m n (keeps a m here) there
-
-  sent_agrees : (g new : List (Entry A)) (list : List (Entry A)) → Keeps g new
-      → All (λ (entry : Entry A). IsNode g entry.id entry.node) list
-      → All (AgreesWith new) list
-  sent_agrees g new list keeps nodes =
-      All-weaker (λ (entry : Entry A). IsNode g entry.id entry.node) (AgreesWith new)
-      (λ (entry : Entry A) here node there. let both = sym there ∙ keeps entry.id entry.node here in cc) list nodes
-
   -- what the indexer reads of the pack is what was sent
-  pub read_is_sent : (w : WorldState A) (server : Server A) (asked : FetchAsked) (pack : List ℕ)
+  pub read_is_sent : {w : WorldState A} {server : Server A} {asked : FetchAsked} {pack : List ℕ}
       (entries : List (Entry A)) → IsUnforgedAndFaithful tools w → (enough : IsEnough server tools.packs asked pack)
       → tools.indexes pack entries → entries ≡ enough.list
-  read_is_sent w server asked pack entries honest enough read =
-      let image = honest.image in
-      let same : pack ≡ image enough.list = honest.faithful.packs_image enough.list pack enough.entries
-      enough.packed.packed in
+  read_is_sent {w} {server} {asked} {pack} entries honest enough read =
+      let same = honest.faithful.packs_image enough.list pack enough.entries enough.packed.packed in
       honest.faithful.reads_image enough.list entries enough.entries
       (subst (λ (bytes : List ℕ). tools.indexes bytes entries) same read)
 
@@ -181,23 +139,85 @@ module _ {A : Type 0} (tools : PackTools A) where
     pub all : HasAll server.graph.entries wants g
     pub agree : Agree server.graph.entries g
 
-  pub pack_completes : AnswerLaws tools → (w : WorldState A) (old : Server A)
-      (asked : FetchAsked) (pack : List ℕ) (entries : List (Entry A)) (repo : RepoState A) (added : ℕ)
-      → IsUnforgedAndFaithful tools w → Agree w.server.graph.entries w.repo.graph.entries
+  pack_completes : (w : WorldState A) (old : Server A) (asked : FetchAsked) (pack : List ℕ) (repo : RepoState A)
+      (added : ℕ) → IsUnforgedAndFaithful tools w → Agree w.server.graph.entries w.repo.graph.entries
       → IsServer old → Grows old.graph.entries w.server.graph.entries → All (Holds old.graph.entries) asked.wants
       → All (IsFull w.repo.graph.entries) asked.haves → IsEnough old tools.packs asked pack
-      → tools.indexes pack entries → InsertsAll w.repo entries repo added
+      → InsertsPack tools.indexes tools.index_fails w.repo pack repo added
       → IsCompleted w.server asked.wants repo.graph.entries
-  pack_completes laws w old asked pack entries repo added honest agree is grown held full enough read inserts =
+  pack_completes w old asked pack repo added honest agree is grown held full enough inserts =
       let g = w.repo.graph.entries in
-      let keeps = laws.growth.keeps old.graph.entries w.server.graph.entries grown in
-      let same : entries ≡ enough.list = read_is_sent w old asked pack entries honest enough read in
+      let server = w.server.graph.entries in
+      let list = enough.list in
+      let keeps = laws.keeps old.graph.entries server grown in
+      let same = read_is_sent inserts.0 honest enough inserts.1 in
       let format = w.repo.graph.format in
-      let comes = subst (λ (list : List (Entry A)). Inserts format g list repo.graph.entries) same inserts.adds.1 in
-      let before = agree_before old.graph.entries w.server.graph.entries g keeps agree in
-      let all = enough.enough g repo.graph.entries format before full comes in record {
-        all = laws.has_all old.graph.entries w.server.graph.entries repo.graph.entries asked.wants is.closed keeps held
-            all;
-        agree = laws.agreeing w.server.graph.entries g enough.list repo.graph.entries format agree
-            (sent_agrees old.graph.entries w.server.graph.entries enough.list keeps enough.nodes) comes;
+      let comes = subst (λ (l : List (Entry A)). Inserts format g l repo.graph.entries) same inserts.2.adds.1 in
+      let before : Agree old.graph.entries g = λ a m n here there. agree a m n (keeps a m here) there in
+      let nodes : All (AgreesWith server) list =
+      All-weaker (λ (entry : Entry A). IsNode old.graph.entries entry.id entry.node) (AgreesWith server)
+      (λ (entry : Entry A) here node there. let both = sym there ∙ keeps entry.id entry.node here in cc) list
+      enough.nodes in record {
+        all = laws.has_all old.graph.entries server repo.graph.entries asked.wants is.closed keeps held
+            (enough.enough g repo.graph.entries format before full comes);
+        agree = laws.agreeing server g list repo.graph.entries format agree nodes comes;
       }
+
+  pub sends : (server : Server A) (asked : FetchAsked) (reply : FetchReply) → HasPack reply
+      → RepliesWith server tools.packs asked reply → SendsPack server tools.packs asked (pack_of reply)
+  sends server asked (Acks ids) has replies = absurd has
+  sends server asked (Ready ids pack) has replies = replies.3
+  sends server asked (Pack pack) has replies = replies.1
+
+  -- the pack of a kept reply came: the wants of the request of that reply are connected
+  pub record PackCame (w : WorldState A) (kept : Kept) (repo : RepoState A) : Type 0 where
+    pub fetch : FetchAsked
+    pub is_asked : kept.asked ≡ Fetches fetch
+    pub completed : IsCompleted w.server fetch.wants repo.graph.entries
+
+  -- the pack came where nothing was forged, and packer and indexer are faithful
+  pub pack_came : {w : WorldState A} {s : SessionState A} {kept : Kept} (count added : ℕ) (after : SessionState A)
+      (repo : RepoState A) → IsUnforgedAndFaithful tools w → IsSound tools w → IsSoundKept tools.packs w kept
+      → IsSoundSession w s
+      → TakesObjects tools.indexes tools.index_fails s w.repo (take count (reply_bytes kept.reply)) (PackTaken added)
+      after repo → PackCame w kept repo
+  pack_came {w} {s} {kept} count added after repo honest world is sound takes =
+      let took = takes.1 in
+      let reply = took.2.0 in
+      let head = took.2.2.1 in
+      let read = kept_fetch w is.server count takes.0 is.is (reading_for s took.0) kept.asked kept.reply reply
+      (is.format ∙ sym (sound.format ∙ world.format)) sound.ends is.answers is.request took.2.1 in
+      let request : IsSoundFetch w read.fetch = subst (IsSoundRequest w) read.is_asked is.request in
+      let enough = laws.enough is.server read.fetch (pack_of reply) is.is read.answers.can
+      (sends is.server read.fetch reply head.0 read.answers.replies) in record {
+        fetch = read.fetch;
+        is_asked = read.is_asked;
+        completed = pack_completes w is.server read.fetch (pack_of reply) repo added honest (world.agree honest) is.is
+            is.grown read.answers.can.held request.full enough head.2;
+      }
+
+  -- ---- an answered session can settle
+
+  either_full : (g : List (Entry A)) (s : SessionState A) → All (IsFull g) s.wants → (a : List ℕ) → IsWantedOrFull g s a
+      → IsFull g a
+  either_full g s full a (inl wanted) = All-contains (IsFull g) s.wants a full wanted
+  either_full g s full a (inr there) = there
+
+  -- `v` is the world after the pack came, in which the session was sound
+  pub can_settle : {w v : WorldState A} {s : SessionState A} {kept : Kept} (after : SessionState A)
+      (fetch : FetchAsked) (acks : List (List ℕ))
+      → IsSession s → Awaits s fetch → kept.asked ≡ Fetches fetch → PackCame w kept v.repo → IsSoundSession v s
+      → after ≡ after_acks s Settling acks → All (IsFull v.repo.graph.entries) (asked_ids after.asks)
+  can_settle {w} {v} {s} {kept} after fetch acks session waits same came sound is =
+      let g = v.repo.graph.entries in
+      let both : Fetches came.fetch ≡ Fetches fetch = sym came.is_asked ∙ same in
+      let one : came.fetch ≡ fetch = cc in
+      let wants : came.fetch.wants ≡ s.wants =
+      ap (λ (x : FetchAsked). x.wants) one ∙ (laws.waits s fetch session waits).wants in
+      let full : All (IsFull g) s.wants = subst (All (IsFull g)) wants
+      (All-weaker
+      (λ (want : List ℕ). IsFull g want × ((a : List ℕ) → Reaches w.server.graph.entries want a → Holds g a))
+      (IsFull g) (λ (want : List ℕ) both. both.0) came.fetch.wants came.completed.all) in
+      subst (λ (x : SessionState A). All (IsFull g) (asked_ids x.asks)) (sym is)
+      (All-weaker (IsWantedOrFull g s) (IsFull g) (λ (a : List ℕ) either. either_full g s full a either)
+      (asked_ids s.asks) sound.asked)

@@ -1,8 +1,7 @@
 -- Why a complete reply to the very request that waits is not taken, where nothing was forged and packer and indexer
 -- are faithful.
-use Rattle.std.proofs.Common.{◌≡◌, ◌⊎◌, ℕ, ◌≤◌, Bool, false, List, [], ◌∷◌, length, All, Contains}
-use Rattle.std.proofs.Common.{Some}
-use Rattle.std.proofs.Common.{Ok, Err, inl, inr, refl, sym, ap, subst, ◌∙◌, arith, take, append-nil}
+use Rattle.std.proofs.Common.{[], ◌≡◌, ◌⊎◌, ℕ, ◌≤◌, Bool, false, List, ◌∷◌, length, All, Contains, Some, Ok, Err, inl}
+use Rattle.std.proofs.Common.{inr, refl, sym, ap, subst, ◌∙◌, arith, take}
 use Rattle.std.proofs.lemmas.Bool.{false≢true}
 use Rattle.std.proofs.lemmas.Bool.Decides.{leb_tells}
 use Rattle.std.proofs.lemmas.List.{take_all}
@@ -45,9 +44,8 @@ use Rattle.ganswer.specs.FetchAnswers.{FetchAnswer}
 use Rattle.ganswer.specs.Laws.{IsEnough}
 use Rattle.ganswer.specs.Servers.{IsServer, Server}
 use Rattle.gsession.specs.Sessions.{SessionState}
-use Rattle.gsession.specs.TakingReplies.{Awaits, HasPack, IsFirstStrange, IsReplyFault, IsTakeFault}
-use Rattle.gsession.specs.TakingReplies.{ReadsFetch, RefusesPack}
-use Rattle.gsession.specs.TakingReplies.{reading_for}
+use Rattle.gsession.specs.TakingReplies.{Awaits, HasPack, IsFirstStrange, IsReplyFault, IsTakeFault, ReadsFetch}
+use Rattle.gsession.specs.TakingReplies.{RefusesPack, reading_for}
 use Rattle.gsession.specs.declared.fault.ClientFault.{ClientFault}
 use Rattle.gsession.specs.declared.fault.ClientFault.TheVariants as client
 use Rattle.gworld.specs.Promises.{IsTakenOrDeclined, MayDecline}
@@ -56,10 +54,9 @@ use Rattle.gworld.specs.Taking.{IsAtHand, TakesObjects, code_of}
 use Rattle.gworld.specs.Worlds.{PackTools, WorldState, reply_bytes}
 use Rattle.gworld.specs.declared.outcome.Outcome.{Outcome}
 use Rattle.gworld.specs.declared.outcome.Outcome.TheVariants.{Round, PackTaken, Fault}
-use Rattle.gworld.proofs.Delivering.{AnswerLaws, any_reading, kept_fetch, largest}
-use Rattle.gworld.proofs.Delivering.{read_is_sent, reply_fits}
-use Rattle.gworld.proofs.Packs.{sends}
-use Rattle.gworld.proofs.Reading.{objects_bytes, objects_written}
+use Rattle.gworld.proofs.Delivering.{any_reading, kept_fetch, largest, read_is_sent, reply_fits, sends}
+use Rattle.gworld.proofs.Reading.{front_all, objects_bytes, objects_written}
+use Rattle.gworld.proofs.Sessions.{WorldLaws}
 
 pub record FaultLaws (A : Type 0) : Type 0 where
   pub exactly : (reading : Reading) → ReadsExactly (judge reading) (brings reading) (Says reading)
@@ -101,147 +98,93 @@ why_cases why.Memory at = inl refl
 why_cases w at = inr tt
 
 -- what is refused for a reason in the bytes is so whatever packets take memory
-reason_of_bytes : (judge : Judge) (one other : List Packet → Packet → Bool) (front : List Packet) (change : Change)
-    (w : Why) → IsOfBytes w
-    → IsReasonAfter judge one front change w → IsReasonAfter judge other front change w
-reason_of_bytes judge one other front change (why.Line fault) certain is = is
-reason_of_bytes judge one other front change why.Memory certain is = absurd certain
-reason_of_bytes judge one other front change w certain is = is
+module _ (judge : Judge) (one other : List Packet → Packet → Bool) (front : List Packet) where
+  reason_of_bytes : (change : Change) (w : Why) → IsOfBytes w → IsReasonAfter judge one front change w
+      → IsReasonAfter judge other front change w
+  reason_of_bytes change (why.Line fault) certain is = is
+  reason_of_bytes change why.Memory certain is = absurd certain
+  reason_of_bytes change w certain is = is
 
-refused_for_bytes : (judge : Judge) (one other : List Packet → Packet → Bool) (front : List Packet) (change : Change)
-    (fault : MessageFault)
-    → IsOfBytes fault.why → ReadsRefused judge one front change fault → ReadsRefused judge other front change fault
-refused_for_bytes judge one other front change fault certain is = record {
-  between = is.between;
-  goes = is.goes;
-  unfinished = is.unfinished;
-  frame = is.frame;
-  before = is.before;
-  reason = reason_of_bytes judge one other front (record { old = is.between; new = change.new }) fault.why certain
-      is.reason;
-}
+  refused_for_bytes : (change : Change) (fault : MessageFault) → IsOfBytes fault.why
+      → ReadsRefused judge one front change fault → ReadsRefused judge other front change fault
+  refused_for_bytes change fault certain is = record {
+    between = is.between;
+    goes = is.goes;
+    unfinished = is.unfinished;
+    frame = is.frame;
+    before = is.before;
+    reason = reason_of_bytes (record { old = is.between; new = change.new }) fault.why certain is.reason;
+  }
 
--- how the client reads the reply, and how one does who takes any pack
+-- how a client reads the reply to this request
+abbrev limited : Format → FetchAsked → Reading
+limited format asked = record (any_reading format asked) { limit = default_limit }
+
+-- which differs in the limit alone from how one reads it who takes any pack
 reading_is : {A : Type 0} (s : SessionState A) (format : Format) (asked : FetchAsked) → s.format ≡ format
-    → s.limit ≡ default_limit → s.ends ≡ Plain
-    → reading_for s asked ≡ record (any_reading format asked) { limit = default_limit }
+    → s.limit ≡ default_limit → s.ends ≡ Plain → reading_for s asked ≡ limited format asked
 reading_is s format asked f l e = cc
 
-module _ {A : Type 0} (tools : PackTools A)
-    (answers : AnswerLaws tools) (laws : FaultLaws A) where
-  -- a reply whose pack is within the limit is not refused for a reason in its bytes
-  within_limit : (format : Format) (asked : FetchAsked) (reply : FetchReply) (front : List Packet) (left : List ℕ)
-      (fault : MessageFault)
-      → Says (any_reading format asked) (canonical_reply Plain reply) reply
-      → IsFront (canonical_reply Plain reply) (objects_bytes reply) []
-      → ReadsRefused (judge (record (any_reading format asked) { limit = default_limit }))
-      (brings (record (any_reading format asked) { limit = default_limit })) front (known (objects_bytes reply) left)
-      fault
-      → IsOfBytes fault.why → length (pack_of reply) ≤ default_limit → ⊥
-  within_limit format asked reply front left fault says spelt refused certain short =
-      let reading = record (any_reading format asked) { limit = default_limit } in
-      let lines = canonical_reply Plain reply in
-      let here = laws.any_limit (any_reading format asked) default_limit lines reply says short in
-      let there : SaysAtFront (Says reading) (objects_bytes reply) [] reply = (lines, spelt, here) in
-      let both = ((laws.exactly reading (objects_bytes reply) left [] (Err fault) reply (front, refused) certain).1
-      there).0 in
-      err_is_no_ok fault reply both
+-- an id that the server acknowledges is none that the request did not name
+none_strange : (haves acks : List (List ℕ)) (id : List ℕ) → All (Contains haves) acks → IsFirstStrange haves acks id → ⊥
+none_strange haves acks id named first =
+    let among : Contains acks id = subst (λ (ids : List (List ℕ)). Contains ids id) (sym first.parts)
+    (Contains-append_right first.front (id ∷ first.rest) id (Contains-get_or (id ∷ first.rest) 0 id (omega arith))) in
+    first.strange (All-contains (Contains haves) acks id named among)
 
-  refused_told : (r : RepoState A) (format : Format) (asked : FetchAsked) (reply : FetchReply) (front : List Packet)
-      (left : List ℕ) (fault : MessageFault) (number : ℕ)
-      → Says (any_reading format asked) (canonical_reply Plain reply) reply
-      → IsFront (canonical_reply Plain reply) (objects_bytes reply) []
-      → ReadsRefused (judge (record (any_reading format asked) { limit = default_limit }))
-      (brings_into false (record (any_reading format asked) { limit = default_limit })) front
-      (known (objects_bytes reply) left) fault
-      → number ≡ (why_row fault.why).code → (fault.why ≡ why.Memory) ⊎ IsOfBytes fault.why
-      → MayDecline tools r reply number
-  refused_told r format asked reply front left fault number says spelt refused is (inl memory) =
-      inr (inr (inl (is ∙ ap (λ (w : Why). (why_row w).code) memory)))
-  refused_told r format asked reply front left fault number says spelt refused is (inr certain) =
-      let reading = record (any_reading format asked) { limit = default_limit } in
-      let kept : ReadsRefused (judge reading) (brings reading) front (known (objects_bytes reply) left) fault =
-      refused_for_bytes (judge reading) (brings_into false reading) (brings reading) front
-      (known (objects_bytes reply) left) fault certain refused in
-      let over : fault.why ≡ why.Limit =
-      laws.over_limit reading max_pack (canonical_reply Plain reply) front reply (objects_bytes reply) left [] fault
-      says spelt kept certain in
-      elim (leb_tells (length (pack_of reply)) default_limit) [
-        | inl short ↦ absurd (within_limit format asked reply front left fault says spelt kept certain short.1)
-        | inr long ↦ inl (is ∙ ap (λ (w : Why). (why_row w).code) over, long.1)
-      ]
+module _ {A : Type 0} {tools : PackTools A} (answers : WorldLaws tools) (laws : FaultLaws A) where
+  module _ (r : RepoState A) (format : Format) (asked : FetchAsked) (reply : FetchReply) (front : List Packet)
+      (left : List ℕ) (fault : MessageFault)
+      (says : Says (any_reading format asked) (canonical_reply Plain reply) reply)
+      (spelt : IsFront (canonical_reply Plain reply) (objects_bytes reply) []) where
+    -- a reply whose pack is within the limit is not refused for a reason in its bytes
+    within_limit : ReadsRefused (judge (limited format asked)) (brings (limited format asked)) front
+        (known (objects_bytes reply) left) fault
+        → IsOfBytes fault.why → length (pack_of reply) ≤ default_limit → ⊥
+    within_limit refused certain short =
+        let reading = limited format asked in
+        let lines = canonical_reply Plain reply in
+        let here = laws.any_limit (any_reading format asked) default_limit lines reply says short in
+        let there : SaysAtFront (Says reading) (objects_bytes reply) [] reply = (lines, spelt, here) in
+        err_is_no_ok fault reply
+        ((laws.exactly reading (objects_bytes reply) left [] (Err fault) reply (front, refused) certain).1 there).0
+
+    refused_told : (number : ℕ) → ReadsRefused (judge (limited format asked)) (brings_into false (limited format asked))
+        front (known (objects_bytes reply) left) fault
+        → number ≡ (why_row fault.why).code → (fault.why ≡ why.Memory) ⊎ IsOfBytes fault.why
+        → MayDecline tools r reply number
+    refused_told number refused is (inl memory) =
+        inr (inr (inl (is ∙ ap (λ (w : Why). (why_row w).code) memory)))
+    refused_told number refused is (inr certain) =
+        let reading = limited format asked in
+        let kept = refused_for_bytes (judge reading) (brings_into false reading) (brings reading) front
+        (known (objects_bytes reply) left) fault certain refused in
+        let over : fault.why ≡ why.Limit = laws.over_limit reading max_pack (canonical_reply Plain reply) front reply
+        (objects_bytes reply) left [] fault says spelt kept certain in
+        elim (leb_tells (length (pack_of reply)) default_limit) [
+          | inl short ↦ absurd (within_limit kept certain short.1)
+          | inr long ↦ inl (is ∙ ap (λ (w : Why). (why_row w).code) over, long.1)
+        ]
 
   -- ---- as it is taken
 
-  -- an id that the server acknowledges is none that the request did not name
-  none_strange : (haves acks : List (List ℕ)) (id : List ℕ) → All (Contains haves) acks → IsFirstStrange haves acks id
-      → ⊥
-  none_strange haves acks id named first =
-      let among : Contains acks id =
-      subst (λ (ids : List (List ℕ)). Contains ids id) (sym first.parts)
-      (Contains-append_right first.front (id ∷ first.rest) id (Contains-get_or (id ∷ first.rest) 0 id (omega arith))) in
-      first.strange (All-contains (Contains haves) acks id named among)
-
-  -- the indexer reads the pack, or is out of memory
-  index_fault : (w : WorldState A) (server : Server A) (asked : FetchAsked) (pack : List ℕ) (fault : IndexFault)
-      → IsUnforgedAndFaithful tools w → IsEnough server tools.packs asked pack → tools.index_fails pack fault
-      → fault ≡ index.Memory
-  index_fault w server asked pack fault honest enough fails =
-      let same : pack ≡ honest.image enough.list = honest.faithful.packs_image enough.list pack enough.entries
-      enough.packed.packed in
-      honest.faithful.reads_each enough.list fault enough.entries
-      (subst (λ (bytes : List ℕ). tools.index_fails bytes fault) same fails)
-
-  -- the client's graph takes the objects, or has no room for them, or is out of memory
-  graph_fault : (w : WorldState A) (server : Server A) (asked : FetchAsked) (pack : List ℕ) (fault : GraphFault)
-      → IsUnforgedAndFaithful tools w → Agree server.graph.entries w.repo.graph.entries
-      → w.repo.graph.format ≡ server.graph.format
-      → IsEnough server tools.packs asked pack → RefusesPack tools.indexes tools.index_fails w.repo pack fault
-      → (fault ≡ graph.TooMany) ⊎ (fault ≡ graph.Memory)
-  graph_fault w server asked pack fault honest agree format enough refuses =
-      let same = read_is_sent tools w server asked pack refuses.0 honest enough refuses.1 in
-      let refused = subst (λ (list : List (Entry A)). IsRefused w.repo.graph.format w.repo.graph.entries list fault)
-      same refuses.2 in
-      laws.fit server.graph.entries w.repo.graph.entries enough.list w.repo.graph.format fault
-      (subst (λ (f : Format). IsGraph (record { format = f; entries = enough.list })) (sym format) enough.graph) agree
-      enough.nodes refused
-
-  graph_memory : (r : RepoState A) (reply : FetchReply) (number : ℕ) (fault : GraphFault)
-      → number ≡ (graph_fault_row fault).0
-      → fault ≡ graph.Memory → MayDecline tools r reply number
-  graph_memory r reply number fault is none =
-      inr (inr (inr (inl (is ∙ ap (λ (f : GraphFault). (graph_fault_row f).0) none))))
-
   graph_number : (r : RepoState A) (reply : FetchReply) (number : ℕ) (fault : GraphFault)
       → number ≡ (graph_fault_row fault).0
-      → RefusesPack tools.indexes tools.index_fails r (pack_of reply) fault
-      → (fault ≡ graph.TooMany) ⊎ (fault ≡ graph.Memory) → MayDecline tools r reply number
-  graph_number r reply number fault is refuses (inl many) =
-      inr (inl (
-        is ∙ ap (λ (f : GraphFault). (graph_fault_row f).0) many,
-        subst (λ (f : GraphFault). RefusesPack tools.indexes tools.index_fails r (pack_of reply) f) many refuses,
-      ))
-  graph_number r reply number fault is refuses (inr none) = graph_memory r reply number fault is none
+      → (RefusesPack tools.indexes tools.index_fails r (pack_of reply) fault × (fault ≡ graph.TooMany))
+      ⊎ (fault ≡ graph.Memory) → MayDecline tools r reply number
+  graph_number r reply number fault is (inl (refuses, many)) = inr (inl (
+    is ∙ ap (λ (f : GraphFault). (graph_fault_row f).0) many,
+    subst (RefusesPack tools.indexes tools.index_fails r (pack_of reply)) many refuses,
+  ))
+  graph_number r reply number fault is (inr none) =
+      inr (inr (inr (inl (is ∙ ap (λ (f : GraphFault). (graph_fault_row f).0) none))))
 
   -- why the graph's part of a reply is not taken
   graph_declined : (haves : List (List ℕ)) (r : RepoState A) (read : FetchReply) (fault : GraphFault)
       → IsReplyFault tools.indexes tools.index_fails haves r read (client.Repo (repo.Graph fault))
       → (fault ≡ graph.Memory) ⊎ (HasPack read × RefusesPack tools.indexes tools.index_fails r (pack_of read) fault)
   graph_declined haves r read graph.Memory declined = inl refl
-  graph_declined haves r read (graph.Conflict id) declined = inr (declined.1, declined.2)
-  graph_declined haves r read graph.TooMany declined = inr (declined.1, declined.2)
-  graph_declined haves r read graph.TooManyParents declined = inr (declined.1, declined.2)
-  graph_declined haves r read graph.TagShape declined = inr (declined.1, declined.2)
-  graph_declined haves r read (graph.OtherFormat id) declined = inr (declined.1, declined.2)
-
-  same_awaited : (s : SessionState A) (one other : FetchAsked) → Awaits s one → Awaits s other → other ≡ one
-  same_awaited s one other waits also = let same : Some (Fetches other) ≡ Some (Fetches one) = sym also ∙ waits in cc
-
-  same_read : (one other : FetchReply) → Objects one ≡ Objects other → one ≡ other
-  same_read one other same = cc
-
-  same_asked : (one other : FetchAsked) → Fetches one ≡ Fetches other → one ≡ other
-  same_asked one other same = cc
+  graph_declined haves r read fault declined = inr (declined.1, declined.2)
 
   -- what is known where all bytes of the reply to the request that waits come
   pub record IsWhole (w : WorldState A) (s : SessionState A) (server : Server A) (asked : FetchAsked)
@@ -257,90 +200,106 @@ module _ {A : Type 0} (tools : PackTools A)
     pub is_answer : FetchAnswer server tools.packs asked reply
     pub waits : Awaits s asked
 
-  -- the reply that is read is that reply
-  read_whole : (w : WorldState A) (s : SessionState A) (server : Server A) (asked : FetchAsked) (reply : FetchReply)
-      (read : FetchReply) (also : FetchAsked) (count : ℕ) (left : List ℕ)
-      → IsWhole w s server asked reply → ReadsFetch (reading_for s also)
-      (known (take count (reply_bytes (Objects reply))) left) read → read ≡ reply
-  read_whole w s server asked reply read also count left is reads =
-      let kept = kept_fetch tools answers w server (Fetches asked) (Objects reply) read count left (reading_for s also)
-      is.is
-      (is.format ∙ sym is.session_format) is.ends is.is_answer is.request reads in
-      sym (same_read reply read kept.is_reply)
+  module _ {w : WorldState A} {s : SessionState A} {server : Server A} {asked : FetchAsked} {reply : FetchReply}
+      (is : IsWhole w s server asked reply) (count : ℕ) where
+    same_awaited : (other : FetchAsked) → Awaits s other → other ≡ asked
+    same_awaited other also = let same : Some (Fetches other) ≡ Some (Fetches asked) = sym also ∙ is.waits in cc
 
-  enough_of : (w : WorldState A) (s : SessionState A) (server : Server A) (asked : FetchAsked) (reply : FetchReply)
-      → IsWhole w s server asked reply → HasPack reply → IsEnough server tools.packs asked (pack_of reply)
-  enough_of w s server asked reply is has =
-      answers.enough server asked (pack_of reply) is.is is.is_answer.can
-      (sends tools server asked reply has is.is_answer.replies)
+    -- the reply that is read is that reply
+    read_whole : (read : FetchReply) (also : FetchAsked) (left : List ℕ) → ReadsFetch (reading_for s also)
+        (known (take count (reply_bytes (Objects reply))) left) read → read ≡ reply
+    read_whole read also left reads =
+        let kept = kept_fetch answers w server count left is.is (reading_for s also) (Fetches asked) (Objects reply)
+        read (is.format ∙ sym is.session_format) is.ends is.is_answer is.request reads in
+        let same : Objects read ≡ Objects reply = sym kept.is_reply in cc
 
-  take_fault : (w : WorldState A) (s : SessionState A) (server : Server A) (asked : FetchAsked) (reply : FetchReply)
-      (count : ℕ) (left : List ℕ)
-      (fault : ClientFault A) (number : ℕ) → IsWhole w s server asked reply
-      → length (reply_bytes (Objects reply)) ≤ count
-      → IsTakeFault tools.indexes tools.index_fails s w.repo (known (take count (reply_bytes (Objects reply))) left)
-      fault
-      → IsAtHand fault → number ≡ code_of fault → MayDecline tools w.repo reply number
-  take_fault w s server asked reply count left client.NoOpenRequest number is all fault at same =
-      absurd (fault.0 (asked, is.waits))
-  take_fault w s server asked reply count left (client.Message cause) number is all fault at same =
-      let also : fault.0 ≡ asked = same_awaited s asked fault.0 is.waits fault.1 in
-      let reading : reading_for s fault.0 ≡ record (any_reading server.graph.format asked) { limit = default_limit } =
-      ap (λ (f : FetchAsked). reading_for s f) also
-      ∙ reading_is s server.graph.format asked (is.session_format ∙ sym is.format) is.limit is.ends in
-      let bytes = take_all count (objects_bytes reply) all in
-      let refused = subst (λ (b : List ℕ). ReadsRefused (judge (reading_for s fault.0))
-      (brings_into false (reading_for s fault.0)) fault.2.0 (known b left) cause) bytes fault.2.1 in
-      let refused_too = subst (λ (r : Reading). ReadsRefused (judge r) (brings_into false r) fault.2.0
-      (known (objects_bytes reply) left) cause) reading refused in
-      let fits = reply_fits tools answers server asked reply is.is is.request.few is.is_answer in
-      let written = objects_written answers.reading (any_reading server.graph.format asked) reply refl largest fits in
-      refused_told w.repo server.graph.format asked reply fault.2.0 left cause number written.0
-      (record { front = objects_bytes reply; parts = sym (append-nil (objects_bytes reply)); spelt = written.1 })
-      refused_too same (why_cases cause.why at)
-  take_fault w s server asked reply count left (client.StrangeAck id) number is all fault at same =
-      let also : fault.0 ≡ asked = same_awaited s asked fault.0 is.waits fault.1 in
-      let read : fault.2.0 ≡ reply = read_whole w s server asked reply fault.2.0 fault.0 count left is fault.2.1 in
-      let strange = subst (λ (f : FetchAsked). IsFirstStrange f.haves (acknowledged_by fault.2.0) id) also fault.2.2 in
-      let strange_too = subst (λ (r : FetchReply). IsFirstStrange asked.haves (acknowledged_by r) id) read strange in
-      absurd (none_strange asked.haves (acknowledged_by reply) id (answers.acks server asked reply is.is_answer).offered
-      strange_too)
-  take_fault w s server asked reply count left (client.Index cause) number is all fault at same =
-      let read : fault.2.0 ≡ reply = read_whole w s server asked reply fault.2.0 fault.0 count left is fault.2.1 in
-      let has : HasPack reply = subst HasPack read fault.2.2.1 in
-      let fails = subst (λ (r : FetchReply). tools.index_fails (pack_of r) cause) read fault.2.2.2 in
-      let memory = index_fault w server asked (pack_of reply) cause is.honest (enough_of w s server asked reply is has)
-      fails in
-      inr (inr (inr (inr (
-        same ∙ ap (λ (f : IndexFault). (index_fault_row f).0) memory,
-        subst (λ (f : IndexFault). tools.index_fails (pack_of reply) f) memory fails,
-      ))))
-  take_fault w s server asked reply count left (client.Repo (repo.Graph cause)) number is all fault at same =
-      let read : fault.2.0 ≡ reply = read_whole w s server asked reply fault.2.0 fault.0 count left is fault.2.1 in
-      elim (graph_declined fault.0.haves w.repo fault.2.0 cause fault.2.2) [
-        | inl memory ↦ graph_memory w.repo reply number cause same memory
-        | inr refuses ↦
-            (let here = subst (λ (r : FetchReply). RefusesPack tools.indexes tools.index_fails w.repo (pack_of r) cause)
-            read refuses.1 in
-            graph_number w.repo reply number cause same here
-            (graph_fault w server asked (pack_of reply) cause is.honest is.agree (sym is.format)
-            (enough_of w s server asked reply is (subst HasPack read refuses.0)) here))
-      ]
-  take_fault w s server asked reply count left _ number is all fault at same = absurd fault
+    enough_of : HasPack reply → IsEnough server tools.packs asked (pack_of reply)
+    enough_of has = answers.enough server asked (pack_of reply) is.is is.is_answer.can
+        (sends answers server asked reply has is.is_answer.replies)
 
-  -- a complete reply to the very request that waits is taken, or one of these faults is reported
-  pub whole_taken : (w : WorldState A) (s after : SessionState A) (server : Server A) (asked : FetchAsked)
-      (reply : FetchReply) (count : ℕ) (outcome : Outcome)
-      (r : RepoState A) → IsWhole w s server asked reply → length (reply_bytes (Objects reply)) ≤ count
-      → TakesObjects tools.indexes tools.index_fails s w.repo (take count (reply_bytes (Objects reply))) outcome after r
-      → IsTakenOrDeclined tools w.repo reply outcome
-  whole_taken w s after server asked reply count (Round common) r is all takes =
-      let read = read_whole w s server asked reply takes.1.2.0 takes.1.0 count takes.0 is takes.1.2.1 in
-      round_taken tools w.repo reply common (subst (λ (x : FetchReply). ¬ (HasPack x)) read takes.1.2.2.1.0)
-  whole_taken w s after server asked reply count (PackTaken added) r is all takes =
-      let read = read_whole w s server asked reply takes.1.2.0 takes.1.0 count takes.0 is takes.1.2.1 in
-      pack_taken tools w.repo reply added (subst HasPack read takes.1.2.2.1.0)
-  whole_taken w s after server asked reply count (Fault number) r is all takes =
-      declined tools w.repo reply number (take_fault w s server asked reply count takes.0 takes.1 number is all
-      takes.2.0 takes.3 takes.4)
-  whole_taken w s after server asked reply count _ r is all takes = absurd takes
+    -- the indexer reads the pack, or is out of memory
+    index_fault : (fault : IndexFault) → IsEnough server tools.packs asked (pack_of reply)
+        → tools.index_fails (pack_of reply) fault → fault ≡ index.Memory
+    index_fault fault enough fails =
+        let faithful = is.honest.faithful in
+        let same = faithful.packs_image enough.list (pack_of reply) enough.entries enough.packed.packed in
+        faithful.reads_each enough.list fault enough.entries
+        (subst (λ (bytes : List ℕ). tools.index_fails bytes fault) same fails)
+
+    -- the client's graph takes the objects, or has no room for them, or is out of memory
+    graph_fault : (fault : GraphFault) → IsEnough server tools.packs asked (pack_of reply)
+        → RefusesPack tools.indexes tools.index_fails w.repo (pack_of reply) fault
+        → (fault ≡ graph.TooMany) ⊎ (fault ≡ graph.Memory)
+    graph_fault fault enough refuses =
+        let g = w.repo.graph.entries in
+        let format = w.repo.graph.format in
+        let same = read_is_sent answers refuses.0 is.honest enough refuses.1 in
+        let refused = subst (λ (list : List (Entry A)). IsRefused format g list fault) same refuses.2 in
+        laws.fit server.graph.entries g enough.list format fault
+        (subst (λ (f : Format). IsGraph (record { format = f; entries = enough.list })) is.format enough.graph) is.agree
+        enough.nodes refused
+
+    take_fault : (left : List ℕ) (fault : ClientFault A) (number : ℕ) → length (reply_bytes (Objects reply)) ≤ count
+        → IsTakeFault tools.indexes tools.index_fails s w.repo
+        (known (take count (reply_bytes (Objects reply))) left) fault
+        → IsAtHand fault → number ≡ code_of fault → MayDecline tools w.repo reply number
+    take_fault left client.NoOpenRequest number all fault at same = absurd (fault.0 (asked, is.waits))
+    take_fault left (client.Message cause) number all fault at same =
+        let bytes = objects_bytes reply in
+        let any = any_reading server.graph.format asked in
+        let reading : reading_for s fault.0 ≡ limited server.graph.format asked =
+        ap (λ (f : FetchAsked). reading_for s f) (same_awaited fault.0 fault.1)
+        ∙ reading_is s server.graph.format asked (is.session_format ∙ sym is.format) is.limit is.ends in
+        let refused = subst (λ (b : List ℕ). ReadsRefused (judge (reading_for s fault.0))
+        (brings_into false (reading_for s fault.0)) fault.2.0 (known b left) cause) (take_all count bytes all)
+        fault.2.1 in
+        let refused_too = subst (λ (r : Reading). ReadsRefused (judge r) (brings_into false r) fault.2.0
+        (known bytes left) cause) reading refused in
+        let written = objects_written answers.reading any reply refl largest
+        (reply_fits answers is.is is.request.few is.is_answer) in
+        refused_told w.repo server.graph.format asked reply fault.2.0 left cause written.0
+        (front_all written.1) number refused_too same (why_cases cause.why at)
+    take_fault left (client.StrangeAck id) number all fault at same =
+        let read = read_whole fault.2.0 fault.0 left fault.2.1 in
+        let also = same_awaited fault.0 fault.1 in
+        let strange = subst (λ (f : FetchAsked). IsFirstStrange f.haves (acknowledged_by fault.2.0) id) also
+        fault.2.2 in
+        absurd (none_strange asked.haves (acknowledged_by reply) id
+        (answers.acks server asked reply is.is_answer).offered
+        (subst (λ (r : FetchReply). IsFirstStrange asked.haves (acknowledged_by r) id) read strange))
+    take_fault left (client.Index cause) number all fault at same =
+        let read = read_whole fault.2.0 fault.0 left fault.2.1 in
+        let fails = subst (λ (r : FetchReply). tools.index_fails (pack_of r) cause) read fault.2.2.2 in
+        let memory = index_fault cause (enough_of (subst HasPack read fault.2.2.1)) fails in
+        inr (inr (inr (inr (
+          same ∙ ap (λ (f : IndexFault). (index_fault_row f).0) memory,
+          subst (tools.index_fails (pack_of reply)) memory fails,
+        ))))
+    take_fault left (client.Repo (repo.Graph cause)) number all fault at same =
+        let read = read_whole fault.2.0 fault.0 left fault.2.1 in
+        graph_number w.repo reply number cause same
+        (elim (graph_declined fault.0.haves w.repo fault.2.0 cause fault.2.2) [
+          | inl memory ↦ inr memory
+          | inr refuses ↦
+              (let here = subst (λ (r : FetchReply). RefusesPack tools.indexes tools.index_fails w.repo (pack_of r)
+              cause) read refuses.1 in
+              elim (graph_fault cause (enough_of (subst HasPack read refuses.0)) here) [
+                | inl many ↦ inl (here, many)
+                | inr none ↦ inr none
+              ])
+        ])
+    take_fault left _ number all fault at same = absurd fault
+
+    -- a complete reply to the very request that waits is taken, or one of these faults is reported
+    pub whole_taken : (after : SessionState A) (outcome : Outcome) (r : RepoState A)
+        → length (reply_bytes (Objects reply)) ≤ count
+        → TakesObjects tools.indexes tools.index_fails s w.repo (take count (reply_bytes (Objects reply))) outcome after
+        r → IsTakenOrDeclined tools w.repo reply outcome
+    whole_taken after (Round common) r all takes = round_taken tools w.repo reply common
+        (subst (λ (x : FetchReply). ¬ (HasPack x)) (read_whole takes.1.2.0 takes.1.0 takes.0 takes.1.2.1)
+        takes.1.2.2.1.0)
+    whole_taken after (PackTaken added) r all takes = pack_taken tools w.repo reply added
+        (subst HasPack (read_whole takes.1.2.0 takes.1.0 takes.0 takes.1.2.1) takes.1.2.2.1.0)
+    whole_taken after (Fault number) r all takes =
+        declined tools w.repo reply number (take_fault takes.0 takes.1 number all takes.2.0 takes.3 takes.4)
+    whole_taken after _ r all takes = absurd takes

@@ -1,16 +1,9 @@
-pub mod Growth
 pub mod Sessions
 pub mod Reading
-pub mod Taking
 pub mod Delivering
-pub mod Packs
 pub mod Steps
 pub mod Faults
 pub mod Promised
-pub mod Kept
 pub mod CodeLemmas
 pub mod Runs
-pub mod RunLaws
 pub mod Starting
-pub mod LookUps
-pub mod Strangers

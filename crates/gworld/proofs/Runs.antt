@@ -1,41 +1,48 @@
--- A run that goes on.
-use Rattle.std.proofs.Common.{Result, Ok, Err, is_err, OnOk, false, ◌≡◌, ℕ, ◌+◌, ◌<◌, List, [], ◌∷◌}
-use Rattle.std.proofs.Common.{◌++◌, length, take, drop, get_or, refl, sym, subst}
+-- A run that goes on, and what holds after any run.
+use Rattle.std.proofs.Common.{Result, Ok, Err, is_err, OnOk, false, ◌≡◌, ℕ, ◌+◌, ◌<◌, List, [], ◌∷◌, ◌++◌, length, take}
+use Rattle.std.proofs.Common.{drop, get_or, refl, sym, subst, Bool, All, Option, Some, None, ap, ◌∙◌}
 use Rattle.std.proofs.lemmas.Bool.{false≢true}
 use Rattle.gdag.proofs.Growing.{at_front}
 use Rattle.gworld.specs.steps.Bringing.{RunsSoundly}
 use Rattle.gworld.specs.Promises.{Promises}
 use Rattle.gworld.specs.Sound.{IsSound}
-use Rattle.gworld.specs.Runs.{RunWith, RunsFront}
-use Rattle.gworld.specs.Worlds.{PackTools, WorldState}
+use Rattle.gworld.specs.Runs.{RunWith, RunsFront, Run}
+use Rattle.gworld.specs.Worlds.{PackTools, WorldState, Kept}
 use Rattle.gscenario.specs.declared.event.Event.{Event}
 use Rattle.gworld.specs.declared.outcome.Outcome.{Outcome}
+use Rattle.std.specs.Prelude.{slice_get}
+use Rattle.std.proofs.lemmas.List.Elements.{All-head, All-tail}
+use Rattle.grequest.specs.Asked.{Asked}
+use Rattle.gsession.specs.Sessions.{SessionState}
+use Rattle.gscenario.specs.declared.event.Event.TheVariants as event
+use Rattle.gworld.specs.Laws.{IsNoForge}
+use Rattle.gworld.specs.Events.{AsksNext, Delivers, ServesRequest, SettlesRefs, Step, waiting}
+use Rattle.gworld.specs.declared.outcome.Outcome.TheVariants.{Done, Asked as Asks, Served, Settled, Fault}
+
+-- ---- a run goes on
 
 -- room was made where making it did not fail
 pub room_left : {T E : Type 0} (r : Result T E) (P : Type 0) → is_err r ≡ false → OnOk r P → P
 room_left (Ok t) P well room = room
 room_left (Err e) P well room = absurd (false≢true (sym well))
 
-module _ {A : Type 0} (R : WorldState A → Event A → Outcome → WorldState A → Type 0) where
-  pub run_goes_on : (w v u : WorldState A) (events : List (Event A)) (outcomes : List Outcome) (event : Event A)
-      (outcome : Outcome)
-      → RunWith R w events outcomes v → R v event outcome u
-      → RunWith R w (events ++ event ∷ []) (outcomes ++ outcome ∷ []) u
-  run_goes_on w v u [] [] event outcome same step =
-      (u, subst (λ (x : WorldState A). R x event outcome u) same step, refl)
-  run_goes_on w v u (first ∷ events) (told ∷ outcomes) event outcome (next, here, rest) step =
-      (next, here, run_goes_on next v u events outcomes event outcome rest step)
-  run_goes_on w v u [] (told ∷ outcomes) event outcome run step = absurd run
-  run_goes_on w v u (first ∷ events) [] event outcome run step = absurd run
+run_goes_on : {A : Type 0} (R : WorldState A → Event A → Outcome → WorldState A → Type 0) (w v u : WorldState A)
+    (events : List (Event A)) (outcomes : List Outcome) (event : Event A) (outcome : Outcome)
+    → RunWith R w events outcomes v → R v event outcome u
+    → RunWith R w (events ++ event ∷ []) (outcomes ++ outcome ∷ []) u
+run_goes_on {A} R w v u [] [] event outcome same step =
+    (u, subst (λ (x : WorldState A). R x event outcome u) same step, refl)
+run_goes_on R w v u (first ∷ events) (told ∷ outcomes) event outcome (next, here, rest) step =
+    (next, here, run_goes_on R next v u events outcomes event outcome rest step)
+run_goes_on R w v u _ _ event outcome run step = absurd run
 
 module _ {A : Type 0} (tools : PackTools A) where
   -- the first events were done, and the next one is there
-  pub front_runs : (w v : WorldState A) (events : List (Event A)) (count : ℕ) (next : Event A)
-      (outcomes same : List Outcome)
-      → count < length events → next ≡ get_or events count next
+  pub front_runs : {w v : WorldState A} (events : List (Event A)) (count : ℕ) (next : Event A)
+      (outcomes same : List Outcome) → count < length events → next ≡ get_or events count next
       → RunsSoundly tools w (take count events) outcomes v → same ≡ outcomes
       → RunsFront (Promises tools) w events same v
-  front_runs w v events count next outcomes same inside at runs is = record {
+  front_runs {w} {v} events count next outcomes same inside at runs is = record {
     front = take count events;
     next = next;
     rest = drop (count + 1) events;
@@ -44,22 +51,93 @@ module _ {A : Type 0} (tools : PackTools A) where
   }
 
   -- one more event was done
-  pub goes_on_soundly : (w v u : WorldState A) (events more : List (Event A)) (event : Event A)
-      (outcomes told : List Outcome) (outcome : Outcome)
-      → RunsSoundly tools w events outcomes v
+  pub goes_on_soundly : {w v u : WorldState A} (events more : List (Event A)) (event : Event A)
+      (outcomes told : List Outcome) (outcome : Outcome) → RunsSoundly tools w events outcomes v
       → IsSound tools u × Promises tools v event outcome u
-      → more ≡ events ++ event ∷ [] → told ≡ outcomes ++ outcome ∷ []
-      → RunsSoundly tools w more told u
-  goes_on_soundly w v u events more event outcomes told outcome runs step is also = record {
+      → more ≡ events ++ event ∷ [] → told ≡ outcomes ++ outcome ∷ [] → RunsSoundly tools w more told u
+  goes_on_soundly {w} {v} {u} events more event outcomes told outcome runs step is also = record {
     sound = step.0;
-    run = subst (λ (l : List (Event A)). RunWith (Promises tools) w l told u) (sym is)
-        (subst (λ (l : List Outcome). RunWith (Promises tools) w (events ++ event ∷ []) l u) (sym also)
-        (run_goes_on (Promises tools) w v u events outcomes event outcome runs.run step.1));
+    run = rw (is, also) (run_goes_on (Promises tools) w v u events outcomes event outcome runs.run step.1);
   }
 
-  -- all events were done
-  pub runs_soundly_all : (w v : WorldState A) (events front : List (Event A)) (outcomes : List Outcome)
-      → RunsSoundly tools w front outcomes v → front ≡ events
-      → RunWith (Promises tools) w events outcomes v
-  runs_soundly_all w v events front outcomes runs same =
-      subst (λ (l : List (Event A)). RunWith (Promises tools) w l outcomes v) same runs.run
+  -- ---- what holds after any run
+
+  abbrev mark : WorldState A → Bool
+  mark w = w.forged
+
+  -- only forging makes a world count as forged
+  module _ (w v : WorldState A) where
+    asks_unforged : (session : Option (SessionState A)) (outcome : Outcome) → AsksNext w session outcome v
+        → mark v ≡ mark w
+    asks_unforged None outcome step = ap mark step.1
+    asks_unforged (Some s) (Asks number) step = ap mark step.4
+    asks_unforged (Some s) (Fault number) step = ap mark step.4
+    asks_unforged (Some s) _ step = absurd step
+
+    settles_unforged : (session : Option (SessionState A)) (outcome : Outcome) → SettlesRefs w session outcome v
+        → mark v ≡ mark w
+    settles_unforged None outcome step = ap mark step.1
+    settles_unforged (Some s) (Settled moved same not_forward) step = ap mark step.6
+    settles_unforged (Some s) (Fault number) step = ap mark step.5
+    settles_unforged (Some s) _ step = absurd step
+
+    serves_unforged : (found : Option Asked) (outcome : Outcome)
+        → ServesRequest tools.packs tools.pack_fails w found outcome v → mark v ≡ mark w
+    serves_unforged None outcome step = ap mark step.1
+    serves_unforged (Some asked) (Served number) step = ap mark step.3
+    serves_unforged (Some asked) (Fault number) step = ap mark step.3
+    serves_unforged (Some asked) _ step = absurd step
+
+    delivers_unforged : (found : Option Kept) (count : ℕ) (waits : Option (SessionState A × Asked)) (outcome : Outcome)
+        → Delivers tools.indexes tools.index_fails w found count waits outcome v → mark v ≡ mark w
+    delivers_unforged None count waits outcome step = ap mark step.1
+    delivers_unforged (Some kept) count None outcome step = ap mark step.1
+    delivers_unforged (Some kept) count (Some (s, asked)) outcome step = ap mark step.2.is
+
+    unforged_step : (e : Event A) (outcome : Outcome) → IsNoForge e → Step tools w e outcome v → mark v ≡ mark w
+    unforged_step (event.Begin specs) Done quiet step = ap mark step.4
+    unforged_step (event.Begin specs) (Fault number) quiet step = ap mark step.3
+    unforged_step event.Ask outcome quiet step = asks_unforged w.session outcome step
+    unforged_step (event.Serve number) outcome quiet step = serves_unforged (slice_get w.sent number) outcome step
+    unforged_step (event.Deliver number count) outcome quiet step =
+        delivers_unforged (slice_get w.kept number) count (waiting w.session) outcome step
+    unforged_step (event.Forge bytes) outcome quiet step = absurd quiet
+    unforged_step (event.StrangeRequest bytes) outcome quiet step = ap mark step.0
+    unforged_step event.Settle outcome quiet step = settles_unforged w.session outcome step
+    unforged_step event.RestartClient outcome quiet step = ap mark step.1
+    unforged_step event.RestartServer outcome quiet step = ap mark step.1
+    unforged_step (event.ServerAdd entry) Done quiet step = ap mark step.1.2
+    unforged_step (event.ServerAdd entry) (Fault number) quiet step = ap mark step.0
+    unforged_step (event.ServerRef name id) Done quiet step = ap mark step.2
+    unforged_step (event.ServerRef name id) (Fault number) quiet step = ap mark step.3
+    unforged_step (event.ClientAdd entry) Done quiet step = ap mark step.1.3
+    unforged_step (event.ClientAdd entry) (Fault number) quiet step = ap mark step.0
+    unforged_step (event.ClientRef name id) Done quiet step = ap mark step.2
+    unforged_step (event.ClientRef name id) (Fault number) quiet step = ap mark step.3
+    unforged_step _ _ quiet step = absurd step
+
+  pub is_run : (w v : WorldState A) (events : List (Event A)) (outcomes : List Outcome)
+      → RunWith (Promises tools) w events outcomes v → Run tools w events outcomes v
+  is_run w v [] [] run = run
+  is_run w v (first ∷ events) (told ∷ outcomes) (next, here, rest) =
+      (next, here.step, is_run next v events outcomes rest)
+  is_run w v _ _ run = absurd run
+
+  -- what each step promises of the world after it holds after a run, if it held before
+  pub kept_on : (P : WorldState A → Type 0)
+      → ((w : WorldState A) (e : Event A) (outcome : Outcome) (next : WorldState A) → Promises tools w e outcome next
+      → P next)
+      → (w v : WorldState A) (events : List (Event A)) (outcomes : List Outcome) → P w
+      → RunWith (Promises tools) w events outcomes v → P v
+  kept_on P each w v [] [] is run = subst P (sym run) is
+  kept_on P each w v (first ∷ events) (told ∷ outcomes) is (next, here, rest) =
+      kept_on P each next v events outcomes (each w first told next here) rest
+  kept_on P each w v _ _ is run = absurd run
+
+  pub unforged_on : (w v : WorldState A) (events : List (Event A)) (outcomes : List Outcome) → All IsNoForge events
+      → RunWith (Promises tools) w events outcomes v → mark v ≡ mark w
+  unforged_on w v [] [] none run = ap mark run
+  unforged_on w v (first ∷ events) (told ∷ outcomes) none (next, here, rest) =
+      unforged_on next v events outcomes (All-tail IsNoForge first events none) rest
+      ∙ unforged_step w next first told (All-head IsNoForge first events none) here.step
+  unforged_on w v _ _ none run = absurd run

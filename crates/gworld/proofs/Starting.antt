@@ -1,10 +1,10 @@
 -- A world begins.
-use Rattle.std.proofs.Common.{◌≡◌, ◌∙◌, ℕ, ◌+◌, ◌<◌, ◌≤◌, List, [], length, take, drop, get_or, All}
-use Rattle.std.proofs.Common.{Some, sym, ap, subst, arith, inl, inr}
+use Rattle.std.proofs.Common.{◌≡◌, ◌∙◌, ℕ, ◌+◌, ◌<◌, ◌≤◌, List, [], length, take, drop, get_or, All, Some, sym, ap}
+use Rattle.std.proofs.Common.{subst, arith, inl, inr}
 use Rattle.std.specs.Prelude.{slice_get}
 use Rattle.std.proofs.lemmas.List.{take_all}
 use Rattle.std.proofs.lemmas.List.Elements.{All-nil, All-push}
-use Rattle.std.proofs.lemmas.Option.{get_or_from_slice_get, same_Some, slice_get_cases, slice_get_within}
+use Rattle.std.proofs.lemmas.Option.{get_or_from_slice_get, slice_get_cases, slice_get_within}
 use Rattle.gobject.specs.declared.node.Entry.{Entry}
 use Rattle.gobject.specs.Objects.{IdsDiffer, entry_of}
 use Rattle.gdag.proofs.Growing.{all_standing, at_front, take_one}
@@ -55,15 +55,6 @@ module _ {A : Type 0} where
       let all : All (AgreesWith h) g = subst (All (AgreesWith h)) (take_all p g past) before in
       let place = ((law g differ).0 a m).0 here in
       sym (all_standing (AgreesWith h) g place.0 (entry_of a m) place.1 all n there)
-
-  -- what the client holds under the id of the entry that the server has there
-  pub agrees_here : (g h : List (Entry A)) (p : ℕ) (entry : Entry A) → slice_get g p ≡ Some entry → AgreesWith h entry
-      → AgreesAt g h p
-  agrees_here g h p entry at agrees other there =
-      subst (AgreesWith h) (same_Some entry other (sym at ∙ there)) agrees
-
-  pub none_there : (g h : List (Entry A)) (p : ℕ) → p < length g → length g ≤ p → AgreesAt g h p
-  none_there g h p inside past = absurd (omega (arith, inside, past))
 
   pub begins_as : (server : Server A) (repo : RepoState A) (sent : List Asked) (kept : List Kept) → sent ≡ []
       → kept ≡ []

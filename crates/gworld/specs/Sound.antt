@@ -1,6 +1,5 @@
 -- What stays true of a world, whatever events come.
-use Rattle.std.specs.Prelude.{◌≡◌, ◌≢◌, ◌⊎◌, ⊤, ◌≤◌, true, false, List, [], length, All, Contains}
-use Rattle.std.specs.Prelude.{IfSome, MatchOption}
+use Rattle.std.specs.Prelude.{◌≡◌, ◌≢◌, ◌⊎◌, ⊤, ◌≤◌, true, false, List, [], length, All, Contains, IfSome, MatchOption}
 use Rattle.gname.specs.Ids.{Id}
 use Rattle.gpkt.specs.Packets.{Bytes}
 use Rattle.gobject.specs.Packs.{LosesNothing, Packs}

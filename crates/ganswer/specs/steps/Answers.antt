@@ -1,19 +1,20 @@
--- The steps by which a server is made and a fetch is answered.
-use Rattle.std.specs.Prelude.{◌≡◌, ◌≢◌, ⊤, List, [], All, Result, Ok, Err}
-use Rattle.gname.specs.Ids.{Id}
-use Rattle.gname.specs.Names.{Name}
+-- The steps by which a server is made, and by which fetch and ls-refs are answered.
+use Rattle.std.specs.Prelude.{◌≡◌, ◌≢◌, ⊤, List, [], All, Result, Ok, Err, ◌∷◌, ◌++◌, Option, Some, None}
+use Rattle.gname.specs.{Ids.Id, Names.Name}
 use Rattle.gpkt.specs.Packets.{Bytes}
-use Rattle.gobject.specs.declared.node.Entry.{Entry}
-use Rattle.gobject.specs.Packs.{PackFails, Packs}
+use Rattle.gobject.specs.{declared.node.Entry.Entry, Packs.PackFails, Packs.Packs, declared.fault.PackFault.PackFault}
 use Rattle.gdag.specs.Graphs.{Holds, IsFirstAbsent}
 use Rattle.grefs.specs.RefLists.{RefList}
-use Rattle.grequest.specs.Asked.{FetchAsked}
-use Rattle.ganswer.specs.FetchAnswers.{FailsToPack, SendsPack}
-use Rattle.ganswer.specs.Servers.{Server, IsFirstDangling}
-use Rattle.ganswer.specs.declared.fault.BuildFault.{BuildFault}
+use Rattle.grequest.specs.Asked.{FetchAsked, LsRefsAsked}
+use Rattle.ganswer.specs.LsAnswers.{ShowsLines, all_refs, unborn_of}
+use Rattle.ganswer.specs.{FetchAnswers.FailsToPack, FetchAnswers.SendsPack, Servers.Server, Servers.IsFirstDangling}
+use Rattle.ganswer.specs.{declared.fault.BuildFault.BuildFault, declared.fault.ServeFault.ServeFault}
+use Rattle.ganswer.specs.{declared.one_pack.Packing.Packing, declared.fault.ServeRow.ServeRow}
 use Rattle.ganswer.specs.declared.fault.BuildFault.TheVariants as build
-use Rattle.ganswer.specs.declared.fault.ServeFault.{ServeFault}
 use Rattle.ganswer.specs.declared.fault.ServeFault.TheVariants as serve
+use Rattle.ganswer.specs.declared.one_pack.Packing.TheVariants as packing
+use Rattle.ggrammar.specs.Faults.{WhyRow}
+use Rattle.glsreply.specs.{LentViews.lent_view, LsReplies.LsReply, RefTexts.RefLine, declared.lent.LentLine.LentLine}
 
 -- ---- making a server
 
@@ -44,3 +45,36 @@ PacksFor server packs fails asked (Ok pack) = SendsPack server packs asked pack
 PacksFor server packs fails asked (Err (serve.Pack cause)) = FailsToPack server fails asked cause
 PacksFor server packs fails asked (Err serve.Memory) = ⊤
 PacksFor server packs fails asked (Err _) = ⊥
+
+-- ---- asking a packer once
+
+-- what is noted of its answer
+abbrev pub packing_of : {X : Type 0} → Result X PackFault → Packing
+packing_of (Ok pack) = packing.Packed
+packing_of (Err fault) = packing.Failed fault
+
+-- ---- the table of faults
+
+-- a row, wherever its texts lie in memory
+abbrev pub row_view : ServeRow → WhyRow
+row_view row = record { code = row.code; name = row.name.now; phrase = row.phrase.now }
+
+-- ---- answering ls-refs: a reply that is being built
+
+abbrev pub line_list : {A : Type 0} → Option (LentLine A) → List RefLine
+line_list None = []
+line_list (Some line) = lent_view line ∷ []
+
+-- the reply shows these of the refs so far
+pub record IsAnswering {A : Type 0} (server : Server A) (asked : LsRefsAsked) (front : RefList)
+    (reply : LsReply) : Type 0 where
+  pub lines : ShowsLines server asked front reply.lines
+  pub unborn : reply.unborn ≡ unborn_of server asked
+
+-- and the next ref is this one
+pub record IsNextRef {A : Type 0} (server : Server A) (asked : LsRefsAsked) (ref : Name × Id)
+    (reply : LsReply) : Type 0 where
+  pub front : RefList
+  pub back : RefList
+  pub parts : all_refs server ≡ front ++ ref ∷ back
+  pub so_far : IsAnswering server asked front reply

@@ -2,7 +2,7 @@
 use Rattle.std.specs.Prelude.{◌≡◌, ℕ, ◌+◌, Bool, true, false, List, [], ◌∷◌, ◌++◌, length}
 use Rattle.std.specs.Prelude.{Option, Some, None, Result, Ok, Err}
 use Rattle.gname.specs.Ids.{Id}
-use Rattle.gpkt.specs.Packets.{Bytes, Packet, Data, Flush, Delim, ResponseEnd, text}
+use Rattle.gpkt.specs.Packets.{Bytes, Packet, Data, text}
 use Rattle.gpkt.specs.Bands.{band_form}
 use Rattle.gname.specs.declared.formats.Format.{Format}
 use Rattle.ggrammar.specs.Grammar.{Verdict, Open, Whole}
@@ -85,9 +85,7 @@ with_payload place kept payload = with_text place kept (reply_form (text payload
 
 abbrev pub with_packet : Kept → Packet → Kept
 with_packet kept (Data payload) = with_payload kept.place kept payload
-with_packet kept Flush = record kept { place = next_place kept.place Flush }
-with_packet kept Delim = record kept { place = next_place kept.place Delim }
-with_packet kept ResponseEnd = record kept { place = next_place kept.place ResponseEnd }
+with_packet kept packet = record kept { place = next_place kept.place packet }
 
 -- what the next packet brings of the pack
 abbrev pub data_at : Place → Bytes → Bytes
@@ -96,16 +94,12 @@ data_at place payload = []
 
 abbrev pub data_there : Place → Packet → Bytes
 data_there place (Data payload) = data_at place payload
-data_there place Flush = []
-data_there place Delim = []
-data_there place ResponseEnd = []
+data_there place _ = []
 
 -- whether it brings something that takes memory
 abbrev pub brings_there : Bool → Place → Packet → Bool
 brings_there refuses place (Data payload) = payload_brings refuses place payload
-brings_there refuses place Flush = false
-brings_there refuses place Delim = false
-brings_there refuses place ResponseEnd = false
+brings_there refuses place _ = false
 
 -- ---- what is kept, without where it lies in memory
 

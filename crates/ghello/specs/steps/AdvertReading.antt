@@ -1,6 +1,6 @@
 -- The steps of reading an advertisement: whether the version came, and the capabilities.
-use Rattle.std.specs.Prelude.{◌≡◌, ℕ, Bool, true, false, not, List, [], ◌∷◌, length, ◌==◌}
-use Rattle.std.specs.Prelude.{Option, Some, None}
+use Rattle.std.specs.Prelude.{◌≡◌, ℕ, Bool, true, false, not, List, [], length, ◌==◌}
+use Rattle.std.specs.Option.{option_to_list}
 use Rattle.gpkt.specs.Packets.{Packet, Data, text}
 use Rattle.ggrammar.specs.Grammar.{Verdict}
 use Rattle.ggrammar.specs.Texts.{texts_of}
@@ -12,13 +12,9 @@ abbrev pub texts_at_least : Bool → ℕ
 texts_at_least false = 0
 texts_at_least true = 1
 
-abbrev pub capability_list : Option Capability → List Capability
-capability_list None = []
-capability_list (Some capability) = capability ∷ []
-
 -- the capability that a packet adds, once the version came
 abbrev pub added_by : Bool → Packet → List Capability
-added_by true (Data payload) = capability_list (capability_of (text payload))
+added_by true (Data payload) = option_to_list (capability_of (text payload))
 added_by _ _ = []
 
 -- the verdict on a packet, by what is kept

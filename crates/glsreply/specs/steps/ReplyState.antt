@@ -2,7 +2,7 @@
 use Rattle.std.specs.Prelude.{◌≡◌, ℕ, ◌+◌, Bool, true, List, [], ◌∷◌, ◌++◌, length, if◌then◌else◌, ◌==◌}
 use Rattle.std.specs.Prelude.{◌⊎◌, All, Some, Result, Ok, Err}
 use Rattle.gname.specs.Names.{Name}
-use Rattle.gpkt.specs.Packets.{Bytes, Packet, Data, Flush, Delim, ResponseEnd, text}
+use Rattle.gpkt.specs.Packets.{Bytes, Packet, Data, Flush, text}
 use Rattle.gname.specs.declared.formats.Format.{Format}
 use Rattle.ggrammar.specs.Texts.{texts_of}
 use Rattle.ggrammar.specs.declared.fault.Why.{Why}
@@ -65,8 +65,7 @@ with_flush state = record { over = true; count = state.count; reply = state.repl
 abbrev pub with_packet : Format → State → Packet → State
 with_packet format state (Data payload) = with_text format state (text payload)
 with_packet format state Flush = with_flush state
-with_packet format state Delim = state
-with_packet format state ResponseEnd = state
+with_packet format state packet = state
 
 -- ---- what the reader holds
 

@@ -1,6 +1,5 @@
 -- The steps of reading a plain pack: part by part, which may come, and what comes after it.
-use Rattle.std.specs.Prelude.{◌≡◌, ◌==◌, if◌then◌else◌, ℕ, ◌+◌, List, [], ◌∷◌, ◌++◌, length, codes, decimal, Result}
-use Rattle.std.specs.Prelude.{MatchResult, Vec}
+use Rattle.std.specs.Prelude.{◌≡◌, ◌==◌, if◌then◌else◌, ℕ, ◌+◌, List, [], ◌∷◌, ◌++◌, length, codes, decimal, Result, MatchResult, Vec}
 use Rattle.gname.specs.declared.formats.Format.{Format}
 use Rattle.gname.specs.declared.formats.Format.TheVariants.{Sha1, Sha256}
 use Rattle.gname.specs.Formats.{id_text_length}
@@ -10,11 +9,12 @@ use Rattle.gobject.specs.declared.fault.IndexFault.{IndexFault}
 use Rattle.gobject.specs.declared.plain_pack.read.Separator.{Separator}
 use Rattle.gobject.specs.declared.plain_pack.read.Separator.TheVariants.{Space, LineFeed}
 use Rattle.gobject.specs.declared.plain_pack.read.Next.{Next}
-use Rattle.gobject.specs.declared.plain_pack.read.Next.TheVariants as next_is
 use Rattle.gobject.specs.declared.plain_pack.read.Lines.{Lines}
 use Rattle.gobject.specs.Objects.{entry_of, node_of}
 use Rattle.gobject.specs.PlainPackText.{header, letter, IsPack, IndexRefuses}
-use Rattle.gobject.specs.PlainPackReading.{IsPart, HasRead}
+use Rattle.gobject.specs.PlainPackReading.{IsPart, HasRead, Fed}
+use Rattle.gobject.specs.declared.plain_pack.feed.PlainFeed.{PlainFeed}
+use Rattle.gobject.specs.declared.plain_pack.read.Next.TheVariants as next_is
 
 -- the byte that ends a part
 abbrev pub separator_byte : Separator → ℕ
@@ -97,3 +97,11 @@ Finishes {A} lines result part =
     IsPack (before ++ part) entries.items)
     (λ fault. (before : List ℕ) → IsPart part → HasRead lines.next lines.entries.items before →
     IndexRefuses A (before ++ part) fault)
+
+-- ---- what was fed
+
+-- a feed is fed the piece after what it was fed, or the piece is refused whatever follows
+abbrev pub Feeds : {A : Type 0} → PlainFeed A → PlainFeed A → Result (Unit {0}) IndexFault → List ℕ → Type 0
+Feeds {A} old new result piece =
+    MatchResult result (λ _. (given : List ℕ) → Fed old given → Fed new (given ++ piece))
+    (λ fault. (given more : List ℕ) → Fed old given → IndexRefuses A ((given ++ piece) ++ more) fault)

@@ -3,10 +3,8 @@
 
 ghost use Rattle.std.specs.Prelude.{[], ◌++◌, ◌∷◌, ℕ, List, MatchResult};
 ghost use Rattle.gobject.specs.PlainPackText.{IsPack, IndexRefuses};
-ghost use Rattle.gobject.specs.PlainPackReading.{IsPart};
-ghost use Rattle.gobject.specs.steps.PlainPackReading.{separator_byte};
-ghost use Rattle.gobject.specs.PlainPackFeed.{Fed};
-ghost use Rattle.gobject.specs.steps.PlainPackFeed.{Feeds};
+ghost use Rattle.gobject.specs.PlainPackReading.{IsPart, Fed};
+ghost use Rattle.gobject.specs.steps.PlainPackReading.{separator_byte, Feeds};
 
 use crate::fault::IndexFault;
 use crate::node::Entry;
@@ -27,6 +25,7 @@ pub struct PlainFeed<A: Allocator + Copy> {
 
 impl<A: Allocator + Copy> PlainFeed<A> {
     /// Nothing was fed yet. It takes no memory.
+    #[tactic(auto, using(crate::proofs::PlainPackFeed::fed_new))]
     pub fn new(alloc: A) -> PlainFeed<A>
         ensures { Fed result [] }
     {
@@ -37,6 +36,7 @@ impl<A: Allocator + Copy> PlainFeed<A> {
     }
 
     /// Keeps some bytes of a part that does not end with them.
+    #[tactic(auto, using(crate::proofs::PlainPackFeed::fed_keep, crate::proofs::PlainPackFeed::bad_line_kept))]
     fn keep(&mut self, text: &[u8]) -> Result<(), IndexFault>
         requires { IsPart text.now }
         ensures { Feeds self.old self.new result text.now }
@@ -75,6 +75,7 @@ impl<A: Allocator + Copy> PlainFeed<A> {
     }
 
     /// The entries, if what was fed is a whole pack; else it fails with `Bad`.
+    #[tactic(auto, using(crate::proofs::PlainPackFeed::fed_finish))]
     pub fn finish(self) -> Result<Vec<Entry<A>, A>, IndexFault>
         ensures { MatchResult result
             (λ entries. ((given : List ℕ) → Fed self given → IsPack given entries.items))

@@ -66,6 +66,7 @@ fn format_of(part: &[u8]) -> Format
 }
 
 /// The id of a part.
+#[tactic(auto, using(crate::proofs::PlainPackLines::no_id_of_fault, crate::proofs::PlainPackLines::id_text_of_read))]
 fn id_of(part: &[u8]) -> Option<Oid>
     ensures { MatchOption result (NoId part.now) (IsIdText part.now) }
 {
@@ -262,6 +263,7 @@ impl<A: Allocator + Copy> Lines<A> {
     }
 
     /// The entries, if the pack has ended, and no byte of a part comes after; else a `Bad` fault.
+    #[tactic(auto, using(crate::proofs::PlainPackReading::pack_is_read, crate::proofs::PlainPackReading::bad_line_at_end))]
     pub fn finish(self, part: &[u8]) -> Result<Vec<Entry<A>, A>, IndexFault>
         ensures { Finishes self result part.now }
     {

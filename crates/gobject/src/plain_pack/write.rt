@@ -54,6 +54,7 @@ fn room_after_nodes<A: Allocator + Copy>(room: usize, entries: &[Entry<A>]) -> O
 }
 
 /// Whether the pack of some entries has at most `MAX_PACK` bytes.
+#[tactic(auto, using(crate::proofs::PlainPackWriting::length_pack))]
 fn fits<A: Allocator + Copy>(entries: &[Entry<A>]) -> bool
     ensures { IsTrue result ↔ (length (pack_text entries.now) ≤ max_pack) }
 {
@@ -66,6 +67,7 @@ fn fits<A: Allocator + Copy>(entries: &[Entry<A>]) -> bool
 }
 
 /// Writes the lines of some entries.
+#[tactic(auto, using(crate::proofs::PlainPackWriting::pieces_more))]
 fn put_nodes<A: Allocator + Copy>(
     text: &mut Vec<u8, A>,
     entries: &[Entry<A>],
@@ -90,6 +92,7 @@ fn put_end<A: Allocator + Copy>(text: &mut Vec<u8, A>, count: usize) -> Result<(
 }
 
 /// Writes the text of the pack of some entries, however long it is.
+#[tactic(auto, using(crate::proofs::PlainPackWriting::pack_text_is))]
 fn put_pack<A: Allocator + Copy>(alloc: A, entries: &[Entry<A>]) -> Result<Vec<u8, A>, AllocError>
     ensures { IfOk result (λ pack. pack.items ≡ pack_text entries.now) }
 {

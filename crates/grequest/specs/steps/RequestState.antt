@@ -1,25 +1,30 @@
--- The steps of reading a request: what a packet that is taken adds to what the packets before it come to.
-use Rattle.std.specs.Prelude.{◌+◌, true, [], ◌∷◌, ◌++◌, Some}
+-- The steps of reading a request: what a packet that is taken adds to what the packets before it come to, where a request
+-- stands that has one of its sections open, what is kept of the packets so far, and what is answered.
+use Rattle.std.specs.Prelude.{◌+◌, true, [], ◌∷◌, ◌++◌, Some, ◌≡◌, ℕ, Bool, false, List}
 use Rattle.std.specs.Option.{option_to_list}
 use Rattle.gpkt.specs.Packets.{Bytes, Packet, Data, Flush, Delim, ResponseEnd, text}
 use Rattle.gname.specs.declared.formats.Format.{Format}
 use Rattle.ggrammar.specs.Ids.{id_of_text}
 use Rattle.grequest.specs.declared.command.CommandForm.{CommandForm}
 use Rattle.grequest.specs.declared.command.CommandForm.TheVariants.{Known, Unknown as UnknownCommand, Bad as BadCommand}
-use Rattle.grequest.specs.Arguments.{command_form, CapabilityForm, Agent, ObjectFormat, UnknownCapability, BadCapability}
-use Rattle.grequest.specs.Arguments.{capability_form, LsArgument, KnownLsFlag, RefPrefix, UnknownLsArgument}
-use Rattle.grequest.specs.Arguments.{ls_argument, FetchArgument, KnownFetchFlag, Want, Have, UnknownFetchArgument, fetch_argument}
+use Rattle.grequest.specs.Arguments.{command_form, CapabilityForm, Agent, ObjectFormat, UnknownCapability}
+use Rattle.grequest.specs.Arguments.{BadCapability, capability_form, LsArgument, KnownLsFlag, RefPrefix}
+use Rattle.grequest.specs.Arguments.{UnknownLsArgument, ls_argument, FetchArgument, KnownFetchFlag, Want, Have}
+use Rattle.grequest.specs.Arguments.{UnknownFetchArgument, fetch_argument}
 use Rattle.grequest.specs.Asked.{LsRefsAsked, FetchAsked, Asked, Empty, Ls, Fetches, ls_with, fetch_with}
 use Rattle.grequest.specs.RequestLines.{Place, First, InCapabilities, InArguments, asked_by_command}
-use Rattle.grequest.specs.Requests.{State}
+use Rattle.grequest.specs.Requests.{State, state_of, text_brings}
+use Rattle.grequest.specs.declared.command.Command.TheVariants.{LsRefs, Fetch}
+use Rattle.grequest.specs.declared.section.Section.{Section}
+use Rattle.grequest.specs.declared.section.Section.TheVariants.{Capabilities, Arguments}
+use Rattle.ggrammar.specs.Capabilities.{is_word_value}
 
 -- ---- the first text
 
 abbrev pub with_command : Format → State → CommandForm → State
 with_command format state (Known command) =
     record state { place = InCapabilities command; asked = asked_by_command format command [] [] }
-with_command format state UnknownCommand = state
-with_command format state BadCommand = state
+with_command format state _ = state
 
 -- ---- capabilities
 
@@ -31,8 +36,7 @@ with_agent value (Fetches asked) = Fetches (record asked { agent = Some value })
 abbrev pub with_capability : State → CapabilityForm → State
 with_capability state (Agent value) = record state { asked = with_agent value state.asked }
 with_capability state (ObjectFormat value) = record state { format_lines = state.format_lines + 1 }
-with_capability state UnknownCapability = state
-with_capability state BadCapability = state
+with_capability state _ = state
 
 -- ---- arguments
 
@@ -66,12 +70,49 @@ with_text format (InCapabilities command) state line = with_capability state (ca
 with_text format (InArguments command) state line = with_argument format state line
 
 abbrev pub with_delim : Place → State → State
-with_delim First state = state
 with_delim (InCapabilities command) state = record state { place = InArguments command }
-with_delim (InArguments command) state = state
+with_delim _ state = state
 
 unfoldable pub with_packet : Format → State → Packet → State
 with_packet format state (Data payload) = with_text format state.place state (text payload)
-with_packet format state Flush = state
 with_packet format state Delim = with_delim state.place state
-with_packet format state ResponseEnd = state
+with_packet format state _ = state
+
+-- ---- places
+
+-- a request without a command is at its first packet
+abbrev pub place_in : Section → Asked → Place
+place_in section Empty = First
+place_in Capabilities (Ls asked) = InCapabilities LsRefs
+place_in Capabilities (Fetches asked) = InCapabilities Fetch
+place_in Arguments (Ls asked) = InArguments LsRefs
+place_in Arguments (Fetches asked) = InArguments Fetch
+
+-- ---- what is kept
+
+-- a request of a repository with this format, as far as it was read
+pub record RequestSoFar : Type 0 where
+  pub format : Format
+  pub state : State
+
+-- these are the packets that were read
+abbrev pub HoldsPackets : RequestSoFar → List Packet → Type 0
+HoldsPackets reading lines = reading.state ≡ state_of reading.format lines
+
+-- nothing is left of a request that is refused
+abbrev pub LeavesNothing : RequestSoFar → List Packet → Type 0
+LeavesNothing reading front = Unit {0}
+
+abbrev pub one : Bool → ℕ
+one true = 1
+one false = 0
+
+-- an agent has no space
+abbrev pub CarriesWord : CapabilityForm → Type 0
+CarriesWord (Agent value) = is_word_value value ≡ true
+CarriesWord _ = Unit {0}
+
+-- a packet at this place brings something to keep
+abbrev pub packet_brings : Place → Packet → Bool
+packet_brings place (Data payload) = text_brings place (text payload)
+packet_brings place _ = false

@@ -1,22 +1,17 @@
--- The steps of a connection.
+-- The steps of a connection, and of the text of a refusal.
 use Rattle.std.specs.Prelude.{◌≡◌, ◌≢◌, ℕ, ◌<◌, ◌⊎◌, List, length, Option, Some, None, Result, Ok, Err}
 use Rattle.gname.specs.declared.formats.Format.{Format}
-use Rattle.gpkt.specs.Packets.{Packet, canonical_all}
 use Rattle.gpkt.specs.Sending.{Input, Output, IsUnwritten, IsUp, Passes, SendsSome}
-use Rattle.gpkt.specs.Devices.{KeepsPassed}
+use Rattle.gpkt.specs.{Packets.Packet, Packets.canonical_all, Devices.KeepsPassed}
 use Rattle.ggrammar.specs.declared.ends.Ends.{Ends}
 use Rattle.grequest.specs.Asked.{Asked, Empty}
 use Rattle.gobject.specs.Packs.{PackFails, Packs}
-use Rattle.ganswer.specs.Answers.{Answers, Reply}
-use Rattle.ganswer.specs.Servers.{Server}
-use Rattle.ganswer.specs.declared.fault.ServeFault.{ServeFault}
+use Rattle.ganswer.specs.{Answers.Answers, Answers.Reply, Servers.Server, declared.fault.ServeFault.ServeFault}
 use Rattle.ganswer.specs.declared.fault.ServeFault.TheVariants as serve
-use Rattle.gserve.specs.Refusals.{err_packets}
 use Rattle.gserve.specs.Exchanges.{Turn, Declines, ReadsTurns, reply_packets}
-use Rattle.gserve.specs.Conversations.{advert_packets, talk_bytes}
-use Rattle.gserve.specs.declared.exchange.ExchangeEnd.{ExchangeEnd}
+use Rattle.gserve.specs.{Conversations.advert_packets, Conversations.talk_bytes, declared.connection.End.End}
+use Rattle.gserve.specs.{Refusals.err_packets, declared.exchange.ExchangeEnd.ExchangeEnd}
 use Rattle.gserve.specs.declared.exchange.ExchangeEnd.TheVariants as exchange
-use Rattle.gserve.specs.declared.connection.End.{End}
 use Rattle.gserve.specs.declared.connection.End.TheVariants as end
 
 -- What a call did that was to write these packets and to pass them on. (`Passes` is `Sends` with one premise more: it
@@ -87,3 +82,12 @@ module _ {A : Type 0} (server : Server A) (packs : Packs A) (fails : PackFails A
     pub count : requests ≡ length turns
     pub passed : Passes output (talk_bytes server.graph.format ends turns)
     pub up : 0 < requests → IsUp input
+
+-- ---- the text of a refusal
+
+-- the most bytes of the parts of a refusal's text
+abbrev pub max_phrase : ℕ
+max_phrase = 22
+
+abbrev pub max_detail : ℕ
+max_detail = 65

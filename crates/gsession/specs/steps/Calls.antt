@@ -33,19 +33,20 @@ use Rattle.gsession.specs.declared.taken.Taken.{Taken}
 
 -- ---- asking
 
--- what adding asks answers: they are added, and each is for a ref name; or one is not; or it is out of memory for one,
--- and it and those before it are
+-- why asks are not made: one is for no ref name; or it is out of memory for one, and it and those before it are
+abbrev pub IsAskFault : {A : Type 0} → List (Ask A) → NameFault → Type 0
+IsAskFault asks name.Memory = AreNamedTo asks
+IsAskFault asks _ = ¬ (AreNamed asks)
+
+-- what adding asks answers: they are added, and each is for a ref name; or why not
 abbrev pub AddsAsks : {A : Type 0} → List (Ask A) → List (Ask A) → List (Ask A) → Result Unit NameFault → Type 0
 AddsAsks old more new (Ok _) = (new ≡ with_asks old more) × AreNamed more
-AddsAsks old more new (Err name.Memory) = AreNamedTo more
-AddsAsks old more new (Err _) = ¬ (AreNamed more)
+AddsAsks old more new (Err fault) = IsAskFault more fault
 
--- what asking answers: the asks; or that one is for no ref name; or that it is out of memory for one, where it and
--- those before it are
+-- what asking answers: the asks; or why not
 abbrev pub FindsAsks : {A : Type 0} → List Refspec → List RefLine → Result (List (Ask A)) NameFault → Type 0
 FindsAsks {A} specs lines (Ok asks) = (asks ≡ asked_of specs lines) × AreNamed {A = A} (asks_by_all specs lines)
-FindsAsks {A} specs lines (Err name.Memory) = AreNamedTo {A = A} (asks_by_all specs lines)
-FindsAsks {A} specs lines (Err _) = ¬ (AreNamed {A = A} (asks_by_all specs lines))
+FindsAsks {A} specs lines (Err fault) = IsAskFault {A = A} (asks_by_all specs lines) fault
 
 -- ---- the next request
 

@@ -41,7 +41,7 @@ module _ {A : Type 0} (indexes : Indexes A) (index_fails : IndexFails) (start : 
   FetchesBetween read written new result =
       (reader_failed writer_failed : Bool)
       × FetchesGit indexes index_fails start hello
-          (input_by read reader_failed) (output_by written writer_failed) new result
+      (input_by read reader_failed) (output_by written writer_failed) new result
 
 -- ---- listing
 

@@ -84,11 +84,12 @@ unfoldable pub open_below : List Bool → List Bool → ℕ → ℕ
 open_below wanted known zero = 0
 open_below wanted known (suc n) = open_below wanted known n + one (is_open wanted known n)
 
--- the count of the open positions below `next` is right
+-- the count of the open positions below `next` is right; where it is not 0, a position comes next
 pub record IsCounted (wanted known : List Bool) (next pending : ℕ) : Type 0 where
   pub long : length known ≡ length wanted
   pub inside : next ≤ length wanted
   pub count : pending ≡ open_below wanted known next
+  pub some : 0 < pending → 1 ≤ next
 
 -- ---- the pass down
 

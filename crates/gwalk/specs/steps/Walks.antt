@@ -1,6 +1,6 @@
 -- The steps of a walk: what it keeps, and what it ends with. Positions are those in store order.
-use Rattle.std.specs.Prelude.{◌≡◌, ◌↔◌, ℕ, ◌+◌, Bool, true, false, cond, List, [], ◌∷◌, length, slice_get}
-use Rattle.std.specs.Prelude.{slice_index_or, count_by, Contains, Option, None, Some}
+use Rattle.std.specs.Prelude.{◌≡◌, ◌≤◌, ◌<◌, ◌↔◌, ℕ, Bool, true, false, List, [], ◌∷◌, length, slice_get}
+use Rattle.std.specs.Prelude.{slice_index_or, sum_by, All, Contains, Option, None, Some}
 use Rattle.std.specs.List.{filter_map}
 use Rattle.gname.specs.Ids.{Id}
 use Rattle.gobject.specs.declared.node.Entry.{Entry}
@@ -12,11 +12,9 @@ use Rattle.gdag.specs.Levels.{AreLevels}
 abbrev pub places : {A : Type 0} → List (Entry A) → List Id → List ℕ
 places g ids = filter_map (place_of g) ids
 
--- how many parents the nodes at marked positions have
-abbrev pub marked_parents : {A : Type 0} → List (Entry A) → List Bool → ℕ
-marked_parents [] marks = 0
-marked_parents (entry ∷ g) [] = 0
-marked_parents (entry ∷ g) (mark ∷ marks) = cond mark (length entry.node.parents) 0 + marked_parents g marks
+-- how many parents the nodes of some entries have
+abbrev pub parents_in : {A : Type 0} → List (Entry A) → ℕ
+parents_in list = sum_by (λ entry. length entry.node.parents) list
 
 -- the entries at marked positions
 abbrev pub marked : {A : Type 0} → List (Entry A) → List Bool → List (Entry A)
@@ -36,16 +34,18 @@ abbrev pub IsLost : {A : Type 0} → List (Entry A) → List Id → Option Id �
 IsLost g ids None = (a : Id) → Contains ids a → Holds g a
 IsLost g ids (Some b) = Contains ids b × (node_at g b ≡ None)
 
--- what a walk keeps when it has met some ids: a mark for each that is held; the positions of these, in order; one
--- that is not held; and how many parents the held ones have
+-- what a walk keeps when it has met some ids: a mark for each that is held; the positions of these, in order, once
+-- each; one that is not held; and how many parents the held ones have
 pub record HasMet {A : Type 0} (g : List (Entry A)) (ids : List Id) (marks : List Bool) (met : List ℕ)
     (lost : Option Id) (parents : ℕ) : Type 0 where
   pub long : length marks ≡ length g
-  pub marked : (a : Id) (p : ℕ) → place_of g a ≡ Some p → (slice_index_or marks p false ≡ true) ↔ Contains ids a
   pub met_are : met ≡ places g ids
-  pub once : length met ≡ count_by (λ mark. mark) marks
+  pub once : length met ≡ length (marked g marks)
+  pub few : length met ≤ length g
+  pub inside : All (λ place. place < length g) met
   pub lost_is : IsLost g ids lost
-  pub parents_are : parents ≡ marked_parents g marks
+  pub parents_are : parents ≡ parents_in (marked g marks)
+  pub marked : (a : Id) (p : ℕ) → place_of g a ≡ Some p → (slice_index_or marks p false ≡ true) ↔ Contains ids a
 
 -- what a walk from some ids ends with: it has met the ids of all levels about them
 pub record IsWalk {A : Type 0} (g : List (Entry A)) (starts : List Id) (marks : List Bool) (met : List ℕ)

@@ -1,4 +1,4 @@
-use Rattle.ganswer.proofs.OneAnswer.{answers_are_one}
+use Rattle.ganswer.proofs.AnswerLemmas.{answers_are_one}
 use Rattle.ganswer.proofs.laws.answers_are_one.Goals as goal
 
 pub returns : goal.returns

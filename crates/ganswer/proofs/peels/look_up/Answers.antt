@@ -1,10 +1,7 @@
 use Rattle.std.proofs.Common.{◌≡◌, ℕ, zero, suc, List, Option, Some, None, IsSome, refl, sym, subst, ap, ◌∙◌}
 use Rattle.std.specs.Option.{IfSome}
-use Rattle.gobject.specs.declared.node.Kind.TheVariants.{Tag}
-use Rattle.gobject.specs.declared.node.Node.{Node}
-use Rattle.gobject.specs.declared.node.Entry.{Entry}
+use Rattle.gobject.specs.{declared.node.Kind.TheVariants.Tag, declared.node.Node.Node, declared.node.Entry.Entry}
 use Rattle.gobject.specs.Objects.{node_at}
-use Rattle.gdag.specs.Graphs.{Holds}
 use Rattle.gdag.specs.Peeling.{PeelsTo}
 use Rattle.ganswer.specs.LsAnswers.{IsPeeled, TagPeelsTo}
 use Rattle.ganswer.proofs.peels.look_up.Goals as goal
@@ -22,11 +19,8 @@ is_peeled : {A : Type 0} (g : List (Entry A)) (id : List ℕ) (node : Node A) �
 is_peeled g id node held tag None leads only = λ commit other. let e = only commit other.peels in cc
 is_peeled g id node held tag (Some commit) leads only = tag_peels g id node held tag commit leads
 
-found : {A : Type 0} (g : List (Entry A)) (id : List ℕ) (node : Node A) → Some node ≡ node_at g id → node.kind ≡ Tag → (peeled : Option (List ℕ)) → IfSome peeled (PeelsTo g id)
-    → ((commit : List ℕ) → PeelsTo g id commit → peeled ≡ Some commit) → Holds g id × IsPeeled g id peeled
-found {A} g id node held tag peeled leads only =
-    (subst (λ (o : Option (Node A)). IsSome o) held refl, is_peeled g id node (sym held) tag peeled leads only)
-
 pub returns-in-Tag : goal.returns-in-Tag
-returns-in-Tag g c =
-    found c.args.graph.now.entries c.args.id.now c.in_ok-node.field-0.now c.in_ok-node.ensures c.in-Tag.is c.peel.result c.peel.ensures.found c.peel.ensures.only
+returns-in-Tag g c = (
+  subst (λ (o : Option (Node _)). IsSome o) c.in_ok-node.ensures refl,
+  is_peeled c.args.graph.now.entries c.args.id.now c.in_ok-node.field-0.now (sym c.in_ok-node.ensures) c.in-Tag.is c.peel.result c.peel.ensures.found c.peel.ensures.only,
+)

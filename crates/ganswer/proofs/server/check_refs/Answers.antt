@@ -3,7 +3,7 @@ use Rattle.std.proofs.lemmas.List.{take_all}
 use Rattle.std.proofs.lemmas.List.Elements.{All-more}
 use Rattle.std.proofs.lemmas.Option.{slice_get_read}
 use Rattle.gdag.specs.Graphs.{Holds}
-use Rattle.ganswer.proofs.KnownPeels.{knows_next}
+use Rattle.ganswer.proofs.PeelLemmas.{knows_next}
 use Rattle.ganswer.proofs.ServerLemmas.{dangling, first_dangling, holds_refs}
 use Rattle.ganswer.proofs.server.check_refs.Goals as goal
 

@@ -1,6 +1,6 @@
 use Rattle.std.proofs.Common.{take, All}
 use Rattle.gdag.specs.Graphs.{Holds}
-use Rattle.ganswer.specs.KnownPeels.{KnowsPeels}
+use Rattle.ganswer.specs.LsAnswers.{KnowsPeels}
 use Rattle.ganswer.proofs.server.check_refs.Given as goal
 
 abbrev pub invariant-loop-place : goal.invariant-loop-place

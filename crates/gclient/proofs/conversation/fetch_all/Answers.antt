@@ -1,13 +1,10 @@
 use Rattle.std.proofs.Common.{◌≡◌, length, None, Result, refl, sym, ap, subst, ◌∙◌, arith}
 use Rattle.gpkt.specs.Sending.{input_of, output_of}
-use Rattle.gdag.specs.Reach.{Grows}
 use Rattle.gclientrepo.specs.Repos.{RepoState}
 use Rattle.gclient.specs.steps.Conversations.{TalksTo, client_of, stage_after}
 use Rattle.gclient.specs.declared.fault.FetchFault.{FetchFault}
-use Rattle.gclient.proofs.RoundLemmas.{round_taken, rounds_within}
-use Rattle.gclient.proofs.StepLemmas.{err_of}
-use Rattle.gclient.proofs.TalkLemmas.{talk_failed, talked_more}
-use Rattle.gclient.proofs.TurnLemmas.{kept_still, turn_began, turn_kept}
+use Rattle.gclient.proofs.TurnLemmas.{round_began, round_taken, rounds_within, turn_kept}
+use Rattle.gclient.proofs.{StepLemmas.err_of, TalkLemmas.talk_failed, TalkLemmas.talked_more}
 use Rattle.gclient.proofs.conversation.fetch_all.Goals as goal
 
 pub rounds-init : goal.rounds-init
@@ -35,15 +32,11 @@ rounds-preserved g c =
     let passed_on = g.W.Sink.passed_on in
     let sink_down = g.W.Sink.is_down in
     let at = c.rounds in
-    let entries = c.args.repo.now.graph.entries in
     let old = client_of at.session at.repo None in
     let new = client_of c.fetch.new.session c.fetch.new.repo None in
     let turned = c.in_ok-fetch.ensures.turns None in
-    let same : Grows entries at.repo.graph.entries =
-    subst (λ (r : RepoState g.row.A.Denot). Grows entries r.graph.entries) (sym at.invariant.repo)
-    (kept_still (client_of at.session c.args.repo.now None)).grows in
-    let began = turn_began indexes fails c.began_stays.ensures entries old turned.0.turn new same at.invariant.began
-    turned.0.is_turn in
+    let began = round_began indexes fails c.began_stays.ensures c.args.repo.now old turned.0.turn new at.invariant.repo
+    at.invariant.began turned.0.is_turn in
     let step = round_taken indexes fails old _ _ new c.in_ok-fetch.field-0 c.in-Round.common at.invariant.stage
     c.in-Round.is turned in
     let kept = turn_kept indexes fails old turned.0.turn new turned.0.is_turn in
@@ -78,11 +71,8 @@ rounds-smaller g c =
     let old = client_of at.session at.repo None in
     let new = client_of c.fetch.new.session c.fetch.new.repo None in
     let turned = c.in_ok-fetch.ensures.turns None in
-    let same : Grows entries at.repo.graph.entries =
-    subst (λ (r : RepoState g.row.A.Denot). Grows entries r.graph.entries) (sym at.invariant.repo)
-    (kept_still (client_of at.session c.args.repo.now None)).grows in
-    let began = turn_began indexes fails c.began_stays.ensures entries old turned.0.turn new same at.invariant.began
-    turned.0.is_turn in
+    let began = round_began indexes fails c.began_stays.ensures c.args.repo.now old turned.0.turn new at.invariant.repo
+    at.invariant.began turned.0.is_turn in
     let step = round_taken indexes fails old _ _ new c.in_ok-fetch.field-0 c.in-Round.common at.invariant.stage
     c.in-Round.is turned in
     let within = rounds_within entries c.fetch.new.session c.in_ok-fetch.ensures.session step.0 turned.2 began in
@@ -103,7 +93,6 @@ returns-in_err-fetch-clause-talks g c =
     let passed_on = g.W.Sink.passed_on in
     let sink_down = g.W.Sink.is_down in
     let at = c.rounds in
-    let entries = c.args.repo.now.graph.entries in
     λ start source sink unborn h.
     let turned = c.in_err-fetch.ensures.turns unborn in
     subst (λ (r : Result (Unit {0}) (FetchFault g.row.A.Denot)). TalksTo indexes fails start
@@ -126,7 +115,6 @@ returns-in-PackTaken-clause-talks g c =
     let passed_on = g.W.Sink.passed_on in
     let sink_down = g.W.Sink.is_down in
     let at = c.rounds in
-    let entries = c.args.repo.now.graph.entries in
     λ start source sink unborn h.
     talked_more indexes fails start remaining source_down contents passed_on sink_down c.reads_join.ensures.join
     source at.reader.source c.fetch.new.reader.source sink at.writer.sink c.fetch.new.writer.sink
@@ -141,19 +129,9 @@ pub returns-in-PackTaken-clause-began : goal.returns-in-PackTaken-clause-began
 returns-in-PackTaken-clause-began g c =
     let indexes = g.K.Indexer.indexes c.args.indexer.now in
     let fails = g.K.Indexer.index_fails c.args.indexer.now in
-    let remaining = g.S.Source.remaining in
-    let source_down = g.S.Source.is_down in
-    let contents = g.W.Sink.contents in
-    let passed_on = g.W.Sink.passed_on in
-    let sink_down = g.W.Sink.is_down in
     let at = c.rounds in
-    let entries = c.args.repo.now.graph.entries in
     let old = client_of at.session at.repo None in
     let new = client_of c.fetch.new.session c.fetch.new.repo None in
     let turned = c.in_ok-fetch.ensures.turns None in
-    let same : Grows entries at.repo.graph.entries =
-    subst (λ (r : RepoState g.row.A.Denot). Grows entries r.graph.entries) (sym at.invariant.repo)
-    (kept_still (client_of at.session c.args.repo.now None)).grows in
-    let began = turn_began indexes fails c.began_stays.ensures entries old turned.0.turn new same at.invariant.began
-    turned.0.is_turn in
-    began
+    round_began indexes fails c.began_stays.ensures c.args.repo.now old turned.0.turn new at.invariant.repo
+    at.invariant.began turned.0.is_turn

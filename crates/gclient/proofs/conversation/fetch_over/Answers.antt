@@ -1,5 +1,5 @@
 use Rattle.gclient.specs.Conversations.{start_of}
-use Rattle.gclient.proofs.KeptLemmas.{over_grows, over_keeps_refs, over_settles}
+use Rattle.gclient.proofs.TalkLemmas.{over_grows, over_keeps_refs, over_settles}
 use Rattle.gclient.proofs.conversation.fetch_over.Goals as goal
 
 pub returns-clause-settled : goal.returns-clause-settled

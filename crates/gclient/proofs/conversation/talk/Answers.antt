@@ -1,13 +1,11 @@
 use Rattle.std.proofs.Common.{ℕ, List, Option, None, Result, refl, sym, subst, arith}
 use Rattle.gpkt.specs.Sending.{input_of, output_of}
-use Rattle.gclient.specs.Conversations.{IsLeft}
 use Rattle.gclient.specs.steps.Conversations.{Talks, client_of, start_with}
 use Rattle.gclient.specs.declared.fault.FetchFault.{FetchFault}
 use Rattle.gclient.specs.declared.fault.FetchFault.TheVariants as fetch
-use Rattle.gclient.proofs.RoundLemmas.{begins_on}
 use Rattle.gclient.proofs.StepLemmas.{err_of, fresh_is_begun, is_heard, refs_held, refs_pending, refs_wanted}
-use Rattle.gclient.proofs.TalkLemmas.{not_heard, same_own, talk_failed, talked_more, talked_none}
-use Rattle.gclient.proofs.TurnLemmas.{kept_still, listed, not_asked, not_listed, turn_began}
+use Rattle.gclient.proofs.TalkLemmas.{has_listed, not_heard, talk_failed, talked_none}
+use Rattle.gclient.proofs.TurnLemmas.{not_asked, not_listed}
 use Rattle.gclient.proofs.conversation.talk.Goals as goal
 
 pub hear-requires-clause-begun : goal.hear-requires-clause-begun
@@ -38,16 +36,14 @@ returns-in_err-hear-clause-talks g c =
 pub ask-requires-clause-due : goal.ask-requires-clause-due
 ask-requires-clause-due g c =
     let input = input_of g.S.Source.remaining g.S.Source.is_down c.args.reader.now.source c.hear.new.reader.source in
-    let heard = is_heard c.args.repo.now.graph.format c.args.repo.now c.args.session.now c.hear.new.session input
-    c.requires.begun c.in_ok-hear.ensures.hears in
-    heard.due
+    (is_heard c.args.repo.now.graph.format c.args.repo.now c.args.session.now c.hear.new.session input c.requires.begun
+    c.in_ok-hear.ensures.hears).due
 
 pub ask-requires-clause-format : goal.ask-requires-clause-format
 ask-requires-clause-format g c =
     let input = input_of g.S.Source.remaining g.S.Source.is_down c.args.reader.now.source c.hear.new.reader.source in
-    let heard = is_heard c.args.repo.now.graph.format c.args.repo.now c.args.session.now c.hear.new.session input
-    c.requires.begun c.in_ok-hear.ensures.hears in
-    heard.format
+    (is_heard c.args.repo.now.graph.format c.args.repo.now c.args.session.now c.hear.new.session input c.requires.begun
+    c.in_ok-hear.ensures.hears).format
 
 pub returns-in_err-ask-clause-talks : goal.returns-in_err-ask-clause-talks
 returns-in_err-ask-clause-talks g c =
@@ -115,33 +111,14 @@ returns-in_err-taken-clause-talks g c =
 
 pub returns-then-taken-eq0-clause-talks : goal.returns-then-taken-eq0-clause-talks
 returns-then-taken-eq0-clause-talks g c =
-    let indexes = g.K.Indexer.indexes c.args.indexer.now in
-    let fails = g.K.Indexer.index_fails c.args.indexer.now in
-    let repo = c.args.repo.now in
-    let start = start_with c.args.session.now repo in
-    let first = c.args.reader.now.source in
-    let sink = c.args.writer.now.sink in
-    let remaining = g.S.Source.remaining in
-    let source_down = g.S.Source.is_down in
-    let contents = g.W.Sink.contents in
-    let passed_on = g.W.Sink.passed_on in
-    let sink_down = g.W.Sink.is_down in
-    let source = c.hear.new.reader.source in
-    let none = talked_none indexes fails start remaining source_down contents passed_on sink_down first source sink
-    c.args.session.now c.hear.new.session c.requires.few c.requires.begun c.in_ok-hear.ensures.hears in
-    let old = client_of c.hear.new.session repo None in
-    let asks = c.in_ok-ask.ensures.asks in
-    let next = c.take_ls.new.reader.source in
-    let after = c.ask.new.writer.sink in
-    let turned = listed indexes fails old c.ask.new.session c.take_ls.new.self asks.0
-    (input_of remaining source_down source next) (output_of contents passed_on sink_down sink after) c.in_ok-taken.taken
-    asks.1 asks.2
-    c.in_ok-taken.ensures.takes c.in_ok-taken.ensures.reader.2 in
-    let new = client_of c.take_ls.new.self repo c.in_ok-taken.taken.unborn in
-    let talked = talked_more indexes fails start remaining source_down contents passed_on sink_down
-    c.reads_join.ensures.join
-    first source next sink sink after old new none turned in
-    talked
+    (has_listed (g.K.Indexer.indexes c.args.indexer.now) (g.K.Indexer.index_fails c.args.indexer.now)
+    g.S.Source.remaining g.S.Source.is_down g.W.Sink.contents g.W.Sink.passed_on g.W.Sink.is_down
+    c.reads_join.ensures.join c.distinct_are_once.ensures c.began_stays.ensures c.args.repo.now
+    c.in_ok-hear.ensures.whole c.args.reader.now.source c.hear.new.reader.source c.take_ls.new.reader.source
+    c.args.writer.now.sink c.ask.new.writer.sink c.args.session.now c.hear.new.session c.ask.new.session
+    c.take_ls.new.self c.in_ok-ask.ensures.asks.0 c.in_ok-taken.taken c.requires.few c.requires.begun
+    c.in_ok-hear.ensures.hears c.in_ok-ask.ensures.asks.1 c.in_ok-ask.ensures.asks.2 c.in_ok-taken.ensures.takes
+    c.in_ok-taken.ensures.reader.2).talked
 
 pub returns-then-taken-eq0-clause-settles_next : goal.returns-then-taken-eq0-clause-settles_next
 returns-then-taken-eq0-clause-settles_next g c =
@@ -150,39 +127,14 @@ returns-then-taken-eq0-clause-settles_next g c =
 
 pub returns-then-taken-eq0-clause-began : goal.returns-then-taken-eq0-clause-began
 returns-then-taken-eq0-clause-began g c =
-    let indexes = g.K.Indexer.indexes c.args.indexer.now in
-    let fails = g.K.Indexer.index_fails c.args.indexer.now in
-    let repo = c.args.repo.now in
-    let start = start_with c.args.session.now repo in
-    let first = c.args.reader.now.source in
-    let sink = c.args.writer.now.sink in
-    let remaining = g.S.Source.remaining in
-    let source_down = g.S.Source.is_down in
-    let contents = g.W.Sink.contents in
-    let passed_on = g.W.Sink.passed_on in
-    let sink_down = g.W.Sink.is_down in
-    let source = c.hear.new.reader.source in
-    let none = talked_none indexes fails start remaining source_down contents passed_on sink_down first source sink
-    c.args.session.now c.hear.new.session c.requires.few c.requires.begun c.in_ok-hear.ensures.hears in
-    let old = client_of c.hear.new.session repo None in
-    let asks = c.in_ok-ask.ensures.asks in
-    let next = c.take_ls.new.reader.source in
-    let after = c.ask.new.writer.sink in
-    let turned = listed indexes fails old c.ask.new.session c.take_ls.new.self asks.0
-    (input_of remaining source_down source next) (output_of contents passed_on sink_down sink after) c.in_ok-taken.taken
-    asks.1 asks.2
-    c.in_ok-taken.ensures.takes c.in_ok-taken.ensures.reader.2 in
-    let new = client_of c.take_ls.new.self repo c.in_ok-taken.taken.unborn in
-    let talked = talked_more indexes fails start remaining source_down contents passed_on sink_down
-    c.reads_join.ensures.join
-    first source next sink sink after old new none turned in
-    let heard = is_heard repo.graph.format repo c.args.session.now c.hear.new.session
-    (input_of remaining source_down first source) c.requires.begun c.in_ok-hear.ensures.hears in
-    let began = begins_on c.distinct_are_once.ensures repo c.hear.new.session c.in_ok-hear.ensures.whole heard.tips
-    heard.sent in
-    let begun = turn_began indexes fails c.began_stays.ensures repo.graph.entries old turned.turn new
-    (kept_still old).grows began turned.is_turn in
-    begun
+    (has_listed (g.K.Indexer.indexes c.args.indexer.now) (g.K.Indexer.index_fails c.args.indexer.now)
+    g.S.Source.remaining g.S.Source.is_down g.W.Sink.contents g.W.Sink.passed_on g.W.Sink.is_down
+    c.reads_join.ensures.join c.distinct_are_once.ensures c.began_stays.ensures c.args.repo.now
+    c.in_ok-hear.ensures.whole c.args.reader.now.source c.hear.new.reader.source c.take_ls.new.reader.source
+    c.args.writer.now.sink c.ask.new.writer.sink c.args.session.now c.hear.new.session c.ask.new.session
+    c.take_ls.new.self c.in_ok-ask.ensures.asks.0 c.in_ok-taken.taken c.requires.few c.requires.begun
+    c.in_ok-hear.ensures.hears c.in_ok-ask.ensures.asks.1 c.in_ok-ask.ensures.asks.2 c.in_ok-taken.ensures.takes
+    c.in_ok-taken.ensures.reader.2).began
 
 pub fetch_all-requires-clause-stage : goal.fetch_all-requires-clause-stage
 fetch_all-requires-clause-stage g c =
@@ -196,133 +148,56 @@ fetch_all-requires-clause-pending g c =
 
 pub fetch_all-requires-clause-format : goal.fetch_all-requires-clause-format
 fetch_all-requires-clause-format g c =
-    let indexes = g.K.Indexer.indexes c.args.indexer.now in
-    let fails = g.K.Indexer.index_fails c.args.indexer.now in
-    let repo = c.args.repo.now in
-    let start = start_with c.args.session.now repo in
-    let first = c.args.reader.now.source in
-    let sink = c.args.writer.now.sink in
-    let remaining = g.S.Source.remaining in
-    let source_down = g.S.Source.is_down in
-    let contents = g.W.Sink.contents in
-    let passed_on = g.W.Sink.passed_on in
-    let sink_down = g.W.Sink.is_down in
-    let source = c.hear.new.reader.source in
-    let none = talked_none indexes fails start remaining source_down contents passed_on sink_down first source sink
-    c.args.session.now c.hear.new.session c.requires.few c.requires.begun c.in_ok-hear.ensures.hears in
-    let old = client_of c.hear.new.session repo None in
-    let asks = c.in_ok-ask.ensures.asks in
-    let next = c.take_ls.new.reader.source in
-    let after = c.ask.new.writer.sink in
-    let turned = listed indexes fails old c.ask.new.session c.take_ls.new.self asks.0
-    (input_of remaining source_down source next) (output_of contents passed_on sink_down sink after) c.in_ok-taken.taken
-    asks.1 asks.2
-    c.in_ok-taken.ensures.takes c.in_ok-taken.ensures.reader.2 in
-    let new = client_of c.take_ls.new.self repo c.in_ok-taken.taken.unborn in
-    let talked = talked_more indexes fails start remaining source_down contents passed_on sink_down
-    c.reads_join.ensures.join
-    first source next sink sink after old new none turned in
-    same_own indexes fails start remaining source_down contents passed_on sink_down
-    (input_of remaining source_down first next) talked.talk new IsLeft talked.converses
+    (has_listed (g.K.Indexer.indexes c.args.indexer.now) (g.K.Indexer.index_fails c.args.indexer.now)
+    g.S.Source.remaining g.S.Source.is_down g.W.Sink.contents g.W.Sink.passed_on g.W.Sink.is_down
+    c.reads_join.ensures.join c.distinct_are_once.ensures c.began_stays.ensures c.args.repo.now
+    c.in_ok-hear.ensures.whole c.args.reader.now.source c.hear.new.reader.source c.take_ls.new.reader.source
+    c.args.writer.now.sink c.ask.new.writer.sink c.args.session.now c.hear.new.session c.ask.new.session
+    c.take_ls.new.self c.in_ok-ask.ensures.asks.0 c.in_ok-taken.taken c.requires.few c.requires.begun
+    c.in_ok-hear.ensures.hears c.in_ok-ask.ensures.asks.1 c.in_ok-ask.ensures.asks.2 c.in_ok-taken.ensures.takes
+    c.in_ok-taken.ensures.reader.2).format
 
 pub fetch_all-requires-clause-began : goal.fetch_all-requires-clause-began
 fetch_all-requires-clause-began g c =
-    let indexes = g.K.Indexer.indexes c.args.indexer.now in
-    let fails = g.K.Indexer.index_fails c.args.indexer.now in
-    let repo = c.args.repo.now in
-    let start = start_with c.args.session.now repo in
-    let first = c.args.reader.now.source in
-    let sink = c.args.writer.now.sink in
-    let remaining = g.S.Source.remaining in
-    let source_down = g.S.Source.is_down in
-    let contents = g.W.Sink.contents in
-    let passed_on = g.W.Sink.passed_on in
-    let sink_down = g.W.Sink.is_down in
-    let source = c.hear.new.reader.source in
-    let none = talked_none indexes fails start remaining source_down contents passed_on sink_down first source sink
-    c.args.session.now c.hear.new.session c.requires.few c.requires.begun c.in_ok-hear.ensures.hears in
-    let old = client_of c.hear.new.session repo None in
-    let asks = c.in_ok-ask.ensures.asks in
-    let next = c.take_ls.new.reader.source in
-    let after = c.ask.new.writer.sink in
-    let turned = listed indexes fails old c.ask.new.session c.take_ls.new.self asks.0
-    (input_of remaining source_down source next) (output_of contents passed_on sink_down sink after) c.in_ok-taken.taken
-    asks.1 asks.2
-    c.in_ok-taken.ensures.takes c.in_ok-taken.ensures.reader.2 in
-    let new = client_of c.take_ls.new.self repo c.in_ok-taken.taken.unborn in
-    let talked = talked_more indexes fails start remaining source_down contents passed_on sink_down
-    c.reads_join.ensures.join
-    first source next sink sink after old new none turned in
-    let heard = is_heard repo.graph.format repo c.args.session.now c.hear.new.session
-    (input_of remaining source_down first source) c.requires.begun c.in_ok-hear.ensures.hears in
-    let began = begins_on c.distinct_are_once.ensures repo c.hear.new.session c.in_ok-hear.ensures.whole heard.tips
-    heard.sent in
-    let begun = turn_began indexes fails c.began_stays.ensures repo.graph.entries old turned.turn new
-    (kept_still old).grows began turned.is_turn in
-    begun
+    (has_listed (g.K.Indexer.indexes c.args.indexer.now) (g.K.Indexer.index_fails c.args.indexer.now)
+    g.S.Source.remaining g.S.Source.is_down g.W.Sink.contents g.W.Sink.passed_on g.W.Sink.is_down
+    c.reads_join.ensures.join c.distinct_are_once.ensures c.began_stays.ensures c.args.repo.now
+    c.in_ok-hear.ensures.whole c.args.reader.now.source c.hear.new.reader.source c.take_ls.new.reader.source
+    c.args.writer.now.sink c.ask.new.writer.sink c.args.session.now c.hear.new.session c.ask.new.session
+    c.take_ls.new.self c.in_ok-ask.ensures.asks.0 c.in_ok-taken.taken c.requires.few c.requires.begun
+    c.in_ok-hear.ensures.hears c.in_ok-ask.ensures.asks.1 c.in_ok-ask.ensures.asks.2 c.in_ok-taken.ensures.takes
+    c.in_ok-taken.ensures.reader.2).began
 
 pub returns-in_err-fetch_all-clause-talks : goal.returns-in_err-fetch_all-clause-talks
 returns-in_err-fetch_all-clause-talks g c =
-    let indexes = g.K.Indexer.indexes c.args.indexer.now in
-    let fails = g.K.Indexer.index_fails c.args.indexer.now in
-    let repo = c.args.repo.now in
-    let start = start_with c.args.session.now repo in
-    let first = c.args.reader.now.source in
-    let sink = c.args.writer.now.sink in
-    let remaining = g.S.Source.remaining in
-    let source_down = g.S.Source.is_down in
-    let contents = g.W.Sink.contents in
-    let passed_on = g.W.Sink.passed_on in
-    let sink_down = g.W.Sink.is_down in
-    let source = c.hear.new.reader.source in
-    let none = talked_none indexes fails start remaining source_down contents passed_on sink_down first source sink
-    c.args.session.now c.hear.new.session c.requires.few c.requires.begun c.in_ok-hear.ensures.hears in
-    let old = client_of c.hear.new.session repo None in
-    let asks = c.in_ok-ask.ensures.asks in
-    let next = c.take_ls.new.reader.source in
-    let after = c.ask.new.writer.sink in
-    let turned = listed indexes fails old c.ask.new.session c.take_ls.new.self asks.0
-    (input_of remaining source_down source next) (output_of contents passed_on sink_down sink after) c.in_ok-taken.taken
-    asks.1 asks.2
-    c.in_ok-taken.ensures.takes c.in_ok-taken.ensures.reader.2 in
-    let new = client_of c.take_ls.new.self repo c.in_ok-taken.taken.unborn in
-    let talked = talked_more indexes fails start remaining source_down contents passed_on sink_down
-    c.reads_join.ensures.join
-    first source next sink sink after old new none turned in
-    subst (λ (r : Result (Option (List ℕ)) (FetchFault g.row.A.Denot)). Talks indexes fails start
-    (input_of remaining source_down first c.fetch_all.new.reader.source)
-    (output_of contents passed_on sink_down sink c.fetch_all.new.writer.sink) c.fetch_all.new.session
-    c.fetch_all.new.repo r)
+    let talked = (has_listed (g.K.Indexer.indexes c.args.indexer.now) (g.K.Indexer.index_fails c.args.indexer.now)
+    g.S.Source.remaining g.S.Source.is_down g.W.Sink.contents g.W.Sink.passed_on g.W.Sink.is_down
+    c.reads_join.ensures.join c.distinct_are_once.ensures c.began_stays.ensures c.args.repo.now
+    c.in_ok-hear.ensures.whole c.args.reader.now.source c.hear.new.reader.source c.take_ls.new.reader.source
+    c.args.writer.now.sink c.ask.new.writer.sink c.args.session.now c.hear.new.session c.ask.new.session
+    c.take_ls.new.self c.in_ok-ask.ensures.asks.0 c.in_ok-taken.taken c.requires.few c.requires.begun
+    c.in_ok-hear.ensures.hears c.in_ok-ask.ensures.asks.1 c.in_ok-ask.ensures.asks.2 c.in_ok-taken.ensures.takes
+    c.in_ok-taken.ensures.reader.2).talked in
+    let start = start_with c.args.session.now c.args.repo.now in
+    subst (λ (r : Result (Option (List ℕ)) (FetchFault g.row.A.Denot)). Talks (g.K.Indexer.indexes c.args.indexer.now)
+    (g.K.Indexer.index_fails c.args.indexer.now) start
+    (input_of g.S.Source.remaining g.S.Source.is_down c.args.reader.now.source c.fetch_all.new.reader.source)
+    (output_of g.W.Sink.contents g.W.Sink.passed_on g.W.Sink.is_down c.args.writer.now.sink c.fetch_all.new.writer.sink)
+    c.fetch_all.new.session c.fetch_all.new.repo r)
     (sym (err_of c.in_err-fetch_all.field-0.0 c.from_residual-in_err-fetch_all.result
     c.from_residual-in_err-fetch_all.ensures.1))
-    (c.in_err-fetch_all.ensures.talks start first sink c.in_ok-taken.taken.unborn talked)
+    (c.in_err-fetch_all.ensures.talks start c.args.reader.now.source c.args.writer.now.sink c.in_ok-taken.taken.unborn
+    talked)
 
 pub returns-clause-talks : goal.returns-clause-talks
 returns-clause-talks g c =
-    let indexes = g.K.Indexer.indexes c.args.indexer.now in
-    let fails = g.K.Indexer.index_fails c.args.indexer.now in
-    let repo = c.args.repo.now in
-    let start = start_with c.args.session.now repo in
-    let first = c.args.reader.now.source in
-    let sink = c.args.writer.now.sink in
-    let remaining = g.S.Source.remaining in
-    let source_down = g.S.Source.is_down in
-    let contents = g.W.Sink.contents in
-    let passed_on = g.W.Sink.passed_on in
-    let sink_down = g.W.Sink.is_down in
-    let source = c.hear.new.reader.source in
-    let none = talked_none indexes fails start remaining source_down contents passed_on sink_down first source sink
-    c.args.session.now c.hear.new.session c.requires.few c.requires.begun c.in_ok-hear.ensures.hears in
-    let old = client_of c.hear.new.session repo None in
-    let asks = c.in_ok-ask.ensures.asks in
-    let next = c.take_ls.new.reader.source in
-    let after = c.ask.new.writer.sink in
-    let turned = listed indexes fails old c.ask.new.session c.take_ls.new.self asks.0
-    (input_of remaining source_down source next) (output_of contents passed_on sink_down sink after) c.in_ok-taken.taken
-    asks.1 asks.2
-    c.in_ok-taken.ensures.takes c.in_ok-taken.ensures.reader.2 in
-    let new = client_of c.take_ls.new.self repo c.in_ok-taken.taken.unborn in
-    let talked = talked_more indexes fails start remaining source_down contents passed_on sink_down
-    c.reads_join.ensures.join
-    first source next sink sink after old new none turned in
-    c.in_ok-fetch_all.ensures.talks start first sink c.in_ok-taken.taken.unborn talked
+    let talked = (has_listed (g.K.Indexer.indexes c.args.indexer.now) (g.K.Indexer.index_fails c.args.indexer.now)
+    g.S.Source.remaining g.S.Source.is_down g.W.Sink.contents g.W.Sink.passed_on g.W.Sink.is_down
+    c.reads_join.ensures.join c.distinct_are_once.ensures c.began_stays.ensures c.args.repo.now
+    c.in_ok-hear.ensures.whole c.args.reader.now.source c.hear.new.reader.source c.take_ls.new.reader.source
+    c.args.writer.now.sink c.ask.new.writer.sink c.args.session.now c.hear.new.session c.ask.new.session
+    c.take_ls.new.self c.in_ok-ask.ensures.asks.0 c.in_ok-taken.taken c.requires.few c.requires.begun
+    c.in_ok-hear.ensures.hears c.in_ok-ask.ensures.asks.1 c.in_ok-ask.ensures.asks.2 c.in_ok-taken.ensures.takes
+    c.in_ok-taken.ensures.reader.2).talked in
+    c.in_ok-fetch_all.ensures.talks (start_with c.args.session.now c.args.repo.now) c.args.reader.now.source
+    c.args.writer.now.sink c.in_ok-taken.taken.unborn talked

@@ -1,10 +1,7 @@
-use Rattle.std.proofs.Common.{◌≡◌, ◌<◌, ◌≤◌, ℕ, length, subst}
-use Rattle.std.proofs.lemmas.List.{take_all}
-use Rattle.std.proofs.lemmas.Option.{get_or_from_slice_get}
-use Rattle.std.proofs.Common.{arith}
-use Rattle.gclientrepo.specs.declared.ask.Ask.{Ask}
-use Rattle.gclientrepo.specs.Asks.{aimed}
-use Rattle.gclientrepo.proofs.SettlingLemmas.{NoHead, head_at, no_head_more, no_head_there}
+use Rattle.std.proofs.Common.{◌<◌, ◌≤◌, ℕ, length, subst, arith}
+use Rattle.std.proofs.lemmas.{List.take_all, Option.get_or_from_slice_get}
+use Rattle.gclientrepo.specs.{Asks.aimed, declared.ask.Ask.Ask}
+use Rattle.gclientrepo.proofs.SettlingLemmas.{NoHead, no_head_more, no_head_there}
 use Rattle.gclientrepo.proofs.settling.asks_for_head.Goals as goal
 
 pub loop-place-preserved : goal.loop-place-preserved

@@ -1,4 +1,4 @@
-use Rattle.gdag.proofs.CommonLaws as laws
+use Rattle.gdag.proofs.OfferLaws as laws
 use Rattle.gdag.proofs.laws.commons_are_held.Goals as goal
 
 pub returns : goal.returns

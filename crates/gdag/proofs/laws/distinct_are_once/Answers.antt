@@ -1,4 +1,4 @@
-use Rattle.gdag.proofs.DistinctLaws as laws
+use Rattle.gdag.proofs.OfferLaws as laws
 use Rattle.gdag.proofs.laws.distinct_are_once.Goals as goal
 
 pub returns : goal.returns

@@ -1,5 +1,5 @@
 use Rattle.gfetchreply.specs.FetchReplies.{brings, judge}
-use Rattle.gfetchreply.proofs.PacketReasons.{refuses_packets}
+use Rattle.gfetchreply.proofs.ReplyVerdicts.{refuses_packets}
 use Rattle.gfetchreply.proofs.laws.every_input.Goals as goal
 
 pub returns-clause-packets : goal.returns-clause-packets

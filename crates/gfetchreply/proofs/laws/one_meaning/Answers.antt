@@ -1,4 +1,4 @@
-use Rattle.gfetchreply.proofs.ReadLaws.{says_whole}
+use Rattle.gfetchreply.proofs.ReplyLemmas.{says_whole}
 use Rattle.gfetchreply.proofs.ReplyManual.{one_value}
 use Rattle.gfetchreply.proofs.laws.one_meaning.Goals as goal
 

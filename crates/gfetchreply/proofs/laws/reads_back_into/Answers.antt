@@ -1,4 +1,4 @@
-use Rattle.gfetchreply.proofs.ReadLaws.{back_into}
+use Rattle.gfetchreply.proofs.ReplyLemmas.{back_into}
 use Rattle.gfetchreply.proofs.laws.reads_back_into.Goals as goal
 
 pub returns : goal.returns

@@ -1,4 +1,4 @@
-use Rattle.gfetchreply.proofs.ReadLaws.{into_only_said, into_where_said}
+use Rattle.gfetchreply.proofs.ReplyLemmas.{into_only_said, into_where_said}
 use Rattle.gfetchreply.proofs.laws.reads_into_exactly.Goals as goal
 
 pub returns-clause-said : goal.returns-clause-said

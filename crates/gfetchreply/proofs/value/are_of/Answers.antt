@@ -1,5 +1,5 @@
 use Rattle.std.proofs.Common.{refl, sym}
-use Rattle.gfetchreply.proofs.ValueLemmas.{tells_on}
+use Rattle.gfetchreply.proofs.WritingLemmas.{tells_on}
 use Rattle.gfetchreply.proofs.value.are_of.Goals as goal
 
 pub loop-id-preserved : goal.loop-id-preserved

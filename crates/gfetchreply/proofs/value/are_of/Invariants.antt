@@ -1,5 +1,5 @@
 use Rattle.std.proofs.Common.{drop}
-use Rattle.gfetchreply.proofs.ValueLemmas.{Tells}
+use Rattle.gfetchreply.proofs.WritingLemmas.{Tells}
 use Rattle.gfetchreply.proofs.value.are_of.Given as goal
 
 -- the ids from here on decide for all

@@ -1,4 +1,4 @@
-use Rattle.std.proofs.Common.{◌+◌, [], ◌∷◌, List, drop, map, ap, subst}
+use Rattle.std.proofs.Common.{List, map, ap, subst}
 use Rattle.std.proofs.lemmas.List.{drop_all}
 use Rattle.gpkt.specs.Packets.{Packet}
 use Rattle.ggrammar.specs.Writing.{IsWriting}
@@ -12,24 +12,19 @@ loop-id-init g c = c.writes_lines.ensures.starts c.args.writer.now (map ack_pack
 pub returns-in_err-write_id : goal.returns-in_err-write_id
 returns-in_err-write_id g c =
     let law = c.writes_lines.ensures in
-    let ids = c.args.ids.now in
-    let i = c.loop-id.id-index in
-    let id = c.id-item.result in
-    law.part _ _ _ (map ack_packet ids)
-    (law.fails _ _ _ (map ack_packet ids) (map ack_packet (drop i ids)) (ack_packet id ∷ []) (map ack_packet (drop (i + 1) ids)) _ _ c.loop-id.invariant
-    (ids_next ids i id c.loop-id-test.true c.id-item.is) c.in_err-write_id.ensures c.from_residual.ensures.1)
+    law.part _ _ _ (map ack_packet c.args.ids.now)
+    (law.fails _ _ _ _ _ _ _ _ _ c.loop-id.invariant
+    (ids_next c.args.ids.now c.loop-id.id-index c.id-item.result c.loop-id-test.true c.id-item.is)
+    c.in_err-write_id.ensures c.from_residual.ensures.1)
 
 pub loop-id-preserved : goal.loop-id-preserved
 loop-id-preserved g c =
-    let ids = c.args.ids.now in
-    let i = c.loop-id.id-index in
-    let id = c.id-item.result in
-    c.writes_lines.ensures.goes_on _ _ _ (map ack_packet ids) (map ack_packet (drop i ids)) (ack_packet id ∷ []) (map ack_packet (drop (i + 1) ids)) c.loop-id.invariant
-    (ids_next ids i id c.loop-id-test.true c.id-item.is) c.in_ok-write_id.ensures
+    c.writes_lines.ensures.goes_on _ _ _ _ _ _ _ c.loop-id.invariant
+    (ids_next c.args.ids.now c.loop-id.id-index c.id-item.result c.loop-id-test.true c.id-item.is)
+    c.in_ok-write_id.ensures
 
 pub returns : goal.returns
 returns g c =
-    let ids = c.args.ids.now in
     subst
-    (λ (xs : List Packet). IsWriting g.W.Sink.contents g.W.Sink.passed_on g.W.Sink.is_down g.W.Sink.loans c.args.writer.now c.loop-id.writer (map ack_packet ids) xs)
-    (ap (map ack_packet) (drop_all c.loop-id.id-index ids c.loop-id-test.false)) c.loop-id.invariant
+    (λ (xs : List Packet). IsWriting g.W.Sink.contents g.W.Sink.passed_on g.W.Sink.is_down g.W.Sink.loans c.args.writer.now c.loop-id.writer (map ack_packet c.args.ids.now) xs)
+    (ap (map ack_packet) (drop_all c.loop-id.id-index c.args.ids.now c.loop-id-test.false)) c.loop-id.invariant

@@ -1,4 +1,4 @@
-use Rattle.ggrammar.proofs.RefusalLemmas.{LawsOfBytes-always}
+use Rattle.ggrammar.proofs.BytesLemmas.{LawsOfBytes-always}
 use Rattle.ggrammar.proofs.laws.messages_are_read.Goals as goal
 
 pub returns : goal.returns

@@ -1,9 +1,8 @@
 use Rattle.ghello.proofs.laws.reads_back.Goals as goal
 
-pub returns-clause-hello : goal.returns-clause-hello
-returns-clause-hello c =
-    c.kinds_are_read.ensures.back tt c.manual.ensures.hello c.one_meaning.ensures.hello c.canonical_says.ensures.hello
-
-pub returns-clause-advert : goal.returns-clause-advert
-returns-clause-advert c =
-    c.kinds_are_read-2.ensures.back tt c.manual.ensures.advert_whole c.one_meaning.ensures.advert c.canonical_says.ensures.advert
+pub returns : goal.returns
+returns c =
+    let canonical = c.canonical_says.ensures in record {
+      hello = c.kinds_are_read.ensures.back tt c.manual.ensures.hello c.one_meaning.ensures.hello canonical.hello;
+      advert = c.kinds_are_read-2.ensures.back tt c.manual.ensures.advert_whole c.one_meaning.ensures.advert canonical.advert;
+    }

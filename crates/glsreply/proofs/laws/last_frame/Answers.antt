@@ -1,4 +1,4 @@
-use Rattle.glsreply.proofs.WordLemmas.{count_packets}
+use Rattle.glsreply.proofs.TableLemmas.{count_packets}
 use Rattle.glsreply.proofs.laws.last_frame.Goals as goal
 
 pub returns : goal.returns

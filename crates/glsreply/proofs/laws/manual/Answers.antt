@@ -1,5 +1,5 @@
 use Rattle.glsreply.proofs.RefTextLemmas.{TextLaws}
-use Rattle.glsreply.proofs.WordLemmas.{say_words, words_say}
+use Rattle.glsreply.proofs.TableLemmas.{say_words, words_say}
 use Rattle.glsreply.proofs.laws.manual.Goals as goal
 
 pub returns : goal.returns

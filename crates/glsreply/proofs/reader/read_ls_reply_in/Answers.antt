@@ -3,7 +3,7 @@ use Rattle.gpkt.specs.Change.{change_of}
 use Rattle.ggrammar.specs.Kinds.{ReadsMessage}
 use Rattle.glsreply.specs.LsReplies.{Says, judge}
 use Rattle.glsreply.specs.WellFormed.{IsLsReplyIn}
-use Rattle.glsreply.proofs.ReaderLemmas.{read_is, formed_is}
+use Rattle.glsreply.proofs.TableLemmas.{read_is, formed_is}
 use Rattle.glsreply.proofs.reader.read_ls_reply_in.Goals as goal
 
 pub finish-requires : goal.finish-requires

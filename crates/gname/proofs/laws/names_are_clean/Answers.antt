@@ -1,5 +1,5 @@
-use Rattle.gname.proofs.NameLemmas.{NameFacts-of_name}
+use Rattle.gname.proofs.NameLemmas.{names_are_clean}
 use Rattle.gname.proofs.laws.names_are_clean.Goals as goal
 
 pub returns : goal.returns
-returns c = NameFacts-of_name
+returns c = names_are_clean

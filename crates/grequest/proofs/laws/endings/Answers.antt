@@ -1,9 +1,7 @@
-use Rattle.grequest.specs.Requests.{judge}
-use Rattle.grequest.proofs.Endings.{HasEndings-judge}
+use Rattle.grequest.proofs.WholeRequests.{HasEndings-judge}
 use Rattle.grequest.proofs.laws.endings.Goals as goal
 
-pub returns-clause-each : goal.returns-clause-each
-returns-clause-each c = HasEndings-judge c.grammars_are_exact.ensures
-
-pub returns-clause-first : goal.returns-clause-first
-returns-clause-first c = λ format. (c.grammars_are_exact.ensures (judge format)).misfits (HasEndings-judge c.grammars_are_exact.ensures format)
+pub returns : goal.returns
+returns c =
+    let exact = c.grammars_are_exact.ensures in
+    record { each = HasEndings-judge exact; first = λ format. (exact _).misfits (HasEndings-judge exact format) }

@@ -1,10 +1,8 @@
-use Rattle.grequest.specs.Requests.{brings, judge}
-use Rattle.grequest.proofs.PacketReasons.{refuses_packets}
+use Rattle.grequest.proofs.Verdicts.{refuses_packets}
 use Rattle.grequest.proofs.laws.every_input.Goals as goal
 
-pub returns-clause-packets : goal.returns-clause-packets
-returns-clause-packets c = refuses_packets
-
-pub returns-clause-bytes : goal.returns-clause-bytes
-returns-clause-bytes c = λ format.
-    (c.messages_are_read.ensures (judge format)).every (c.endings.ensures.each format) (refuses_packets format) brings
+pub returns : goal.returns
+returns c = record {
+  packets = refuses_packets;
+  bytes = λ format. (c.messages_are_read.ensures _).every (c.endings.ensures.each format) (refuses_packets format) _;
+}

@@ -1,4 +1,4 @@
-use Rattle.grequest.proofs.ManualRequests.{manual_from_judge, judge_from_manual}
+use Rattle.grequest.proofs.WholeRequests.{manual_from_judge, judge_from_manual}
 use Rattle.grequest.proofs.laws.manual.Goals as goal
 
 pub returns : goal.returns

@@ -1,12 +1,10 @@
 use Rattle.std.proofs.Common.{◌≡◌, ℕ, refl, sym, subst, ◌∙◌, arith}
 use Rattle.gpkt.specs.Sending.{input_of, output_of}
+use Rattle.gserve.specs.{Exchanges.Exchanges, steps.Connections.HasAnswered, declared.exchange.ExchangeEnd.ExchangeEnd}
 use Rattle.gserve.specs.Conversations.{max_requests}
-use Rattle.gserve.specs.Exchanges.{Exchanges}
-use Rattle.gserve.specs.steps.Connections.{HasAnswered}
-use Rattle.gserve.specs.declared.exchange.ExchangeEnd.{ExchangeEnd}
 use Rattle.gserve.specs.declared.exchange.ExchangeEnd.TheVariants as ended
 use Rattle.gserve.proofs.ConnectionLemmas.{answered_all, answered_more, answered_none, ended_by, none_is_answered}
-use Rattle.gserve.proofs.PackingLemmas.{goes_on_well, last_packing}
+use Rattle.gserve.proofs.ConnectionLemmas.{goes_on_well, last_packing}
 use Rattle.gserve.proofs.connection.answer_each.Goals as goal
 
 pub loop-requests-init : goal.loop-requests-init

@@ -1,5 +1,4 @@
-use Rattle.gserve.proofs.ConnectionLemmas.{not_advertised}
-use Rattle.gserve.proofs.PackingLemmas.{unadvertised_packing}
+use Rattle.gserve.proofs.ConnectionLemmas.{not_advertised, unadvertised_packing}
 use Rattle.gserve.proofs.connection.converse.Goals as goal
 
 pub returns-in-Ok-clause-serves : goal.returns-in-Ok-clause-serves

@@ -1,6 +1,5 @@
-use Rattle.gserve.proofs.ConnectionLemmas.{no_buffer}
+use Rattle.gserve.proofs.ConnectionLemmas.{no_buffer, first_packing}
 use Rattle.ganswer.specs.declared.fault.ServeFault.TheVariants as serve
-use Rattle.gserve.proofs.PackingLemmas.{first_packing}
 use Rattle.gserve.proofs.connection.serve_to.Goals as goal
 
 pub returns-in-Err-clause-serves : goal.returns-in-Err-clause-serves

@@ -1,13 +1,12 @@
 use Rattle.std.proofs.Common.{◌≡◌, Option, Ok, ap, subst, ◌∙◌}
 use Rattle.gpkt.specs.Sending.{input_of}
 use Rattle.ggrammar.specs.Kinds.{ReadsIfAny}
+use Rattle.grequest.specs.{RequestValues.asked_by_request, RequestValues.asked_result, declared.request.Request.Request}
 use Rattle.grequest.specs.Requests.{Says, brings, judge}
-use Rattle.grequest.specs.RequestValues.{asked_by_request, asked_result}
-use Rattle.grequest.specs.declared.request.Request.{Request}
 use Rattle.gdag.specs.Graphs.{History}
 use Rattle.gserve.proofs.ExchangeLemmas.{exchanged, reading_refused, refused_to_read}
+use Rattle.gserve.proofs.ConnectionLemmas.{refused_packing}
 use Rattle.ganswer.specs.declared.fault.ServeFault.TheVariants as serve
-use Rattle.gserve.proofs.PackingLemmas.{refused_packing}
 use Rattle.gserve.proofs.exchange.exchange.Goals as goal
 
 pub returns-in-Ok-Some-clause-exchange : goal.returns-in-Ok-Some-clause-exchange

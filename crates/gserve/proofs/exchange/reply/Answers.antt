@@ -3,7 +3,6 @@ use Rattle.grequest.specs.Asked.{Ls as LsAsked, Fetches}
 use Rattle.ganswer.specs.Answers.{Ls, Fetch}
 use Rattle.gfetchreply.specs.Views.{reply_in}
 use Rattle.gserve.proofs.ExchangeLemmas.{goes_on_by, refused_reply, replied}
-use Rattle.gserve.proofs.PackingLemmas.{not_failed, refused_packing, sent_packing}
 use Rattle.gserve.proofs.exchange.reply.Goals as goal
 
 pub returns-in-Empty-clause-replies : goal.returns-in-Empty-clause-replies

@@ -1,5 +1,5 @@
 use Rattle.grequest.specs.Requests.{judge}
-use Rattle.gserve.proofs.OneTalk.{talks_are_one}
+use Rattle.gserve.proofs.TalkLemmas.{talks_are_one}
 use Rattle.gserve.proofs.laws.talks_are_one.Goals as goal
 
 pub returns : goal.returns

@@ -2,7 +2,7 @@ use Rattle.std.proofs.Common.{◌↔◌, Bool, subst}
 use Rattle.std.specs.Bool.{IsTrue}
 use Rattle.gdag.specs.Graphs.{Holds}
 use Rattle.gdag.specs.Reach.{IsFull}
-use Rattle.gsession.proofs.WantLemmas.{full_unless_missing, none_by, unheld_not_full}
+use Rattle.gsession.proofs.CommonLemmas.{full_unless_missing, none_by, unheld_not_full}
 use Rattle.gsession.proofs.asks.is_full.Goals as goal
 
 pub returns-then-not-contains-clause-full : goal.returns-then-not-contains-clause-full

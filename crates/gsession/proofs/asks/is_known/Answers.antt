@@ -1,6 +1,6 @@
 use Rattle.std.proofs.Common.{◌≡◌, ◌∙◌, true, false, Some, slice_index_or, sym, ap}
 use Rattle.gobject.specs.Objects.{place_of}
-use Rattle.gsession.proofs.WantLemmas.{known_full}
+use Rattle.gsession.proofs.CommonLemmas.{known_full}
 use Rattle.gsession.proofs.asks.is_known.Goals as goal
 
 pub returns-in-Some : goal.returns-in-Some

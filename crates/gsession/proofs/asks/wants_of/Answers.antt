@@ -7,7 +7,7 @@ use Rattle.gdag.specs.Selecting.{Selects, none}
 use Rattle.gclientrepo.specs.Asks.{asked_ids}
 use Rattle.gdag.proofs.Choosing.{selects_keep, selects_skip}
 use Rattle.gdag.proofs.Growing.{take_one}
-use Rattle.gsession.proofs.WantLemmas.{want_ids}
+use Rattle.gsession.proofs.CommonLemmas.{want_ids}
 use Rattle.gsession.proofs.asks.wants_of.Goals as goal
 use Rattle.gsession.proofs.asks.wants_of.Goals.{then-not-branch+in_ok-push, else-not-branch}
 

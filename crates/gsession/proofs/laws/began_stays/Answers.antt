@@ -1,4 +1,4 @@
-use Rattle.gsession.proofs.BoundLemmas.{began_stays}
+use Rattle.gsession.proofs.NextLaws.{began_stays}
 use Rattle.gsession.proofs.laws.began_stays.Goals as goal
 
 pub returns : goal.returns

@@ -1,4 +1,4 @@
-use Rattle.gsession.proofs.NamedLemmas.{began_stays_on}
+use Rattle.gsession.proofs.BoundLemmas.{began_stays_on}
 use Rattle.gsession.proofs.laws.began_stays_on.Goals as goal
 
 pub returns : goal.returns

@@ -1,4 +1,4 @@
-use Rattle.gsession.proofs.NamedLemmas.{commons_are_haves, replies_add}
+use Rattle.gsession.proofs.BoundLemmas.{commons_are_haves, replies_add}
 use Rattle.gsession.proofs.laws.commons_are_haves.Goals as goal
 
 pub returns-clause-replies : goal.returns-clause-replies

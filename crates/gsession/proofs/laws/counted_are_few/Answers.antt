@@ -1,4 +1,4 @@
-use Rattle.gsession.proofs.LastLemmas.{counted_are_few}
+use Rattle.gsession.proofs.BoundLemmas.{counted_are_few}
 use Rattle.gsession.proofs.laws.counted_are_few.Goals as goal
 
 pub returns : goal.returns

@@ -1,4 +1,4 @@
-use Rattle.gsession.proofs.LawLemmas.{haves_are_full, haves_are_new}
+use Rattle.gsession.proofs.NextLaws.{haves_are_full, haves_are_new}
 use Rattle.gsession.proofs.laws.haves_are_held.Goals as goal
 
 pub returns-clause-full : goal.returns-clause-full

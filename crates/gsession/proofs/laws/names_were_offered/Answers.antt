@@ -1,4 +1,4 @@
-use Rattle.gsession.proofs.NamedLemmas.{begins_offered, offered_stays}
+use Rattle.gsession.proofs.BoundLemmas.{begins_offered, offered_stays}
 use Rattle.gsession.proofs.laws.names_were_offered.Goals as goal
 
 pub returns-clause-begins : goal.returns-clause-begins

@@ -1,4 +1,4 @@
-use Rattle.gsession.proofs.LastLemmas.{begins_counted, counted_stays}
+use Rattle.gsession.proofs.BoundLemmas.{begins_counted, counted_stays}
 use Rattle.gsession.proofs.laws.requests_are_counted.Goals as goal
 
 pub returns-clause-begins : goal.returns-clause-begins

@@ -2,7 +2,7 @@ use Rattle.std.proofs.Common.{ℕ, List, length, sym, ap, ap₂, ◌∙◌, arit
 use Rattle.grequest.specs.Asked.{LsRefsAsked}
 use Rattle.gsession.specs.Requesting.{ls_request}
 use Rattle.gsession.specs.steps.Calls.{with_prefix}
-use Rattle.gsession.proofs.ListLemmas.{prefixes_more, with_prefix_few}
+use Rattle.gsession.proofs.BuildLemmas.{prefixes_more, with_prefix_few}
 use Rattle.gsession.proofs.requests.refs_request.Goals as goal
 
 abbrev with : LsRefsAsked → List ℕ → LsRefsAsked

@@ -3,7 +3,7 @@ use Rattle.std.specs.Map.{values_of}
 use Rattle.std.proofs.lemmas.Result.{IfOk-weaker}
 use Rattle.gname.specs.Ids.{IsIdOf}
 use Rattle.gdag.specs.Levels.{distinct_of}
-use Rattle.gsession.proofs.BatchLemmas.{tip_ids}
+use Rattle.gsession.proofs.CommonLemmas.{tip_ids}
 use Rattle.gsession.proofs.session.tips_of.Goals as goal
 
 pub returns-clause-ids : goal.returns-clause-ids

@@ -1,5 +1,4 @@
-use Rattle.std.proofs.Common.{◌≡◌, ◌∙◌, false, sym, arith}
-use Rattle.std.proofs.lemmas.Bool.{false≢true}
+use Rattle.std.proofs.Common.{◌≡◌, false, arith}
 use Rattle.std.proofs.lemmas.List.{length-replicate}
 use Rattle.gtopowalk.specs.steps.Passes.{open_below}
 use Rattle.gtopowalk.proofs.Places.{in_order, parents_first}
@@ -7,42 +6,22 @@ use Rattle.gtopowalk.proofs.Counting.{counted_none}
 use Rattle.gtopowalk.proofs.Descending.{starts, ends}
 use Rattle.gtopowalk.proofs.down.pass_down.Goals as goal
 
-pub prove-unreachable-requires : goal.prove-unreachable-requires
-prove-unreachable-requires g c = false≢true (sym c.if-prove.true ∙ c.is_ordered.ensures.ordered.1 c.requires)
-
-pub end_of-requires : goal.end_of-requires
-end_of-requires g c = in_order c.args.graph.now c.is_ordered.ensures.graph c.requires
-
-pub end_of-requires-2 : goal.end_of-requires-2
-end_of-requires-2 g c = in_order c.args.graph.now c.is_ordered.ensures.graph c.requires
-
-pub step-requires-clause-order : goal.step-requires-clause-order
-step-requires-clause-order g c = in_order c.args.graph.now c.is_ordered.ensures.graph c.requires
-
 pub want_all-requires-clause-counted : goal.want_all-requires-clause-counted
 want_all-requires-clause-counted g c = rw (c.in_ok-no_marks.ensures.marks, c.in_ok-no_marks-2.ensures.marks) (counted_none c.max-end.result)
 
 pub want_all-requires-clause-below : goal.want_all-requires-clause-below
-want_all-requires-clause-below g c =
-    let most = c.max-end.ensures in
-    λ p x. (let h = c.end_of.ensures.below p x in omega arith)
+want_all-requires-clause-below g c = λ p x. (let h = c.end_of.ensures.below p x in omega arith)
 
 pub know_all-requires-clause-below : goal.know_all-requires-clause-below
-know_all-requires-clause-below g c =
-    let most = c.max-end.ensures in
-    let same = c.want_all.ensures.next in
-    λ p x. (let h = c.end_of-2.ensures.below p x in omega arith)
+know_all-requires-clause-below g c = λ p x. (let h = c.end_of-2.ensures.below p x in omega arith)
 
 pub loop-pass-init : goal.loop-pass-init
 loop-pass-init g c =
     let held = c.args.graph.now.entries in
     let end = c.max-end.result in
-    let most = c.max-end.ensures in
     let wants = rw c.in_ok-no_marks.ensures.marks at c.want_all.ensures.wanted in
     let commons = rw (c.want_all.ensures.known, c.in_ok-no_marks-2.ensures.marks) at c.know_all.ensures.known in
     let long = length-replicate end false in
-    let first = c.end_of.ensures.fits in
-    let second = c.end_of-2.ensures.fits in
     let passed = starts held c.args.wants.now c.args.commons.now end c.want_all.new.self.wanted.items c.know_all.new.self.known.items wants commons long
     (λ p x. (let h = c.end_of.ensures.below p x in omega arith)) (λ p x. (let h = c.end_of-2.ensures.below p x in omega arith)) in
     record {
@@ -56,7 +35,7 @@ pub returns-clause-done : goal.returns-clause-done
 returns-clause-done g c =
     let pass = c.loop-pass.pass in
     let last = c.loop-pass.invariant in
-    let none : open_below pass.wanted.items pass.known.items pass.next ≡ 0 = let count = last.counted.count in let stop = c.loop-pass-test.false in omega arith in
+    let none : open_below pass.wanted.items pass.known.items pass.next ≡ 0 = omega (arith, last.counted.count) in
     ends c.args.graph.now.entries c.args.wants.now c.args.commons.now pass.wanted.items pass.known.items pass.next last.passed (parents_first c.args.graph.now.entries (in_order c.args.graph.now c.is_ordered.ensures.graph c.requires)) none
 
 pub returns-clause-inside : goal.returns-clause-inside

@@ -1,8 +1,8 @@
-use Rattle.std.proofs.Common.{◌∙◌, ◌≤◌, ◌+◌, inl, inr, length, sym, arith}
+use Rattle.std.proofs.Common.{◌∙◌, ◌+◌, inl, inr, sym, arith}
 use Rattle.std.proofs.lemmas.Option.{none-some}
 use Rattle.std.proofs.lemmas.List.{take_all}
 use Rattle.gdag.proofs.Reaching.{place_inside}
-use Rattle.gtopowalk.proofs.Ids.{one_place}
+use Rattle.gtopowalk.proofs.Places.{one_place}
 use Rattle.gtopowalk.proofs.Places.{is_none, max_is, place_next}
 use Rattle.gtopowalk.proofs.marks.end_of.Goals as goal
 use Rattle.gtopowalk.proofs.marks.end_of.Goals.{in-Some, in_default}
@@ -10,7 +10,6 @@ use Rattle.gtopowalk.proofs.marks.end_of.Goals.{in-Some, in_default}
 pub overflow_add-place : goal.overflow_add-place
 overflow_add-place g c =
     let inside = place_inside c.args.graph.now.entries c.id-item.result c.in-Some.place (sym c.in-Some.ensures) in
-    let few = c.requires.few in
     omega arith
 
 pub loop-id-preserved : goal.loop-id-preserved
@@ -23,7 +22,6 @@ loop-id-preserved g c =
           let at = sym w.in-Some.ensures in
           let inside = place_inside held c.id-item.result w.in-Some.place at in
           let most = max_is c.loop-id.end (w.in-Some.place + 1) w.max-end.result w.max-end.ensures in
-          let fits = before.fits in
           rw w.end-is (record {
             below = λ p x. elim (place_next held ids c.loop-id.id-index c.id-item.result c.loop-id-test.true c.id-item.is p x) [
               | inl y ↦ (let h = before.below p y in omega arith)
@@ -44,5 +42,4 @@ loop-id-preserved g c =
 
 pub returns-clause-below : goal.returns-clause-below
 returns-clause-below g c =
-    let past : length c.args.ids.now ≤ c.loop-id.id-index = omega (arith, c.loop-id-test.false) in
-    rw (take_all c.loop-id.id-index c.args.ids.now past) at c.loop-id.invariant.below
+    rw (take_all c.loop-id.id-index c.args.ids.now (omega arith)) at c.loop-id.invariant.below

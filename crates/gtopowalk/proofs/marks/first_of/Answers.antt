@@ -1,7 +1,7 @@
-use Rattle.std.proofs.Common.{◌∙◌, ◌≤◌, inl, inr, length, sym, arith}
+use Rattle.std.proofs.Common.{◌∙◌, inl, inr, sym, arith}
 use Rattle.std.proofs.lemmas.Option.{none-some}
 use Rattle.std.proofs.lemmas.List.{take_all}
-use Rattle.gtopowalk.proofs.Ids.{one_place}
+use Rattle.gtopowalk.proofs.Places.{one_place}
 use Rattle.gtopowalk.proofs.Places.{is_none, place_next}
 use Rattle.gtopowalk.proofs.marks.first_of.Goals as goal
 use Rattle.gtopowalk.proofs.marks.first_of.Goals.{in-Some, in_default}
@@ -14,8 +14,6 @@ loop-id-preserved g c =
     elim c.match-number.branch [
       | in-Some w ↦
           let at = sym w.in-Some.ensures in
-          let least = w.min-first.ensures in
-          let most = before.most in
           rw w.first-is (record {
             first = λ p x. elim (place_next held ids c.loop-id.id-index c.id-item.result c.loop-id-test.true c.id-item.is p x) [
               | inl y ↦ (let h = before.first p y in omega arith)
@@ -36,5 +34,4 @@ loop-id-preserved g c =
 
 pub returns-clause-first : goal.returns-clause-first
 returns-clause-first g c =
-    let past : length c.args.ids.now ≤ c.loop-id.id-index = omega (arith, c.loop-id-test.false) in
-    rw (take_all c.loop-id.id-index c.args.ids.now past) at c.loop-id.invariant.first
+    rw (take_all c.loop-id.id-index c.args.ids.now (omega arith)) at c.loop-id.invariant.first

@@ -1,16 +1,10 @@
 use Rattle.std.proofs.Common.{◌∙◌, ◌<◌, ◌≤◌, length, sym, arith}
-use Rattle.std.proofs.lemmas.Bool.{false≢true, or_cases, or_parts}
+use Rattle.std.proofs.lemmas.Bool.{or_cases, or_parts}
 use Rattle.gtopowalk.specs.steps.Passes.{is_marked, is_open}
 use Rattle.gtopowalk.proofs.Places.{in_order}
 use Rattle.gtopowalk.proofs.Sending.{none_so_far, sends_place, drops_place, all_places}
 use Rattle.gtopowalk.proofs.send.send_list.Goals as goal
 use Rattle.gtopowalk.proofs.send.send_list.Goals.{then-is_sent+in_ok-entry_in+in_ok-push, else-is_sent}
-
-pub prove-unreachable-requires : goal.prove-unreachable-requires
-prove-unreachable-requires g c = false≢true (sym c.if-prove.true ∙ c.is_ordered.ensures.ordered.1 c.requires)
-
-pub tags_of-requires : goal.tags_of-requires
-tags_of-requires g c = in_order c.args.graph.now c.is_ordered.ensures.graph c.requires
 
 pub loop-place-init : goal.loop-place-init
 loop-place-init g c =
@@ -22,14 +16,7 @@ loop-place-init g c =
     (none_so_far held c.args.wants.now c.args.commons.now c.args.tips.now pass.wanted.items pass.known.items pass.next c.in_ok-pass.ensures.done order c.in_ok-tagged.tagged.items c.in_ok-tagged.ensures.marks fits)
 
 pub entry_in-requires : goal.entry_in-requires
-entry_in-requires g c =
-    let most = c.max-place-end.ensures in
-    let i = c.in_ok-pass.ensures.inside.1 in
-    let j = c.in_ok-tagged.ensures.inside in
-    let below = c.loop-place-test.true in
-    let m = c.end.ensures in
-    let n = c.len.ensures in
-    omega arith
+entry_in-requires g c = omega (arith, c.in_ok-pass.ensures.inside.1, c.in_ok-tagged.ensures.inside)
 
 pub loop-place-preserved : goal.loop-place-preserved
 loop-place-preserved g c =
@@ -37,13 +24,8 @@ loop-place-preserved g c =
     let order = in_order c.args.graph.now c.is_ordered.ensures.graph c.requires in
     let pass = c.in_ok-pass.pass in
     let tagged = c.in_ok-tagged.tagged in
-    let most = c.max-place-end.ensures in
-    let i = c.in_ok-pass.ensures.inside.1 in
-    let j = c.in_ok-tagged.ensures.inside in
-    let below = c.loop-place-test.true in
-    let m = c.end.ensures in
-    let n = c.len.ensures in
-    let inside : c.loop-place.place < length held = omega arith in
+    let fits = c.in_ok-pass.ensures.inside.1 in
+    let inside : c.loop-place.place < length held = omega (arith, fits, c.in_ok-tagged.ensures.inside) in
     let sent = rw c.as_slice.ensures.value at c.is_sent.ensures in
     let open_there = is_open pass.wanted.items pass.known.items c.loop-place.place in
     let marked = is_marked tagged.items c.loop-place.place in
@@ -65,12 +47,7 @@ returns-clause-answer g c =
     let order = in_order c.args.graph.now c.is_ordered.ensures.graph c.requires in
     let pass = c.in_ok-pass.pass in
     let tagged = c.in_ok-tagged.tagged in
-    let most = c.max-place-end.ensures in
-    let h = c.in_ok-pass.ensures.inside.0 in
-    let i = c.in_ok-pass.ensures.inside.1 in
+    let h = c.in_ok-pass.ensures.inside in
     let j = c.in_ok-tagged.ensures.inside in
-    let past = c.loop-place-test.false in
-    let m = c.end.ensures in
-    let n = c.len.ensures in
     all_places held c.args.wants.now c.args.commons.now c.args.tips.now pass.wanted.items pass.known.items pass.next c.in_ok-pass.ensures.done order tagged.items c.in_ok-tagged.ensures.marks c.loop-place.list.items c.loop-place.place
     (omega arith) (omega arith) (omega arith) c.loop-place.invariant

@@ -9,11 +9,7 @@ loop-next-init g c = record {
 }
 
 pub loop-next-preserved : goal.loop-next-preserved
-loop-next-preserved g c =
-    let tag = c.in-Some.ensures in
-    let below = tag.below in
-    let inside = c.loop-next.invariant.inside in
-    record {
-      led = led_more c.args.graph.now.entries c.args.start c.loop-next.at c.in-Some.next c.loop-next.invariant.led tag;
-      inside = omega arith;
-    }
+loop-next-preserved g c = record {
+  led = led_more c.args.graph.now.entries _ _ c.in-Some.next c.loop-next.invariant.led c.in-Some.ensures;
+  inside = omega (arith, c.in-Some.ensures.below, c.loop-next.invariant.inside);
+}

@@ -9,7 +9,6 @@ pub mark_chain-requires-clause-inside : goal.mark_chain-requires-clause-inside
 mark_chain-requires-clause-inside g c =
     let x = item_place c.args.graph.now.entries c.args.tips.now c.loop-tip.tip-index c.tip-item.result c.loop-tip-test.true c.tip-item.is c.in-Some.start (sym c.in-Some.ensures) in
     let h = c.end_of.ensures.below c.in-Some.start x in
-    let long = c.loop-tip.invariant.long in
     let first = ap length c.in_ok-tagged.ensures.marks in
     let end = length-replicate c.end_of.result false in
     omega arith

@@ -1,34 +1,20 @@
-use Rattle.std.proofs.Common.{◌∙◌, ◌≤◌, ◌≢◌, ℕ, List, [], eqb, length, refl, sym, ap, subst, arith}
+use Rattle.std.proofs.Common.{◌∙◌, ◌≢◌, ℕ, List, [], eqb, length, refl, sym, ap, subst, arith}
 use Rattle.std.specs.List.{Any}
 use Rattle.std.proofs.lemmas.Bool.{false≢true}
 use Rattle.std.proofs.lemmas.List.{take_all}
 use Rattle.std.proofs.lemmas.List.Elements.{All-more}
 use Rattle.gdag.specs.Reach.{Reaches}
 use Rattle.gdag.specs.Walks.{IsReady}
-use Rattle.gtopowalk.proofs.Places.{in_order, item_place, one_item}
+use Rattle.gtopowalk.proofs.Places.{item_place, one_item}
 use Rattle.gtopowalk.proofs.up.ready.Goals as goal
-
-pub prove-unreachable-requires : goal.prove-unreachable-requires
-prove-unreachable-requires g c = false≢true (sym c.if-prove.true ∙ c.is_ordered.ensures.ordered.1 c.requires)
-
-pub end_of-requires : goal.end_of-requires
-end_of-requires g c = in_order c.args.graph.now c.is_ordered.ensures.graph c.requires
-
-pub reaching-requires-clause-order : goal.reaching-requires-clause-order
-reaching-requires-clause-order g c = in_order c.args.graph.now c.is_ordered.ensures.graph c.requires
-
-pub is_good-requires-clause-order : goal.is_good-requires-clause-order
-is_good-requires-clause-order g c = in_order c.args.graph.now c.is_ordered.ensures.graph c.requires
 
 pub is_good-requires-clause-inside : goal.is_good-requires-clause-inside
 is_good-requires-clause-inside g c =
-    let held = c.args.graph.now.entries in
-    let long = c.in_ok-good.ensures.long in
     let same = ap length c.as_slice.ensures.value in
     λ p x. (
-    let y = item_place held c.args.wants.now c.loop-want.want-index c.want-item.result c.loop-want-test.true c.want-item.is p (one_item held c.want-item.result p x) in
+    let y = item_place _ _ _ _ c.loop-want-test.true c.want-item.is p (one_item _ c.want-item.result p x) in
     let h = c.end_of.ensures.below p y in
-    omega arith
+    omega (arith, c.in_ok-good.ensures.long)
     )
 
 pub returns-then-not-is_good-clause-answer : goal.returns-then-not-is_good-clause-answer
@@ -48,7 +34,6 @@ loop-want-preserved g c =
 
 pub returns-clause-answer : goal.returns-clause-answer
 returns-clause-answer g c =
-    let past : length c.args.wants.now ≤ c.loop-want.want-index = omega (arith, c.loop-want-test.false) in
-    let all = rw (take_all c.loop-want.want-index c.args.wants.now past) at c.loop-want.invariant in
+    let all = rw (take_all c.loop-want.want-index c.args.wants.now (omega arith)) at c.loop-want.invariant in
     let some : c.args.commons.now ≢ [] = λ e. false≢true (sym c.if-is_empty.false ∙ c.is_empty.ensures ∙ ap (λ xs. eqb (length xs) 0) e) in
     (λ t. record { some = some; each = all }, λ r. refl)

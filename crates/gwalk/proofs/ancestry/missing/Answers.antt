@@ -1,4 +1,4 @@
-use Rattle.gwalk.proofs.Misses.{held_misses}
+use Rattle.gwalk.proofs.Reached.{held_misses}
 use Rattle.gwalk.proofs.ancestry.missing.Goals as goal
 
 pub returns-then-is_ordered-clause-answer : goal.returns-then-is_ordered-clause-answer

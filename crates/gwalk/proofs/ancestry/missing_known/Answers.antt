@@ -13,5 +13,4 @@ pub returns-clause-count : goal.returns-clause-count
 returns-clause-count g c =
     let walk = rw c.as_slice.ensures at c.in_ok-walk.ensures.walk in
     let counted = counts_reached (stop_at c.args.known.now c.args.graph.now.entries) c.args.ids.now c.in_ok-walk.walk.marks.items c.in_ok-walk.walk.met.items c.in_ok-walk.walk.lost c.in_ok-walk.walk.parents (stop_differ c.args.known.now c.args.graph.now.entries c.in_ok-walk.ensures.graph.differ) walk in
-    let ok = c.in_ok-walk.walk.met.ok in
-    subst (λ (n : ℕ). CountsReached (stop_at c.args.known.now c.args.graph.now.entries) c.args.ids.now n c.in_ok-walk.walk.parents) (omega (arith, ok.0)) counted
+    subst (λ (n : ℕ). CountsReached (stop_at c.args.known.now c.args.graph.now.entries) c.args.ids.now n c.in_ok-walk.walk.parents) (omega arith) counted

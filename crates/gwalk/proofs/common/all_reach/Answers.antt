@@ -1,4 +1,4 @@
-use Rattle.std.proofs.Common.{◌∙◌, ℕ, List, length, ◌≤◌, sym, subst, arith, refl}
+use Rattle.std.proofs.Common.{◌∙◌, ℕ, List, sym, subst, arith, refl}
 use Rattle.std.specs.List.{Any}
 use Rattle.std.proofs.lemmas.Bool.{false≢true}
 use Rattle.std.proofs.lemmas.List.{take_all}
@@ -23,6 +23,5 @@ loop-id-preserved g c =
 
 pub returns : goal.returns
 returns g c =
-    let past : length c.args.ids.now ≤ c.loop-id.id-index = omega (arith, c.loop-id-test.false) in
-    let all = rw (take_all c.loop-id.id-index c.args.ids.now past) at c.loop-id.invariant in
+    let all = rw (take_all c.loop-id.id-index c.args.ids.now (omega arith)) at c.loop-id.invariant in
     (λ t. all, λ r. refl)

@@ -1,15 +1,11 @@
-use Rattle.std.proofs.Common.{ℕ, List, [], ◌<◌, length, sym, ap, ◌∙◌, subst}
-use Rattle.std.proofs.Common.{All}
+use Rattle.std.proofs.Common.{[], ap, ◌∙◌}
 use Rattle.gdag.specs.Levels.{new_ids}
 use Rattle.gwalk.specs.steps.Common.{ids_at}
-use Rattle.gwalk.proofs.Looking.{all_from, places_inside, ids_at_places}
+use Rattle.gwalk.proofs.Looking.{ids_at_places}
 use Rattle.gwalk.proofs.common.common_ids.Goals as goal
 
 pub ids_at-requires : goal.ids_at-requires
-ids_at-requires g c =
-    let met = c.as_slice.ensures.value ∙ c.in_ok-walk.ensures.met_are in
-    subst (λ (l : List ℕ). All (λ number. number < length c.args.graph.now.entries) l) (sym met)
-    (all_from (λ number. number < length c.args.graph.now.entries) _ (places_inside c.args.graph.now.entries (new_ids [] c.args.haves.now)))
+ids_at-requires g c = rw c.as_slice.ensures.value c.in_ok-walk.ensures.inside
 
 pub returns-clause-answer : goal.returns-clause-answer
 returns-clause-answer g c =

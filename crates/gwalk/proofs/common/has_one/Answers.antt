@@ -1,4 +1,4 @@
-use Rattle.std.proofs.Common.{ℕ, List, length, ◌≤◌, Contains, refl, sym, ◌∙◌, subst, arith}
+use Rattle.std.proofs.Common.{ℕ, List, Contains, refl, sym, ◌∙◌, subst, arith}
 use Rattle.std.proofs.lemmas.Bool.{false≢true}
 use Rattle.std.proofs.lemmas.List.{take_all}
 use Rattle.std.proofs.lemmas.List.Elements.{All-more}
@@ -20,6 +20,5 @@ loop-id-preserved c =
 pub returns : goal.returns
 returns c =
     let P : List ℕ → Type 0 = λ id. Contains c.args.list.now id in
-    let past : length c.args.ids.now ≤ c.loop-id.id-index = omega (arith, c.loop-id-test.false) in
-    let never = rw (take_all c.loop-id.id-index c.args.ids.now past) at c.loop-id.invariant in
+    let never = rw (take_all c.loop-id.id-index c.args.ids.now (omega arith)) at c.loop-id.invariant in
     (λ e. absurd (false≢true e), λ any. absurd (none_any P c.args.ids.now never any))

@@ -6,10 +6,10 @@ pub returns-clause-marked : goal.returns-clause-marked
 returns-clause-marked g c =
     let reached = marks_reached c.args.graph.now.entries c.args.ids.now c.in_ok-walk.walk.marks.items c.in_ok-walk.walk.met.items c.in_ok-walk.walk.lost c.in_ok-walk.walk.parents c.in_ok-walk.ensures.graph.differ c.in_ok-walk.ensures.walk in
     let are = rw c.as_slice.ensures at c.in_ok-marks-inside.ensures in
-    marks_more c.args.graph.now.entries c.args.ids.now c.in_ok-walk.walk.marks.items _ _ reached are
+    marks_more c.args.graph.now.entries c.args.ids.now _ _ c.in_ok-walk.walk.marks.items reached are
 
 pub returns-clause-full : goal.returns-clause-full
 returns-clause-full g c =
     let reached = marks_reached c.args.graph.now.entries c.args.ids.now c.in_ok-walk.walk.marks.items c.in_ok-walk.walk.met.items c.in_ok-walk.walk.lost c.in_ok-walk.walk.parents c.in_ok-walk.ensures.graph.differ c.in_ok-walk.ensures.walk in
     let are = rw c.as_slice.ensures at c.in_ok-marks-inside.ensures in
-    full_more c.args.graph.now.entries c.args.ids.now _ _ c.requires (marks_more c.args.graph.now.entries c.args.ids.now c.in_ok-walk.walk.marks.items _ _ reached are)
+    full_more c.args.graph.now.entries c.args.ids.now _ _ c.requires (marks_more c.args.graph.now.entries c.args.ids.now _ _ c.in_ok-walk.walk.marks.items reached are)

@@ -1,9 +1,8 @@
 use Rattle.std.proofs.Common.{◌≡◌, ◌≤◌, ◌++◌, ◌∷◌, [], length, sym, ap, ◌∙◌, subst, length-append, arith}
 use Rattle.gdag.specs.Levels.{new_ids}
 use Rattle.gdag.proofs.IdLists.{with_new}
-use Rattle.gdag.proofs.Reaching.{place_inside}
 use Rattle.gwalk.proofs.Offering.{offers_enough, offers_all, offers_next, skips_next, untold_is, id_taken}
-use Rattle.gwalk.proofs.Walking.{underway, next, goes, lent_parents, mark_inside}
+use Rattle.gwalk.proofs.Walking.{underway, next, goes, lent_parents}
 use Rattle.gwalk.proofs.offer.first_untold.Goals as goal
 use Rattle.gwalk.proofs.offer.first_untold.Goals.{then-is_untold+in_ok-push, else-is_untold}
 
@@ -19,43 +18,12 @@ pub returns-then-len-n : goal.returns-then-len-n
 returns-then-len-n g c =
     λ commons reached others levels h h2.
     let now = c.loop-at.invariant.1 in
-    let ok = c.loop-at.list.ok in
-    offers_enough c.args.graph.now.entries c.args.tips.now reached others commons levels c.args.n now.0 now.1 c.loop-at.list.items c.loop-at.walk.marks.items c.loop-at.walk.met.items c.loop-at.walk.lost c.loop-at.walk.parents c.loop-at.at now.2 (now.3 commons reached others levels h h2) c.levels_are_distances.ensures (omega (arith, c.if-len-n.true, ok.0))
-
-pub is_untold-requires-clause-known : goal.is_untold-requires-clause-known
-is_untold-requires-clause-known g c =
-    let now = c.loop-at.invariant.1 in
-    let ok = c.loop-at.walk.met.ok in
-    let n = next c.args.graph.now.entries c.args.tips.now now.0 now.1 c.loop-at.walk.marks.items c.loop-at.walk.met.items c.loop-at.walk.lost c.loop-at.walk.parents c.loop-at.at now.2 c.index-number.result.now (omega (arith, c.loop-at-test.true, ok.0)) c.index-number.ensures in
-    mark_inside c.args.graph.now.entries c.requires.known.0 c.args.known.now.marks.items c.args.known.now.met.items c.args.known.now.lost c.args.known.now.parents n.id c.index-number.result.now c.requires.known.1 n.place
-
-pub is_untold-requires-clause-sent : goal.is_untold-requires-clause-sent
-is_untold-requires-clause-sent g c =
-    let now = c.loop-at.invariant.1 in
-    let ok = c.loop-at.walk.met.ok in
-    let n = next c.args.graph.now.entries c.args.tips.now now.0 now.1 c.loop-at.walk.marks.items c.loop-at.walk.met.items c.loop-at.walk.lost c.loop-at.walk.parents c.loop-at.at now.2 c.index-number.result.now (omega (arith, c.loop-at-test.true, ok.0)) c.index-number.ensures in
-    mark_inside c.args.graph.now.entries c.requires.sent.0 c.args.sent.now.marks.items c.args.sent.now.met.items c.args.sent.now.lost c.args.sent.now.parents n.id c.index-number.result.now c.requires.sent.1 n.place
-
-pub id_at-requires : goal.id_at-requires
-id_at-requires g c =
-    let now = c.loop-at.invariant.1 in
-    let ok = c.loop-at.walk.met.ok in
-    let n = next c.args.graph.now.entries c.args.tips.now now.0 now.1 c.loop-at.walk.marks.items c.loop-at.walk.met.items c.loop-at.walk.lost c.loop-at.walk.parents c.loop-at.at now.2 c.index-number.result.now (omega (arith, c.loop-at-test.true, ok.0)) c.index-number.ensures in
-    place_inside c.args.graph.now.entries n.id c.index-number.result.now n.place
-
-pub parents-requires : goal.parents-requires
-parents-requires g c =
-    let now = c.loop-at.invariant.1 in
-    let ok = c.loop-at.walk.met.ok in
-    let n = next c.args.graph.now.entries c.args.tips.now now.0 now.1 c.loop-at.walk.marks.items c.loop-at.walk.met.items c.loop-at.walk.lost c.loop-at.walk.parents c.loop-at.at now.2 c.index-number.result.now (omega (arith, c.loop-at-test.true, ok.0)) c.index-number.ensures in
-    place_inside c.args.graph.now.entries n.id c.index-number.result.now n.place
+    offers_enough c.args.graph.now.entries c.args.tips.now reached others commons levels c.args.n now.0 now.1 c.loop-at.list.items c.loop-at.walk.marks.items c.loop-at.walk.met.items c.loop-at.walk.lost c.loop-at.walk.parents c.loop-at.at now.2 (now.3 commons reached others levels h h2) c.levels_are_distances.ensures (omega arith)
 
 pub loop-at-preserved : goal.loop-at-preserved
 loop-at-preserved g c =
     let now = c.loop-at.invariant.1 in
-    let ok = c.loop-at.walk.met.ok in
-    let full = c.loop-at.list.ok in
-    let n = next c.args.graph.now.entries c.args.tips.now now.0 now.1 c.loop-at.walk.marks.items c.loop-at.walk.met.items c.loop-at.walk.lost c.loop-at.walk.parents c.loop-at.at now.2 c.index-number.result.now (omega (arith, c.loop-at-test.true, ok.0)) c.index-number.ensures in
+    let n = next c.args.graph.now.entries c.args.tips.now now.0 now.1 c.loop-at.walk.marks.items c.loop-at.walk.met.items c.loop-at.walk.lost c.loop-at.walk.parents c.loop-at.at now.2 c.index-number.result.now (omega arith) c.index-number.ensures in
     let lent = lent_parents c.args.graph.now.entries n.id c.index-number.result.now c.parents.result.now n.place c.parents.ensures in
     let under = goes c.args.graph.now.entries c.args.tips.now now.0 now.1 c.loop-at.walk.marks.items c.loop-at.walk.met.items c.loop-at.walk.lost c.loop-at.walk.parents c.loop-at.at now.2 c.index-number.result.now n c.parents.result.now lent _ _ _ _ (c.in_ok-meet_all-2.ensures (now.0 ++ now.1) (now.2).has_met) in
     let front = now.0 ++ (n.mid ++ n.id ∷ []) in
@@ -67,7 +35,7 @@ loop-at-preserved g c =
           let pushed = grown ∙ ap (λ x. c.loop-at.list.items ++ x ∷ []) id in
           let long = length-append c.loop-at.list.items (n.id ∷ []) in
           let small = c.loop-at.invariant.0 in (
-            subst (λ l. length l ≤ c.args.n) (sym pushed) (omega (arith, long, small, c.if-len-n.false, full.0)),
+            subst (λ l. length l ≤ c.args.n) (sym pushed) (omega arith),
             (
               front,
               back,
@@ -95,5 +63,4 @@ pub returns : goal.returns
 returns g c =
     λ commons reached others levels h h2.
     let now = c.loop-at.invariant.1 in
-    let ok = c.loop-at.walk.met.ok in
-    offers_all c.args.graph.now.entries c.args.tips.now reached others commons levels c.args.n now.0 now.1 c.loop-at.list.items c.loop-at.walk.marks.items c.loop-at.walk.met.items c.loop-at.walk.lost c.loop-at.walk.parents c.loop-at.at now.2 (now.3 commons reached others levels h h2) (omega (arith, c.loop-at-test.false, ok.0)) c.loop-at.invariant.0
+    offers_all c.args.graph.now.entries c.args.tips.now reached others commons levels c.args.n now.0 now.1 c.loop-at.list.items c.loop-at.walk.marks.items c.loop-at.walk.met.items c.loop-at.walk.lost c.loop-at.walk.parents c.loop-at.at now.2 (now.3 commons reached others levels h h2) (omega arith) c.loop-at.invariant.0

@@ -1,7 +1,7 @@
 use Rattle.std.proofs.Common.{◌≡◌, ◌≤◌, ℕ, List, [], ◌-◌, length, filter}
 use Rattle.gdag.specs.Levels.{AreLevels, new_ids}
 use Rattle.gwalk.specs.steps.Walks.{HasMet}
-use Rattle.gwalk.proofs.Untold.{is_untold}
+use Rattle.gwalk.proofs.Offering.{is_untold}
 use Rattle.gwalk.proofs.Walking.{IsUnderway}
 use Rattle.gwalk.proofs.offer.first_untold.Given as goal
 

@@ -1,17 +1,22 @@
-use Rattle.std.proofs.Common.{◌≡◌, ◌++◌, ◌∷◌, [], sym, ap, ◌∙◌, arith}
-use Rattle.gwalk.proofs.SentMarks.{marked_more, marked_same}
+use Rattle.std.proofs.Common.{sym, ◌∙◌, append_assoc, arith}
+use Rattle.std.proofs.lemmas.Option.{same_Some}
+use Rattle.gtopowalk.proofs.Places.{entry_there}
+use Rattle.gwalk.proofs.Marking.{marked_next}
 use Rattle.gwalk.proofs.sending.entries_at.Goals as goal
 use Rattle.gwalk.proofs.sending.entries_at.Goals.{then-mark+in_ok-entry_in+in_ok-push, else-mark}
 
 pub loop-place-preserved : goal.loop-place-preserved
 loop-place-preserved g c =
+    let held = c.args.graph.now.entries in
+    let marks = c.args.marks.now in
+    let i = c.loop-place.place in
+    let at = entry_there held i (omega (arith, c.requires)) in
+    let next = marked_next held marks i at.0 at.1 c.loop-place-test.true in
     elim c.if-mark.branch [
       | then-mark+in_ok-entry_in+in_ok-push w ↦
-          let pushed : c.if-mark.list.items ≡ c.loop-place.list.items ++ w.in_ok-entry_in.field-0 ∷ [] = cc (w.in_ok-push.ensures.items) in
-          pushed ∙ ap (λ l. l ++ w.in_ok-entry_in.field-0 ∷ []) c.loop-place.invariant
-          ∙ sym (marked_more c.args.graph.now.entries c.args.marks.now c.loop-place.place w.in_ok-entry_in.field-0 w.in_ok-entry_in.ensures c.loop-place-test.true w.if-mark.true)
+          let same = same_Some at.0 _ (sym at.1 ∙ w.in_ok-entry_in.ensures) in
+          let on = rw (same, w.if-mark.true) at next in
+          rw (w.list-is, w.in_ok-push.ensures.items, append_assoc) (rw (sym on) c.loop-place.invariant)
       | else-mark w ↦
-          let kept : c.if-mark.list.items ≡ c.loop-place.list.items = cc in
-          kept ∙ c.loop-place.invariant
-          ∙ sym (marked_same c.args.graph.now.entries c.args.marks.now c.loop-place.place c.loop-place-test.true (let l = c.requires in omega (arith, l, c.loop-place-test.true)) w.if-mark.false)
+          let on = rw w.if-mark.false at next in rw (w.list-is, sym on) c.loop-place.invariant
     ]

@@ -1,6 +1,7 @@
-use Rattle.std.proofs.Common.{◌≡◌, take}
+use Rattle.std.proofs.Common.{◌≡◌, ◌++◌, drop}
 use Rattle.gwalk.specs.steps.Walks.{marked}
 use Rattle.gwalk.proofs.sending.entries_at.Given as goal
 
 abbrev pub invariant-loop-place : goal.invariant-loop-place
-invariant-loop-place g l = l.list.items ≡ marked (take l.place l.graph.entries) l.marks
+invariant-loop-place g l =
+    l.list.items ++ marked (drop l.place l.graph.entries) (drop l.place l.marks) ≡ marked l.graph.entries l.marks

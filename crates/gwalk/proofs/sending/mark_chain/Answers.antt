@@ -1,8 +1,7 @@
 use Rattle.std.proofs.Common.{arith}
 use Rattle.gdag.proofs.PeelLemmas.{peel_long}
 use Rattle.gtopowalk.proofs.Places.{is_none}
-use Rattle.gwalk.proofs.Tagging.{none_held}
-use Rattle.gwalk.proofs.Tagging.{passed_none, passes_tag, passes_all}
+use Rattle.gwalk.proofs.Tagging.{none_held, passed_none, passes_tag, passes_all}
 use Rattle.gwalk.proofs.sending.mark_chain.Goals as goal
 
 pub loop-step-init : goal.loop-step-init

@@ -1,10 +1,8 @@
 use Rattle.std.proofs.Common.{◌++◌, ◌∷◌, [], arith}
-use Rattle.gwalk.specs.Marks.{stop_at}
 use Rattle.gdag.specs.Levels.{new_ids}
 use Rattle.gdag.proofs.IdLists.{with_new}
-use Rattle.gdag.proofs.Reaching.{place_inside}
 use Rattle.gwalk.proofs.Stopping.{stop_length}
-use Rattle.gwalk.proofs.Walking.{underway, met_few, next, goes, finishes, lent_parents}
+use Rattle.gwalk.proofs.Walking.{underway, next, goes, finishes, lent_parents}
 use Rattle.gwalk.proofs.walk.walk_past.Goals as goal
 
 pub meet_all-requires-clause-has : goal.meet_all-requires-clause-has
@@ -16,31 +14,23 @@ loop-at-init g c =
 
 pub parents_past-requires : goal.parents_past-requires
 parents_past-requires g c =
-    let now = c.loop-at.invariant in
-    let ok = c.loop-at.walk.met.ok in
-    let n = next _ _ now.0 now.1 _ _ _ _ _ now.2 c.index-place.result.now (omega (arith, c.loop-at-test.true, ok.0)) c.index-place.ensures in
-    let inside = place_inside (stop_at c.args.known.now c.args.graph.now.entries) n.id c.index-place.result.now n.place in
+    let inside = c.loop-at.invariant.2.has_met.inside c.loop-at.at c.index-place.result.now (omega arith) in
     let long = stop_length c.args.known.now c.args.graph.now.entries in
-    omega (arith, inside, long)
+    omega (arith, inside, c.index-place.ensures)
 
 pub loop-at-smaller : goal.loop-at-smaller
 loop-at-smaller g c =
-    let now = c.loop-at.invariant in
-    let ok = c.loop-at.walk.met.ok in
-    let few = met_few _ _ _ _ _ _ now.2.has_met in
-    let long = stop_length c.args.known.now c.args.graph.now.entries in
-    omega (arith, c.loop-at-test.true, ok.0, few, long)
+    let now = c.loop-at.invariant in let long = stop_length c.args.known.now c.args.graph.now.entries in
+    omega (arith, now.2.has_met.few)
 
 pub loop-at-preserved : goal.loop-at-preserved
 loop-at-preserved g c =
     let now = c.loop-at.invariant in
-    let ok = c.loop-at.walk.met.ok in
-    let n = next _ _ now.0 now.1 _ _ _ _ _ now.2 c.index-place.result.now (omega (arith, c.loop-at-test.true, ok.0)) c.index-place.ensures in
+    let n = next _ _ now.0 now.1 _ _ _ _ _ now.2 c.index-place.result.now (omega arith) c.index-place.ensures in
     let lent = lent_parents _ n.id _ _ n.place c.parents_past.ensures in
     (now.0 ++ (n.mid ++ n.id ∷ []), n.rest ++ new_ids (now.0 ++ now.1) c.parents_past.result.now, goes _ _ now.0 now.1 _ _ _ _ _ now.2 c.index-place.result.now n c.parents_past.result.now lent _ _ _ _ (c.in_ok-meet_all-2.ensures (now.0 ++ now.1) now.2.has_met))
 
 pub returns-clause-walk : goal.returns-clause-walk
 returns-clause-walk g c =
     let now = c.loop-at.invariant in
-    let ok = c.loop-at.walk.met.ok in
-    finishes _ _ now.0 now.1 _ _ _ _ _ now.2 (omega (arith, c.loop-at-test.false, ok.0))
+    finishes _ _ now.0 now.1 _ _ _ _ _ now.2 (omega arith)

@@ -1,7 +1,7 @@
 use Rattle.std.proofs.Common.{◌∙◌}
 use Rattle.gworld.specs.Worlds.{tools_of}
 use Rattle.gworld.specs.Promises.{AreCommonsShared}
-use Rattle.gworld.proofs.RunLaws.{kept_on, unforged_on}
+use Rattle.gworld.proofs.Runs.{kept_on, unforged_on}
 use Rattle.gworld.proofs.laws.commons_stay_shared.Goals as goal
 
 pub returns : goal.returns

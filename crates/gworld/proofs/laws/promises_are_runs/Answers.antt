@@ -1,5 +1,5 @@
 use Rattle.gworld.specs.Worlds.{tools_of}
-use Rattle.gworld.proofs.RunLaws.{is_run}
+use Rattle.gworld.proofs.Runs.{is_run}
 use Rattle.gworld.proofs.laws.promises_are_runs.Goals as goal
 
 pub returns : goal.returns

@@ -1,6 +1,6 @@
 use Rattle.gworld.specs.Worlds.{tools_of}
 use Rattle.gworld.specs.Promises.{AreRefsWhole}
-use Rattle.gworld.proofs.RunLaws.{kept_on}
+use Rattle.gworld.proofs.Runs.{kept_on}
 use Rattle.gworld.proofs.laws.refs_stay_whole.Goals as goal
 
 pub returns : goal.returns

@@ -1,6 +1,6 @@
 use Rattle.gworld.specs.Worlds.{tools_of}
 use Rattle.gworld.specs.Promises.{AreRequestsFew}
-use Rattle.gworld.proofs.RunLaws.{kept_on}
+use Rattle.gworld.proofs.Runs.{kept_on}
 use Rattle.gworld.proofs.laws.requests_stay_few.Goals as goal
 
 pub returns : goal.returns

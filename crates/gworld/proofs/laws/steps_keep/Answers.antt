@@ -1,60 +1,48 @@
-use Rattle.gworld.proofs.Growth.{GrowthLaws}
 use Rattle.gworld.specs.Worlds.{tools_of}
-use Rattle.gworld.proofs.Kept.{promised}
+use Rattle.gworld.proofs.Promised.{promised}
+use Rattle.gworld.proofs.Sessions.{WorldLaws}
 use Rattle.gworld.proofs.laws.steps_keep.Goals as goal
 
 pub returns : goal.returns
 returns g c = λ k.
-    let growth : GrowthLaws g.row.A.Denot = record {
+    let laws : WorldLaws (tools_of (g.K.Packer.packs k) (g.K.Packer.pack_fails k) (g.K.Indexer.indexes k)
+    (g.K.Indexer.index_fails k)) = record {
       keeps = c.growing_keeps.ensures;
-      goes_on =
-          c.growing_goes_on.ensures;
+      goes_on = c.growing_goes_on.ensures;
       holds = c.keeping_holds.ensures;
       full = c.full_stays_full.ensures;
-      reaches =
-          c.keeping_reaches.ensures;
-    } in
-    promised (tools_of (g.K.Packer.packs k) (g.K.Packer.pack_fails k) (g.K.Indexer.indexes k)
-    (g.K.Indexer.index_fails k))
-    (record {
-      answers = record {
-        growth = growth;
-        reading = record {
-          spells = c.canonical_spells.ensures.lines;
-          begins = c.one_begins.ensures;
-          refs_say = c.canonical_says-2.ensures;
-          refs_once = c.one_meaning.ensures;
-          refs_end = c.prefix_free.ensures.spellings;
-          objects_say = c.canonical_says.ensures;
-          objects_once = c.other_readings.ensures.whatever_reading;
-          differ = c.replies_differ.ensures;
-        };
-        refs_fit = c.ls_answers_fit.ensures;
-        refs_held = c.ls_answers_are_held.ensures;
-        objects_fit = c.fetch_answers_fit.ensures k;
-        acks = c.acks_are_common.ensures k;
-        enough = c.packs_are_enough.ensures k;
-        serves = c.held_wants_are_served.ensures k;
-        has_all = c.keeping_has_all.ensures;
-        agreeing = c.agreeing_stays.ensures;
-      };
-      taking = record {
-        growth = growth;
-        sessions = record {
-          begins = c.began_begins.ensures;
-          stays = c.began_stays.ensures;
-          haves = c.haves_are_held.ensures.full;
-          wants = c.wants_are_exact.ensures;
-          asks = c.asks_are_of_lines.ensures;
-          waits = c.open_is_the_sessions.ensures;
-        };
-        commons = c.commons_are_haves.ensures.replies k;
-        grows = c.taking_only_grows.ensures k;
-      };
-      servers = c.servers_grow.ensures;
+      reaches = c.keeping_reaches.ensures;
+      has_all = c.keeping_has_all.ensures;
+      agreeing = c.agreeing_stays.ensures;
       coming = c.coming_grows.ensures;
+      begins = c.began_begins.ensures;
+      stays = c.began_stays.ensures;
+      haves = c.haves_are_held.ensures.full;
+      wants = c.wants_are_exact.ensures;
+      asks = c.asks_are_of_lines.ensures;
+      waits = c.open_is_the_sessions.ensures;
+      commons = c.commons_are_haves.ensures.replies k;
+      grows = c.taking_only_grows.ensures k;
       refusals = c.refusals_change_nothing.ensures;
-    })
+      servers = c.servers_grow.ensures;
+      reading = record {
+        spells = c.canonical_spells.ensures.lines;
+        begins = c.one_begins.ensures;
+        refs_say = c.canonical_says-2.ensures;
+        refs_once = c.one_meaning.ensures;
+        refs_end = c.prefix_free.ensures.spellings;
+        objects_say = c.canonical_says.ensures;
+        objects_once = c.other_readings.ensures.whatever_reading;
+        differ = c.replies_differ.ensures;
+      };
+      refs_fit = c.ls_answers_fit.ensures;
+      refs_held = c.ls_answers_are_held.ensures;
+      objects_fit = c.fetch_answers_fit.ensures k;
+      acks = c.acks_are_common.ensures k;
+      enough = c.packs_are_enough.ensures k;
+      serves = c.held_wants_are_served.ensures k;
+    } in
+    promised laws
     (record {
       exactly = c.reads_exactly.ensures;
       any_limit = c.other_readings.ensures.any_limit;

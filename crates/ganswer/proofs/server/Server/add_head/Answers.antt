@@ -1,4 +1,4 @@
-use Rattle.ganswer.proofs.LsBuilding.{head_added, head_next}
+use Rattle.ganswer.proofs.LsLemmas.{head_added, head_next}
 use Rattle.ganswer.proofs.server.Server.add_head.Goals as goal
 
 pub add_line-requires-clause-next : goal.add_line-requires-clause-next

@@ -4,7 +4,7 @@ use Rattle.std.proofs.lemmas.Option.{none-some}
 use Rattle.gname.specs.declared.formats.Format.{Format}
 use Rattle.ggrammar.specs.declared.fault.MessageFault.{MessageFault}
 use Rattle.gfetchreply.specs.Values.{Acks, MakesAcks, acks_fault}
-use Rattle.ganswer.proofs.FetchLemmas.{commons_fit}
+use Rattle.ganswer.proofs.FitLemmas.{commons_fit}
 use Rattle.ganswer.proofs.server.Server.commons.Goals as goal
 
 made : (format : Format) (ids : List (List ℕ)) (result : Result Acks MessageFault) → acks_fault format ids ≡ None → MakesAcks format ids result → IsOk result

@@ -1,8 +1,7 @@
 use Rattle.std.proofs.Common.{map, refl}
 use Rattle.glsreply.specs.LsReplies.{ref_packet}
 use Rattle.ganswer.specs.LsAnswers.{head_id, head_ref}
-use Rattle.ganswer.proofs.LsLemmas.{split}
-use Rattle.ganswer.proofs.LsWriting.{ending, lines_and_ending, two_parts}
+use Rattle.ganswer.proofs.LsLemmas.{split, ending, lines_and_ending, two_parts}
 use Rattle.ganswer.proofs.server.Server.write_lines.Goals as goal
 
 pub returns-in_err-write_head : goal.returns-in_err-write_head

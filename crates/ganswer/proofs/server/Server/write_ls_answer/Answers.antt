@@ -1,7 +1,7 @@
 use Rattle.std.proofs.Common.{sym, ◌∙◌}
 use Rattle.std.specs.Option.{option_copied}
 use Rattle.glsreply.specs.LsReplies.{canonical_reply, unborn_packets}
-use Rattle.ganswer.proofs.LsWriting.{answer_parts, lines_and_ending}
+use Rattle.ganswer.proofs.LsLemmas.{answer_parts, lines_and_ending}
 use Rattle.ganswer.proofs.server.Server.write_ls_answer.Goals as goal
 
 pub returns-in_err-write_unborn : goal.returns-in_err-write_unborn

@@ -1,10 +1,10 @@
-use Rattle.std.proofs.Common.{◌≡◌, ◌∙◌, ◌↔◌, inl, ℕ, List, [], length, ◌≤◌, take, IsTrue, sym, ap, subst, arith}
+use Rattle.std.proofs.Common.{◌∙◌, ◌↔◌, inl, ℕ, List, [], length, ◌≤◌, take, IsTrue, sym, ap, subst, arith}
 use Rattle.std.proofs.lemmas.List.{append-nil, take_all}
 use Rattle.gobject.specs.declared.node.Entry.{Entry}
+use Rattle.gobject.specs.Objects.{node_at}
 use Rattle.gname.specs.declared.formats.Format.{Format}
-use Rattle.gdag.specs.Graphs.{History, IsGraph, IsOrdered}
-use Rattle.gdag.specs.Reach.{Reaches, IsFull, Keeps}
-use Rattle.gdag.specs.Insert.{ComesIn, IsCause, Inserts, AddsOnly, AddsOnlyParents}
+use Rattle.gdag.specs.Graphs.{IsGraph, IsOrdered}
+use Rattle.gdag.specs.Insert.{ComesIn, IsCause, Inserts}
 use Rattle.gdag.proofs.Growing.{take_one, inserts_more, inserts_grows, inserts_held, grows_keeps, grows_length, keeps_reaching, keeps_full, cut_off, cut_back_again, refused}
 use Rattle.gdag.proofs.Sharing.{adds_only, adds_only_parents}
 use Rattle.gdag.proofs.graph.Graph.insert_all.Goals as goal
@@ -40,19 +40,14 @@ loop-entry-preserved g c =
     let more = inserts_more old.format old.entries (take k c.args.entries.now) entry mid.entries c.insert_copy.new.self.entries c.loop-entry.invariant.1 comes in
     (adds.0 ∙ c.loop-entry.invariant.0, rw (take_one c.args.entries.now k entry c.loop-entry-test.true c.entry-item.is) more)
 
--- what holds of a graph and itself holds of the graph that is as it was
-again : {A : Type 0} (old new : History A) (P : List (Entry A) → Type 0) → new ≡ old → P old.entries → P new.entries
-again {A} old new P same here = let Q : History A → Type 0 = λ h. P h.entries in subst Q (sym same) here
-
 pub returns-in-Err-clause-only : goal.returns-in-Err-clause-only
-returns-in-Err-clause-only g c =
-    let P : List (Entry g.row.A.Denot) → Type 0 = λ xs. AddsOnly c.args.self.now.entries c.args.entries.now xs in
-    again c.args.self.now c.cut_back.new.self P (returns-in-Err-clause-adds g c).0 (λ a node is. inl is)
+returns-in-Err-clause-only g c a node is =
+    inl (ap (λ h. node_at h.entries a) (sym (returns-in-Err-clause-adds g c).0) ∙ is)
 
 pub returns-in-Err-clause-only_parents : goal.returns-in-Err-clause-only_parents
 returns-in-Err-clause-only_parents g c =
-    let P : List (Entry g.row.A.Denot) → Type 0 = λ xs. AddsOnlyParents c.args.self.now.entries c.args.entries.now xs in
-    again c.args.self.now c.cut_back.new.self P (returns-in-Err-clause-adds g c).0 (λ a b parent. inl parent)
+    adds_only_parents c.args.self.now.entries c.args.entries.now c.cut_back.new.self.entries
+    (returns-in-Err-clause-only g c)
 
 pub returns-in-Err-clause-grows : goal.returns-in-Err-clause-grows
 returns-in-Err-clause-grows g c =
@@ -60,18 +55,15 @@ returns-in-Err-clause-grows g c =
 
 pub returns-in-Err-clause-keeps : goal.returns-in-Err-clause-keeps
 returns-in-Err-clause-keeps g c =
-    let P : List (Entry g.row.A.Denot) → Type 0 = λ xs. Keeps c.args.self.now.entries xs in
-    again c.args.self.now c.cut_back.new.self P (returns-in-Err-clause-adds g c).0 (λ a node is. is)
+    grows_keeps c.args.self.now.entries c.cut_back.new.self.entries (returns-in-Err-clause-grows g c)
 
 pub returns-in-Err-clause-reaches : goal.returns-in-Err-clause-reaches
-returns-in-Err-clause-reaches g c = λ a b way.
-    let P : List (Entry g.row.A.Denot) → Type 0 = λ xs. Reaches xs a b in
-    again c.args.self.now c.cut_back.new.self P (returns-in-Err-clause-adds g c).0 way
+returns-in-Err-clause-reaches g c =
+    keeps_reaching c.args.self.now.entries c.cut_back.new.self.entries (returns-in-Err-clause-keeps g c)
 
 pub returns-in-Err-clause-full : goal.returns-in-Err-clause-full
-returns-in-Err-clause-full g c = λ a full.
-    let P : List (Entry g.row.A.Denot) → Type 0 = λ xs. IsFull xs a in
-    again c.args.self.now c.cut_back.new.self P (returns-in-Err-clause-adds g c).0 full
+returns-in-Err-clause-full g c =
+    keeps_full c.args.self.now.entries c.cut_back.new.self.entries (returns-in-Err-clause-keeps g c)
 
 pub returns-in-Err-clause-graph : goal.returns-in-Err-clause-graph
 returns-in-Err-clause-graph g c = subst IsGraph (sym (returns-in-Err-clause-adds g c).0) c.len-before.ensures.graph
@@ -79,8 +71,7 @@ returns-in-Err-clause-graph g c = subst IsGraph (sym (returns-in-Err-clause-adds
 -- all entries came in
 all_in : {A : Type 0} (format : Format) (old entries new : List (Entry A)) (k : ℕ) → length entries ≤ k → Inserts format old (take k entries) new → Inserts format old entries new
 all_in {A} format old entries new k past comes =
-    let P : List (Entry A) → Type 0 = λ xs. Inserts format old xs new in
-    subst P (take_all k entries past) comes
+    rw (take_all k entries past) at comes
 
 pub overflow_sub-result : goal.overflow_sub-result
 overflow_sub-result g c =
@@ -105,55 +96,28 @@ returns-clause-adds g c =
 pub returns-clause-only : goal.returns-clause-only
 returns-clause-only g c =
     let old = c.args.self.now in
-    let new = c.loop-entry.self.entries in
-    let past : length c.args.entries.now ≤ c.loop-entry.entry-index = let t = c.loop-entry-test.false in omega arith in
-    let all = all_in old.format old.entries c.args.entries.now new c.loop-entry.entry-index past c.loop-entry.invariant.1 in
-    adds_only old.format old.entries c.args.entries.now new all
+    adds_only old.format old.entries c.args.entries.now c.loop-entry.self.entries (returns-clause-adds g c).1
 
 pub returns-clause-only_parents : goal.returns-clause-only_parents
 returns-clause-only_parents g c =
-    let old = c.args.self.now in
-    let new = c.loop-entry.self.entries in
-    let past : length c.args.entries.now ≤ c.loop-entry.entry-index = let t = c.loop-entry-test.false in omega arith in
-    let all = all_in old.format old.entries c.args.entries.now new c.loop-entry.entry-index past c.loop-entry.invariant.1 in
-    adds_only_parents old.entries c.args.entries.now new (adds_only old.format old.entries c.args.entries.now new all)
+    adds_only_parents c.args.self.now.entries c.args.entries.now c.loop-entry.self.entries (returns-clause-only g c)
 
 pub returns-clause-held : goal.returns-clause-held
 returns-clause-held g c =
     let old = c.args.self.now in
-    let new = c.loop-entry.self.entries in
-    let past : length c.args.entries.now ≤ c.loop-entry.entry-index = let t = c.loop-entry-test.false in omega arith in
-    let all = all_in old.format old.entries c.args.entries.now new c.loop-entry.entry-index past c.loop-entry.invariant.1 in
-    inserts_held old.format old.entries c.args.entries.now new all
+    inserts_held old.format old.entries c.args.entries.now c.loop-entry.self.entries (returns-clause-adds g c).1
 
 pub returns-clause-grows : goal.returns-clause-grows
 returns-clause-grows g c =
     let old = c.args.self.now in
-    let new = c.loop-entry.self.entries in
-    let past : length c.args.entries.now ≤ c.loop-entry.entry-index = let t = c.loop-entry-test.false in omega arith in
-    let all = all_in old.format old.entries c.args.entries.now new c.loop-entry.entry-index past c.loop-entry.invariant.1 in
-    inserts_grows old.format old.entries c.args.entries.now new all
+    inserts_grows old.format old.entries c.args.entries.now c.loop-entry.self.entries (returns-clause-adds g c).1
 
 pub returns-clause-keeps : goal.returns-clause-keeps
-returns-clause-keeps g c =
-    let old = c.args.self.now in
-    let new = c.loop-entry.self.entries in
-    let past : length c.args.entries.now ≤ c.loop-entry.entry-index = let t = c.loop-entry-test.false in omega arith in
-    let all = all_in old.format old.entries c.args.entries.now new c.loop-entry.entry-index past c.loop-entry.invariant.1 in
-    grows_keeps old.entries new (inserts_grows old.format old.entries c.args.entries.now new all)
+returns-clause-keeps g c = grows_keeps c.args.self.now.entries c.loop-entry.self.entries (returns-clause-grows g c)
 
 pub returns-clause-reaches : goal.returns-clause-reaches
 returns-clause-reaches g c =
-    let old = c.args.self.now in
-    let new = c.loop-entry.self.entries in
-    let past : length c.args.entries.now ≤ c.loop-entry.entry-index = let t = c.loop-entry-test.false in omega arith in
-    let all = all_in old.format old.entries c.args.entries.now new c.loop-entry.entry-index past c.loop-entry.invariant.1 in
-    keeps_reaching old.entries new (grows_keeps old.entries new (inserts_grows old.format old.entries c.args.entries.now new all))
+    keeps_reaching c.args.self.now.entries c.loop-entry.self.entries (returns-clause-keeps g c)
 
 pub returns-clause-full : goal.returns-clause-full
-returns-clause-full g c =
-    let old = c.args.self.now in
-    let new = c.loop-entry.self.entries in
-    let past : length c.args.entries.now ≤ c.loop-entry.entry-index = let t = c.loop-entry-test.false in omega arith in
-    let all = all_in old.format old.entries c.args.entries.now new c.loop-entry.entry-index past c.loop-entry.invariant.1 in
-    keeps_full old.entries new (grows_keeps old.entries new (inserts_grows old.format old.entries c.args.entries.now new all))
+returns-clause-full g c = keeps_full c.args.self.now.entries c.loop-entry.self.entries (returns-clause-keeps g c)

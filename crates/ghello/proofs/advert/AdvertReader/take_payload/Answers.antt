@@ -5,14 +5,14 @@ use Rattle.ghello.proofs.advert.AdvertReader.take_payload.Goals as goal
 
 pub returns-in-Some : goal.returns-in-Some
 returns-in-Some g c =
-    rw c.new.ensures (error_is_taken c.args.self.now.has_version c.args.self.now.advert c.args.payload.now c.in-Some.said.now c.args.self.now.has_version (sym c.in-Some.ensures))
+    rw c.new.ensures (error_is_taken _ _ c.args.payload.now c.in-Some.said.now c.args.self.now.has_version (sym c.in-Some.ensures))
 
 pub returns-then-self : goal.returns-then-self
 returns-then-self g c =
-    capability_is_taken c.args.self.now.has_version c.take_capability.new.self.has_version c.args.self.now.advert c.take_capability.new.self.advert c.args.payload.now c.text_of-text.result.now
-    c.take_capability.result c.if-self.true (sym c.peer_error.ensures ∙ ap option_copied c.in_default.is) c.text_of-text.ensures c.take_capability.ensures
+    capability_is_taken _ _ _ _ c.args.payload.now _ _ c.if-self.true (sym c.peer_error.ensures ∙ ap option_copied c.in_default.is)
+    c.text_of-text.ensures c.take_capability.ensures
 
 pub returns-else-self : goal.returns-else-self
 returns-else-self g c =
-    version_is_taken c.args.self.now.has_version c.take_version.new.self.has_version c.args.self.now.advert c.take_version.new.self.advert c.args.payload.now c.text_of-text.result.now
-    c.take_version.result c.if-self.false (sym c.peer_error.ensures ∙ ap option_copied c.in_default.is) c.text_of-text.ensures c.take_version.ensures
+    version_is_taken _ _ _ _ c.args.payload.now _ _ c.if-self.false (sym c.peer_error.ensures ∙ ap option_copied c.in_default.is)
+    c.text_of-text.ensures c.take_version.ensures

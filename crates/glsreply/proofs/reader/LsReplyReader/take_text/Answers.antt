@@ -1,7 +1,7 @@
 use Rattle.std.proofs.Common.{sym, ap, ◌∙◌, arith}
 use Rattle.glsreply.specs.RefTexts.{UnbornForm}
 use Rattle.glsreply.specs.steps.LineViews.{target_read}
-use Rattle.glsreply.proofs.TextLemmas.{unborn_refused}
+use Rattle.glsreply.proofs.RefTextLemmas.{unborn_refused}
 use Rattle.glsreply.proofs.reader.LsReplyReader.take_text.Goals as goal
 
 pub returns-in-Unborn-Err-clause-takes : goal.returns-in-Unborn-Err-clause-takes

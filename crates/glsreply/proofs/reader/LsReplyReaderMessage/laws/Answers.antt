@@ -1,4 +1,5 @@
-use Rattle.glsreply.proofs.LawLemmas.{has_endings, is_bounded}
+use Rattle.glsreply.proofs.LawLemmas.{has_endings}
+use Rattle.glsreply.proofs.TableLemmas.{is_bounded}
 use Rattle.glsreply.proofs.reader.LsReplyReaderMessage.laws.Goals as goal
 
 pub returns-clause-endings : goal.returns-clause-endings

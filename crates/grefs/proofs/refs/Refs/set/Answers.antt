@@ -68,15 +68,7 @@ returns-in_ok-insert-in-Err-clause-ok g c =
     (sets_insert _ c.args.name c.args.id c.in-Err.place c.self.invariant (rw (← c.as_slice.ensures.value) c.in-Err.ensures))
 
 pub returns-in-Ok-clause-refs : goal.returns-in-Ok-clause-refs
-returns-in-Ok-clause-refs g c =
-    let differs : c.args.name ≢ head_name = λ same. (let yes_head = c.is_head.ensures.1 same in cc) in
-    let valid : IsRefName c.args.name = subst IsRefName c.name.view_is c.name.invariant in
-    refs_set _ c.args.name c.args.id c.in-Ok.place c.self.invariant (record { well_formed = valid; below = (c.names_are_clean.ensures c.args.name valid).below differs }) (rw (← c.as_slice.ensures.value) c.in-Ok.ensures)
+returns-in-Ok-clause-refs g c = invariant_of-self g c
 
 pub returns-in_ok-insert-in-Err-clause-refs : goal.returns-in_ok-insert-in-Err-clause-refs
-returns-in_ok-insert-in-Err-clause-refs g c =
-    let differs : c.args.name ≢ head_name = λ same. (let yes_head = c.is_head.ensures.1 same in cc) in
-    let valid : IsRefName c.args.name = subst IsRefName c.name.view_is c.name.invariant in
-    let few = c.self.invariant.few in
-    rw c.in_ok-insert-in-Err.ensures.items
-    (refs_insert _ c.args.name c.args.id c.in-Err.place c.self.invariant (record { well_formed = valid; below = (c.names_are_clean.ensures c.args.name valid).below differs }) (omega arith) (rw (← c.as_slice.ensures.value) c.in-Err.ensures))
+returns-in_ok-insert-in-Err-clause-refs g c = invariant_of-self-in-Err g c

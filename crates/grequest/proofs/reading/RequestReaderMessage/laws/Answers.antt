@@ -1,4 +1,4 @@
-use Rattle.grequest.proofs.Endings.{HasEndings-judge, open_is_short}
+use Rattle.grequest.proofs.WholeRequests.{HasEndings-judge, open_is_short}
 use Rattle.grequest.proofs.reading.RequestReaderMessage.laws.Goals as goal
 
 pub returns-clause-endings : goal.returns-clause-endings

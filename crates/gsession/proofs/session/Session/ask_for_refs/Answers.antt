@@ -9,6 +9,8 @@ returns-clause-made g c =
     λ graph.
     let old = c.args.self.now in
     let is : asked_by_request c.in_ok-copy.copy ≡ Ls (ls_request old.refspecs old.offers_unborn) =
-        c.in_ok-copy.ensures.asked ∙ c.in_ok-request.ensures.asked ∙ search rules in
-    ([], subst (λ (asked : Asked). IsNext old graph asked []) (sym is) (c.requires.stage, refl, refl),
-        search rules ∙ ap (λ (asked : Asked). waiting_for old asked []) (sym is))
+    c.in_ok-copy.ensures.asked ∙ c.in_ok-request.ensures.asked ∙ search rules in (
+      [],
+      subst (λ (asked : Asked). IsNext old graph asked []) (sym is) (c.requires.stage, refl, refl),
+      search rules ∙ ap (λ (asked : Asked). waiting_for old asked []) (sym is),
+    )

@@ -1,6 +1,6 @@
 use Rattle.std.proofs.Common.{◌+◌, ◌≤◌, ◌<◌, length, arith, ◌∙◌}
 use Rattle.grequest.specs.Asked.{max_haves}
-use Rattle.gsession.proofs.BatchLemmas.{batch_none, batch_room, offer_fits}
+use Rattle.gsession.proofs.CommonLemmas.{batch_none, batch_room, offer_fits}
 use Rattle.gsession.proofs.session.Session.batch.Goals as goal
 use Rattle.gsession.proofs.session.Session.batch.Goals.{else-len-le-MAX_HAVES-via-then-len-le-MAX_HAVES+else-len}
 use Rattle.gsession.proofs.session.Session.batch.Goals.{else-len-le-MAX_HAVES-via-else-len-le-MAX_HAVES}

@@ -2,7 +2,7 @@ use Rattle.std.proofs.Common.{◌≡◌, None, sym, ap, ap₂, ◌∙◌}
 use Rattle.gsession.specs.Requesting.{is_due}
 use Rattle.gsession.specs.Sessions.{SessionState}
 use Rattle.gsession.specs.declared.stage.Stage.TheVariants.{Listing}
-use Rattle.gsession.proofs.BatchLemmas.{made_next, none_waits}
+use Rattle.gsession.proofs.BuildLemmas.{made_next, none_waits}
 use Rattle.gsession.proofs.session.Session.make_request.Goals as goal
 
 pub returns-in-Listing-clause-requests : goal.returns-in-Listing-clause-requests

@@ -2,7 +2,7 @@ use Rattle.std.proofs.Common.{subst}
 use Rattle.gsession.specs.Sessions.{SessionState}
 use Rattle.gsession.specs.TakingRefs.{ReadsRefs}
 use Rattle.gpkt.specs.Change.{change_of}
-use Rattle.gsession.proofs.LsLemmas.{refs_answer}
+use Rattle.gsession.proofs.ReplyLemmas.{refs_answer}
 use Rattle.gsession.proofs.session.Session.read_refs.Goals as goal
 
 pub returns-in-Ok-clause-takes : goal.returns-in-Ok-clause-takes

@@ -3,22 +3,13 @@ use Rattle.gtopowalk.proofs.Counting.{in_count, knows_count, count_fits}
 use Rattle.gtopowalk.proofs.down.Pass.know.Goals as goal
 
 pub overflow_sub-self : goal.overflow_sub-self
-overflow_sub-self g c =
-    let self = c.args.self.now in
-    let in' = in_count self.wanted.items self.known.items self.next self.pending c.args.place c.requires.counted c.requires.below in
-    rw c.count_at.ensures in'
+overflow_sub-self g c = rw c.count_at.ensures (in_count _ _ _ _ _ c.requires.counted c.requires.below)
 
 pub overflow_add-self : goal.overflow_add-self
 overflow_add-self g c =
-    let self = c.args.self.now in
-    let now = knows_count self.wanted.items self.known.items self.next self.pending c.args.place c.requires.counted c.requires.below in
-    let fits = count_fits _ _ _ _ now in
-    let long = self.wanted.ok.0 in
-    let small = self.wanted.small in
-    rw (c.count_at.ensures, c.count_at-2.ensures) (omega (arith, fits, long, small))
+    let fits = count_fits _ _ _ _ (knows_count _ _ _ _ _ c.requires.counted c.requires.below) in
+    rw (c.count_at.ensures, c.count_at-2.ensures) (omega arith)
 
 pub returns-clause-counted : goal.returns-clause-counted
 returns-clause-counted g c =
-    let self = c.args.self.now in
-    let now = knows_count self.wanted.items self.known.items self.next self.pending c.args.place c.requires.counted c.requires.below in
-    rw (c.count_at.ensures, c.count_at-2.ensures) now
+    rw (c.count_at.ensures, c.count_at-2.ensures) (knows_count _ _ _ _ _ c.requires.counted c.requires.below)

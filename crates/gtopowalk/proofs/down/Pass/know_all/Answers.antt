@@ -5,11 +5,9 @@ use Rattle.gtopowalk.proofs.down.Pass.know_all.Goals.{in-Some, in_default}
 
 pub know-requires-clause-below : goal.know-requires-clause-below
 know-requires-clause-below g c =
-    let place = c.in-Some.place in
-    let x = item_place c.args.graph.now.entries c.args.ids.now c.loop-id.id-index c.id-item.result c.loop-id-test.true c.id-item.is place (sym c.in-Some.ensures) in
-    let h = c.requires.below place x in
-    let same = c.loop-id.invariant.next in
-    omega arith
+    let at = item_place _ _ _ _ c.loop-id-test.true c.id-item.is c.in-Some.place (sym c.in-Some.ensures) in
+    let h = c.requires.below c.in-Some.place at in
+    omega (arith, c.loop-id.invariant.next)
 
 pub loop-id-preserved : goal.loop-id-preserved
 loop-id-preserved g c =

@@ -25,29 +25,11 @@ loop-at-init g c =
     let under = underway c.args.graph.now.entries (c.args.start.now ∷ []) c.meet.new.self.marks.items c.meet.new.self.met.items c.meet.new.self.lost c.meet.new.self.parents (c.in_ok-meet.ensures [] (c.in_ok-walk.ensures.met [])) in
     ([], with_new [] (c.args.start.now ∷ []), looks c.args.graph.now.entries c.args.start.now c.args.self.now.marks.items c.args.self.now.absent.items c.meet.new.self.marks.items c.meet.new.self.met.items c.meet.new.self.lost c.meet.new.self.parents under (absent_from_in c.args.self.now.absent.items c.args.start.now (known ∙ c.if-contains.false)))
 
-pub parents-parents-requires : goal.parents-parents-requires
-parents-parents-requires g c =
-    let now = c.loop-at.invariant in
-    let ok = c.loop-at.walk.met.ok in
-    let n = next c.args.graph.now.entries (c.args.start.now ∷ []) now.0 now.1 c.loop-at.walk.marks.items c.loop-at.walk.met.items c.loop-at.walk.lost c.loop-at.walk.parents c.loop-at.at now.2.underway c.index-place.result.now (omega (arith, c.loop-at-test.true, ok.0)) c.index-place.ensures in
-    place_inside c.args.graph.now.entries n.id c.index-place.result.now n.place
-
-pub index-requires : goal.index-requires
-index-requires g c =
-    let now = c.loop-at.invariant in
-    let ok = c.loop-at.walk.met.ok in
-    let n = next c.args.graph.now.entries (c.args.start.now ∷ []) now.0 now.1 c.loop-at.walk.marks.items c.loop-at.walk.met.items c.loop-at.walk.lost c.loop-at.walk.parents c.loop-at.at now.2.underway c.index-place.result.now (omega (arith, c.loop-at-test.true, ok.0)) c.index-place.ensures in
-    let inside = place_inside c.args.graph.now.entries n.id c.index-place.result.now n.place in
-    let long = c.requires.1.long in
-    let ok2 = c.args.self.now.marks.ok in
-    omega (arith, inside, long, ok2.0)
-
 pub returns-then-index : goal.returns-then-index
 returns-then-index g c =
     λ ids are.
     let now = c.loop-at.invariant in
-    let ok = c.loop-at.walk.met.ok in
-    let n = next c.args.graph.now.entries (c.args.start.now ∷ []) now.0 now.1 c.loop-at.walk.marks.items c.loop-at.walk.met.items c.loop-at.walk.lost c.loop-at.walk.parents c.loop-at.at now.2.underway c.index-place.result.now (omega (arith, c.loop-at-test.true, ok.0)) c.index-place.ensures in
+    let n = next c.args.graph.now.entries (c.args.start.now ∷ []) now.0 now.1 c.loop-at.walk.marks.items c.loop-at.walk.met.items c.loop-at.walk.lost c.loop-at.walk.parents c.loop-at.at now.2.underway c.index-place.result.now (omega arith) c.index-place.ensures in
     let inside = place_inside c.args.graph.now.entries n.id c.index-place.result.now n.place in
     let long = are.long in
     let read = sym (get_or_read c.args.self.now.marks.items c.index-place.result.now c.index.result.now (omega (arith, inside, long)) c.index.ensures false) ∙ c.if-index.true in
@@ -57,8 +39,7 @@ pub returns-then-has_one : goal.returns-then-has_one
 returns-then-has_one g c =
     λ ids are.
     let now = c.loop-at.invariant in
-    let ok = c.loop-at.walk.met.ok in
-    let n = next c.args.graph.now.entries (c.args.start.now ∷ []) now.0 now.1 c.loop-at.walk.marks.items c.loop-at.walk.met.items c.loop-at.walk.lost c.loop-at.walk.parents c.loop-at.at now.2.underway c.index-place.result.now (omega (arith, c.loop-at-test.true, ok.0)) c.index-place.ensures in
+    let n = next c.args.graph.now.entries (c.args.start.now ∷ []) now.0 now.1 c.loop-at.walk.marks.items c.loop-at.walk.met.items c.loop-at.walk.lost c.loop-at.walk.parents c.loop-at.at now.2.underway c.index-place.result.now (omega arith) c.index-place.ensures in
     let lent = lent_parents c.args.graph.now.entries n.id c.index-place.result.now c.parents-parents.result.now n.place c.parents-parents.ensures in
     let hit = rw c.as_slice.ensures.value at (c.has_one.ensures.0 c.if-has_one.true) in
     (λ t. found_absent c.args.graph.now.entries c.args.start.now c.args.self.now.marks.items c.args.self.now.absent.items now.0 now.1 c.loop-at.walk.marks.items c.loop-at.walk.met.items c.loop-at.walk.lost c.loop-at.walk.parents c.loop-at.at now.2 c.index-place.result.now n ids c.parents-parents.result.now are lent hit, λ any. refl)
@@ -66,8 +47,7 @@ returns-then-has_one g c =
 pub loop-at-preserved : goal.loop-at-preserved
 loop-at-preserved g c =
     let now = c.loop-at.invariant in
-    let ok = c.loop-at.walk.met.ok in
-    let n = next c.args.graph.now.entries (c.args.start.now ∷ []) now.0 now.1 c.loop-at.walk.marks.items c.loop-at.walk.met.items c.loop-at.walk.lost c.loop-at.walk.parents c.loop-at.at now.2.underway c.index-place.result.now (omega (arith, c.loop-at-test.true, ok.0)) c.index-place.ensures in
+    let n = next c.args.graph.now.entries (c.args.start.now ∷ []) now.0 now.1 c.loop-at.walk.marks.items c.loop-at.walk.met.items c.loop-at.walk.lost c.loop-at.walk.parents c.loop-at.at now.2.underway c.index-place.result.now (omega arith) c.index-place.ensures in
     let inside = place_inside c.args.graph.now.entries n.id c.index-place.result.now n.place in
     let long = c.requires.1.long in
     let read = sym (get_or_read c.args.self.now.marks.items c.index-place.result.now c.index.result.now (omega (arith, inside, long)) c.index.ensures false) ∙ c.if-index.false in
@@ -80,5 +60,4 @@ pub returns : goal.returns
 returns g c =
     λ ids are.
     let now = c.loop-at.invariant in
-    let ok = c.loop-at.walk.met.ok in
-    (λ t. absurd (false≢true t), λ any. absurd (looks_ends c.args.graph.now.entries c.args.start.now c.args.self.now.marks.items c.args.self.now.absent.items now.0 now.1 c.loop-at.walk.marks.items c.loop-at.walk.met.items c.loop-at.walk.lost c.loop-at.walk.parents c.loop-at.at now.2 (omega (arith, c.loop-at-test.false, ok.0)) ids are any))
+    (λ t. absurd (false≢true t), λ any. absurd (looks_ends c.args.graph.now.entries c.args.start.now c.args.self.now.marks.items c.args.self.now.absent.items now.0 now.1 c.loop-at.walk.marks.items c.loop-at.walk.met.items c.loop-at.walk.lost c.loop-at.walk.parents c.loop-at.at now.2 (omega arith) ids are any))

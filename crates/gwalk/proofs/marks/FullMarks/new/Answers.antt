@@ -1,4 +1,4 @@
-use Rattle.gwalk.proofs.Misses.{nothing_full}
+use Rattle.gwalk.proofs.Reached.{nothing_full}
 use Rattle.gwalk.proofs.marks.FullMarks.new.Goals as goal
 
 pub returns-clause-full : goal.returns-clause-full

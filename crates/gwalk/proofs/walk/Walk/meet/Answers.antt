@@ -17,15 +17,13 @@ pub index-requires : goal.index-requires
 index-requires g c =
     let place = stop_place c.args.known.now c.args.graph.now.entries c.args.id.now ∙ sym c.in-Some.ensures in
     let inside = mark_inside _ _ _ _ _ _ _ _ c.requires.has.1 place in
-    let ok = c.args.self.now.marks.ok in
-    omega (arith, inside, ok.0)
+    omega arith
 
 pub index_mut-requires : goal.index_mut-requires
 index_mut-requires g c =
     let place = stop_place c.args.known.now c.args.graph.now.entries c.args.id.now ∙ sym c.in-Some.ensures in
     let inside = mark_inside _ _ _ _ _ _ _ _ c.requires.has.1 place in
-    let ok = c.args.self.now.marks.ok in
-    omega (arith, inside, ok.0)
+    omega arith
 
 pub overflow_add-self : goal.overflow_add-self
 overflow_add-self g c =
@@ -34,7 +32,7 @@ overflow_add-self g c =
     let read = sym (get_or_read c.args.self.now.marks.items c.in-Some.place c.index.result.now inside c.index.ensures false) ∙ c.if-not-index.true in
     let few = c.requires.graph.few in
     let long = stop_length c.args.known.now c.args.graph.now.entries in
-    let fits = counts_fit (stop_at c.args.known.now c.args.graph.now.entries) c.args.self.now.marks.items c.args.self.now.parents c.in-Some.place c.parents_past.result.now c.requires.has.1.parents_are inside read c.parents_past.ensures c.requires.has.1.long (omega (arith, few, long)) (stop_narrow c.args.known.now c.args.graph.now.entries c.requires.graph.shaped) in
+    let fits = counts_fit (stop_at c.args.known.now c.args.graph.now.entries) c.args.self.now.marks.items c.args.self.now.parents c.in-Some.place c.parents_past.result.now c.requires.has.1.parents_are inside read c.parents_past.ensures (omega (arith, few, long)) (stop_narrow c.args.known.now c.args.graph.now.entries c.requires.graph.shaped) in
     omega (arith, fits)
 
 pub returns-in_ok-push : goal.returns-in_ok-push

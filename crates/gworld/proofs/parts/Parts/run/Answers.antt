@@ -1,5 +1,4 @@
-use Rattle.std.proofs.Common.{◌∙◌, ◌+◌, ◌<◌, ◌≤◌, ◌++◌, ◌∷◌, [], List, take, length, sym, ap, subst}
-use Rattle.std.proofs.Common.{arith, rules}
+use Rattle.std.proofs.Common.{◌∙◌, ◌+◌, ◌<◌, ◌≤◌, ◌++◌, ◌∷◌, [], List, take, length, sym, ap, subst, arith, rules}
 use Rattle.std.specs.Vec.{vec_len, vec_capacity}
 use Rattle.gworld.specs.Promises.{Promises}
 use Rattle.gworld.specs.Runs.{RunsFront}
@@ -17,7 +16,7 @@ returns-then-is_err-clause-runs g c =
     let tools = tools_of (g.K.Packer.packs c.args.tools.now) (g.K.Packer.pack_fails c.args.tools.now)
     (g.K.Indexer.indexes c.args.tools.now) (g.K.Indexer.index_fails c.args.tools.now) in
     let inside : c.loop-event.event-index < length c.args.events.now = search rules in
-    front_runs tools c.args.self.now c.loop-event.self c.args.events.now c.loop-event.event-index c.event-item.result
+    front_runs tools c.args.events.now c.loop-event.event-index c.event-item.result
     c.loop-event.outcomes.items
     c.try_reserve.new.self.items inside c.event-item.is c.loop-event.invariant c.try_reserve.ensures.items
 
@@ -35,7 +34,7 @@ returns-in-Err-clause-runs g c =
     subst (λ (v : WorldState g.row.A.Denot). RunsFront (Promises tools) c.args.self.now c.args.events.now
     c.try_reserve.new.self.items v)
     (sym c.in-Err.ensures)
-    (front_runs tools c.args.self.now c.loop-event.self c.args.events.now c.loop-event.event-index c.event-item.result
+    (front_runs tools c.args.events.now c.loop-event.event-index c.event-item.result
     c.loop-event.outcomes.items
     c.try_reserve.new.self.items inside c.event-item.is c.loop-event.invariant c.try_reserve.ensures.items)
 
@@ -45,7 +44,7 @@ loop-event-preserved g c =
     (g.K.Indexer.indexes c.args.tools.now) (g.K.Indexer.index_fails c.args.tools.now) in
     let inside : c.loop-event.event-index < length c.args.events.now = search rules in
     let outcome = c.in-Ok.outcome in
-    goes_on_soundly tools c.args.self.now c.loop-event.self c.step.new.self
+    goes_on_soundly tools
     (take c.loop-event.event-index c.args.events.now)
     (take (c.loop-event.event-index + 1) c.args.events.now) c.event-item.result c.loop-event.outcomes.items
     c.push_reserved.new.self.items outcome
