@@ -3,10 +3,13 @@ use Rattle.std.proofs.Common.{◌≡◌, All, true, None, refl, arith}
 use Rattle.std.specs.Prelude.{codes}
 use Rattle.std.proofs.lemmas.List.Elements.{All-from_recursion}
 use Rattle.gname.specs.declared.formats.Format.TheVariants.{Sha1, Sha256}
-use Rattle.gname.specs.{Formats.format_name, declared.formats.Format.Format}
+use Rattle.gname.specs.Formats.{format_name}
+use Rattle.gname.specs.declared.formats.Format.{Format}
 use Rattle.ggrammar.specs.Capabilities.{IsWellFormed, is_key, is_value}
-use Rattle.ghello.specs.{Adverts.is_capability, Offers.check_fault, Offers.has_feature}
-use Rattle.ganswer.specs.{Adverts.advertised, Adverts.key, Adverts.key_with, Laws.AdvertsWelcome}
+use Rattle.ghello.specs.Adverts.{is_capability}
+use Rattle.ghello.specs.Offers.{check_fault, has_feature}
+use Rattle.ganswer.specs.Adverts.{advertised, key, key_with}
+use Rattle.ganswer.specs.Laws.{AdvertsWelcome}
 
 pub agent : is_capability (key_with (codes "agent") (codes "gitv2/1")) ≡ true
 unfolding is_key is_value

@@ -4,15 +4,18 @@ use Rattle.std.proofs.Common.{ap, ◌∙◌, ap₂, subst}
 use Rattle.gobject.specs.Packs.{AreEntries, Indexes, IndexFails, LosesNothing, PackFails, Packs}
 use Rattle.gobject.specs.declared.node.Entry.{Entry}
 use Rattle.gdag.proofs.IdLists.{either_way}
-use Rattle.gdag.specs.{Laws.PeelsToOne, Laws.OneListToSend, Laws.SentAreEntries, Peeling.IsTagOf}
+use Rattle.gdag.specs.Laws.{PeelsToOne, OneListToSend, SentAreEntries}
+use Rattle.gdag.specs.Peeling.{IsTagOf}
 use Rattle.grefs.specs.RefLists.{RefList}
 use Rattle.grequest.specs.Asked.{LsRefsAsked, ls_has, FetchAsked, Empty, Ls as LsAsked, Fetches}
 use Rattle.grequest.specs.declared.flag.LsRefsFlag.TheVariants.{Peel}
-use Rattle.glsreply.specs.{LsReplies.LsReply, RefTexts.RefLine}
+use Rattle.glsreply.specs.LsReplies.{LsReply}
+use Rattle.glsreply.specs.RefTexts.{RefLine}
 use Rattle.ganswer.specs.LsAnswers.{IsPeeled, IsPeeledIf, LsAnswer, ShowsLines, all_refs, is_shown, symref_of}
 use Rattle.ganswer.specs.LsAnswers.{unborn_of}
 use Rattle.ganswer.specs.FetchAnswers.{FetchAnswer, SendsPack, commons_of, tag_tips}
-use Rattle.ganswer.specs.{Answers.Nothing, Answers.Ls, Answers.Fetch, Servers.Server, Servers.IsServer}
+use Rattle.ganswer.specs.Answers.{Nothing, Ls, Fetch}
+use Rattle.ganswer.specs.Servers.{Server, IsServer}
 use Rattle.ganswer.specs.Laws.{AnswersAreOne}
 use Rattle.ganswer.proofs.LsLemmas.{one_list, shows_hidden, shows_join, shows_line, shows_none}
 use Rattle.ganswer.proofs.PeelLemmas.{PeelsOrNot, TagOrNot, peels_or_not, tag_or_not}

@@ -13,11 +13,20 @@ use Rattle.std.proofs.lemmas.List.Elements.{All-append, All-cons, All-contains, 
 use Rattle.std.proofs.lemmas.List.Elements.{All-head, All-nil, All-tail, All-weaker, Contains-append_left}
 use Rattle.std.proofs.lemmas.List.Elements.{Contains-append_right, filter_passes}
 use Rattle.std.proofs.lemmas.Option.{none-some, same_Some}
-use Rattle.gname.specs.{Laws.IdsHaveOneFormat, Names.head_name, Names.IsRefName, declared.formats.Format.Format}
-use Rattle.gname.specs.{Ids.IsIdOf, Formats.id_length}
-use Rattle.gobject.specs.{declared.node.Node.Node, declared.node.Entry.Entry, Objects.node_at, Packs.Packs}
-use Rattle.gdag.specs.{Graphs.Holds, Graphs.IsGraph, Graphs.History, Laws.PlacesAreNodes, Peeling.PeelsTo}
-use Rattle.gdag.specs.{Levels.new_ids, Walks.common_of}
+use Rattle.gname.specs.Laws.{IdsHaveOneFormat}
+use Rattle.gname.specs.Names.{head_name, IsRefName}
+use Rattle.gname.specs.declared.formats.Format.{Format}
+use Rattle.gname.specs.Ids.{IsIdOf}
+use Rattle.gname.specs.Formats.{id_length}
+use Rattle.gobject.specs.declared.node.Node.{Node}
+use Rattle.gobject.specs.declared.node.Entry.{Entry}
+use Rattle.gobject.specs.Objects.{node_at}
+use Rattle.gobject.specs.Packs.{Packs}
+use Rattle.gdag.specs.Graphs.{Holds, IsGraph, History}
+use Rattle.gdag.specs.Laws.{PlacesAreNodes}
+use Rattle.gdag.specs.Peeling.{PeelsTo}
+use Rattle.gdag.specs.Levels.{new_ids}
+use Rattle.gdag.specs.Walks.{common_of}
 use Rattle.grefs.specs.RefLists.{RefList, has_name, ref_at, IsBelowRefs}
 use Rattle.grefs.specs.declared.head.Head.{Head}
 use Rattle.grefs.specs.declared.head.Head.TheVariants as heads
@@ -25,17 +34,22 @@ use Rattle.grequest.specs.Asked.{LsRefsAsked, ls_has, max_haves, FetchAsked}
 use Rattle.grequest.specs.declared.flag.LsRefsFlag.TheVariants.{Peel, Unborn, Symrefs}
 use Rattle.glsreply.specs.WellFormed.{first_has_format_of, has_format_of, has_one_format, has_room, is_format}
 use Rattle.glsreply.specs.WellFormed.{line_count, IsRefLine}
-use Rattle.glsreply.specs.{LsReplies.LsReply, LsReplies.max_lines, LsReplies.unborn_packets, RefTexts.RefLine}
+use Rattle.glsreply.specs.LsReplies.{LsReply, max_lines, unborn_packets}
+use Rattle.glsreply.specs.RefTexts.{RefLine}
 use Rattle.ganswer.specs.LsAnswers.{HasAttributes, IsPeeledIf, ShowsLines, all_refs, head_id, head_ref, is_asked}
 use Rattle.ganswer.specs.LsAnswers.{is_shown, missing_target, name_and_id, target_of}
 use Rattle.ganswer.specs.Servers.{Server, HoldsHead, HoldsRefs, IsServer, PointsBelowRefs}
-use Rattle.ganswer.specs.{steps.Answers.IsNextRef, FetchAnswers.commons_of, Laws.FetchAnswersFit, Laws.LsAnswersFit}
-use Rattle.gdag.proofs.{IdLists.contains_head, IdLists.either_way, Places.held_id}
+use Rattle.ganswer.specs.steps.Answers.{IsNextRef}
+use Rattle.ganswer.specs.FetchAnswers.{commons_of}
+use Rattle.ganswer.specs.Laws.{FetchAnswersFit, LsAnswersFit}
+use Rattle.gdag.proofs.IdLists.{contains_head, either_way}
+use Rattle.gdag.proofs.Places.{held_id}
 use Rattle.glsreply.proofs.ValueLemmas.{is_format-same}
 use Rattle.std.specs.List.{list_all}
 use Rattle.ggrammar.specs.declared.fault.Why.TheVariants.{BadText, Limit}
 use Rattle.gfetchreply.specs.FetchReplies.{max_acks, Acks, Ready, Pack, Reading}
-use Rattle.gfetchreply.specs.{Values.acks_fault, Values.has_format, WellFormed.AreAcks}
+use Rattle.gfetchreply.specs.Values.{acks_fault, has_format}
+use Rattle.gfetchreply.specs.WellFormed.{AreAcks}
 
 pub unmap : {X Y : Type 0} (P : Y → Type 0) (f : X → Y) (xs : List X) → All P (map f xs) → All (λ x. P (f x)) xs
 unmap P f [] all = All-nil (λ x. P (f x))

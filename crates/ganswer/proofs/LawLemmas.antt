@@ -4,18 +4,24 @@ use Rattle.std.specs.List.{IsDistinct}
 use Rattle.std.specs.Str.{bytes_eq}
 use Rattle.std.proofs.lemmas.List.Elements.{All-contains, All-contains_itself, All-nil, All-weaker, Contains-append_right, Contains-get_or}
 use Rattle.std.proofs.lemmas.Option.{none-some}
-use Rattle.gobject.specs.{declared.node.Entry.Entry, Packs.PackFails, Packs.Packs}
-use Rattle.gdag.specs.{Laws.CommonsAreHeld, Laws.SendingIsEnough, Laws.SentAreEntries, Reach.Grows, Reach.IsFull}
-use Rattle.gdag.specs.{Graphs.Holds, Graphs.IsFirstAbsent}
+use Rattle.gobject.specs.declared.node.Entry.{Entry}
+use Rattle.gobject.specs.Packs.{PackFails, Packs}
+use Rattle.gdag.specs.Laws.{CommonsAreHeld, SendingIsEnough, SentAreEntries}
+use Rattle.gdag.specs.Reach.{Grows, IsFull}
+use Rattle.gdag.specs.Graphs.{Holds, IsFirstAbsent}
 use Rattle.grefs.specs.declared.head.Head.{Head}
 use Rattle.grequest.specs.Asked.{FetchAsked}
 use Rattle.gfetchreply.specs.FetchReplies.{Acks, Ready, Pack}
 use Rattle.ganswer.specs.Laws.{AcksAreCommon, AreCommon, LsAnswersAreHeld, PacksAreEnough, ServersGrow, ServesWhatIsHeld}
-use Rattle.ganswer.specs.{Changes.Adds, Changes.Sets, Changes.SetsHead, FetchAnswers.commons_of, FetchAnswers.tag_tips}
-use Rattle.ganswer.specs.{LsAnswers.all_refs, Servers.Server, declared.fault.BuildFault.BuildFault}
+use Rattle.ganswer.specs.Changes.{Adds, Sets, SetsHead}
+use Rattle.ganswer.specs.FetchAnswers.{commons_of, tag_tips}
+use Rattle.ganswer.specs.LsAnswers.{all_refs}
+use Rattle.ganswer.specs.Servers.{Server}
+use Rattle.ganswer.specs.declared.fault.BuildFault.{BuildFault}
 use Rattle.ganswer.specs.declared.fault.BuildFault.TheVariants as build
 use Rattle.ganswer.specs.declared.fault.ServeFault.TheVariants as serve
-use Rattle.gdag.proofs.{Growing.comes_grows, Holding.held_node}
+use Rattle.gdag.proofs.Growing.{comes_grows}
+use Rattle.gdag.proofs.Holding.{held_node}
 use Rattle.ganswer.proofs.FitLemmas.{all_held, lines_held}
 
 pub ls_answers_are_held : {A : Type 0} → LsAnswersAreHeld A

@@ -9,15 +9,18 @@ use Rattle.std.proofs.lemmas.List.Elements.{filter-append}
 use Rattle.gdag.proofs.Growing.{at_front}
 use Rattle.gdag.specs.Laws.{PeelsToOne}
 use Rattle.grefs.specs.RefLists.{RefList}
-use Rattle.grequest.specs.{declared.flag.LsRefsFlag.TheVariants.Peel, Asked.LsRefsAsked, Asked.ls_has}
+use Rattle.grequest.specs.declared.flag.LsRefsFlag.TheVariants.{Peel}
+use Rattle.grequest.specs.Asked.{LsRefsAsked, ls_has}
 use Rattle.glsreply.specs.LsReplies.{LsReply, canonical_reply, ref_packet, unborn_packets}
 use Rattle.glsreply.specs.RefTexts.{RefLine}
 use Rattle.ganswer.specs.LsAnswers.{HasAttributes, IsPeeled, IsPeeledIf, ShowsLines, is_shown, name_and_id, symref_of}
 use Rattle.ganswer.specs.LsAnswers.{head_id, head_ref, unborn_of}
-use Rattle.ganswer.specs.{steps.Answers.IsAnswering, steps.Answers.IsNextRef, declared.fault.ServeFault.ServeFault}
+use Rattle.ganswer.specs.steps.Answers.{IsAnswering, IsNextRef}
+use Rattle.ganswer.specs.declared.fault.ServeFault.{ServeFault}
 use Rattle.ganswer.specs.Servers.{Server}
 use Rattle.gname.specs.Names.{head_name}
-use Rattle.ggrammar.specs.{Endings.ends_with, declared.ends.Ends.Ends}
+use Rattle.ggrammar.specs.Endings.{ends_with}
+use Rattle.ggrammar.specs.declared.ends.Ends.{Ends}
 use Rattle.gpkt.specs.Packets.{Packet, Flush}
 
 module _ {A : Type 0} (server : Server A) (asked : LsRefsAsked) where

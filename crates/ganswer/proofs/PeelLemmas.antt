@@ -5,16 +5,21 @@ use Rattle.std.specs.Prelude.{find, slice_get, option_map, IfSome, option_copied
 use Rattle.std.proofs.lemmas.Option.{none-some, same_Some, get_or_from_slice_get, slice_get_read, slice_get_within}
 use Rattle.std.proofs.lemmas.Slice.Eq.{bytes_eq-Decides}
 use Rattle.gobject.specs.declared.node.Kind.TheVariants.{Commit, Tag}
-use Rattle.gobject.specs.{declared.node.Node.Node, declared.node.Entry.Entry, Objects.has_id, Objects.node_at}
+use Rattle.gobject.specs.declared.node.Node.{Node}
+use Rattle.gobject.specs.declared.node.Entry.{Entry}
+use Rattle.gobject.specs.Objects.{has_id, node_at}
 use Rattle.gobject.specs.declared.node.Kind.{Kind}
 use Rattle.gdag.specs.Peeling.{IsCommit, IsTagOf, PeelsTo, Tags}
-use Rattle.gdag.specs.{Graphs.Holds, Graphs.IsNode, Reach.IsClosed, Reach.Keeps}
+use Rattle.gdag.specs.Graphs.{Holds, IsNode}
+use Rattle.gdag.specs.Reach.{IsClosed, Keeps}
 use Rattle.gdag.proofs.PeelLemmas.{no_cycle, no_tag, onward, tags_on}
-use Rattle.gdag.proofs.{Holding.one_node, Holding.held_node, Growing.all_standing}
+use Rattle.gdag.proofs.Holding.{one_node, held_node}
+use Rattle.gdag.proofs.Growing.{all_standing}
 use Rattle.std.specs.Slice.{IsItemAt}
 use Rattle.std.proofs.lemmas.Bool.{ltb-true}
 use Rattle.grefs.specs.RefLists.{RefList}
-use Rattle.ganswer.specs.{LsAnswers.IsPeeled, LsAnswers.KnowsPeels, LsAnswers.TagPeelsTo, Servers.HoldsRefs}
+use Rattle.ganswer.specs.LsAnswers.{IsPeeled, KnowsPeels, TagPeelsTo}
+use Rattle.ganswer.specs.Servers.{HoldsRefs}
 use Rattle.ganswer.proofs.FitLemmas.{unmap}
 
 module _ {A : Type 0} (g : List (Entry A)) where

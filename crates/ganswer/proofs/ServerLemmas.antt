@@ -7,15 +7,21 @@ use Rattle.std.proofs.lemmas.List.Concat.{flat_map-append}
 use Rattle.std.proofs.lemmas.List.Elements.{All-append, All-contains, All-map, Contains-append_left}
 use Rattle.std.proofs.lemmas.List.Elements.{Contains-append_right, All-weaker}
 use Rattle.std.proofs.lemmas.Option.{none-some, same_Some, slice_get_within, get_or_from_slice_get}
-use Rattle.gobject.specs.{declared.node.Entry.Entry, Objects.node_at, Objects.entry_of, Objects.IdsDiffer}
-use Rattle.gdag.proofs.{ClosedLemmas.parents_entry, Growing.at_front, Growing.keeps_held}
+use Rattle.gobject.specs.declared.node.Entry.{Entry}
+use Rattle.gobject.specs.Objects.{node_at, entry_of, IdsDiffer}
+use Rattle.gdag.proofs.ClosedLemmas.{parents_entry}
+use Rattle.gdag.proofs.Growing.{at_front, keeps_held}
 use Rattle.gdag.specs.Graphs.{Holds, IsFirstAbsent, History, HoldsParents, IsGraph}
-use Rattle.gdag.specs.{Laws.PlacesAreNodes, Laws.ClosedStays, declared.fault.GraphFault.GraphFault, Insert.AddsOne}
+use Rattle.gdag.specs.Laws.{PlacesAreNodes, ClosedStays}
+use Rattle.gdag.specs.declared.fault.GraphFault.{GraphFault}
+use Rattle.gdag.specs.Insert.{AddsOne}
 use Rattle.gdag.specs.Reach.{IsClosed, Keeps}
-use Rattle.grefs.specs.{RefLists.RefList, RefLists.IsRefs, RefLists.SetsRef, declared.fault.RefsFault.RefsFault}
+use Rattle.grefs.specs.RefLists.{RefList, IsRefs, SetsRef}
+use Rattle.grefs.specs.declared.fault.RefsFault.{RefsFault}
 use Rattle.grefs.specs.declared.head.Head.{Head}
 use Rattle.ganswer.specs.Servers.{HoldsRefs, IsFirstDangling, parents_in, HoldsHead, IsServer, served}
-use Rattle.ganswer.specs.{steps.Answers.MissesRef, steps.Answers.ReportsRef, declared.fault.BuildFault.BuildFault}
+use Rattle.ganswer.specs.steps.Answers.{MissesRef, ReportsRef}
+use Rattle.ganswer.specs.declared.fault.BuildFault.{BuildFault}
 use Rattle.ganswer.specs.declared.fault.BuildFault.TheVariants as build
 use Rattle.std.specs.Prelude.{OnErr, OnOk, slice_get, option_map}
 use Rattle.std.specs.Map.{values_of}

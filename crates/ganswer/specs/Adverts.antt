@@ -1,6 +1,7 @@
 -- What a server advertises (gitprotocol-v2(5), "Capability Advertisement").
 use Rattle.std.specs.Prelude.{List, [], ◌∷◌, codes, Some, None}
-use Rattle.gname.specs.{Formats.format_name, declared.formats.Format.Format}
+use Rattle.gname.specs.Formats.{format_name}
+use Rattle.gname.specs.declared.formats.Format.{Format}
 use Rattle.gpkt.specs.Packets.{Bytes}
 use Rattle.ggrammar.specs.Capabilities.{Capability}
 

@@ -5,9 +5,12 @@ use Rattle.gobject.specs.Packs.{PackFails, Packs}
 use Rattle.gdag.specs.Graphs.{IsFirstAbsent}
 use Rattle.grequest.specs.Asked.{Asked, FetchAsked, Empty, Ls as LsAsked, Fetches}
 use Rattle.glsreply.specs.LsReplies.{LsReply}
-use Rattle.gfetchreply.specs.{FetchReplies.FetchReply, Views.IsReplyOf, Views.reply_in}
+use Rattle.gfetchreply.specs.FetchReplies.{FetchReply}
+use Rattle.gfetchreply.specs.Views.{IsReplyOf, reply_in}
 use Rattle.ganswer.specs.FetchAnswers.{CanServe, FailsToPack, FetchAnswer, IsPackDue}
-use Rattle.ganswer.specs.{Servers.Server, LsAnswers.LsAnswer, declared.fault.ServeFault.ServeFault}
+use Rattle.ganswer.specs.Servers.{Server}
+use Rattle.ganswer.specs.LsAnswers.{LsAnswer}
+use Rattle.ganswer.specs.declared.fault.ServeFault.{ServeFault}
 use Rattle.ganswer.specs.declared.answer.Reply as value
 use Rattle.ganswer.specs.declared.answer.Reply.TheVariants as values
 use Rattle.ganswer.specs.declared.fault.ServeFault.TheVariants as serve

@@ -1,13 +1,18 @@
 -- Changes of a server: an object is added, a ref is set (git-update-ref(1)), HEAD is set (git-symbolic-ref(1)). After a
 -- refusal the server is as it was.
 use Rattle.std.specs.Prelude.{◌≡◌, None, Result, Ok, Err}
-use Rattle.gname.specs.{Ids.Id, Names.Name}
-use Rattle.gobject.specs.{declared.node.Entry.Entry, Objects.node_at}
-use Rattle.gdag.specs.{Graphs.Holds, Graphs.HoldsParents, Graphs.IsFirstAbsent, Insert.ComesIn, Insert.IsCause}
+use Rattle.gname.specs.Ids.{Id}
+use Rattle.gname.specs.Names.{Name}
+use Rattle.gobject.specs.declared.node.Entry.{Entry}
+use Rattle.gobject.specs.Objects.{node_at}
+use Rattle.gdag.specs.Graphs.{Holds, HoldsParents, IsFirstAbsent}
+use Rattle.gdag.specs.Insert.{ComesIn, IsCause}
 use Rattle.grefs.specs.RefLists.{CannotSet, RefList, SetsRef, ref_at}
-use Rattle.grefs.specs.{declared.fault.RefsFault.RefsFault, declared.head.Head.Head}
+use Rattle.grefs.specs.declared.fault.RefsFault.{RefsFault}
+use Rattle.grefs.specs.declared.head.Head.{Head}
 use Rattle.grefs.specs.declared.fault.RefsFault.TheVariants as refs
-use Rattle.ganswer.specs.{Servers.Server, Servers.HoldsHead, declared.fault.BuildFault.BuildFault}
+use Rattle.ganswer.specs.Servers.{Server, HoldsHead}
+use Rattle.ganswer.specs.declared.fault.BuildFault.{BuildFault}
 use Rattle.ganswer.specs.declared.fault.BuildFault.TheVariants as build
 
 -- ---- an object

@@ -1,7 +1,8 @@
 -- The tables of faults: the number, the name and the text of each, and the words for a client.
 use Rattle.std.specs.Prelude.{Bool, true, false, codes}
 use Rattle.gname.specs.Faults.{FaultRow, missing_parent, out_of_memory, out_of_memory_text}
-use Rattle.gpkt.specs.{Faults.line_fault_row, Faults.line_fault_text, Packets.Bytes}
+use Rattle.gpkt.specs.Faults.{line_fault_row, line_fault_text}
+use Rattle.gpkt.specs.Packets.{Bytes}
 use Rattle.gpkt.specs.declared.fault.LineFault.TheVariants as line
 use Rattle.grefs.specs.Faults.{refs_fault_row, refs_fault_text}
 use Rattle.gobject.specs.Faults.{pack_fault_row, pack_fault_text}
@@ -10,7 +11,8 @@ use Rattle.gdag.specs.Faults.{graph_fault_row, graph_fault_text}
 use Rattle.ggrammar.specs.Faults.{WhyRow, line_phrase, message_fault_text, row_of, why_row}
 use Rattle.ggrammar.specs.declared.fault.Why.{Why}
 use Rattle.ggrammar.specs.declared.fault.Why.TheVariants as why
-use Rattle.ganswer.specs.{declared.fault.BuildFault.BuildFault, declared.fault.ServeFault.ServeFault}
+use Rattle.ganswer.specs.declared.fault.BuildFault.{BuildFault}
+use Rattle.ganswer.specs.declared.fault.ServeFault.{ServeFault}
 use Rattle.ganswer.specs.declared.fault.BuildFault.TheVariants as build
 use Rattle.ganswer.specs.declared.fault.ServeFault.TheVariants as serve
 

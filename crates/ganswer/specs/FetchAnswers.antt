@@ -4,9 +4,12 @@ use Rattle.std.specs.Prelude.{◌≡◌, ◌≢◌, ◌⊎◌, true, false, List
 use Rattle.std.specs.Map.{values_of}
 use Rattle.gname.specs.Ids.{Id}
 use Rattle.gpkt.specs.Packets.{Bytes}
-use Rattle.gobject.specs.{declared.fault.PackFault.PackFault, Packs.MayPack, Packs.PackFails, Packs.Packs}
+use Rattle.gobject.specs.declared.fault.PackFault.{PackFault}
+use Rattle.gobject.specs.Packs.{MayPack, PackFails, Packs}
 use Rattle.gobject.specs.declared.node.Entry.{Entry}
-use Rattle.gdag.specs.{Graphs.Holds, Sending.IsListToSend, Walks.IsReady, Walks.common_of}
+use Rattle.gdag.specs.Graphs.{Holds}
+use Rattle.gdag.specs.Sending.{IsListToSend}
+use Rattle.gdag.specs.Walks.{IsReady, common_of}
 use Rattle.grequest.specs.Asked.{FetchAsked, is_direct, fetch_has}
 use Rattle.grequest.specs.declared.flag.FetchFlag.TheVariants.{IncludeTag}
 use Rattle.gfetchreply.specs.FetchReplies.{FetchReply, Acks, Ready, Pack}

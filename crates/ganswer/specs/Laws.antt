@@ -1,23 +1,35 @@
 -- What follows from the definitions of answers and of changes.
 use Rattle.std.specs.Prelude.{◌≡◌, ◌⊎◌, ◌≤◌, true, List, length, codes, All, Contains, None, Result, bytes_eq}
 use Rattle.std.specs.List.{IsDistinct}
-use Rattle.gname.specs.{declared.formats.Format.Format, Ids.Id, Names.Name}
+use Rattle.gname.specs.declared.formats.Format.{Format}
+use Rattle.gname.specs.Ids.{Id}
+use Rattle.gname.specs.Names.{Name}
 use Rattle.gpkt.specs.Packets.{Bytes}
 use Rattle.gobject.specs.Packs.{AreEntries, MayPack, PackFails, Packs}
-use Rattle.gobject.specs.{declared.node.Entry.Entry, declared.fault.PackFault.PackFault}
-use Rattle.gdag.specs.{Graphs.Holds, Graphs.IsGraph, Graphs.IsNode, Laws.HasAll, Reach.Agree, Reach.Grows, Reach.IsFull}
+use Rattle.gobject.specs.declared.node.Entry.{Entry}
+use Rattle.gobject.specs.declared.fault.PackFault.{PackFault}
+use Rattle.gdag.specs.Graphs.{Holds, IsGraph, IsNode}
+use Rattle.gdag.specs.Laws.{HasAll}
+use Rattle.gdag.specs.Reach.{Agree, Grows, IsFull}
 use Rattle.gdag.specs.Insert.{Inserts}
 use Rattle.grefs.specs.declared.head.Head.{Head}
 use Rattle.grequest.specs.Asked.{Asked, FetchAsked, LsRefsAsked, is_direct, max_haves}
-use Rattle.glsreply.specs.{LsReplies.LsReply, WellFormed.IsLsReplyIn}
-use Rattle.gfetchreply.specs.{FetchHeads.pack_of, FetchHeads.acknowledged_by, WellFormed.IsReplyIn}
+use Rattle.glsreply.specs.LsReplies.{LsReply}
+use Rattle.glsreply.specs.WellFormed.{IsLsReplyIn}
+use Rattle.gfetchreply.specs.FetchHeads.{pack_of, acknowledged_by}
+use Rattle.gfetchreply.specs.WellFormed.{IsReplyIn}
 use Rattle.gfetchreply.specs.FetchReplies.{FetchReply, Reading}
 use Rattle.ggrammar.specs.Capabilities.{Capability}
-use Rattle.ghello.specs.{Adverts.AreCapabilities, Offers.check_fault, Offers.has_feature}
-use Rattle.ganswer.specs.{Adverts.advertised, FetchAnswers.CanServe, FetchAnswers.FetchAnswer, FetchAnswers.SendsPack}
-use Rattle.ganswer.specs.{Answers.Answers, Answers.FetchRefuses, Answers.Reply, declared.fault.BuildFault.BuildFault}
-use Rattle.ganswer.specs.{Changes.Adds, Changes.Sets, Changes.SetsHead, declared.fault.ServeFault.ServeFault}
-use Rattle.ganswer.specs.{LsAnswers.LsAnswer, Servers.Server, Servers.IsServer}
+use Rattle.ghello.specs.Adverts.{AreCapabilities}
+use Rattle.ghello.specs.Offers.{check_fault, has_feature}
+use Rattle.ganswer.specs.Adverts.{advertised}
+use Rattle.ganswer.specs.FetchAnswers.{CanServe, FetchAnswer, SendsPack}
+use Rattle.ganswer.specs.Answers.{Answers, FetchRefuses, Reply}
+use Rattle.ganswer.specs.declared.fault.BuildFault.{BuildFault}
+use Rattle.ganswer.specs.Changes.{Adds, Sets, SetsHead}
+use Rattle.ganswer.specs.declared.fault.ServeFault.{ServeFault}
+use Rattle.ganswer.specs.LsAnswers.{LsAnswer}
+use Rattle.ganswer.specs.Servers.{Server, IsServer}
 use Rattle.ganswer.specs.declared.fault.ServeFault.TheVariants as serve
 
 -- ---- what is advertised

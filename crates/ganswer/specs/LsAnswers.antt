@@ -3,15 +3,18 @@
 use Rattle.std.specs.Prelude.{◌≡◌, Bool, true, false, ◌&&◌, List, [], ◌∷◌, ◌++◌, All, filter, map, nat_eq}
 use Rattle.std.specs.Prelude.{if◌then◌else◌, is_none, MatchOption, Option, Some, None, ℕ, slice_get, bytes_eq}
 use Rattle.std.specs.List.{list_any, starts_with}
-use Rattle.gname.specs.{Names.Name, Names.head_name, Ids.Id}
+use Rattle.gname.specs.Names.{Name, head_name}
+use Rattle.gname.specs.Ids.{Id}
 use Rattle.gpkt.specs.Packets.{Bytes}
 use Rattle.gobject.specs.declared.node.Entry.{Entry}
 use Rattle.gdag.specs.Peeling.{IsTagOf, PeelsTo}
-use Rattle.grefs.specs.{RefLists.RefList, RefLists.ref_at, declared.head.Head.Head}
+use Rattle.grefs.specs.RefLists.{RefList, ref_at}
+use Rattle.grefs.specs.declared.head.Head.{Head}
 use Rattle.grefs.specs.declared.head.Head.TheVariants as heads
 use Rattle.grequest.specs.declared.flag.LsRefsFlag.TheVariants.{Peel, Symrefs, Unborn}
 use Rattle.grequest.specs.Asked.{LsRefsAsked, ls_has}
-use Rattle.glsreply.specs.{RefTexts.RefLine, LsReplies.LsReply}
+use Rattle.glsreply.specs.RefTexts.{RefLine}
+use Rattle.glsreply.specs.LsReplies.{LsReply}
 use Rattle.ganswer.specs.Servers.{Server}
 
 -- ---- which refs are shown

@@ -2,7 +2,8 @@
 use Rattle.std.specs.Prelude.{Bool, true, false}
 use Rattle.gfetchreply.specs.FetchReplies.{FetchReply, Acks, Ready, Pack}
 use Rattle.ganswer.specs.Answers.{Reply, Nothing, Ls, Fetch}
-use Rattle.ganswer.specs.{declared.fault.ServeFault.ServeFault, declared.one_pack.Packing.Packing}
+use Rattle.ganswer.specs.declared.fault.ServeFault.{ServeFault}
+use Rattle.ganswer.specs.declared.one_pack.Packing.{Packing}
 use Rattle.ganswer.specs.declared.fault.ServeFault.TheVariants as serve
 use Rattle.ganswer.specs.declared.one_pack.Packing.TheVariants as packing
 

@@ -2,11 +2,14 @@
 -- held.
 use Rattle.std.specs.Prelude.{◌≡◌, ◌⊎◌, ⊤, List, ◌∷◌, ◌++◌, All, None, Result, Ok, Err, flat_map}
 use Rattle.std.specs.Map.{values_of}
-use Rattle.gname.specs.{Ids.Id, Names.Name}
-use Rattle.gobject.specs.{declared.node.Entry.Entry, Objects.node_at}
+use Rattle.gname.specs.Ids.{Id}
+use Rattle.gname.specs.Names.{Name}
+use Rattle.gobject.specs.declared.node.Entry.{Entry}
+use Rattle.gobject.specs.Objects.{node_at}
 use Rattle.gdag.specs.Graphs.{History, Holds, IsFirstAbsent, IsGraph}
 use Rattle.gdag.specs.Reach.{IsClosed}
-use Rattle.grefs.specs.{RefLists.RefList, RefLists.IsBelowRefs, RefLists.IsRefs, declared.head.Head.Head}
+use Rattle.grefs.specs.RefLists.{RefList, IsBelowRefs, IsRefs}
+use Rattle.grefs.specs.declared.head.Head.{Head}
 use Rattle.grefs.specs.declared.head.Head.TheVariants as heads
 use Rattle.ganswer.specs.declared.fault.BuildFault.{BuildFault}
 use Rattle.ganswer.specs.declared.fault.BuildFault.TheVariants as build

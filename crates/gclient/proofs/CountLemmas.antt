@@ -1,10 +1,13 @@
 -- How often a conversation asks for objects, also where it fails.
 use Rattle.std.proofs.Common.{◌≡◌, ℕ, ◌+◌, ◌≤◌, List, [], ◌∷◌, ◌++◌, length, None, Some, Ok, refl, sym, ap, subst, ◌∙◌}
 use Rattle.std.proofs.Common.{append-nil, arith, Option, Err, append_assoc}
-use Rattle.gpkt.specs.{Change.Change, Packets.Packet, Sending.Input, Sending.Output, Sending.IsUnwritten}
+use Rattle.gpkt.specs.Change.{Change}
+use Rattle.gpkt.specs.Packets.{Packet}
+use Rattle.gpkt.specs.Sending.{Input, Output, IsUnwritten}
 use Rattle.ggrammar.specs.Capabilities.{Capability}
 use Rattle.gfetchreply.specs.FetchReplies.{FetchReply}
-use Rattle.gdag.specs.{Reach.Grows, Walks.CountsReached}
+use Rattle.gdag.specs.Reach.{Grows}
+use Rattle.gdag.specs.Walks.{CountsReached}
 use Rattle.gdag.proofs.Growing.{grows_on}
 use Rattle.gobject.specs.Packs.{Indexes, IndexFails}
 use Rattle.gclientrepo.specs.Repos.{IsWhole, RepoState}
@@ -13,15 +16,19 @@ use Rattle.gsession.specs.Bounds.{BeganOn, BeganStaysOn, BeginsCounted, BeganBeg
 use Rattle.gsession.specs.Bounds.{IsCounted}
 use Rattle.gsession.specs.Calls.{HasCalled, heard as heard_call, requested, took_refs, took_reply}
 use Rattle.gsession.specs.declared.taken.Taken.TheVariants.{Round, PackTaken}
-use Rattle.gsession.specs.{Sessions.SessionState, Sessions.max_specs, Sessions.tips_of, declared.taken.Taken.Taken}
-use Rattle.gsession.specs.{Laws.EachGoesOn, Requesting.waiting_for, TakingReplies.TakesHead}
+use Rattle.gsession.specs.Sessions.{SessionState, max_specs, tips_of}
+use Rattle.gsession.specs.declared.taken.Taken.{Taken}
+use Rattle.gsession.specs.Laws.{EachGoesOn}
+use Rattle.gsession.specs.Requesting.{waiting_for}
+use Rattle.gsession.specs.TakingReplies.{TakesHead}
 use Rattle.gclient.specs.Conversations.{Start, begun, heard, Converses, Fails, cannot_ask, cannot_begin, cannot_hear}
 use Rattle.gclient.specs.Conversations.{cannot_send, cannot_settle, cannot_take, no_buffer, HasFetched, FailsToAsk}
 use Rattle.gclient.specs.Conversations.{HasAsked, IsDue, request, ending, request_bytes, requests_bytes}
 use Rattle.gclient.specs.Laws.{NextIsFew, RoundsAreAsked, TalksAreFew, asked_in, count_of, objects_asked, AsksAtMost}
 use Rattle.gclient.specs.Laws.{EndsAreFew}
 use Rattle.gclient.specs.Turns.{AreTurns, AsksNext, ClientState, IsTurn, Takes, Turn}
-use Rattle.gclient.specs.{declared.fault.FetchFault.FetchFault, declared.fetched.Fetched.Fetched}
+use Rattle.gclient.specs.declared.fault.FetchFault.{FetchFault}
+use Rattle.gclient.specs.declared.fetched.Fetched.{Fetched}
 use Rattle.gclient.proofs.TurnLemmas.{turn_kept, waits}
 use Rattle.std.specs.List.{flat_map}
 use Rattle.std.specs.Io.KnownBytes.{Appends}

@@ -4,16 +4,25 @@ use Rattle.std.proofs.Common.{ap, subst, ◌∙◌, inr, Bool, ◌++◌, Option,
 use Rattle.std.specs.Prelude.{IsErrAnd, flat_map}
 use Rattle.gname.specs.declared.formats.Format.{Format}
 use Rattle.gpkt.specs.Sending.{Input, IsUp, output_of, IsUnwritten, Passes, SendsSome}
-use Rattle.gpkt.specs.{Change.Change, LineWriting.Writer, LineWriting.HasPushed, Packets.Packet, Packets.canonical_all}
-use Rattle.gpkt.specs.{Devices.KeepsPassed, Laws.PushesWritten, declared.fault.WriteFault.WriteFault}
-use Rattle.ggrammar.specs.{Capabilities.Capability, declared.fault.MessageFault.MessageFault, Writing.WritesLines}
+use Rattle.gpkt.specs.Change.{Change}
+use Rattle.gpkt.specs.LineWriting.{Writer, HasPushed}
+use Rattle.gpkt.specs.Packets.{Packet, canonical_all}
+use Rattle.gpkt.specs.Devices.{KeepsPassed}
+use Rattle.gpkt.specs.Laws.{PushesWritten}
+use Rattle.gpkt.specs.declared.fault.WriteFault.{WriteFault}
+use Rattle.ggrammar.specs.Capabilities.{Capability}
+use Rattle.ggrammar.specs.declared.fault.MessageFault.{MessageFault}
+use Rattle.ggrammar.specs.Writing.{WritesLines}
 use Rattle.ggrammar.specs.Kinds.{ReadsMessage}
-use Rattle.ghello.specs.{Adverts.Says, Adverts.judge, Offers.check_fault}
+use Rattle.ghello.specs.Adverts.{Says, judge}
+use Rattle.ghello.specs.Offers.{check_fault}
 use Rattle.gobject.specs.declared.node.Entry.{Entry}
 use Rattle.gclientrepo.specs.Repos.{RepoState}
 use Rattle.gsession.specs.Sessions.{SessionState, IsBegun, tells_unborn, tips_of}
 use Rattle.gsession.specs.declared.stage.Stage.TheVariants.{Listing, Fetching, Settling}
-use Rattle.gsession.specs.{Requesting.is_due, TakingRefs.TakesLs, TakingRefs.stage_for, declared.taken.LsTaken.LsTaken}
+use Rattle.gsession.specs.Requesting.{is_due}
+use Rattle.gsession.specs.TakingRefs.{TakesLs, stage_for}
+use Rattle.gsession.specs.declared.taken.LsTaken.{LsTaken}
 use Rattle.gclient.specs.Conversations.{Start, RefusesAdvert, heard, FailsToAsk, HasAsked, request_bytes}
 use Rattle.gclient.specs.Conversations.{requests_bytes, HasPassed}
 use Rattle.gclient.specs.steps.Conversations.{HasBegun, HearsServer, start_with}

@@ -4,14 +4,21 @@ use Rattle.std.proofs.Common.{ap, subst, ◌∙◌, append_assoc, append-nil, Re
 use Rattle.std.proofs.lemmas.Grind.{flat_map-append}
 use Rattle.gname.specs.declared.formats.Format.{Format}
 use Rattle.gpkt.specs.Sending.{Input, input_of, output_of, IsUnread, Passes, SendsSome, Output}
-use Rattle.gpkt.specs.{Laws.ReadsJoin, LineReading.ReadsLines, Packets.Packet}
+use Rattle.gpkt.specs.Laws.{ReadsJoin}
+use Rattle.gpkt.specs.LineReading.{ReadsLines}
+use Rattle.gpkt.specs.Packets.{Packet}
 use Rattle.gobject.specs.Packs.{Indexes, IndexFails}
-use Rattle.gclientrepo.specs.{Changes.SettlesAsks, Repos.RepoState, Repos.IsWhole, declared.ask.Ask.Ask}
+use Rattle.gclientrepo.specs.Changes.{SettlesAsks}
+use Rattle.gclientrepo.specs.Repos.{RepoState, IsWhole}
+use Rattle.gclientrepo.specs.declared.ask.Ask.{Ask}
 use Rattle.gclientrepo.specs.Settling.{Settles}
 use Rattle.grequest.specs.Asked.{Empty, Asked}
 use Rattle.gsession.specs.Sessions.{SessionState, max_specs, tells_unborn, tips_of}
-use Rattle.gsession.specs.{declared.stage.Stage.TheVariants.Settling, Bounds.BeganOn, Bounds.BeganStays}
-use Rattle.gsession.specs.{declared.taken.Settled.Settled, Requesting.Requests, declared.taken.LsTaken.LsTaken}
+use Rattle.gsession.specs.declared.stage.Stage.TheVariants.{Settling}
+use Rattle.gsession.specs.Bounds.{BeganOn, BeganStays}
+use Rattle.gsession.specs.declared.taken.Settled.{Settled}
+use Rattle.gsession.specs.Requesting.{Requests}
+use Rattle.gsession.specs.declared.taken.LsTaken.{LsTaken}
 use Rattle.gsession.specs.TakingRefs.{TakesLs}
 use Rattle.gsession.specs.declared.fault.ClientFault.TheVariants as client
 use Rattle.gclient.specs.Conversations.{Start, Converses, Fails, cannot_ask, cannot_hear, cannot_send, cannot_settle}
@@ -20,11 +27,14 @@ use Rattle.gclient.specs.Conversations.{request_bytes, cannot_begin, no_buffer, 
 use Rattle.gclient.specs.steps.Conversations.{Closes, FailsTurn, unasked, unsent, untaken, HasTalked, HasTurned}
 use Rattle.gclient.specs.steps.Conversations.{HearsServer, client_of, HasBegun, start_with}
 use Rattle.gclient.specs.Turns.{AreTurns, ClientState, Refuses, Turn}
-use Rattle.gclient.specs.{declared.fault.FetchFault.FetchFault, declared.fetched.Fetched.Fetched}
+use Rattle.gclient.specs.declared.fault.FetchFault.{FetchFault}
+use Rattle.gclient.specs.declared.fetched.Fetched.{Fetched}
 use Rattle.gclient.specs.declared.fault.FetchFault.TheVariants as fetch
 use Rattle.gclient.proofs.StepLemmas.{asked_fails, asked_more, asked_passes, asked_still, is_heard}
 use Rattle.gclient.proofs.TurnLemmas.{kept_still, listed, turn_began, turns_kept, turns_more, begins_on}
-use Rattle.gdag.specs.{Laws.DistinctAreOnce, Graphs.History, Reach.Grows}
+use Rattle.gdag.specs.Laws.{DistinctAreOnce}
+use Rattle.gdag.specs.Graphs.{History}
+use Rattle.gdag.specs.Reach.{Grows}
 use Rattle.std.specs.Prelude.{IfOk, OnErr, flat_map}
 use Rattle.grefs.specs.RefLists.{RefList}
 use Rattle.gclientrepo.proofs.Refusals.{refusals_change_nothing}

@@ -2,28 +2,40 @@
 use Rattle.std.proofs.Common.{◌≡◌, ℕ, Bool, false, List, [], ◌∷◌, ◌++◌, Some, None, Ok, Err, refl, sym, ap, subst, ◌∙◌}
 use Rattle.std.proofs.Common.{◌+◌, ◌≤◌, length, All, Contains, bytes_eq, Option, arith}
 use Rattle.gpkt.specs.Sending.{Input, Output, IsUnread, IsUp, Passes}
-use Rattle.gpkt.specs.{Change.Change, LineReading.Reader, LineReading.ReadsLines, Packets.Packet}
+use Rattle.gpkt.specs.Change.{Change}
+use Rattle.gpkt.specs.LineReading.{Reader, ReadsLines}
+use Rattle.gpkt.specs.Packets.{Packet}
 use Rattle.ggrammar.specs.MessageReading.{IsReadFailure}
 use Rattle.gfetchreply.specs.FetchReplies.{FetchReply}
-use Rattle.gobject.specs.{Packs.Indexes, Packs.IndexFails, declared.node.Entry.Entry, Objects.has_id}
-use Rattle.gdag.specs.{Reach.Grows, Reach.IsFull, Reach.SomeReaches, Graphs.Holds, Laws.DistinctAreOnce}
-use Rattle.gdag.proofs.{Growing.grows_none, Growing.grows_on, Growing.inserts_grows, Holding.node_there}
-use Rattle.gdag.proofs.{Counting.ids_of, IdLists.either_way}
+use Rattle.gobject.specs.Packs.{Indexes, IndexFails}
+use Rattle.gobject.specs.declared.node.Entry.{Entry}
+use Rattle.gobject.specs.Objects.{has_id}
+use Rattle.gdag.specs.Reach.{Grows, IsFull, SomeReaches}
+use Rattle.gdag.specs.Graphs.{Holds}
+use Rattle.gdag.specs.Laws.{DistinctAreOnce}
+use Rattle.gdag.proofs.Growing.{grows_none, grows_on, inserts_grows}
+use Rattle.gdag.proofs.Holding.{node_there}
+use Rattle.gdag.proofs.Counting.{ids_of}
+use Rattle.gdag.proofs.IdLists.{either_way}
 use Rattle.gclientrepo.specs.Repos.{RepoState, IsWhole}
 use Rattle.grequest.specs.Asked.{Asked, Empty, Ls, Fetches, LsRefsAsked, FetchAsked}
 use Rattle.gsession.specs.Sessions.{LeavesReplies, SessionState, IsSession, FitsStage, tips_of}
 use Rattle.gsession.specs.TakingReplies.{Awaits, IsTakeFault, TakesHead, TakesReply}
 use Rattle.gsession.specs.declared.stage.Stage.TheVariants.{Listing, Fetching, Settling}
 use Rattle.gsession.specs.declared.taken.Taken.TheVariants.{Round, PackTaken}
-use Rattle.gsession.specs.{TakingRefs.AwaitsRefs, TakingRefs.IsLsFault, TakingRefs.TakesLs, declared.taken.Taken.Taken}
-use Rattle.gsession.specs.{Requesting.Requests, Requesting.waiting_for, declared.fault.ClientFault.ClientFault}
-use Rattle.gsession.specs.{Bounds.BeganOn, Bounds.BeganStays, declared.taken.LsTaken.LsTaken}
+use Rattle.gsession.specs.TakingRefs.{AwaitsRefs, IsLsFault, TakesLs}
+use Rattle.gsession.specs.declared.taken.Taken.{Taken}
+use Rattle.gsession.specs.Requesting.{Requests, waiting_for}
+use Rattle.gsession.specs.declared.fault.ClientFault.{ClientFault}
+use Rattle.gsession.specs.Bounds.{BeganOn, BeganStays}
+use Rattle.gsession.specs.declared.taken.LsTaken.{LsTaken}
 use Rattle.gsession.specs.declared.stage.Stage.{Stage}
 use Rattle.gsession.specs.declared.fault.ClientFault.TheVariants as client
 use Rattle.gclient.specs.steps.Conversations.{AsksServer, FailsTurn, unasked, unsent, untaken, HasTurned, TakesTurn}
 use Rattle.gclient.specs.steps.Conversations.{client_of, stage_after}
 use Rattle.gclient.specs.Turns.{ClientState, FitsSource, IsTurn, IsUntaken, AreTurns, Takes, Turn}
-use Rattle.gclient.specs.{Conversations.request_bytes, declared.fault.FetchFault.FetchFault}
+use Rattle.gclient.specs.Conversations.{request_bytes}
+use Rattle.gclient.specs.declared.fault.FetchFault.{FetchFault}
 use Rattle.gclient.specs.declared.fault.FetchFault.TheVariants as fetch
 use Rattle.std.specs.Prelude.{IsSome}
 use Rattle.std.specs.List.{IsDistinct}
@@ -33,7 +45,8 @@ use Rattle.std.proofs.lemmas.List.{length-map}
 use Rattle.std.proofs.lemmas.List.Elements.{All-contains, All-nil, Contains-append_right}
 use Rattle.std.proofs.lemmas.Map.Made.{is_member-Decides, length-le_from_is_member}
 use Rattle.std.proofs.lemmas.Slice.Eq.{bytes_eq-Decides}
-use Rattle.gsession.proofs.{NextLaws.tips_are_full, SessionLemmas.listing_fetches, SessionLemmas.settling_fetches}
+use Rattle.gsession.proofs.NextLaws.{tips_are_full}
+use Rattle.gsession.proofs.SessionLemmas.{listing_fetches, settling_fetches}
 
 -- ---- the request
 

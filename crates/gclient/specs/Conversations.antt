@@ -4,22 +4,30 @@ use Rattle.std.specs.Prelude.{◌≡◌, ◌⊎◌, ℕ, ◌≤◌, false, List,
 use Rattle.std.specs.List.{flat_map}
 use Rattle.gname.specs.declared.formats.Format.{Format}
 use Rattle.gpkt.specs.Sending.{Input, Output, IsUnread, IsUnwritten, IsUp, Passes, SendsAndFails, SendsSome}
-use Rattle.gpkt.specs.{LineReading.ReadsLines, Packets.Bytes, Packets.Packet, Packets.canonical_all}
+use Rattle.gpkt.specs.LineReading.{ReadsLines}
+use Rattle.gpkt.specs.Packets.{Bytes, Packet, canonical_all}
 use Rattle.gpkt.specs.Devices.{KeepsPassed}
-use Rattle.ggrammar.specs.{Capabilities.Capability, MessageReading.IsReadFailure, MessageReading.ReadsRefused}
-use Rattle.ggrammar.specs.{declared.ends.Ends.Ends, declared.fault.MessageFault.MessageFault}
+use Rattle.ggrammar.specs.Capabilities.{Capability}
+use Rattle.ggrammar.specs.MessageReading.{IsReadFailure, ReadsRefused}
+use Rattle.ggrammar.specs.declared.ends.Ends.{Ends}
+use Rattle.ggrammar.specs.declared.fault.MessageFault.{MessageFault}
 use Rattle.ghello.specs.Adverts as advert
 use Rattle.ghello.specs.Offers.{check_fault}
 use Rattle.gobject.specs.Packs.{Indexes, IndexFails}
 use Rattle.grefspec.specs.Refspecs.{Refspec}
-use Rattle.gclientrepo.specs.{Changes.SettlesAsks, Repos.RepoState, declared.fault.RepoFault.RepoFault}
-use Rattle.grequest.specs.{Asked.Asked, Asked.Empty, RequestWriting.canonical_request}
+use Rattle.gclientrepo.specs.Changes.{SettlesAsks}
+use Rattle.gclientrepo.specs.Repos.{RepoState}
+use Rattle.gclientrepo.specs.declared.fault.RepoFault.{RepoFault}
+use Rattle.grequest.specs.Asked.{Asked, Empty}
+use Rattle.grequest.specs.RequestWriting.{canonical_request}
 use Rattle.gsession.specs.Sessions.{SessionState, Begins, max_specs, new_session, no_memory, tells_unborn, tips_of}
-use Rattle.gsession.specs.{declared.stage.Stage.TheVariants.Settling, declared.fault.ClientFault.ClientFault}
+use Rattle.gsession.specs.declared.stage.Stage.TheVariants.{Settling}
+use Rattle.gsession.specs.declared.fault.ClientFault.{ClientFault}
 use Rattle.gsession.specs.Requesting.{Requests}
 use Rattle.gsession.specs.declared.fault.ClientFault.TheVariants as client
 use Rattle.gclient.specs.Turns.{AreTurns, AsksNext, ClientState, Refuses, Turn}
-use Rattle.gclient.specs.{declared.fault.FetchFault.FetchFault, declared.fetched.Fetched.Fetched}
+use Rattle.gclient.specs.declared.fault.FetchFault.{FetchFault}
+use Rattle.gclient.specs.declared.fetched.Fetched.{Fetched}
 use Rattle.gclient.specs.declared.fault.FetchFault.TheVariants as fetch
 
 -- what a conversation begins with: the client's repository, what it fetches and how

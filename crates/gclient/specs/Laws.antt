@@ -2,16 +2,19 @@
 use Rattle.std.specs.Prelude.{◌≡◌, ℕ, ◌+◌, ◌≤◌, List, [], ◌∷◌, ◌++◌, length, map, Result, OnErr, flat_map}
 use Rattle.std.specs.Io.KnownBytes.{Appends}
 use Rattle.gname.specs.declared.formats.Format.{Format}
-use Rattle.gpkt.specs.{Sending.Input, Sending.Output, Packets.Bytes}
+use Rattle.gpkt.specs.Sending.{Input, Output}
+use Rattle.gpkt.specs.Packets.{Bytes}
 use Rattle.ggrammar.specs.Capabilities.{Capability}
-use Rattle.gdag.specs.{Reach.Grows, Walks.CountsReached}
+use Rattle.gdag.specs.Reach.{Grows}
+use Rattle.gdag.specs.Walks.{CountsReached}
 use Rattle.gobject.specs.Packs.{Indexes, IndexFails}
 use Rattle.gclientrepo.specs.Repos.{IsWhole, RepoState}
 use Rattle.grequest.specs.Asked.{Asked, Fetches}
 use Rattle.gsession.specs.Sessions.{SessionState, max_specs, tips_of}
 use Rattle.gclient.specs.Conversations.{FetchesOver, Start, heard, request_bytes}
 use Rattle.gclient.specs.Turns.{AreTurns, AsksNext, ClientState, Turn}
-use Rattle.gclient.specs.{declared.fault.FetchFault.FetchFault, declared.fetched.Fetched.Fetched}
+use Rattle.gclient.specs.declared.fault.FetchFault.{FetchFault}
+use Rattle.gclient.specs.declared.fetched.Fetched.{Fetched}
 
 -- ---- how often objects are asked for
 

@@ -2,7 +2,9 @@
 -- Request").
 use Rattle.std.specs.Prelude.{◌≡◌, Bool, false, List, [], ◌∷◌, Option, Ok}
 use Rattle.gname.specs.Names.{Name}
-use Rattle.gpkt.specs.{Change.Change, Packets.Packet, Sending.Input}
+use Rattle.gpkt.specs.Change.{Change}
+use Rattle.gpkt.specs.Packets.{Packet}
+use Rattle.gpkt.specs.Sending.{Input}
 use Rattle.ggrammar.specs.MessageReading.{IsReadFailure}
 use Rattle.glsreply.specs.LsReplies.{LsReply}
 use Rattle.glsreply.specs.LsReplies as ls
@@ -12,9 +14,13 @@ use Rattle.gobject.specs.Packs.{Indexes, IndexFails}
 use Rattle.gclientrepo.specs.Repos.{RepoState}
 use Rattle.grequest.specs.Asked.{Asked, Empty, Ls, Fetches, FetchAsked}
 use Rattle.gsession.specs.TakingReplies.{IsTakeFault, TakesRead, reading_for}
-use Rattle.gsession.specs.{TakingRefs.IsLsFault, TakingRefs.TakesLines, declared.fault.ClientFault.TheVariants.Message}
-use Rattle.gsession.specs.{Requesting.Requests, declared.fault.ClientFault.ClientFault, declared.taken.LsTaken.LsTaken}
-use Rattle.gsession.specs.{Sessions.SessionState, declared.taken.Taken.Taken}
+use Rattle.gsession.specs.TakingRefs.{IsLsFault, TakesLines}
+use Rattle.gsession.specs.declared.fault.ClientFault.TheVariants.{Message}
+use Rattle.gsession.specs.Requesting.{Requests}
+use Rattle.gsession.specs.declared.fault.ClientFault.{ClientFault}
+use Rattle.gsession.specs.declared.taken.LsTaken.{LsTaken}
+use Rattle.gsession.specs.Sessions.{SessionState}
+use Rattle.gsession.specs.declared.taken.Taken.{Taken}
 
 -- a client in its conversation: its session and its repository, and what it knows of an unborn HEAD
 pub record ClientState (A : Type 0) : Type 0 where

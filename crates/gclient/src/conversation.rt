@@ -1,5 +1,4 @@
 //! A conversation, from the advertisement to the refs here that move.
-#![tactic(auto)]
 
 ghost use Rattle.std.specs.Prelude.{◌≡◌, ◌≤◌, ◌+◌, ℕ, Option, None, false, length, IfOk, OnErr, OnOk};
 ghost use Rattle.gname.specs.Names.{Name};

@@ -1,5 +1,4 @@
 //! Why a conversation failed.
-#![tactic(auto)]
 
 ghost use Rattle.std.specs.Prelude.{◌≡◌, Some};
 ghost use Rattle.gclient.specs.Faults.{fetch_fault_row, fetch_fault_text};

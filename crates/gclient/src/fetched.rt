@@ -1,5 +1,4 @@
 //! What a conversation brought.
-#![tactic(auto)]
 
 use gname::RefName;
 use gsession::Settled;

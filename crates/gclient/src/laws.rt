@@ -1,5 +1,4 @@
 //! The laws of conversations: functions without effect, whose contracts they are.
-#![tactic(auto)]
 
 ghost use Rattle.gclient.specs.Laws.{EndsAreFew, FailingKeepsRefs, FetchingGrows, NextIsFew, RoundsAreAsked};
 ghost use Rattle.gclient.specs.Laws.{TalksAreFew};

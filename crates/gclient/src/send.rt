@@ -1,5 +1,4 @@
 //! Requests, written and passed on.
-#![tactic(auto)]
 
 ghost use Rattle.std.specs.Prelude.{◌≡◌, false, OnOk};
 ghost use Rattle.gpkt.specs.Sending.{output_of};

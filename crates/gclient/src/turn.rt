@@ -1,5 +1,4 @@
 //! The turns of a conversation.
-#![tactic(auto)]
 
 ghost use Rattle.std.specs.Prelude.{◌≡◌, true, false, Option, None, OnOk};
 ghost use Rattle.gname.specs.Names.{Name};

@@ -1,15 +1,25 @@
 -- Asks, and the pairs of their map.
 use Rattle.std.proofs.Common.{◌≡◌, ◌≢◌, ◌||◌, ◌≤◌, ℕ, Bool, true, false, cond, if◌then◌else◌, nat_eq, List, [], ◌∷◌, ◌++◌, length, map, get_or, Option, None, Some, refl, sym, ap, ◌∙◌, arith}
-use Rattle.std.proofs.lemmas.{Bool.false≢true, Cmp.nat_list_eq_equiv}
-use Rattle.std.proofs.lemmas.{List.{length-map, map-append}, List.Folds.list_any_at, List.Quantifiers.all_pairs_push}
-use Rattle.std.proofs.lemmas.{Option.{slice_get-map}, Slice.Eq.bytes_eq-Decides}
-use Rattle.std.specs.{Borrow.Bor, Cmp.Lexicographic.pointwise, List.slice_get, Map.{lookup, values_of}}
-use Rattle.std.specs.{Map.Iter.deref_pair, Option.{is_some, option_map, MatchOption}, Str.bytes_eq}
+use Rattle.std.proofs.lemmas.Bool.{false≢true}
+use Rattle.std.proofs.lemmas.Cmp.{nat_list_eq_equiv}
+use Rattle.std.proofs.lemmas.List.{length-map, map-append}
+use Rattle.std.proofs.lemmas.List.Folds.{list_any_at}
+use Rattle.std.proofs.lemmas.List.Quantifiers.{all_pairs_push}
+use Rattle.std.proofs.lemmas.Option.{slice_get-map}
+use Rattle.std.proofs.lemmas.Slice.Eq.{bytes_eq-Decides}
+use Rattle.std.specs.Borrow.{Bor}
+use Rattle.std.specs.Cmp.Lexicographic.{pointwise}
+use Rattle.std.specs.List.{slice_get}
+use Rattle.std.specs.Map.{lookup, values_of}
+use Rattle.std.specs.Map.Iter.{deref_pair}
+use Rattle.std.specs.Option.{is_some, option_map, MatchOption}
+use Rattle.std.specs.Str.{bytes_eq}
 use Rattle.indexmap.specs.IndexMap.{IndexMap, insert_entry}
 use Rattle.indexmap.proofs.CallerLemmas.{insert_entry-new}
 use Rattle.gdag.proofs.Pairs.{past}
 use Rattle.gclientrepo.specs.Asks.{NamesDiffer, aimed, asked_ids, asks_of, is_asked, with_ask}
-use Rattle.gclientrepo.specs.declared.{ask.Ask.Ask, asks.Aim.Aim}
+use Rattle.gclientrepo.specs.declared.ask.Ask.{Ask}
+use Rattle.gclientrepo.specs.declared.asks.Aim.{Aim}
 
 -- no value is there
 none_there : {X : Type 0} (found : Option X) → is_some found ≡ false → found ≡ None

@@ -2,18 +2,32 @@
 use Rattle.std.proofs.Common.{◌≡◌, ◌⊎◌, inl, inr, ℕ, ◌+◌, Bool, true, false, List, [], ◌∷◌, ◌++◌, take, drop, get_or, All, Contains, Option, None, Some, refl, sym, ap, ◌∙◌, subst, arith}
 use Rattle.std.proofs.lemmas.List.{drop_more, get_or-map, length-map, take-append-drop}
 use Rattle.std.proofs.lemmas.List.Elements.{All-contains, All-weaker}
-use Rattle.std.proofs.lemmas.{Map.Text.is_eq-slice_cmp, Option.{none-some, same_Some}, Slice.Eq.bytes_eq-Decides}
-use Rattle.std.specs.{List.slice_get, Ordering.is_eq, Str.bytes_eq}
+use Rattle.std.proofs.lemmas.Map.Text.{is_eq-slice_cmp}
+use Rattle.std.proofs.lemmas.Option.{none-some, same_Some}
+use Rattle.std.proofs.lemmas.Slice.Eq.{bytes_eq-Decides}
+use Rattle.std.specs.List.{slice_get}
+use Rattle.std.specs.Ordering.{is_eq}
+use Rattle.std.specs.Str.{bytes_eq}
 use Rattle.gobject.specs.declared.node.Entry.{Entry}
-use Rattle.gdag.specs.{Graphs.History, Laws.ReachingGoesOn, Reach.IsFull}
-use Rattle.gdag.proofs.{IdLists.contains_tail, Pairs.past}
-use Rattle.grefs.specs.{Laws.RefsComeInOrder, RefLists.{AreBelow, IsRefs, RefList, ref_at}}
+use Rattle.gdag.specs.Graphs.{History}
+use Rattle.gdag.specs.Laws.{ReachingGoesOn}
+use Rattle.gdag.specs.Reach.{IsFull}
+use Rattle.gdag.proofs.IdLists.{contains_tail}
+use Rattle.gdag.proofs.Pairs.{past}
+use Rattle.grefs.specs.Laws.{RefsComeInOrder}
+use Rattle.grefs.specs.RefLists.{AreBelow, IsRefs, RefList, ref_at}
 use Rattle.grefs.proofs.RefLemmas.{ref_at-hit, ref_at-skip}
 use Rattle.gwalk.specs.Marks.{AreFull, MarksReached}
-use Rattle.gclientrepo.specs.{Asks.asked_ids, Changes.Marks, Laws.{SettingStaysWhole, SettlingStaysWhole}}
-use Rattle.gclientrepo.specs.{Repos.{IsWhole, RepoState}, Settling.Settles}
-use Rattle.gclientrepo.specs.{declared.ask.Ask.Ask, declared.ask.RefUpdate.RefUpdate, steps.Repos.ComeFrom}
-use Rattle.gclientrepo.proofs.{OneSettling.{some_mover, stands}, RepoLemmas.{set_from, whole_installed}}
+use Rattle.gclientrepo.specs.Asks.{asked_ids}
+use Rattle.gclientrepo.specs.Changes.{Marks}
+use Rattle.gclientrepo.specs.Laws.{SettingStaysWhole, SettlingStaysWhole}
+use Rattle.gclientrepo.specs.Repos.{IsWhole, RepoState}
+use Rattle.gclientrepo.specs.Settling.{Settles}
+use Rattle.gclientrepo.specs.declared.ask.Ask.{Ask}
+use Rattle.gclientrepo.specs.declared.ask.RefUpdate.{RefUpdate}
+use Rattle.gclientrepo.specs.steps.Repos.{ComeFrom}
+use Rattle.gclientrepo.proofs.OneSettling.{some_mover, stands}
+use Rattle.gclientrepo.proofs.RepoLemmas.{set_from, whole_installed}
 
 -- ---- what a look-up finds
 

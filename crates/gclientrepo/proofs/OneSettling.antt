@@ -1,13 +1,19 @@
 -- There is one settling of some asks.
 use Rattle.std.proofs.Common.{◌≡◌, ◌≢◌, ◌⊎◌, inl, inr, ℕ, Bool, true, false, List, [], ◌∷◌, All, Contains, Some, refl, sym, ap, ◌∙◌, subst, suc, arith}
 use Rattle.std.proofs.lemmas.Bool.{false≢true}
-use Rattle.std.proofs.lemmas.{List.Elements.{All-contains, All-cons, All-nil}, Slice.Eq.bytes_eq-Decides}
-use Rattle.std.specs.{List.AllZip, Str.bytes_eq}
+use Rattle.std.proofs.lemmas.List.Elements.{All-contains, All-cons, All-nil}
+use Rattle.std.proofs.lemmas.Slice.Eq.{bytes_eq-Decides}
+use Rattle.std.specs.List.{AllZip}
+use Rattle.std.specs.Str.{bytes_eq}
 use Rattle.gobject.specs.declared.node.Entry.{Entry}
 use Rattle.gdag.specs.Reach.{here}
-use Rattle.grefs.specs.{Laws.RefsAreTheirLookUps, RefLists.{RefList, ref_at}}
-use Rattle.gclientrepo.specs.{Laws.OneSettling, Settling.{IsUpdate, MayMove, Settles}}
-use Rattle.gclientrepo.specs.declared.ask.{Ask.Ask, RefUpdate.{RefUpdate, TheVariants.{Moved, Same, NotForward}}}
+use Rattle.grefs.specs.Laws.{RefsAreTheirLookUps}
+use Rattle.grefs.specs.RefLists.{RefList, ref_at}
+use Rattle.gclientrepo.specs.Laws.{OneSettling}
+use Rattle.gclientrepo.specs.Settling.{IsUpdate, MayMove, Settles}
+use Rattle.gclientrepo.specs.declared.ask.Ask.{Ask}
+use Rattle.gclientrepo.specs.declared.ask.RefUpdate.{RefUpdate}
+use Rattle.gclientrepo.specs.declared.ask.RefUpdate.TheVariants.{Moved, Same, NotForward}
 
 module _ {A : Type 0} where
   one_update : (g : List (Entry A)) (old : RefList) (ask : Ask A) (u v : RefUpdate) → IsUpdate g old ask u → IsUpdate g old ask v → u ≡ v

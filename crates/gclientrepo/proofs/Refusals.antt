@@ -3,8 +3,11 @@ use Rattle.std.proofs.Common.{◌≡◌, ℕ, List, Err}
 use Rattle.gobject.specs.declared.node.Entry.{Entry}
 use Rattle.gdag.specs.declared.fault.GraphFault.TheVariants as graph
 use Rattle.grefs.specs.declared.fault.RefsFault.TheVariants as refs
-use Rattle.gclientrepo.specs.{Changes.{AddsLocal, SetsLocal, SettlesAsks}, Laws.RefusalsChangeNothing}
-use Rattle.gclientrepo.specs.{Repos.RepoState, declared.ask.Ask.Ask, declared.fault.RepoFault.RepoFault}
+use Rattle.gclientrepo.specs.Changes.{AddsLocal, SetsLocal, SettlesAsks}
+use Rattle.gclientrepo.specs.Laws.{RefusalsChangeNothing}
+use Rattle.gclientrepo.specs.Repos.{RepoState}
+use Rattle.gclientrepo.specs.declared.ask.Ask.{Ask}
+use Rattle.gclientrepo.specs.declared.fault.RepoFault.{RepoFault}
 use Rattle.gclientrepo.specs.declared.fault.RepoFault.TheVariants.{NotHeld, NotConnected, MissingParent, Graph, Refs}
 
 module _ {A : Type 0} where

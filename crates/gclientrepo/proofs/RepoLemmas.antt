@@ -1,14 +1,22 @@
 -- Facts on connected repositories.
 use Rattle.std.proofs.Common.{◌≡◌, ◌⊎◌, inl, inr, ℕ, ◌+◌, ◌<◌, Bool, true, false, List, [], ◌∷◌, ◌++◌, length, take, drop, get_or, All, Contains, Option, None, Some, refl, sym, ap, ◌∙◌, subst, arith}
-use Rattle.std.proofs.lemmas.{Bool.false≢true, List.{drop_more, get_or-map, length-map, take-append-drop, take-map}}
+use Rattle.std.proofs.lemmas.Bool.{false≢true}
+use Rattle.std.proofs.lemmas.List.{drop_more, get_or-map, length-map, take-append-drop, take-map}
 use Rattle.std.proofs.lemmas.List.Elements.{All-contains, All-map, All-more, All-weaker}
-use Rattle.std.specs.{Map.values_of, Option.is_some}
-use Rattle.gobject.specs.{Objects.node_at, declared.node.Entry.Entry}
+use Rattle.std.specs.Map.{values_of}
+use Rattle.std.specs.Option.{is_some}
+use Rattle.gobject.specs.Objects.{node_at}
+use Rattle.gobject.specs.declared.node.Entry.{Entry}
 use Rattle.ggraph.specs.SafeRefs.{SafeStays}
-use Rattle.gdag.specs.{Graphs.History, Laws.GrowingKeeps, Reach.IsFull, Walks.Misses}
+use Rattle.gdag.specs.Graphs.{History}
+use Rattle.gdag.specs.Laws.{GrowingKeeps}
+use Rattle.gdag.specs.Reach.{IsFull}
+use Rattle.gdag.specs.Walks.{Misses}
 use Rattle.grefs.specs.RefLists.{RefList, SetsRef}
 use Rattle.gwalk.specs.Marks.{AreFull, CoveringStays, MarksReached, MarksStayFull}
-use Rattle.gclientrepo.specs.{Laws.WholeStays, Repos.{IsFirstUnsafe, IsWhole}, steps.Repos.{ComeFrom, IsFirstLost}}
+use Rattle.gclientrepo.specs.Laws.{WholeStays}
+use Rattle.gclientrepo.specs.Repos.{IsFirstUnsafe, IsWhole}
+use Rattle.gclientrepo.specs.steps.Repos.{ComeFrom, IsFirstLost}
 
 value_there : (refs : RefList) (ref : List ℕ × List ℕ) → Contains refs ref → Contains (values_of refs) ref.1
 value_there refs ref there =

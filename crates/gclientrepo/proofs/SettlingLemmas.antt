@@ -3,18 +3,24 @@ use Rattle.std.proofs.Common.{◌≡◌, ◌≢◌, inl, inr, ℕ, ◌+◌, ◌<
 use Rattle.std.proofs.lemmas.List.{get_or_default, get_or-map, get_or-take, length-map, length-take}
 use Rattle.std.proofs.lemmas.List.Elements.{All-contains, All-map, All-more, All-nil, All-push}
 use Rattle.std.proofs.lemmas.List.Sums.{count_by_more_yes, sum_by_push, sum_by-take-le}
-use Rattle.std.specs.{List.AllZip, Option.is_none}
+use Rattle.std.specs.List.{AllZip}
+use Rattle.std.specs.Option.{is_none}
 use Rattle.gname.specs.Names.{head_name}
 use Rattle.gname.proofs.ListLemmas.{All-parts}
 use Rattle.gobject.specs.declared.node.Entry.{Entry}
 use Rattle.gdag.specs.Reach.{IsFull}
 use Rattle.gdag.specs.declared.fault.GraphFault.TheVariants as graph
-use Rattle.grefs.specs.{RefLists.{RefList, CannotSet, SetsRef, ref_at}, declared.fault.RefsFault.RefsFault}
+use Rattle.grefs.specs.RefLists.{RefList, CannotSet, SetsRef, ref_at}
+use Rattle.grefs.specs.declared.fault.RefsFault.{RefsFault}
 use Rattle.grefs.specs.declared.fault.RefsFault.TheVariants as refs
-use Rattle.gclientrepo.specs.{Changes.{SetsLocal, SettlesAsks}, Repos.RepoState}
+use Rattle.gclientrepo.specs.Changes.{SetsLocal, SettlesAsks}
+use Rattle.gclientrepo.specs.Repos.{RepoState}
 use Rattle.gclientrepo.specs.Settling.{CannotSettle, IsUpdate, MayMove, NamesDiffer, asked_ids, is_new}
-use Rattle.gclientrepo.specs.declared.ask.{Ask.Ask, RefUpdate.{RefUpdate, TheVariants.{Moved, Same, NotForward}}}
-use Rattle.gclientrepo.specs.declared.fault.RepoFault.{RepoFault, TheVariants.{Graph, Refs}}
+use Rattle.gclientrepo.specs.declared.ask.Ask.{Ask}
+use Rattle.gclientrepo.specs.declared.ask.RefUpdate.{RefUpdate}
+use Rattle.gclientrepo.specs.declared.ask.RefUpdate.TheVariants.{Moved, Same, NotForward}
+use Rattle.gclientrepo.specs.declared.fault.RepoFault.{RepoFault}
+use Rattle.gclientrepo.specs.declared.fault.RepoFault.TheVariants.{Graph, Refs}
 use Rattle.gclientrepo.specs.steps.Settling.{HasSettled, IsRefusal, Sets, TakesAsk}
 
 -- one more pair of two lists

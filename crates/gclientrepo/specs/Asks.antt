@@ -2,8 +2,10 @@
 use Rattle.std.specs.List.{list_any}
 use Rattle.std.specs.Prelude.{◌≡◌, ◌≢◌, ℕ, Bool, List, [], ◌∷◌, ◌++◌, map, slice_get, AllPairs, Some, if◌then◌else◌}
 use Rattle.std.specs.Str.{bytes_eq}
-use Rattle.gname.specs.{Ids.Id, Names.Name}
-use Rattle.gclientrepo.specs.declared.{ask.Ask.Ask, asks.Aim.Aim}
+use Rattle.gname.specs.Ids.{Id}
+use Rattle.gname.specs.Names.{Name}
+use Rattle.gclientrepo.specs.declared.ask.Ask.{Ask}
+use Rattle.gclientrepo.specs.declared.asks.Aim.{Aim}
 
 -- no two asks are for one ref
 abbrev pub NamesDiffer : {A : Type 0} → List (Ask A) → Type 0

@@ -1,15 +1,23 @@
 -- What the calls on a client's repository answer, and what they change.
-use Rattle.std.specs.{Map.values_of, Prelude.{◌≡◌, ⊤, Bool, List, [], ◌∷◌, All, Some, Result, Ok, Err}}
-use Rattle.gname.specs.{Ids.Id, Names.Name}
+use Rattle.std.specs.Map.{values_of}
+use Rattle.std.specs.Prelude.{◌≡◌, ⊤, Bool, List, [], ◌∷◌, All, Some, Result, Ok, Err}
+use Rattle.gname.specs.Ids.{Id}
+use Rattle.gname.specs.Names.{Name}
 use Rattle.gobject.specs.declared.node.Entry.{Entry}
-use Rattle.gdag.specs.{Graphs.{History, Holds, IsFirstAbsent}, Insert.{AddsOne, IsCause}, Reach.IsFull, Walks.Misses}
+use Rattle.gdag.specs.Graphs.{History, Holds, IsFirstAbsent}
+use Rattle.gdag.specs.Insert.{AddsOne, IsCause}
+use Rattle.gdag.specs.Reach.{IsFull}
+use Rattle.gdag.specs.Walks.{Misses}
 use Rattle.gdag.specs.declared.fault.GraphFault.TheVariants as graph
 use Rattle.grefs.specs.RefLists.{RefList, CannotSet, SetsRef}
 use Rattle.grefs.specs.declared.fault.RefsFault.TheVariants as refs
 use Rattle.gwalk.specs.Marks.{MarksReached}
 use Rattle.gclientrepo.specs.declared.fault.RepoFault.TheVariants.{UnsafeRef, NotHeld, NotConnected, MissingParent, Graph, Refs}
-use Rattle.gclientrepo.specs.{Repos.{RepoState, IsFirstUnsafe}, Settling.{CannotSettle, Settles, asked_ids}}
-use Rattle.gclientrepo.specs.declared.{ask.Ask.Ask, ask.RefUpdate.RefUpdate, fault.RepoFault.RepoFault}
+use Rattle.gclientrepo.specs.Repos.{RepoState, IsFirstUnsafe}
+use Rattle.gclientrepo.specs.Settling.{CannotSettle, Settles, asked_ids}
+use Rattle.gclientrepo.specs.declared.ask.Ask.{Ask}
+use Rattle.gclientrepo.specs.declared.ask.RefUpdate.{RefUpdate}
+use Rattle.gclientrepo.specs.declared.fault.RepoFault.{RepoFault}
 
 -- what making a repository answers: it holds what was given, and what its refs reach is marked; or the first ref that
 -- is not connected; or out of memory

@@ -1,11 +1,19 @@
 -- What follows from the definitions of a repository and of settling.
 use Rattle.std.specs.Prelude.{◌≡◌, Bool, List, All, Some, Ok, Err}
-use Rattle.gname.specs.{Ids.Id, Names.Name}
-use Rattle.gobject.specs.{Objects.IdsDiffer, declared.node.Entry.Entry}
-use Rattle.gdag.specs.{Graphs.History, Reach.{Grows, IsFull}, Walks.Misses}
+use Rattle.gname.specs.Ids.{Id}
+use Rattle.gname.specs.Names.{Name}
+use Rattle.gobject.specs.Objects.{IdsDiffer}
+use Rattle.gobject.specs.declared.node.Entry.{Entry}
+use Rattle.gdag.specs.Graphs.{History}
+use Rattle.gdag.specs.Reach.{Grows, IsFull}
+use Rattle.gdag.specs.Walks.{Misses}
 use Rattle.grefs.specs.RefLists.{RefList, IsRefs}
-use Rattle.gclientrepo.specs.{Changes.{AddsLocal, SetsLocal, SettlesAsks}, Repos.{IsWhole, RepoState}, Settling.Settles}
-use Rattle.gclientrepo.specs.declared.{ask.Ask.Ask, ask.RefUpdate.RefUpdate, fault.RepoFault.RepoFault}
+use Rattle.gclientrepo.specs.Changes.{AddsLocal, SetsLocal, SettlesAsks}
+use Rattle.gclientrepo.specs.Repos.{IsWhole, RepoState}
+use Rattle.gclientrepo.specs.Settling.{Settles}
+use Rattle.gclientrepo.specs.declared.ask.Ask.{Ask}
+use Rattle.gclientrepo.specs.declared.ask.RefUpdate.{RefUpdate}
+use Rattle.gclientrepo.specs.declared.fault.RepoFault.{RepoFault}
 
 -- a repository stays connected where objects come to its graph
 abbrev pub WholeStays : Type 0 → Type 0

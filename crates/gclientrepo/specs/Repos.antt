@@ -1,10 +1,13 @@
 -- A client's repository: objects, refs, and marks of connected objects. Git's manuals leave open what a client keeps;
 -- that it keeps these marks, and that its repository is connected at all times, is our own rule.
-use Rattle.std.specs.{Map.values_of, Prelude.{◌≡◌, List, Bool, ◌∷◌, ◌++◌}}
-use Rattle.gname.specs.{Ids.Id, Names.Name}
+use Rattle.std.specs.Map.{values_of}
+use Rattle.std.specs.Prelude.{◌≡◌, List, Bool, ◌∷◌, ◌++◌}
+use Rattle.gname.specs.Ids.{Id}
+use Rattle.gname.specs.Names.{Name}
 use Rattle.gobject.specs.declared.node.Entry.{Entry}
 use Rattle.ggraph.specs.SafeRefs.{IsSafe}
-use Rattle.gdag.specs.{Graphs.History, Reach.IsFull}
+use Rattle.gdag.specs.Graphs.{History}
+use Rattle.gdag.specs.Reach.{IsFull}
 use Rattle.grefs.specs.RefLists.{RefList}
 use Rattle.gwalk.specs.Marks.{AreFull, Covers}
 

@@ -4,11 +4,14 @@ pub use Rattle.gclientrepo.specs.Asks.{NamesDiffer, asked_ids}
 use Rattle.std.specs.List.{AllZip}
 use Rattle.std.specs.Prelude.{◌≡◌, ◌≢◌, ◌⊎◌, ◌+◌, ◌<◌, Bool, List, length, map, count_by, All, Contains, IsTrue, None}
 use Rattle.std.specs.Prelude.{Some, is_none}
-use Rattle.gname.specs.{Ids.Id, Names.{Name, head_name}}
+use Rattle.gname.specs.Ids.{Id}
+use Rattle.gname.specs.Names.{Name, head_name}
 use Rattle.gobject.specs.declared.node.Entry.{Entry}
 use Rattle.gdag.specs.Reach.{Reaches}
 use Rattle.grefs.specs.RefLists.{RefList, max_refs, ref_at}
-use Rattle.gclientrepo.specs.declared.ask.{Ask.Ask, RefUpdate.{RefUpdate, TheVariants.{Moved, Same, NotForward}}}
+use Rattle.gclientrepo.specs.declared.ask.Ask.{Ask}
+use Rattle.gclientrepo.specs.declared.ask.RefUpdate.{RefUpdate}
+use Rattle.gclientrepo.specs.declared.ask.RefUpdate.TheVariants.{Moved, Same, NotForward}
 
 -- a ref may come to stand at the id: it is new, or is moved by force, or the id reaches the one at which it stands
 abbrev pub MayMove : {A : Type 0} → List (Entry A) → RefList → Ask A → Type 0

@@ -1,5 +1,4 @@
 //! What is asked of a ref, and what becomes of it.
-#![tactic(auto)]
 
 use gname::{Oid, RefName};
 use std::alloc::{Allocator, Global};

@@ -1,5 +1,4 @@
 //! What is asked of several refs.
-#![tactic(auto)]
 
 ghost use Rattle.std.specs.Prelude.{◌≡◌, ◌≤◌, ◌<◌, ◌↔◌, [], IfOk, IsTrue, MatchOption, OnErr, OnOk, Some, length, map, slice_get};
 ghost use Rattle.indexmap.specs.IndexMap.{values};

@@ -1,5 +1,4 @@
 //! What a call on a repository refuses.
-#![tactic(auto)]
 
 ghost use Rattle.std.specs.Prelude.{◌≡◌, Some};
 ghost use Rattle.gdag.specs.declared.fault.GraphFault.TheVariants.{Memory};

@@ -1,5 +1,4 @@
 //! The laws of repositories: functions without effect, whose contracts they are.
-#![tactic(auto)]
 
 ghost use Rattle.gclientrepo.specs.Laws.{HeldIsNotMissing, OneSettling, RefusalsChangeNothing, SettingStaysWhole, SettlingStaysWhole, WholeStays};
 

@@ -1,5 +1,4 @@
 //! Which ref is the first that is not connected.
-#![tactic(auto)]
 
 ghost use Rattle.std.specs.Prelude.{◌≡◌, All, IfErr, IfOk};
 ghost use Rattle.std.specs.Map.{values_of};

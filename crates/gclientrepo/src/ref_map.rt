@@ -1,5 +1,4 @@
 //! Refs while they are set one after the other.
-#![tactic(auto)]
 
 ghost use Rattle.std.specs.Prelude.{◌≡◌, ◌≢◌, ◌≤◌, ◌<◌, ◌⊎◌, false, IfOk, IsTrue, None, is_some, length};
 ghost use Rattle.grefs.specs.RefLists.{IsRefs, max_refs, ref_at};

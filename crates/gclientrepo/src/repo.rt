@@ -1,5 +1,4 @@
 //! A client's repository.
-#![tactic(auto)]
 
 ghost use Rattle.std.specs.Prelude.{◌≡◌, ◌⊎◌, [], ◌∷◌, All, Contains, IfErr, IfOk, MatchResult, OnOk};
 ghost use Rattle.gname.specs.Ids.{Id};

@@ -1,5 +1,4 @@
 //! What becomes of the refs that are asked for (git-fetch(1), "<refspec>").
-#![tactic(auto)]
 
 ghost use Rattle.std.specs.Prelude.{◌≡◌, ◌↔◌, Contains, IfErr, IfOk, IsTrue, MatchResult, count_by, map};
 ghost use Rattle.gdag.specs.declared.fault.GraphFault.TheVariants.{Memory};

@@ -1,5 +1,4 @@
 //! Whether a graph is closed.
-#![tactic(auto)]
 
 ghost use Rattle.std.specs.Prelude.{◌↔◌, All, IsTrue};
 ghost use Rattle.gdag.specs.Graphs.{HoldsParents, IsGraph};

@@ -1,5 +1,4 @@
 //! The distinct ids of a list.
-#![tactic(auto)]
 
 ghost use Rattle.std.specs.Prelude.{◌≡◌, IfOk};
 ghost use Rattle.gdag.specs.Levels.{distinct_of};

@@ -1,5 +1,4 @@
 //! What a call on a graph refuses.
-#![tactic(auto)]
 
 ghost use Rattle.std.specs.Prelude.{◌≡◌, Some};
 ghost use Rattle.gdag.specs.Faults.{graph_fault_row, graph_fault_text};

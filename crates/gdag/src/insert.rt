@@ -1,5 +1,4 @@
 //! Adding entries to a graph, all or none.
-#![tactic(auto)]
 
 ghost use Rattle.std.specs.Prelude.{◌≡◌, ◌<◌, ◌++◌, ◌∷◌, ◌↔◌, [], length, None, MatchResult, OnOk, IsTrue, All};
 ghost use Rattle.gobject.specs.Objects.{IsShaped, node_at};

@@ -1,5 +1,4 @@
 //! The laws of graphs: functions without effect, whose contracts they are.
-#![tactic(auto)]
 
 ghost use Rattle.std.specs.Prelude.{◌≡◌};
 ghost use Rattle.gdag.specs.Laws.{EntriesComeInOrder, OneCause, OneRefusal, WholeListsComeIn, ClosedIsFull, ReachingGoesOn, FullStaysFull, PathsAreShared, GrowingKeeps, GrowingGoesOn, ComingGrows, HoldingIsANode, KeepingHolds, KeepingReaches, AgreeingStays, AgreeingEntriesFit, PeelsToOne, PeelsAlongTags, OrderedIsClosed, ReachingGoesDown, ClosedStays, PlacesAreNodes, OneListToSend, SentAreEntries, SendingIsEnough, KeepingHasAll, ReachedAreCounted, CountsStay, LevelsAreDistances, LevelsAreReached, OffersAreExact, CommonsAreHeld, DistinctAreOnce};

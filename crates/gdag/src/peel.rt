@@ -1,5 +1,4 @@
 //! From a tag to the commit at the end of its chain.
-#![tactic(auto)]
 
 ghost use Rattle.std.specs.Prelude.{◌≡◌, IfSome, Some};
 ghost use Rattle.gname.specs.Ids.{Id};

@@ -7,7 +7,7 @@ use Rattle.ggrammar.specs.Endings.{ends_with}
 use Rattle.ggrammar.specs.declared.ends.Ends.{Ends}
 use Rattle.ggrammar.specs.declared.ends.Ends.TheVariants.{Plain, Response}
 use Rattle.ggrammar.specs.declared.fault.Why.{Why}
-use Rattle.gfetchreply.proofs.ReplyForms.{word_there}
+use Rattle.gfetchreply.proofs.ReplyForms.{word_there, form_reports_none}
 use Rattle.gfetchreply.specs.FetchReplies.{Reading, State, Place, Start, Acking, AfterNak, AfterReady, BeforePack, InPack, Over}
 use Rattle.gfetchreply.specs.FetchReplies.{ReplyForm, Acknowledgments, Nak, Readiness, Packfile, Ack, reply_form}
 use Rattle.gfetchreply.specs.FetchReplies.{max_acks, max_packets, state_of, judge, judge_at, judge_start, judge_before_pack, next_place, bands_there}
@@ -15,7 +15,6 @@ use Rattle.gfetchreply.proofs.ReplyVerdicts.{state_after, OpenFrom-from_open, Is
 use Rattle.gfetchreply.proofs.ReplyVerdicts.{start, state_from_start, judge_is, IsWholeAt, IsOpenAt, at_place}
 use Rattle.gfetchreply.proofs.ReplyVerdicts.{data_open, open_data, start_open, before_open, late_not_open, AckingOn}
 use Rattle.gfetchreply.proofs.ReplyVerdicts.{an_ack, a_nak, a_readiness, acking_open, BandOn, band_open, over_not_open}
-use Rattle.gfetchreply.proofs.ReplyForms.{form_reports_none}
 use Rattle.gfetchreply.proofs.ReplySections.{onward, rest_flush, next-heading, next-delim, next-packfile}
 use Rattle.gfetchreply.proofs.StateLemmas.{acks_there, moved, moves, next_state, state-ack, state-acking, state-band}
 

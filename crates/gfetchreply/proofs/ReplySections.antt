@@ -12,13 +12,12 @@ use Rattle.ggrammar.specs.declared.ends.Ends.{Ends}
 use Rattle.ggrammar.specs.declared.ends.Ends.TheVariants.{Plain, Response}
 use Rattle.ggrammar.specs.declared.fault.Why.{Why}
 use Rattle.gfetchreply.specs.FetchManual.{IsDataOrProgress, IsPackSection, IsAck}
-use Rattle.gfetchreply.proofs.ReplyForms.{form_there, word_there}
+use Rattle.gfetchreply.proofs.ReplyForms.{form_there, word_there, form_reports_none, band_reports_none}
 use Rattle.gfetchreply.specs.FetchReplies.{Reading, State, Place, Start, Acking, AfterReady, BeforePack, InPack, Over}
 use Rattle.gfetchreply.specs.FetchReplies.{Acknowledgments, Packfile, reply_form, max_packets, data_in, data_of}
 use Rattle.gfetchreply.specs.FetchReplies.{judge_at, judge_before_pack, next_place, after_text}
 use Rattle.gfetchreply.specs.FetchReplies.{AfterNak, ReplyForm, Nak, Readiness, Ack, ack_id, max_acks}
 use Rattle.gfetchreply.specs.FetchReplies.{judge_acking, judge_start, judge_there, judge_payload}
-use Rattle.gfetchreply.proofs.ReplyForms.{form_reports_none, band_reports_none}
 use Rattle.gfetchreply.proofs.ReplyVerdicts.{IsWholeAt, at_place, data_open, open_data, data_not_whole, before_open}
 use Rattle.gfetchreply.proofs.ReplyVerdicts.{BandOn, band_open, open_band, over_whole, over_not_open}
 use Rattle.gfetchreply.proofs.ReplyVerdicts.{start_open, late_not_open, AckingOn, an_ack, a_nak, a_readiness}

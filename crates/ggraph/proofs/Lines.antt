@@ -1,7 +1,8 @@
 -- Lines of a text: none has an LF, so that a text has one list of lines.
 use Rattle.std.specs.Prelude.{⊤}
 use Rattle.std.proofs.Common.{◌≡◌, ◌≢◌, ℕ, suc, ◌<◌, List, [], ◌∷◌, ◌++◌, refl, sym, ◌∙◌, ap, ap₂, arith}
-use Rattle.std.proofs.lemmas.{List.{append_assoc, append-nil}, List.Elements.{All-head, All-tail}}
+use Rattle.std.proofs.lemmas.List.{append_assoc, append-nil}
+use Rattle.std.proofs.lemmas.List.Elements.{All-head, All-tail}
 use Rattle.gname.specs.Laws.{IsClean}
 use Rattle.gobject.specs.PlainPackText.{IsInLine, line, text_of}
 

@@ -1,8 +1,12 @@
 -- The items that the lines of a text stand for, one after the other, and reading one line more.
 use Rattle.std.specs.Prelude.{◌==◌}
 use Rattle.std.proofs.Common.{true, ◌≡◌, ℕ, ◌+◌, ◌≤◌, List, [], ◌∷◌, ◌++◌, length, map, refl, sym, ◌∙◌, ap, subst, arith}
-use Rattle.std.proofs.lemmas.{Bool.Decides.nat_tests, List.{append_assoc, append-nil, length-append, map_push}}
-use Rattle.ggraph.specs.declared.text.{Order.Order, reading.Reading.Reading, reading.Stage.{Stage, TheVariants.Done}}
+use Rattle.std.proofs.lemmas.Bool.Decides.{nat_tests}
+use Rattle.std.proofs.lemmas.List.{append_assoc, append-nil, length-append, map_push}
+use Rattle.ggraph.specs.declared.text.Order.{Order}
+use Rattle.ggraph.specs.declared.text.reading.Reading.{Reading}
+use Rattle.ggraph.specs.declared.text.reading.Stage.{Stage}
+use Rattle.ggraph.specs.declared.text.reading.Stage.TheVariants.{Done}
 use Rattle.ggraph.specs.steps.Reading.{Item, MayCome, ComesNext, after, line_of, nothing_read}
 use Rattle.gobject.specs.PlainPackText.{line, text_of}
 use Rattle.gobject.proofs.PlainPackLines.{text_of-append}

@@ -1,14 +1,19 @@
 -- What a graph, refs and HEAD hold may be loaded, in any order of nodes, where all ids are of one format.
 use Rattle.std.proofs.Common.{ℕ, List, [], ◌∷◌, ◌++◌, All, subst}
 use Rattle.std.proofs.lemmas.List.Elements.{All-cons, All-head, All-nil, All-tail}
-use Rattle.gname.specs.{Ids.IsIdOf, declared.formats.Format.Format}
+use Rattle.gname.specs.Ids.{IsIdOf}
+use Rattle.gname.specs.declared.formats.Format.{Format}
 use Rattle.gobject.specs.declared.node.Entry.{Entry}
-use Rattle.gdag.specs.{Graphs.{History, IsGraph}, Laws.EntriesComeInOrder}
+use Rattle.gdag.specs.Graphs.{History, IsGraph}
+use Rattle.gdag.specs.Laws.{EntriesComeInOrder}
 use Rattle.grefs.specs.Laws.{RefsComeInOrder}
-use Rattle.grefs.specs.{RefLists.{IsRefs, RefList}, declared.head.Head.{Head, TheVariants.{Id, Symref, None}}}
+use Rattle.grefs.specs.RefLists.{IsRefs, RefList}
+use Rattle.grefs.specs.declared.head.Head.{Head}
+use Rattle.grefs.specs.declared.head.Head.TheVariants.{Id, Symref, None}
 use Rattle.ggraph.specs.RepositoryText.{EachFollows, IsHead, IsLoadable, MayFollow, RefMayFollow}
 use Rattle.ggraph.specs.Saving.{head_ids, named_ids, ref_ids}
-use Rattle.ggraph.specs.{declared.text.Order.TheVariants.Any, steps.Saving.PointsBelowRefs}
+use Rattle.ggraph.specs.declared.text.Order.TheVariants.{Any}
+use Rattle.ggraph.specs.steps.Saving.{PointsBelowRefs}
 
 nodes_follow : {A : Type 0} → EntriesComeInOrder A → (g : History A) → IsGraph g → EachFollows (MayFollow Any g.format) g.entries
 nodes_follow {A} law g graph front x rest e =

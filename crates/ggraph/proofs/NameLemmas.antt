@@ -1,6 +1,8 @@
 -- Names, out of memory.
 use Rattle.std.proofs.Common.{◌≡◌, ◌⊎◌, inl, inr, ℕ, List, None, Some, ap, ◌∙◌}
-use Rattle.gname.specs.{Names.{IsRefName, name_fault}, declared.faults.NameFault.{NameFault, TheVariants.Memory}}
+use Rattle.gname.specs.Names.{IsRefName, name_fault}
+use Rattle.gname.specs.declared.faults.NameFault.{NameFault}
+use Rattle.gname.specs.declared.faults.NameFault.TheVariants.{Memory}
 use Rattle.ggraph.specs.steps.TextLaws.{TextLaws}
 
 -- no rule reports out of memory, so that a text of which it is reported is a name

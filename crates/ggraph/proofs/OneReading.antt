@@ -1,20 +1,30 @@
 -- A text has one reading as a repository.
 use Rattle.std.specs.Prelude.{◌==◌, ◌&&◌, not}
 use Rattle.std.proofs.Common.{◌≡◌, ◌≢◌, inl, inr, Bool, true, false, ℕ, List, [], ◌∷◌, ◌++◌, map, All, codes, refl, sym, ◌∙◌, ap, subst}
-use Rattle.std.proofs.lemmas.{List.{append_assoc, append-nil}, List.Elements.{All-head, All-tail, All-cons}}
-use Rattle.gname.specs.{Ids.{IsIdOf, id_text}, declared.formats.Format.{Format, TheVariants.{Sha1, Sha256}}}
+use Rattle.std.proofs.lemmas.List.{append_assoc, append-nil}
+use Rattle.std.proofs.lemmas.List.Elements.{All-head, All-tail, All-cons}
+use Rattle.gname.specs.Ids.{IsIdOf, id_text}
+use Rattle.gname.specs.declared.formats.Format.{Format}
+use Rattle.gname.specs.declared.formats.Format.TheVariants.{Sha1, Sha256}
 use Rattle.gobject.specs.PlainPackText.{ids_of, ids_text, letter, node_text}
-use Rattle.gobject.specs.declared.node.{Entry.Entry, Kind.{Kind, TheVariants.{Commit, Tag}}}
-use Rattle.grefs.specs.{RefLists.{IsBelowRefs, RefList}, declared.head.Head.Head}
+use Rattle.gobject.specs.declared.node.Entry.{Entry}
+use Rattle.gobject.specs.declared.node.Kind.{Kind}
+use Rattle.gobject.specs.declared.node.Kind.TheVariants.{Commit, Tag}
+use Rattle.grefs.specs.RefLists.{IsBelowRefs, RefList}
+use Rattle.grefs.specs.declared.head.Head.{Head}
 use Rattle.grefs.specs.declared.head.Head.TheVariants as heads_of
 use Rattle.ggraph.specs.RepositoryText.{EachFollows, IsHead, IsLoadable, MayFollow, RefMayFollow, first_line, head_line, last_line, lines_of, ref_line, repository_text}
 use Rattle.ggraph.specs.declared.text.Order.{Order}
-use Rattle.ggraph.specs.declared.text.reading.{Reading.Reading, Stage.{Stage, TheVariants.{Nodes, Refs, Done}}}
+use Rattle.ggraph.specs.declared.text.reading.Reading.{Reading}
+use Rattle.ggraph.specs.declared.text.reading.Stage.{Stage}
+use Rattle.ggraph.specs.declared.text.reading.Stage.TheVariants.{Nodes, Refs, Done}
 use Rattle.ggraph.specs.steps.Reading.{Item, MayCome, RefMayCome, after, begins, ends, heads, line_of, node}
-use Rattle.ggraph.specs.steps.{Reading.{nothing_read, ref}, TextLaws.TextLaws}
+use Rattle.ggraph.specs.steps.Reading.{nothing_read, ref}
+use Rattle.ggraph.specs.steps.TextLaws.{TextLaws}
 use Rattle.gdag.specs.Graphs.{History, HasIdsOf}
 use Rattle.ggraph.proofs.LoadLemmas.{ReadsTo}
-use Rattle.ggraph.proofs.{Lines.{AreLines, IsLine, clean_line, line-append, one_list}, ReadingLemmas.one_item}
+use Rattle.ggraph.proofs.Lines.{AreLines, IsLine, clean_line, line-append, one_list}
+use Rattle.ggraph.proofs.ReadingLemmas.{one_item}
 
 module _ (laws : TextLaws) where
   -- ---- the same lines are the same items

@@ -1,17 +1,26 @@
 -- Which line may come next: each line stands for one item.
 use Rattle.std.proofs.Common.{ap₂, ◌≡◌, ℕ, List, [], ◌∷◌, ◌++◌, All, codes, refl, sym, ◌∙◌, ap, subst, arith, get_or, length, Result, Ok, Err, Option, Some, None, MatchOption, MatchResult, OnOk, IfErr}
-use Rattle.std.proofs.lemmas.{List.append_cancel_left, List.Elements.{All-head, All-tail, All-cons}}
+use Rattle.std.proofs.lemmas.List.{append_cancel_left}
+use Rattle.std.proofs.lemmas.List.Elements.{All-head, All-tail, All-cons}
 use Rattle.std.specs.Prelude.{◌==◌, if◌then◌else◌}
-use Rattle.gname.specs.{Ids.{IsIdOf, id_text}, declared.formats.Format.{Format, TheVariants.{Sha1, Sha256}}}
-use Rattle.gobject.specs.{Objects.{entry_of, node_of}, PlainPackText.{ids_of, ids_text, letter, node_text}}
-use Rattle.gobject.specs.declared.node.{Entry.Entry, Kind.{Kind, TheVariants.{Commit, Tag}}}
+use Rattle.gname.specs.Ids.{IsIdOf, id_text}
+use Rattle.gname.specs.declared.formats.Format.{Format}
+use Rattle.gname.specs.declared.formats.Format.TheVariants.{Sha1, Sha256}
+use Rattle.gobject.specs.Objects.{entry_of, node_of}
+use Rattle.gobject.specs.PlainPackText.{ids_of, ids_text, letter, node_text}
+use Rattle.gobject.specs.declared.node.Entry.{Entry}
+use Rattle.gobject.specs.declared.node.Kind.{Kind}
+use Rattle.gobject.specs.declared.node.Kind.TheVariants.{Commit, Tag}
 use Rattle.gdag.specs.Graphs.{History, HasIdsOf}
-use Rattle.grefs.specs.{RefLists.IsBelowRefs, declared.head.Head.Head}
+use Rattle.grefs.specs.RefLists.{IsBelowRefs}
+use Rattle.grefs.specs.declared.head.Head.{Head}
 use Rattle.grefs.specs.declared.head.Head.TheVariants as heads_of
 use Rattle.ggraph.specs.RepositoryText.{IsHead, MayFollow, RefMayFollow, first_line, head_line, ref_line}
 use Rattle.ggraph.specs.declared.fault.LoadFault.{LoadFault}
-use Rattle.ggraph.specs.declared.text.{Order.{Order, TheVariants.{Any, ParentsFirst}}, reading.Reading.Reading}
-use Rattle.ggraph.specs.declared.text.reading.Stage.{TheVariants.{Nodes, Refs}}
+use Rattle.ggraph.specs.declared.text.Order.{Order}
+use Rattle.ggraph.specs.declared.text.Order.TheVariants.{Any, ParentsFirst}
+use Rattle.ggraph.specs.declared.text.reading.Reading.{Reading}
+use Rattle.ggraph.specs.declared.text.reading.Stage.TheVariants.{Nodes, Refs}
 use Rattle.ggraph.specs.steps.NoSuchPart.{BeginsWithNoRefId, BeginsWithNoSpacedId, IsHeadOn, IsNoParents}
 use Rattle.ggraph.specs.steps.NoSuchPart.{IsNoHead, IsSymrefLine}
 use Rattle.ggraph.specs.steps.Reading.{Item, MayCome, begins, line_of, node, ref, heads, ends, RefusesLine}

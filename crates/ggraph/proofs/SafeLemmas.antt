@@ -1,10 +1,11 @@
 -- Refs over a graph.
 use Rattle.std.proofs.Common.{◌≡◌, inl, inr, ◌⊎◌, ℕ, zero, suc, take, drop, slice_get, List, [], ◌∷◌, ◌++◌, Some, sym, ap, subst, All, Contains}
-use Rattle.std.proofs.lemmas.{List.Elements.{All-nil, All-cons, All-head, All-tail, All-contains}}
+use Rattle.std.proofs.lemmas.List.Elements.{All-nil, All-cons, All-head, All-tail, All-contains}
 use Rattle.std.proofs.lemmas.Option.{none-some, same_Some}
-use Rattle.std.specs.{Map.values_of}
+use Rattle.std.specs.Map.{values_of}
 use Rattle.gobject.specs.declared.node.Entry.{Entry}
-use Rattle.gdag.specs.{Laws.FullStaysFull, Reach.{IsFull, Keeps}}
+use Rattle.gdag.specs.Laws.{FullStaysFull}
+use Rattle.gdag.specs.Reach.{IsFull, Keeps}
 use Rattle.grefs.specs.RefLists.{RefList}
 use Rattle.ggraph.specs.SafeRefs.{IsSafe, SafeStays, SettingStaysSafe}
 

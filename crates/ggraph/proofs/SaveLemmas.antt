@@ -1,11 +1,15 @@
 -- Writing a text, one line more, and the first id of another format.
 use Rattle.std.proofs.Common.{◌≡◌, ℕ, ◌+◌, ◌<◌, List, [], ◌∷◌, ◌++◌, length, get_or, slice_get, take, drop, map, All, Option, Some, None, MatchOption, codes, refl, sym, ◌∙◌, ap, subst, arith}
 use Rattle.std.proofs.lemmas.List.{append_assoc, map-append, map_push, take_more, take-append-drop}
-use Rattle.std.proofs.lemmas.{List.Elements.{All-append, All-cons, All-nil, All-push}, Option.slice_get-get_or}
-use Rattle.gname.specs.{Ids.IsIdOf, declared.formats.Format.Format}
-use Rattle.gobject.specs.{PlainPackText.{line, node_text, text_of}, declared.node.Entry.Entry}
+use Rattle.std.proofs.lemmas.List.Elements.{All-append, All-cons, All-nil, All-push}
+use Rattle.std.proofs.lemmas.Option.{slice_get-get_or}
+use Rattle.gname.specs.Ids.{IsIdOf}
+use Rattle.gname.specs.declared.formats.Format.{Format}
+use Rattle.gobject.specs.PlainPackText.{line, node_text, text_of}
+use Rattle.gobject.specs.declared.node.Entry.{Entry}
 use Rattle.gdag.specs.Graphs.{History}
-use Rattle.grefs.specs.{RefLists.RefList, declared.head.Head.Head}
+use Rattle.grefs.specs.RefLists.{RefList}
+use Rattle.grefs.specs.declared.head.Head.{Head}
 use Rattle.ggraph.specs.RepositoryText.{first_line, head_line, last_line, ref_line, repository_text}
 use Rattle.ggraph.specs.Saving.{IsFirstOther, head_ids, named_ids, ref_ids}
 use Rattle.gobject.proofs.PlainPackLines.{text_of-append}

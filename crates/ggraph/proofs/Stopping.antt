@@ -1,13 +1,20 @@
 -- Where a text is refused, and that no text of a repository is.
 use Rattle.std.proofs.Common.{◌≡◌, inl, inr, ℕ, ◌+◌, List, [], ◌∷◌, ◌++◌, length, map, Ok, Err, refl, sym, ◌∙◌, ap, subst}
 use Rattle.std.proofs.lemmas.List.{append_assoc, length-map, map_push}
-use Rattle.grefs.specs.{RefLists.RefList, declared.head.Head.{Head, TheVariants.{Symref}}}
+use Rattle.grefs.specs.RefLists.{RefList}
+use Rattle.grefs.specs.declared.head.Head.{Head}
+use Rattle.grefs.specs.declared.head.Head.TheVariants.{Symref}
 use Rattle.ggraph.specs.Loading.{AcceptsText, BeginsText, EndsEarly, IsKeptLine, IsWholeText, IsWrongLine, StopsAt}
 use Rattle.ggraph.specs.RepositoryText.{IsLoadable, lines_of, repository_text}
-use Rattle.ggraph.specs.declared.{fault.LoadFault.LoadFault, text.Order.{Order, TheVariants.{Any, ParentsFirst}}}
-use Rattle.ggraph.specs.declared.text.{Repository.Repository, reading.Reading.Reading, reading.Stage.TheVariants.Done}
+use Rattle.ggraph.specs.declared.fault.LoadFault.{LoadFault}
+use Rattle.ggraph.specs.declared.text.Order.{Order}
+use Rattle.ggraph.specs.declared.text.Order.TheVariants.{Any, ParentsFirst}
+use Rattle.ggraph.specs.declared.text.Repository.{Repository}
+use Rattle.ggraph.specs.declared.text.reading.Reading.{Reading}
+use Rattle.ggraph.specs.declared.text.reading.Stage.TheVariants.{Done}
 use Rattle.ggraph.specs.steps.Reading.{Item, IsKept, MayCome, RefusesLine, NeverComes, after, heads}
-use Rattle.ggraph.specs.steps.{Reading.{line_of, node, nothing_read, ref}, TextLaws.TextLaws}
+use Rattle.ggraph.specs.steps.Reading.{line_of, node, nothing_read, ref}
+use Rattle.ggraph.specs.steps.TextLaws.{TextLaws}
 use Rattle.ggraph.specs.declared.fault.LoadFault.TheVariants as faults
 use Rattle.gobject.specs.PlainPackText.{GoesOn, IsInLine, line}
 use Rattle.gdag.specs.Graphs.{History}

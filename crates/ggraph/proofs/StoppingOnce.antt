@@ -3,11 +3,14 @@ use Rattle.std.proofs.Common.{◌≡◌, ◌≢◌, ◌⊎◌, inl, inr, ℕ, �
 use Rattle.std.proofs.lemmas.List.{append_cancel_left}
 use Rattle.ggraph.specs.Loading.{BeginsText, EndsEarly, IsWrongLine, NamesLaterParent, StopsAt}
 use Rattle.ggraph.specs.declared.fault.LoadFault.{LoadFault}
-use Rattle.ggraph.specs.{declared.text.Order.{Order, TheVariants.{Any, ParentsFirst}}, steps.TextLaws.TextLaws}
+use Rattle.ggraph.specs.declared.text.Order.{Order}
+use Rattle.ggraph.specs.declared.text.Order.TheVariants.{Any, ParentsFirst}
+use Rattle.ggraph.specs.steps.TextLaws.{TextLaws}
 use Rattle.ggraph.specs.declared.fault.LoadFault.TheVariants as faults
 use Rattle.gobject.specs.PlainPackText.{GoesOn, line, text_of}
 use Rattle.ggraph.proofs.Lines.{AreLines, IsLine, back_lines, line_from, not_a_line, one_line}
-use Rattle.ggraph.proofs.{LoadLemmas.text_of-push, Stopping.{lines_begun, loadable_in_any}}
+use Rattle.ggraph.proofs.LoadLemmas.{text_of-push}
+use Rattle.ggraph.proofs.Stopping.{lines_begun, loadable_in_any}
 
 -- the line after some lines, which go on in the other list
 abbrev Extends : List (List ℕ) → List ℕ → List (List ℕ) → Type 0

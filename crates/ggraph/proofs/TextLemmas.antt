@@ -3,11 +3,15 @@ use Rattle.std.proofs.Common.{◌≡◌, ◌≢◌, ℕ, ◌+◌, ◌<◌, List,
 use Rattle.std.proofs.Math.Seq.{take-append_seam, drop-append_seam}
 use Rattle.std.proofs.lemmas.List.{length-append, append_cancel_left, append_assoc, append-nil, take-append-drop}
 use Rattle.std.proofs.lemmas.List.Elements.{All-push, All-head, All-tail, All-nil}
-use Rattle.gname.specs.{Formats.id_text_length, Ids.{IsIdOf, IsIdText, IsIdTextOf, ReadsId, id_text}}
-use Rattle.gname.specs.declared.{formats.Format.Format, ids.OidFault.OidFault}
-use Rattle.gobject.specs.{Objects.max_parents, PlainPackText.ids_text}
+use Rattle.gname.specs.Formats.{id_text_length}
+use Rattle.gname.specs.Ids.{IsIdOf, IsIdText, IsIdTextOf, ReadsId, id_text}
+use Rattle.gname.specs.declared.formats.Format.{Format}
+use Rattle.gname.specs.declared.ids.OidFault.{OidFault}
+use Rattle.gobject.specs.Objects.{max_parents}
+use Rattle.gobject.specs.PlainPackText.{ids_text}
 use Rattle.ggraph.specs.steps.NoSuchPart.{BeginsWithNoId, BeginsWithNoSpacedId, BeginsWithNoRefId, IsNoParents}
-use Rattle.ggraph.specs.steps.{NoSuchPart.IsNoIdText, TextLaws.TextLaws}
+use Rattle.ggraph.specs.steps.NoSuchPart.{IsNoIdText}
+use Rattle.ggraph.specs.steps.TextLaws.{TextLaws}
 
 -- ---- lists of ids
 

@@ -1,13 +1,19 @@
 -- What the items of a whole text are: the lines of a repository.
 use Rattle.std.proofs.Common.{◌≡◌, inl, inr, ℕ, List, [], ◌∷◌, ◌++◌, map, refl, sym, ◌∙◌, ap, subst}
 use Rattle.std.proofs.lemmas.List.{append_assoc, append-nil, map_push}
-use Rattle.gname.specs.declared.formats.Format.{Format, TheVariants.Sha1}
+use Rattle.gname.specs.declared.formats.Format.{Format}
+use Rattle.gname.specs.declared.formats.Format.TheVariants.{Sha1}
 use Rattle.gobject.specs.PlainPackText.{node_text, text_of}
 use Rattle.gdag.specs.Graphs.{History}
-use Rattle.grefs.specs.{RefLists.RefList, declared.head.Head.{Head, TheVariants.None}}
+use Rattle.grefs.specs.RefLists.{RefList}
+use Rattle.grefs.specs.declared.head.Head.{Head}
+use Rattle.grefs.specs.declared.head.Head.TheVariants.{None}
 use Rattle.ggraph.specs.RepositoryText.{EachFollows, IsHead, IsLoadable, MayFollow, RefMayFollow, first_line, head_line, last_line, lines_of, ref_line, repository_text}
-use Rattle.ggraph.specs.{Loading.BeginsText, declared.text.Order.Order, declared.text.reading.Reading.Reading}
-use Rattle.ggraph.specs.declared.text.reading.Stage.{Stage, TheVariants.{First, Nodes, Refs, Last, Done}}
+use Rattle.ggraph.specs.Loading.{BeginsText}
+use Rattle.ggraph.specs.declared.text.Order.{Order}
+use Rattle.ggraph.specs.declared.text.reading.Reading.{Reading}
+use Rattle.ggraph.specs.declared.text.reading.Stage.{Stage}
+use Rattle.ggraph.specs.declared.text.reading.Stage.TheVariants.{First, Nodes, Refs, Last, Done}
 use Rattle.ggraph.specs.steps.Reading.{Item, MayCome, RefMayCome, after, begins, ends, heads, line_of, node}
 use Rattle.ggraph.specs.steps.Reading.{nothing_read, ref}
 use Rattle.ggraph.proofs.LoadLemmas.{HasRead, ReadsTo, items_text}

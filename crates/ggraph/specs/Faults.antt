@@ -1,9 +1,11 @@
 -- The tables of faults: the number, the name and the text of each.
-use Rattle.std.specs.{Fmt.decimal, Prelude.{ℕ, List, ◌++◌, codes}}
+use Rattle.std.specs.Fmt.{decimal}
+use Rattle.std.specs.Prelude.{ℕ, List, ◌++◌, codes}
 use Rattle.gname.specs.Faults.{FaultRow, out_of_memory, out_of_memory_text}
 use Rattle.gdag.specs.Faults.{graph_fault_row, graph_fault_text}
 use Rattle.gdag.specs.declared.fault.GraphFault.TheVariants as graph
-use Rattle.ggraph.specs.declared.fault.{LoadFault.LoadFault, SaveFault.SaveFault}
+use Rattle.ggraph.specs.declared.fault.LoadFault.{LoadFault}
+use Rattle.ggraph.specs.declared.fault.SaveFault.{SaveFault}
 use Rattle.ggraph.specs.declared.fault.LoadFault.TheVariants as load
 use Rattle.ggraph.specs.declared.fault.SaveFault.TheVariants as save
 

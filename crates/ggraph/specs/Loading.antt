@@ -1,12 +1,19 @@
 -- Loading a repository text: where it is refused, and for what.
 use Rattle.std.specs.Prelude.{◌≡◌, ◌≢◌, ◌⊎◌, ℕ, ◌+◌, List, [], ◌∷◌, ◌++◌, length, Result, MatchResult}
-use Rattle.gname.specs.{Ids.Id, Names.Name}
-use Rattle.gobject.specs.{PlainPackText.{GoesOn, IsInLine, node_text, text_of}, declared.node.Entry.Entry}
+use Rattle.gname.specs.Ids.{Id}
+use Rattle.gname.specs.Names.{Name}
+use Rattle.gobject.specs.PlainPackText.{GoesOn, IsInLine, node_text, text_of}
+use Rattle.gobject.specs.declared.node.Entry.{Entry}
 use Rattle.gdag.specs.Graphs.{History, IsOrdered}
-use Rattle.grefs.specs.{RefLists.RefList, declared.head.Head.{Head, TheVariants.Symref}}
+use Rattle.grefs.specs.RefLists.{RefList}
+use Rattle.grefs.specs.declared.head.Head.{Head}
+use Rattle.grefs.specs.declared.head.Head.TheVariants.{Symref}
 use Rattle.ggraph.specs.RepositoryText.{IsLoadable, head_line, lines_of, ref_line, repository_text}
-use Rattle.ggraph.specs.declared.fault.LoadFault.{LoadFault, TheVariants.{Memory, Text, ParentLater}}
-use Rattle.ggraph.specs.declared.text.{Order.{Order, TheVariants.{Any, ParentsFirst}}, Repository.Repository}
+use Rattle.ggraph.specs.declared.fault.LoadFault.{LoadFault}
+use Rattle.ggraph.specs.declared.fault.LoadFault.TheVariants.{Memory, Text, ParentLater}
+use Rattle.ggraph.specs.declared.text.Order.{Order}
+use Rattle.ggraph.specs.declared.text.Order.TheVariants.{Any, ParentsFirst}
+use Rattle.ggraph.specs.declared.text.Repository.{Repository}
 
 -- the lines are the first of a repository's text, or all of them
 pub record BeginsText (A : Type 0) (order : Order) (lines : List (List ℕ)) : Type 0 where

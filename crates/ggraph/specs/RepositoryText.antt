@@ -2,12 +2,19 @@
 -- line a ref in name order, a line for HEAD and a last line, each ended by LF. Ids are written in lower case.
 use Rattle.std.specs.Prelude.{◌≡◌, ⊤, ℕ, List, [], ◌∷◌, ◌++◌, map, codes}
 use Rattle.gname.specs.Ids.{Id, IsIdOf, id_text}
-use Rattle.gname.specs.{Names.Name, declared.formats.Format.{Format, TheVariants.{Sha1, Sha256}}}
-use Rattle.gobject.specs.{PlainPackText.{node_text, text_of}, declared.node.Entry.Entry}
-use Rattle.grefs.specs.{Laws.MayComeNext as NameMayComeNext, RefLists.{RefList, IsBelowRefs}, declared.head.Head.Head}
+use Rattle.gname.specs.Names.{Name}
+use Rattle.gname.specs.declared.formats.Format.{Format}
+use Rattle.gname.specs.declared.formats.Format.TheVariants.{Sha1, Sha256}
+use Rattle.gobject.specs.PlainPackText.{node_text, text_of}
+use Rattle.gobject.specs.declared.node.Entry.{Entry}
+use Rattle.grefs.specs.Laws.{MayComeNext as NameMayComeNext}
+use Rattle.grefs.specs.RefLists.{RefList, IsBelowRefs}
+use Rattle.grefs.specs.declared.head.Head.{Head}
 use Rattle.grefs.specs.declared.head.Head.TheVariants as head_is
-use Rattle.ggraph.specs.declared.text.Order.{Order, TheVariants.{Any, ParentsFirst}}
-use Rattle.gdag.specs.{Graphs.{History, HoldsParents}, Laws.MayComeNext}
+use Rattle.ggraph.specs.declared.text.Order.{Order}
+use Rattle.ggraph.specs.declared.text.Order.TheVariants.{Any, ParentsFirst}
+use Rattle.gdag.specs.Graphs.{History, HoldsParents}
+use Rattle.gdag.specs.Laws.{MayComeNext}
 
 -- ---- lines
 

@@ -1,6 +1,8 @@
 -- Whether refs are connected in a graph.
-use Rattle.std.specs.{Map.values_of, Prelude.{List, All}}
-use Rattle.gname.specs.{Ids.Id, Names.Name}
+use Rattle.std.specs.Map.{values_of}
+use Rattle.std.specs.Prelude.{List, All}
+use Rattle.gname.specs.Ids.{Id}
+use Rattle.gname.specs.Names.{Name}
 use Rattle.gobject.specs.declared.node.Entry.{Entry}
 use Rattle.gdag.specs.Reach.{IsFull, Keeps}
 use Rattle.grefs.specs.RefLists.{RefList, SetsRef}

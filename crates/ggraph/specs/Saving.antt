@@ -1,9 +1,12 @@
 -- Saving a repository's text: for what it is refused.
 use Rattle.std.specs.Prelude.{◌≡◌, List, [], ◌∷◌, ◌++◌, map, All}
-use Rattle.gname.specs.{Ids.{Id, IsIdOf}, declared.formats.Format.Format}
-use Rattle.grefs.specs.{RefLists.RefList, declared.head.Head.Head}
+use Rattle.gname.specs.Ids.{Id, IsIdOf}
+use Rattle.gname.specs.declared.formats.Format.{Format}
+use Rattle.grefs.specs.RefLists.{RefList}
+use Rattle.grefs.specs.declared.head.Head.{Head}
 use Rattle.grefs.specs.declared.head.Head.TheVariants as head_is
-use Rattle.ggraph.specs.declared.fault.SaveFault.{SaveFault, TheVariants.{Memory, OtherFormat}}
+use Rattle.ggraph.specs.declared.fault.SaveFault.{SaveFault}
+use Rattle.ggraph.specs.declared.fault.SaveFault.TheVariants.{Memory, OtherFormat}
 
 -- the id at which HEAD stands, if it stands at one
 abbrev pub head_ids : {A : Type 0} → Head A → List Id

@@ -1,5 +1,4 @@
 //! Why a repository text is not loaded, or a repository not saved.
-#![tactic(auto)]
 
 ghost use Rattle.std.specs.Prelude.{◌≡◌, Some};
 ghost use Rattle.ggraph.specs.Faults.{load_fault_row, load_fault_text, save_fault_row, save_fault_text};

@@ -1,5 +1,4 @@
 //! The text that keeps a repository, and what it keeps.
-#![tactic(auto)]
 
 mod laws;
 mod lines;

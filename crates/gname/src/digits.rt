@@ -1,5 +1,4 @@
 //! The hexadecimal digits of bytes.
-#![tactic(auto)]
 
 ghost use Rattle.std.specs.Prelude.{◌≡◌, ◌<◌, ◌*◌, ◌/◌, ◌%◌, IsTrue, Ok, Some, length, slice_index};
 ghost use Rattle.hex.specs.Hex.{decode_sized, encode_lower, hex_digit_value, lower_digits};

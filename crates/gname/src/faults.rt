@@ -1,5 +1,4 @@
 //! The faults of ref names and prefixes, and what faults of several crates above have in common.
-#![tactic(auto)]
 
 ghost use Rattle.std.specs.Prelude.{◌≡◌, Some};
 ghost use Rattle.gname.specs.Faults.{name_fault_row, name_fault_text};

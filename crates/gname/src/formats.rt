@@ -1,5 +1,4 @@
 //! The formats of object ids.
-#![tactic(auto)]
 
 ghost use Rattle.std.specs.Prelude.{◌≡◌};
 ghost use Rattle.gname.specs.Formats.{format_name, id_length, id_text_length};

@@ -1,5 +1,4 @@
 //! Object ids.
-#![tactic(auto)]
 
 ghost use Rattle.std.specs.Prelude.{◌≡◌, ℕ, [], ◌∷◌, ◌++◌, List, OnOk, Some, take, drop, nat_eq};
 ghost use Rattle.std.proofs.Common.{rules};

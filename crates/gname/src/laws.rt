@@ -1,6 +1,5 @@
 //! Laws of ids, names and prefixes. Each function does nothing, and its contract is the law: a caller
 //! that calls it may rely on the law from there on.
-#![tactic(auto)]
 
 ghost use Rattle.std.specs.Prelude.{◌≡◌};
 ghost use Rattle.gname.specs.Formats.{id_text_length};

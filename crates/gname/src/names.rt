@@ -1,5 +1,4 @@
 //! Ref names.
-#![tactic(auto)]
 
 ghost use Rattle.std.specs.Prelude.{◌≡◌, ◌≢◌, ◌≤◌, ◌↔◌, ◌++◌, [], ◌∷◌, ℕ, List, IfErr, IfOk, IsTrue, Some, length, nat_eq, refl};
 ghost use Rattle.std.proofs.Common.{rules};

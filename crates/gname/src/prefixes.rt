@@ -1,5 +1,4 @@
 //! Prefixes of ref names.
-#![tactic(auto)]
 
 ghost use Rattle.std.specs.Prelude.{◌≡◌, ◌≤◌, ℕ, List, length, nat_eq};
 ghost use Rattle.std.specs.Cmp as Cmp;

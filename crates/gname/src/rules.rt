@@ -1,5 +1,4 @@
 //! The rules of git-check-ref-format(1): a function for each, and their order.
-#![tactic(auto)]
 
 ghost use Rattle.std.specs.Prelude.{◌≡◌, ◌≤◌, length, position};
 ghost use Rattle.gname.specs.Names.{Finds, name_fault, prefix_fault, empty, too_long, not_ref, is_bad_byte, bad_byte, is_bad_component, component_at, begins_bad_component, component, double_dot, at_brace, end, max_name};

@@ -1,5 +1,4 @@
 //! Why entries were not packed, and why bytes were not read as a pack.
-#![tactic(auto)]
 
 ghost use Rattle.std.specs.Prelude.{◌≡◌, Some};
 ghost use Rattle.gobject.specs.Faults.{index_fault_row, index_fault_text, pack_fault_row, pack_fault_text};

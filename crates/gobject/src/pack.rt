@@ -1,5 +1,4 @@
 //! Packers, which write entries as bytes, and indexers, which read them.
-#![tactic(auto)]
 
 ghost use Rattle.std.specs.Prelude.{◌≡◌, ◌++◌, [], ℕ, List, MatchResult};
 ghost use Rattle.gobject.specs.Packs.{LosesNothing, MayPack};

@@ -1,5 +1,4 @@
 //! A pack in plain text: a line for each entry.
-#![tactic(auto)]
 
 mod feed;
 mod read;

@@ -2,7 +2,8 @@
 use Rattle.std.proofs.Common.{◌≡◌, ℕ, Bool, true, false, if◌then◌else◌, ◌==◌, List, [], ◌∷◌, length, Result, Ok, Err, refl, sym, ap, ◌∙◌, arith}
 use Rattle.std.proofs.lemmas.Bool.{eqb-true}
 use Rattle.gpkt.specs.Bands.{BandPacket, Data, Progress, Fatal, band_at, band_form, band_payload, data_band, progress_band, fatal_band, BandIsRead, BandIsPayload}
-use Rattle.gpkt.specs.declared.fault.BandFault.{BandFault, TheVariants.{NoBand, BadBand}}
+use Rattle.gpkt.specs.declared.fault.BandFault.{BandFault}
+use Rattle.gpkt.specs.declared.fault.BandFault.TheVariants.{NoBand, BadBand}
 
 pub band_form-empty : (payload : List ℕ) → length payload ≡ 0 → Err NoBand ≡ band_form payload
 unfolding band_form

@@ -1,8 +1,11 @@
 -- What a reader's call leaves after a fault.
 use Rattle.std.proofs.Common.{◌≡◌, ℕ, List, Bool, true, false, Option, Err, subst}
-use Rattle.gpkt.specs.{Change.change_of, LineReading.{Reader, Reads, IsReaderAfter, HasRead, IsReadFault}}
-use Rattle.gpkt.specs.declared.fault.LineFault.{LineFault, TheVariants.{Failed, Memory}}
-use Rattle.gpkt.specs.{declared.head.Head.Head, steps.Heads.{IsNewFault, is_io}}
+use Rattle.gpkt.specs.Change.{change_of}
+use Rattle.gpkt.specs.LineReading.{Reader, Reads, IsReaderAfter, HasRead, IsReadFault}
+use Rattle.gpkt.specs.declared.fault.LineFault.{LineFault}
+use Rattle.gpkt.specs.declared.fault.LineFault.TheVariants.{Failed, Memory}
+use Rattle.gpkt.specs.declared.head.Head.{Head}
+use Rattle.gpkt.specs.steps.Heads.{IsNewFault, is_io}
 
 module _ {S : Type 0} (remaining_of : S → Option (List ℕ)) (is_down : S → Bool) (loans_of : S → List ℕ) where
   IsReaderAfter-at_fault : (old new : Reader S) (fault : LineFault) → old.failed ≡ false → new.failed ≡ true

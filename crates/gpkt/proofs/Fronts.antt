@@ -1,6 +1,7 @@
 -- What is read of bytes, and that each front has a packet or a reason.
 use Rattle.std.proofs.Common.{◌≡◌, ℕ, zero, suc, ◌+◌, ◌<◌, ◌≤◌, ◌⊎◌, List, [], ◌∷◌, ◌++◌, length, take, drop, Option, Some, None, Result, Ok, Err, refl, sym, ap, ◌∙◌, inl, inr, arith, length-append, length-take-le, take-append-drop, append_assoc}
-use Rattle.gpkt.specs.{Laws.{IsOfBytes, OneFault, OneOutcome, SpellsAtFront, EveryFront}, LineReading.{NoLine, Gives}}
+use Rattle.gpkt.specs.Laws.{IsOfBytes, OneFault, OneOutcome, SpellsAtFront, EveryFront}
+use Rattle.gpkt.specs.LineReading.{NoLine, Gives}
 use Rattle.gpkt.specs.Packets.{Packet, Data, Flush, Delim, ResponseEnd, number_of, max_packet}
 use Rattle.gpkt.specs.declared.fault.LineFault.{LineFault}
 use Rattle.gpkt.specs.declared.fault.LineFault.TheVariants.{BadDigits, Reserved, TooLong, Truncated, Io, Failed, Memory}

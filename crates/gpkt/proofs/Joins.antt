@@ -1,10 +1,13 @@
 -- Packets read, and bytes written, one after the other.
 use Rattle.std.proofs.Common.{ℕ, Bool, List, [], ◌∷◌, ◌++◌, Option, Some, None, Ok, Err, refl, sym, ap, ◌∙◌, append_assoc, append-nil}
-use Rattle.std.proofs.{KnownBytes.{Appends-trans, Appends-kept, Keeps-trans}, lemmas.Bool.false≢true}
-use Rattle.std.specs.{Io.KnownBytes.Keeps, Prelude.IsSome}
+use Rattle.std.proofs.KnownBytes.{Appends-trans, Appends-kept, Keeps-trans}
+use Rattle.std.proofs.lemmas.Bool.{false≢true}
+use Rattle.std.specs.Io.KnownBytes.{Keeps}
+use Rattle.std.specs.Prelude.{IsSome}
 use Rattle.gpkt.specs.Laws.{WritesJoin, FailsOfMore, PushesWritten, ReadsNone, ReadsNext, ReadsJoin}
 use Rattle.gpkt.specs.declared.fault.WriteFault.TheVariants.{Failed, Payload, Io}
-use Rattle.gpkt.proofs.{Pieces.{AppendsFront-more, AppendsFront-after}, Readings.spellings_join_lem}
+use Rattle.gpkt.proofs.Pieces.{AppendsFront-more, AppendsFront-after}
+use Rattle.gpkt.proofs.Readings.{spellings_join_lem}
 
 pub reads_none : ReadsNone
 reads_none None = tt

@@ -1,6 +1,8 @@
 -- Bytes that come, or go, in pieces.
 use Rattle.std.proofs.Common.{◌≡◌, ℕ, ◌+◌, ◌-◌, ◌≤◌, List, ◌++◌, length, take, drop, Option, sym, ap, ◌∙◌, le_refl, drop_at, length-take-le, append_assoc, take-append-drop, arith, length-append}
-use Rattle.std.proofs.{KnownBytes.Appends-trans, lemmas.List.take_rest, lemmas.Slice.take-put_mid_below}
+use Rattle.std.proofs.KnownBytes.{Appends-trans}
+use Rattle.std.proofs.lemmas.List.{take_rest}
+use Rattle.std.proofs.lemmas.Slice.{take-put_mid_below}
 use Rattle.std.specs.Io.KnownBytes.{Appends}
 use Rattle.gpkt.specs.LineWriting.{AppendsFront}
 use borrow.Rule.Slice.PartMut.{put_mid, post_of}

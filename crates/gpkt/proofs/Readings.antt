@@ -3,12 +3,15 @@ use Rattle.std.proofs.Common.{◌≡◌, ℕ, zero, suc, ◌+◌, ◌-◌, ◌<�
 use Rattle.std.proofs.lemmas.List.Elements.{All-head, All-tail}
 use Rattle.std.specs.Int.{w16, to_be_bytes}
 use lib.Seq.{take_at, drop_at}
-use Rattle.hex.specs.{Hex.{decode_of, IsBytes}, declared.error.FromHexError.FromHexError}
-use Rattle.hex.proofs.{HexLemmas.{decode_of-ok, decode_of-encode_lower}, OnLiterals.hex_on_literals}
+use Rattle.hex.specs.Hex.{decode_of, IsBytes}
+use Rattle.hex.specs.declared.error.FromHexError.{FromHexError}
+use Rattle.hex.proofs.HexLemmas.{decode_of-ok, decode_of-encode_lower}
+use Rattle.hex.proofs.OnLiterals.{hex_on_literals}
 use Rattle.gpkt.specs.Packets.{Packet, Data, Flush, Delim, ResponseEnd, Spells, SpellsAll, number_in, number_of, digits_of, canonical, canonical_all, payload_of, max_payload}
 use Rattle.gpkt.specs.Laws.{OneReading, RefusedIsNoLine, HasFourBytes, Fits, CanonicalSpells, CanonicalSpellsAll, CanonicalJoins, SpellingsJoin, SpellingsSplit, BeginsWith, OneBegins}
 use Rattle.gpkt.specs.LineReading.{NoLine}
-use Rattle.gpkt.specs.declared.fault.LineFault.{LineFault, TheVariants.{BadDigits, Reserved, TooLong, Truncated}}
+use Rattle.gpkt.specs.declared.fault.LineFault.{LineFault}
+use Rattle.gpkt.specs.declared.fault.LineFault.TheVariants.{BadDigits, Reserved, TooLong, Truncated}
 
 -- ---- lists
 

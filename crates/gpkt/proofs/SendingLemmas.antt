@@ -1,8 +1,10 @@
 -- What is written and passed on, one after the other.
 use Rattle.std.proofs.Common.{◌≡◌, ℕ, Bool, List, [], ◌++◌, Option, Some, None, refl, sym, ap, subst, ◌∙◌, append-nil}
 use Rattle.std.proofs.KnownBytes.{Appends-trans}
-use Rattle.std.specs.{Io.KnownBytes.{Appends, Keeps}, Prelude.IsSome}
-use Rattle.gpkt.specs.{Devices.KeepsPassed, Sending.{output_of, IsUnwritten, Passes, SendsAndFails, SendsSome}}
+use Rattle.std.specs.Io.KnownBytes.{Appends, Keeps}
+use Rattle.std.specs.Prelude.{IsSome}
+use Rattle.gpkt.specs.Devices.{KeepsPassed}
+use Rattle.gpkt.specs.Sending.{output_of, IsUnwritten, Passes, SendsAndFails, SendsSome}
 
 -- ---- bytes before and after
 

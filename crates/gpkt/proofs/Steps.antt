@@ -1,8 +1,10 @@
 -- The steps of reading a packet, joined.
 use Rattle.std.proofs.Common.{◌≡◌, ℕ, ◌+◌, ◌<◌, ◌≤◌, List, ◌++◌, length, take, drop, Option, Some, None, Ok, Err, refl, sym, ap, ◌∙◌, inl, inr, append_assoc, append-nil, arith, subst, length-append}
 use lib.Seq.{drop_at, take_at}
-use Rattle.gpkt.specs.{Change.Change, LineReading.{Gives, Reads, IsPartialLine}}
-use Rattle.gpkt.specs.{Packets.{Data, Spells, max_packet, max_payload, number_of}, declared.fault.LineFault.LineFault}
+use Rattle.gpkt.specs.Change.{Change}
+use Rattle.gpkt.specs.LineReading.{Gives, Reads, IsPartialLine}
+use Rattle.gpkt.specs.Packets.{Data, Spells, max_packet, max_payload, number_of}
+use Rattle.gpkt.specs.declared.fault.LineFault.{LineFault}
 use Rattle.gpkt.specs.declared.fault.LineFault.TheVariants.{BadDigits, Reserved, TooLong, Truncated, Io, Failed, Memory}
 use Rattle.gpkt.specs.steps.Heads.{ReadsHead, ReadsPayload}
 use Rattle.gpkt.specs.declared.head.Head.TheVariants as head

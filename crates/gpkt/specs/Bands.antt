@@ -2,7 +2,9 @@
 -- of a payload says what the others are.
 use Rattle.std.specs.Prelude.{◌≡◌, ℕ, ◌-◌, ◌≤◌, ◌↔◌, [], ◌∷◌, length, if◌then◌else◌, ◌==◌, Result, Ok, Err}
 use Rattle.gpkt.specs.Packets.{Bytes, max_payload}
-use Rattle.gpkt.specs.declared.{band.Band.Band, fault.BandFault.{BandFault, TheVariants.{NoBand, BadBand}}}
+use Rattle.gpkt.specs.declared.band.Band.{Band}
+use Rattle.gpkt.specs.declared.fault.BandFault.{BandFault}
+use Rattle.gpkt.specs.declared.fault.BandFault.TheVariants.{NoBand, BadBand}
 use Rattle.gpkt.specs.declared.band.Band.TheVariants as lent
 
 -- what a payload says: bytes of the pack, progress to be shown, or why the sender gives up

@@ -1,6 +1,7 @@
 -- Devices, and what their calls say beside the bytes that they read or wrote.
 use Rattle.std.specs.Prelude.{◌≡◌, ℕ, ◌<◌, Bool, ◌++◌, length, Option, Result, IfOk, IsErr, IsSome, IsTrue}
-use Rattle.gpkt.specs.{Change.{Change, WhereKnown}, Packets.Bytes}
+use Rattle.gpkt.specs.Change.{Change, WhereKnown}
+use Rattle.gpkt.specs.Packets.{Bytes}
 
 -- a write of some bytes took some
 abbrev pub TakesSome : {E : Type 0} → Result ℕ E → Bytes → Type 0

@@ -1,7 +1,10 @@
 -- The tables of faults: the number, the name and the text of each.
 use Rattle.std.specs.Prelude.{ℕ, codes}
-use Rattle.gpkt.specs.{Packets.Bytes, declared.device.Down.Down}
-use Rattle.gpkt.specs.declared.fault.{BandFault.BandFault, LineFault.LineFault, WriteFault.WriteFault}
+use Rattle.gpkt.specs.Packets.{Bytes}
+use Rattle.gpkt.specs.declared.device.Down.{Down}
+use Rattle.gpkt.specs.declared.fault.BandFault.{BandFault}
+use Rattle.gpkt.specs.declared.fault.LineFault.{LineFault}
+use Rattle.gpkt.specs.declared.fault.WriteFault.{WriteFault}
 use Rattle.gpkt.specs.declared.fault.LineFault.TheVariants as line
 use Rattle.gpkt.specs.declared.fault.WriteFault.TheVariants as write
 use Rattle.gpkt.specs.declared.fault.BandFault.TheVariants as band

@@ -2,11 +2,14 @@
 use Rattle.std.specs.Io.KnownBytes.{Appends}
 use Rattle.std.specs.Prelude.{◌≡◌, ◌≢◌, ℕ, ◌≤◌, ◌⊎◌, All, Bool, List, [], ◌∷◌, ◌++◌, length, Option, Some, Result, Ok}
 use Rattle.std.specs.Prelude.{Err, OnOk}
-use Rattle.gpkt.specs.{Change.change_of, Devices.PassesAll}
-use Rattle.gpkt.specs.{LineReading.{NoLine, Gives, Reads, ReadsLines}, LineWriting.{Writer, HasWritten, HasPushed}}
+use Rattle.gpkt.specs.Change.{change_of}
+use Rattle.gpkt.specs.Devices.{PassesAll}
+use Rattle.gpkt.specs.LineReading.{NoLine, Gives, Reads, ReadsLines}
+use Rattle.gpkt.specs.LineWriting.{Writer, HasWritten, HasPushed}
 use Rattle.gpkt.specs.Packets.{Bytes, Packet, Spells, SpellsAll, canonical, canonical_all, payload_of, text}
 use Rattle.gpkt.specs.Packets.{digit_count, line_feed, max_payload}
-use Rattle.gpkt.specs.declared.fault.{LineFault.LineFault, WriteFault.WriteFault}
+use Rattle.gpkt.specs.declared.fault.LineFault.{LineFault}
+use Rattle.gpkt.specs.declared.fault.WriteFault.{WriteFault}
 use Rattle.gpkt.specs.declared.fault.LineFault.TheVariants as line_fault
 use Rattle.gpkt.specs.declared.fault.WriteFault.TheVariants as write_fault
 

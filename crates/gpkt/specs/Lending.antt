@@ -1,8 +1,13 @@
 -- What a packet reader ends as once the packet that it lent is no longer borrowed.
 use Rattle.std.specs.Borrow.{Fml, RattleType, MutBor}
-use Rattle.std.specs.{Io.BufRead.Rests, Prelude.{Bool, List, ℕ, Option, Result}, declared.alloc.Allocator.Ghosts}
-use Rattle.gpkt.specs.{LineReading.{Reader, HasRead, read_of}, Packets.Bytes, contracts.reading.LineReader.the_row}
-use Rattle.gpkt.specs.declared.{fault.LineFault.LineFault, line.Line.Line}
+use Rattle.std.specs.Io.BufRead.{Rests}
+use Rattle.std.specs.Prelude.{Bool, List, ℕ, Option, Result}
+use Rattle.std.specs.declared.alloc.Allocator.{Ghosts}
+use Rattle.gpkt.specs.LineReading.{Reader, HasRead, read_of}
+use Rattle.gpkt.specs.Packets.{Bytes}
+use Rattle.gpkt.specs.contracts.reading.LineReader.{the_row}
+use Rattle.gpkt.specs.declared.fault.LineFault.{LineFault}
+use Rattle.gpkt.specs.declared.line.Line.{Line}
 
 module _
     (S A : RattleType) (alloc : Ghosts A.Denot) (remaining_of : S.Denot → Option Bytes) (is_down : S.Denot → Bool)

@@ -3,7 +3,8 @@ use Rattle.std.specs.Prelude.{◌≡◌, ℕ, ◌<◌, ◌≤◌, ◌⊎◌, Boo
 use Rattle.std.specs.Prelude.{Some, None, option_map, Result, Ok, Err}
 use Rattle.gpkt.specs.Change.{Change, WhereKnown, change_of}
 use Rattle.gpkt.specs.Packets.{Bytes, Packet, Spells, SpellsAll, digit_count, max_packet, number_of, packet_of}
-use Rattle.gpkt.specs.{Packets.reserved_len, declared.fault.LineFault.LineFault}
+use Rattle.gpkt.specs.Packets.{reserved_len}
+use Rattle.gpkt.specs.declared.fault.LineFault.{LineFault}
 use Rattle.gpkt.specs.declared.fault.LineFault.TheVariants.{BadDigits, Reserved, TooLong, Truncated, Io, Failed, Memory}
 use Rattle.gpkt.specs.declared.line.Line.{Line}
 

@@ -1,8 +1,11 @@
 -- What a packet writer's call writes, and what it leaves.
 use Rattle.std.specs.Io.KnownBytes.{Appends, Keeps}
 use Rattle.std.specs.Prelude.{◌≡◌, ℕ, ◌<◌, Bool, true, false, List, ◌++◌, length, Option, Result, Ok, Err}
-use Rattle.gpkt.specs.{Change.{Change, change_of}, Devices.{KeepsPassed, PassesAll}}
-use Rattle.gpkt.specs.{Packets.Bytes, declared.fault.WriteFault.{WriteFault, TheVariants.{Failed, Payload, Io}}}
+use Rattle.gpkt.specs.Change.{Change, change_of}
+use Rattle.gpkt.specs.Devices.{KeepsPassed, PassesAll}
+use Rattle.gpkt.specs.Packets.{Bytes}
+use Rattle.gpkt.specs.declared.fault.WriteFault.{WriteFault}
+use Rattle.gpkt.specs.declared.fault.WriteFault.TheVariants.{Failed, Payload, Io}
 
 -- a writer: its sink, and whether a call of it has failed
 pub record Writer (W : Type 0) : Type 0 where

@@ -1,8 +1,10 @@
 -- Packets, and how bytes spell them (gitprotocol-common(5), "pkt-line Format").
-use Rattle.std.specs.{Int.{w16, to_be_bytes}, Io.BufRead.strip_last}
+use Rattle.std.specs.Int.{w16, to_be_bytes}
+use Rattle.std.specs.Io.BufRead.{strip_last}
 use Rattle.std.specs.Prelude.{◌≡◌, ℕ, ◌+◌, ◌-◌, ◌*◌, ◌≤◌, List, [], ◌∷◌, ◌++◌, length, codes, Option, Some, None}
 use Rattle.std.specs.Prelude.{Result, Ok, Err}
-use Rattle.hex.specs.{Hex.{decode_of, encode_lower}, declared.error.FromHexError.FromHexError}
+use Rattle.hex.specs.Hex.{decode_of, encode_lower}
+use Rattle.hex.specs.declared.error.FromHexError.{FromHexError}
 use Rattle.gpkt.specs.declared.line.Line.{Line}
 use Rattle.gpkt.specs.declared.line.Line.TheVariants as lent
 

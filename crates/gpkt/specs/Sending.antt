@@ -1,6 +1,9 @@
 -- What is read from a source and written to a sink, before a call and after it.
-use Rattle.std.specs.{Io.KnownBytes.Appends, Prelude.{◌≡◌, Bool, true, false, ◌++◌, Option, Some, IsSome}}
-use Rattle.gpkt.specs.{Change.{Change, change_of}, Devices.PassesAll, Packets.Bytes}
+use Rattle.std.specs.Io.KnownBytes.{Appends}
+use Rattle.std.specs.Prelude.{◌≡◌, Bool, true, false, ◌++◌, Option, Some, IsSome}
+use Rattle.gpkt.specs.Change.{Change, change_of}
+use Rattle.gpkt.specs.Devices.{PassesAll}
+use Rattle.gpkt.specs.Packets.{Bytes}
 
 -- a source before a call and after it: the bytes still to come, where they are known, and whether it is down
 pub record Input : Type 0 where

@@ -1,15 +1,23 @@
 -- Refs in order: what a search finds, and what an edit at that position does.
 use Rattle.std.proofs.Common.{ap₂, ◌≡◌, ◌≢◌, ℕ, zero, suc, ◌<◌, ◌≤◌, List, [], ◌∷◌, ◌++◌, length, get_or, set, Bool, true, false, cond, Option, Some, None, Result, Ok, Err, MatchResult, ◌⊎◌, inl, inr, ◌+◌, refl, sym, ◌∙◌, ap, subst, arith, take, drop, ◌-◌}
 use Rattle.std.proofs.lemmas.List.Elements.{All-append, All-contains_itself, All-head, All-tail, All-weaker, All-take, All-drop, All-cons, All-set, All-nil}
-use Rattle.std.proofs.lemmas.{Cmp.{nat_list_cmp_total, alike_right}, List.{length-set, length-append}}
-use Rattle.std.proofs.lemmas.{List.Edits.length-insert, Map.Keys.{sorted_head, sorted_tail}, Map.Lookups.exact_bytes}
-use Rattle.std.proofs.lemmas.{Map.Text.is_eq-slice_cmp, Option.same_Some, Slice.Eq.bytes_eq-Decides}
+use Rattle.std.proofs.lemmas.Cmp.{nat_list_cmp_total, alike_right}
+use Rattle.std.proofs.lemmas.List.{length-set, length-append}
+use Rattle.std.proofs.lemmas.List.Edits.{length-insert}
+use Rattle.std.proofs.lemmas.Map.Keys.{sorted_head, sorted_tail}
+use Rattle.std.proofs.lemmas.Map.Lookups.{exact_bytes}
+use Rattle.std.proofs.lemmas.Map.Text.{is_eq-slice_cmp}
+use Rattle.std.proofs.lemmas.Option.{same_Some}
+use Rattle.std.proofs.lemmas.Slice.Eq.{bytes_eq-Decides}
 use Rattle.std.specs.Cmp.Lexicographic.{slice_cmp}
 use Rattle.std.specs.List.{All, AllByRecursion, AllWithin, Contains, insert, find, slice_get}
 use Rattle.std.specs.List.Sorted.{IsStrictlySortedBy, IsNonDecreasingBy, IsBinarySearchResult, IsSearchInRange}
 use Rattle.std.specs.Map.{keys_of}
-use Rattle.std.specs.{Option.option_map, Ordering.{nat_cmp, is_eq, is_lt, ordering_reverse, ordering_index}}
-use Rattle.std.specs.{Str.bytes_eq, declared.cmp.Ordering.{Ordering, TheVariants.{Less, Equal, Greater}}}
+use Rattle.std.specs.Option.{option_map}
+use Rattle.std.specs.Ordering.{nat_cmp, is_eq, is_lt, ordering_reverse, ordering_index}
+use Rattle.std.specs.Str.{bytes_eq}
+use Rattle.std.specs.declared.cmp.Ordering.{Ordering}
+use Rattle.std.specs.declared.cmp.Ordering.TheVariants.{Less, Equal, Greater}
 use Rattle.gname.specs.Names.{head_name}
 use Rattle.grefs.specs.Laws.{RefsComeInOrder}
 use Rattle.grefs.specs.RefLists.{RefList, has_name, ref_at, AreBelow, IsBelowRefs, IsRefs, SetsRef, max_refs}

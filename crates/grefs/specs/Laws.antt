@@ -1,6 +1,7 @@
 -- What follows from the definition of refs.
 use Rattle.std.specs.Prelude.{◌≡◌, ◌<◌, ◌∷◌, ◌++◌, length}
-use Rattle.gname.specs.{Ids.Id, Names.Name}
+use Rattle.gname.specs.Ids.{Id}
+use Rattle.gname.specs.Names.{Name}
 use Rattle.grefs.specs.RefLists.{RefList, AreBelow, IsBelowRefs, IsRefs, max_refs, ref_at}
 
 -- a name may come next: it is below refs/ and above the names that are there, and there is room

@@ -1,10 +1,17 @@
 -- Refs: names below refs/ with the ids that they stand at (git-check-ref-format(1)), in the byte order of the names:
 -- "sorted by name according to the C locale ordering" (gitprotocol-pack(5), "Reference Discovery").
-use Rattle.std.specs.{Cmp.Lexicographic.slice_cmp, List.{AllByRecursion, starts_with}}
-use Rattle.std.specs.{List.Sorted.IsStrictlySortedBy, Map.keys_of, Option.option_map, Ordering.nat_cmp}
+use Rattle.std.specs.Cmp.Lexicographic.{slice_cmp}
+use Rattle.std.specs.List.{AllByRecursion, starts_with}
+use Rattle.std.specs.List.Sorted.{IsStrictlySortedBy}
+use Rattle.std.specs.Map.{keys_of}
+use Rattle.std.specs.Option.{option_map}
+use Rattle.std.specs.Ordering.{nat_cmp}
 use Rattle.std.specs.Prelude.{◌≡◌, ◌≢◌, ◌⊎◌, ℕ, ◌+◌, ◌≤◌, true, Bool, List, length, find, All, Contains, codes, nat_eq}
-use Rattle.std.specs.{Prelude.{Option, Some, None}, Str.bytes_eq, declared.cmp.Ordering.TheVariants.Less}
-use Rattle.gname.specs.{Ids.Id, Names.{Name, IsRefName, head_name}}
+use Rattle.std.specs.Prelude.{Option, Some, None}
+use Rattle.std.specs.Str.{bytes_eq}
+use Rattle.std.specs.declared.cmp.Ordering.TheVariants.{Less}
+use Rattle.gname.specs.Ids.{Id}
+use Rattle.gname.specs.Names.{Name, IsRefName, head_name}
 
 -- each ref is a name and an id
 abbrev pub RefList : Type 0

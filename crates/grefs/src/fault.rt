@@ -1,5 +1,4 @@
 //! Why a call on refs is refused.
-#![tactic(auto)]
 
 ghost use Rattle.std.specs.Prelude.{◌≡◌, Some};
 ghost use Rattle.grefs.specs.Faults.{refs_fault_row, refs_fault_text};

@@ -1,5 +1,4 @@
 //! What HEAD stands at.
-#![tactic(auto)]
 
 ghost use Rattle.std.specs.Prelude.{◌≡◌, ◌≢◌, IfOk, MatchOption};
 ghost use Rattle.gname.specs.Names.{head_name};

@@ -1,5 +1,4 @@
 //! The laws of refs: functions without effect, whose contracts they are.
-#![tactic(auto)]
 
 ghost use Rattle.std.specs.Prelude.{◌≡◌};
 ghost use Rattle.grefs.specs.Laws.{RefsAreTheirLookUps, RefsComeInOrder};

@@ -1,5 +1,4 @@
 //! Refs: names below `refs/` with the ids at which they stand.
-#![tactic(auto)]
 
 ghost use Rattle.std.specs.Prelude.{◌≡◌, ◌≤◌, ◌↔◌, [], length, IsTrue, IsErrOf, OnOk, OnErr, IfOk, IfErr, ◌⊎◌, ◌≢◌, None, is_ok, MatchOption, MatchResult, slice_get, ◌<◌, ◌++◌, ◌∷◌};
 ghost use Rattle.std.specs.Map.{values_of};

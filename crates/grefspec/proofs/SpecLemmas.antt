@@ -1,15 +1,21 @@
 -- Facts on the texts of refspecs.
 use Rattle.std.proofs.Common.{◌≡◌, ◌≢◌, ℕ, ◌+◌, ◌<◌, Bool, true, false, ◌==◌, nat_lt, List, [], ◌∷◌, ◌++◌, length, take, drop, get_or, None, Some, Result, Ok, Err, refl, sym, ap, ◌∙◌, subst, arith, append_assoc}
 use Rattle.std.proofs.lemmas.List.{append_cancel_right, take_at, drop_at, length-append, get_or_at, get_or_append_left, take-append-drop, drop_more}
-use Rattle.std.proofs.lemmas.{Bool.{lt-ltb, ne_eqb, eqb-true, false≢true}, Bool.Decides.Decides-eqb}
-use Rattle.std.proofs.lemmas.List.{Elements.{All-append, All-weaker, All-cons, All-nil}, Quantifiers.position-Some}
-use Rattle.std.proofs.lemmas.{List.Sums.position_or_len_is, Option.{none-some, same_Some}, Slice.Eq.starts_is}
-use Rattle.std.specs.{List.{starts_with, position_or_len}, Prelude.{All, codes, nat_eq, position}}
+use Rattle.std.proofs.lemmas.Bool.{lt-ltb, ne_eqb, eqb-true, false≢true}
+use Rattle.std.proofs.lemmas.Bool.Decides.{Decides-eqb}
+use Rattle.std.proofs.lemmas.List.Elements.{All-append, All-weaker, All-cons, All-nil}
+use Rattle.std.proofs.lemmas.List.Quantifiers.{position-Some}
+use Rattle.std.proofs.lemmas.List.Sums.{position_or_len_is}
+use Rattle.std.proofs.lemmas.Option.{none-some, same_Some}
+use Rattle.std.proofs.lemmas.Slice.Eq.{starts_is}
+use Rattle.std.specs.List.{starts_with, position_or_len}
+use Rattle.std.specs.Prelude.{All, codes, nat_eq, position}
 use Rattle.gname.specs.Laws.{NamesAreClean}
 use Rattle.gname.specs.Names.{IsRefName, empty, head_name, is_bad_byte, max_name, name_fault, too_long}
 use Rattle.gname.specs.declared.faults.NameFault.TheVariants.{TooLong}
 use Rattle.grefs.specs.RefLists.{IsBelowRefs}
-use Rattle.grefspec.specs.declared.fault.SpecFault.{SpecFault, TheVariants.{BadSpec, Memory}}
+use Rattle.grefspec.specs.declared.fault.SpecFault.{SpecFault}
+use Rattle.grefspec.specs.declared.fault.SpecFault.TheVariants.{BadSpec, Memory}
 use Rattle.grefspec.specs.Refspecs.{Refspec, AreSides, IsRefspec, IsSpec, IsStem, OneReading, Reads, force_text, side_text, sides_text}
 use Rattle.grefspec.specs.steps.Parsing.{HasSides, HasTexts, IsRest, is_colon}
 

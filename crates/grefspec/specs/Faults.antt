@@ -2,7 +2,8 @@
 use Rattle.std.specs.Prelude.{ℕ, List, codes}
 use Rattle.gname.specs.Faults.{FaultRow, name_fault_row, name_fault_text}
 use Rattle.gname.specs.declared.faults.NameFault.TheVariants as name
-use Rattle.grefspec.specs.declared.fault.SpecFault.{SpecFault, TheVariants.{BadSpec, Memory}}
+use Rattle.grefspec.specs.declared.fault.SpecFault.{SpecFault}
+use Rattle.grefspec.specs.declared.fault.SpecFault.TheVariants.{BadSpec, Memory}
 
 -- why a text was not read as a refspec
 abbrev pub spec_fault_row : SpecFault → FaultRow

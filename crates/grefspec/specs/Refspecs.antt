@@ -2,10 +2,13 @@
 -- Git takes more forms: that `SRC:DST` alone is taken, with `+` before it or not, is our own rule.
 use Rattle.std.specs.List.{ends_with, starts_with}
 use Rattle.std.specs.Prelude.{◌≡◌, ℕ, Bool, true, false, ◌&&◌, List, [], ◌++◌, length, drop, codes, nat_eq, nat_lt}
-use Rattle.std.specs.{Prelude.{if◌then◌else◌, Option, None, Some, Result, Ok, Err}, Str.bytes_eq}
-use Rattle.gname.specs.{Names.{Name, IsRefName, Owns, name_fault}, declared.faults.NameFault.NameFault}
+use Rattle.std.specs.Prelude.{if◌then◌else◌, Option, None, Some, Result, Ok, Err}
+use Rattle.std.specs.Str.{bytes_eq}
+use Rattle.gname.specs.Names.{Name, IsRefName, Owns, name_fault}
+use Rattle.gname.specs.declared.faults.NameFault.{NameFault}
 use Rattle.grefs.specs.RefLists.{IsBelowRefs}
-use Rattle.grefspec.specs.declared.fault.SpecFault.{SpecFault, TheVariants.{BadSpec, Memory}}
+use Rattle.grefspec.specs.declared.fault.SpecFault.{SpecFault}
+use Rattle.grefspec.specs.declared.fault.SpecFault.TheVariants.{BadSpec, Memory}
 
 -- a refspec: whether it moves refs by force, whether it is a pattern, and its sides; the side of a pattern is what
 -- stands before its `*`

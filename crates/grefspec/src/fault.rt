@@ -1,5 +1,4 @@
 //! Why a text is no refspec.
-#![tactic(auto)]
 
 ghost use Rattle.std.specs.Prelude.{◌≡◌, Some};
 ghost use Rattle.grefspec.specs.Faults.{spec_fault_row, spec_fault_text};

@@ -1,5 +1,4 @@
 //! The laws of refspecs: functions without effect, whose contracts they are.
-#![tactic(auto)]
 
 ghost use Rattle.grefspec.specs.Refspecs.{OneReading};
 

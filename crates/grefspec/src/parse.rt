@@ -1,5 +1,4 @@
 //! Reading a refspec.
-#![tactic(auto)]
 
 ghost use Rattle.std.specs.Prelude.{◌≡◌, ◌<◌, IfSome, false, length, position, true};
 ghost use Rattle.grefspec.specs.Refspecs.{IsSpec, Reads};

@@ -1,5 +1,4 @@
 //! The sides of a refspec.
-#![tactic(auto)]
 
 ghost use Rattle.std.specs.Prelude.{◌≡◌, ◌<◌, ◌↔◌, ◌++◌, IsTrue, MatchOption, length};
 ghost use Rattle.gname.specs.Names.{IsRefName, Owns, max_name, name_fault};

@@ -1,5 +1,4 @@
 //! Refspecs, and what they do with the names of refs.
-#![tactic(auto)]
 
 ghost use Rattle.std.specs.Prelude.{◌≡◌, ◌↔◌, IfOk, IfSome, IsTrue, MatchResult};
 ghost use Rattle.gname.specs.Names.{head_name};

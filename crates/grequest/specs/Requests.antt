@@ -16,10 +16,9 @@ use Rattle.grequest.specs.declared.command.Command.{Command}
 use Rattle.grequest.specs.declared.command.Command.TheVariants.{LsRefs, Fetch}
 use Rattle.grequest.specs.declared.command.CommandForm.{CommandForm}
 use Rattle.grequest.specs.declared.command.CommandForm.TheVariants.{Known, Unknown as UnknownCommand, Bad as BadCommand}
-use Rattle.grequest.specs.Arguments.{command_form, CapabilityForm, Agent, ObjectFormat, UnknownCapability}
+use Rattle.grequest.specs.Arguments.{command_form, CapabilityForm, Agent, ObjectFormat, UnknownCapability, is_word}
 use Rattle.grequest.specs.Arguments.{BadCapability, capability_form, LsArgument, RefPrefix, UnknownLsArgument}
 use Rattle.grequest.specs.Arguments.{ls_argument, FetchArgument, Want, Have, UnknownFetchArgument, fetch_argument}
-use Rattle.grequest.specs.Arguments.{is_word}
 use Rattle.grequest.specs.Asked.{Asked, Empty, Ls, Fetches, max_prefixes, max_wants, max_haves, max_arguments}
 use Rattle.grequest.specs.RequestLines.{Place, First, InCapabilities, InArguments, place_of, capability_texts}
 use Rattle.grequest.specs.RequestLines.{argument_texts, formats, asked_by_lines}

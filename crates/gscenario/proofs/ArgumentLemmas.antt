@@ -1,9 +1,12 @@
 -- The words after the first of a line.
 use Rattle.std.proofs.Common.{◌≡◌, ◌∙◌, ℕ, List, [], ◌∷◌, ◌++◌, Option, None, Some, Result, Ok, Err, MatchOption}
 use Rattle.std.proofs.Common.{MatchResult, sym, ap, subst, append_assoc}
-use Rattle.std.specs.{List.AllZip, Prelude.{⊤, Vec}}
+use Rattle.std.specs.List.{AllZip}
+use Rattle.std.specs.Prelude.{⊤, Vec}
 use Rattle.gobject.specs.declared.node.Entry.{Entry}
-use Rattle.grefspec.specs.{Refspecs.{IsSpec, Reads, Refspec}, declared.fault.SpecFault.{SpecFault, TheVariants.BadSpec}}
+use Rattle.grefspec.specs.Refspecs.{IsSpec, Reads, Refspec}
+use Rattle.grefspec.specs.declared.fault.SpecFault.{SpecFault}
+use Rattle.grefspec.specs.declared.fault.SpecFault.TheVariants.{BadSpec}
 use Rattle.gscenario.specs.ScenarioText.{AreBytes, AreNumberAndCount, AreOneBytes, IsCount, IsEntry, IsOneNumber, IsRef}
 use Rattle.gscenario.specs.steps.Reading.{NoArguments}
 use Rattle.gscenario.specs.declared.event.Event.TheVariants as event

@@ -1,13 +1,16 @@
 -- The lines of a scenario.
 use Rattle.std.proofs.Common.{◌≡◌, ◌∙◌, inl, inr, ℕ, suc, ◌+◌, ◌≤◌, List, [], ◌∷◌, ◌++◌, length, Option, None, Some}
 use Rattle.std.proofs.Common.{MatchOption, refl, sym, ap, ap₂, subst, arith, append_assoc, append-nil}
-use Rattle.std.proofs.lemmas.{List.length-append, Option.{MatchOption-at_none, MatchOption-at_some}}
+use Rattle.std.proofs.lemmas.List.{length-append}
+use Rattle.std.proofs.lemmas.Option.{MatchOption-at_none, MatchOption-at_some}
 use Rattle.gobject.specs.PlainPackText.{IsInLine, line}
 use Rattle.gscenario.specs.ScenarioText.{BeginsWithCommand, BeginsWrong, IsLineOf, IsNoLine, IsScenario, IsWrongLine}
 use Rattle.gscenario.specs.ScenarioText.{TakesMemory, command_text}
-use Rattle.gscenario.specs.declared.{command.Command.Command, event.Event.Event}
+use Rattle.gscenario.specs.declared.command.Command.{Command}
+use Rattle.gscenario.specs.declared.event.Event.{Event}
 use Rattle.gscenario.specs.declared.command.Command.TheVariants as command
-use Rattle.std.specs.{Prelude.{codes, if◌then◌else◌}, Str.bytes_eq}
+use Rattle.std.specs.Prelude.{codes, if◌then◌else◌}
+use Rattle.std.specs.Str.{bytes_eq}
 
 -- ---- a line
 

@@ -1,16 +1,24 @@
 -- A text is that of one list of events.
 use Rattle.std.proofs.Common.{◌≡◌, ◌∙◌, inl, inr, ℕ, ◌<◌, ◌^◌, List, [], ◌∷◌, Ok, Err, refl, sym, ap₂, subst, arith}
 use Rattle.std.proofs.lemmas.Fmt.{decimal_injective, decimal_is_IsNumeral}
-use Rattle.std.specs.{List.AllZip, Prelude.{codes, decimal}, Str.Parse.IsNumeral}
-use Rattle.hex.specs.{Hex.decode_of, declared.error.FromHexError.TheVariants.OddLength}
-use Rattle.gname.specs.{Ids.IsIdText, Laws.TextsSpellOneId}
-use Rattle.gobject.specs.{Objects.{entry_of, node_of}, PlainPackText.{ids_of, letter}}
-use Rattle.gobject.specs.declared.node.{Entry.Entry, Kind.{Kind, TheVariants.{Commit, Tag}}}
+use Rattle.std.specs.List.{AllZip}
+use Rattle.std.specs.Prelude.{codes, decimal}
+use Rattle.std.specs.Str.Parse.{IsNumeral}
+use Rattle.hex.specs.Hex.{decode_of}
+use Rattle.hex.specs.declared.error.FromHexError.TheVariants.{OddLength}
+use Rattle.gname.specs.Ids.{IsIdText}
+use Rattle.gname.specs.Laws.{TextsSpellOneId}
+use Rattle.gobject.specs.Objects.{entry_of, node_of}
+use Rattle.gobject.specs.PlainPackText.{ids_of, letter}
+use Rattle.gobject.specs.declared.node.Entry.{Entry}
+use Rattle.gobject.specs.declared.node.Kind.{Kind}
+use Rattle.gobject.specs.declared.node.Kind.TheVariants.{Commit, Tag}
 use Rattle.grefspec.specs.Refspecs.{IsSpec, OneReading}
 use Rattle.gscenario.specs.Laws.{IsSame}
 use Rattle.gscenario.specs.ScenarioText.{AreArguments, AreBytes, AreNumberAndCount, AreOneBytes, IsCount, IsEntry}
 use Rattle.gscenario.specs.ScenarioText.{IsNumber, IsOneNumber, IsRef, IsLineOf, IsScenario, command_of, command_text}
-use Rattle.gscenario.specs.{ScenarioText.words_of, declared.event.Event.Event}
+use Rattle.gscenario.specs.ScenarioText.{words_of}
+use Rattle.gscenario.specs.declared.event.Event.{Event}
 use Rattle.gscenario.specs.declared.event.Event.TheVariants as event
 use Rattle.gscenario.proofs.ArgumentLemmas.{first_same, one_same, two_same}
 use Rattle.gscenario.proofs.LineLemmas.{same_command, same_lines, unended_none}

@@ -1,9 +1,12 @@
 -- The words of a line.
 use Rattle.std.proofs.Common.{◌≡◌, ◌∙◌, ℕ, zero, suc, ◌-◌, ◌<◌, ◌==◌, Bool, true, false, if◌then◌else◌, List, [], ◌∷◌}
-use Rattle.std.proofs.{Common.{length, take, drop, refl, sym, ap, arith}, Math.Seq.take-length, lemmas.List.length-drop}
+use Rattle.std.proofs.Common.{length, take, drop, refl, sym, ap, arith}
+use Rattle.std.proofs.Math.Seq.{take-length}
+use Rattle.std.proofs.lemmas.List.{length-drop}
 use Rattle.std.specs.Str.TwoWay.{Nowhere}
 use Rattle.memchr.specs.Find.{Passes, is_byte}
-use Rattle.gscenario.specs.{ScenarioText.{with_byte, words_of}, steps.Reading.words_after}
+use Rattle.gscenario.specs.ScenarioText.{with_byte, words_of}
+use Rattle.gscenario.specs.steps.Reading.{words_after}
 
 off : (b : Bool) → ¬ (b ≡ true) → b ≡ false
 off true other = absurd (other refl)

@@ -1,5 +1,6 @@
 -- The table of faults: the number, the name and the text of each.
-use Rattle.std.specs.{Fmt.decimal, Prelude.{ℕ, List, ◌++◌, codes}}
+use Rattle.std.specs.Fmt.{decimal}
+use Rattle.std.specs.Prelude.{ℕ, List, ◌++◌, codes}
 use Rattle.gname.specs.Faults.{FaultRow, out_of_memory_text}
 use Rattle.gscenario.specs.declared.fault.ScenarioFault.{ScenarioFault}
 use Rattle.gscenario.specs.declared.fault.ScenarioFault.TheVariants as fault

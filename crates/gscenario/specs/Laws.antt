@@ -1,6 +1,8 @@
 -- What follows from the definition of a scenario's text.
-use Rattle.std.specs.{List.AllZip, Prelude.{◌≡◌, ⊤, ℕ, List}}
-use Rattle.gscenario.specs.{ScenarioText.{IsScenario, IsWrongLine}, declared.event.Event.Event}
+use Rattle.std.specs.List.{AllZip}
+use Rattle.std.specs.Prelude.{◌≡◌, ⊤, ℕ, List}
+use Rattle.gscenario.specs.ScenarioText.{IsScenario, IsWrongLine}
+use Rattle.gscenario.specs.declared.event.Event.{Event}
 use Rattle.gscenario.specs.declared.event.Event.TheVariants as event
 
 -- a text with a wrong line is the text of no events

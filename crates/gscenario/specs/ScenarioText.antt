@@ -4,10 +4,14 @@ use Rattle.std.specs.List.{AllZip}
 use Rattle.std.specs.Prelude.{◌≡◌, ◌≢◌, ◌⊎◌, ℕ, ◌+◌, ◌-◌, ◌^◌, ◌<◌, ◌==◌, if◌then◌else◌, List, [], ◌∷◌, ◌++◌, length}
 use Rattle.std.specs.Prelude.{codes, decimal, Ok}
 use Rattle.hex.specs.Hex.{decode_of}
-use Rattle.gname.specs.{Ids.{Id, IsIdText}, Names.{Name, IsRefName}}
-use Rattle.gobject.specs.{PlainPackText.{IsInLine, ids_of, letter}, declared.node.Entry.Entry}
+use Rattle.gname.specs.Ids.{Id, IsIdText}
+use Rattle.gname.specs.Names.{Name, IsRefName}
+use Rattle.gobject.specs.PlainPackText.{IsInLine, ids_of, letter}
+use Rattle.gobject.specs.declared.node.Entry.{Entry}
 use Rattle.grefspec.specs.Refspecs.{IsSpec, Refspec}
-use Rattle.gscenario.specs.declared.{command.Command.Command, event.Event.Event, fault.ScenarioFault.ScenarioFault}
+use Rattle.gscenario.specs.declared.command.Command.{Command}
+use Rattle.gscenario.specs.declared.event.Event.{Event}
+use Rattle.gscenario.specs.declared.fault.ScenarioFault.{ScenarioFault}
 use Rattle.gscenario.specs.declared.fault.ScenarioFault.TheVariants as fault
 use Rattle.gscenario.specs.declared.event.Event.TheVariants as event
 use Rattle.gscenario.specs.declared.command.Command.TheVariants as command

@@ -1,5 +1,4 @@
 //! The words after the first of a line.
-#![tactic(auto)]
 
 ghost use Rattle.std.specs.Prelude.{◌≡◌, ◌≢◌, ◌∷◌, [], ℕ, List, MatchOption, MatchResult, ⊤};
 ghost use Rattle.gname.specs.Names.{Name};

@@ -1,5 +1,4 @@
 //! The first words of a scenario's lines.
-#![tactic(auto)]
 
 ghost use Rattle.std.specs.Prelude.{◌≡◌, ◌≢◌, MatchOption};
 ghost use Rattle.gscenario.specs.ScenarioText.{command_text};

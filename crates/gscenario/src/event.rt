@@ -1,5 +1,4 @@
 //! What may happen to a server and a client.
-#![tactic(auto)]
 
 use gname::{Oid, RefName};
 use gobject::Entry;

@@ -1,5 +1,4 @@
 //! Why a text is no scenario.
-#![tactic(auto)]
 
 ghost use Rattle.std.specs.Prelude.{◌≡◌, Some};
 ghost use Rattle.gscenario.specs.Faults.{scenario_fault_row, scenario_fault_text};

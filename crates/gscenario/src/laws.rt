@@ -1,5 +1,4 @@
 //! The laws of scenarios: functions without effect, whose contracts they are.
-#![tactic(auto)]
 
 ghost use Rattle.gscenario.specs.Laws.{TextsHaveOneReading, WrongIsNone, WrongLinesHaveOnePlace};
 

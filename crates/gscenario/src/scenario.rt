@@ -1,5 +1,4 @@
 //! Reading a scenario.
-#![tactic(auto)]
 
 ghost use Rattle.std.specs.Prelude.{◌≡◌, ◌++◌, ◌∷◌, [], IfOk, MatchOption, MatchResult};
 ghost use Rattle.gobject.specs.PlainPackText.{IsInLine, line};

@@ -1,5 +1,4 @@
 //! The words of a line, and what single words say.
-#![tactic(auto)]
 
 ghost use Rattle.std.specs.Prelude.{◌≡◌, ◌≢◌, ◌∷◌, ◌<◌, ◌^◌, [], ℕ, List, Some, decimal, codes, ⊤};
 ghost use Rattle.std.specs.Prelude.{MatchBool, MatchOption, MatchResult};

@@ -7,15 +7,22 @@ use Rattle.std.proofs.lemmas.Grind.{flat_map-append}
 use Rattle.std.specs.List.{flat_map}
 use Rattle.gname.specs.declared.formats.Format.{Format}
 use Rattle.gpkt.specs.Sending.{Input, Output, input_of, output_of, IsUnread, Passes}
-use Rattle.gpkt.specs.{Packets.Packet, Packets.canonical_all, declared.fault.LineFault.TheVariants.Memory as NoBuffer}
-use Rattle.gpkt.specs.{Laws.CanonicalJoins, Laws.ReadsJoin, Laws.ReadsNone, declared.fault.LineFault.LineFault}
-use Rattle.gpkt.specs.{Change.Change, LineReading.ReadsLines}
-use Rattle.ggrammar.specs.{Capabilities.Capability, declared.ends.Ends.Ends}
+use Rattle.gpkt.specs.Packets.{Packet, canonical_all}
+use Rattle.gpkt.specs.declared.fault.LineFault.TheVariants.{Memory as NoBuffer}
+use Rattle.gpkt.specs.Laws.{CanonicalJoins, ReadsJoin, ReadsNone}
+use Rattle.gpkt.specs.declared.fault.LineFault.{LineFault}
+use Rattle.gpkt.specs.Change.{Change}
+use Rattle.gpkt.specs.LineReading.{ReadsLines}
+use Rattle.ggrammar.specs.Capabilities.{Capability}
+use Rattle.ggrammar.specs.declared.ends.Ends.{Ends}
 use Rattle.ghello.specs.Adverts.{canonical_advert}
 use Rattle.gobject.specs.Packs.{PackFails, Packs}
-use Rattle.ganswer.specs.{Adverts.advertised, OnePack.has_failed, OnePack.packing_of_fault}
-use Rattle.ganswer.specs.{declared.fault.ServeFault.ServeFault, declared.one_pack.Packing.TheVariants.Unasked}
-use Rattle.ganswer.specs.{Servers.Server, declared.one_pack.Packing.Packing}
+use Rattle.ganswer.specs.Adverts.{advertised}
+use Rattle.ganswer.specs.OnePack.{has_failed, packing_of_fault}
+use Rattle.ganswer.specs.declared.fault.ServeFault.{ServeFault}
+use Rattle.ganswer.specs.declared.one_pack.Packing.TheVariants.{Unasked}
+use Rattle.ganswer.specs.Servers.{Server}
+use Rattle.ganswer.specs.declared.one_pack.Packing.{Packing}
 use Rattle.ganswer.specs.declared.fault.ServeFault.TheVariants as serve
 use Rattle.gserve.specs.Exchanges.{Turn, Exchanges, IsDue, reply, refusal, IsRefused, IsTurn, ReadsEmpty, ReadsEnd}
 use Rattle.gserve.specs.Exchanges.{ReadsTurns, reply_packets}
@@ -23,8 +30,10 @@ use Rattle.gserve.specs.Conversations.{advert_packets, talk, talk_bytes, CannotB
 use Rattle.gserve.specs.Conversations.{refusal as refusal_first, Serves, max_requests, rest_of}
 use Rattle.gserve.specs.steps.Connections.{Advertises, HasAnswered, PassesPackets, RefusesFirst, end_after}
 use Rattle.gserve.specs.steps.Connections.{ReportsRefusal}
-use Rattle.gserve.specs.{declared.connection.End.End, Packings.ReportsLastPacking, Packings.ReportsPacking}
-use Rattle.gserve.specs.{Refusals.err_packets, declared.exchange.ExchangeEnd.ExchangeEnd}
+use Rattle.gserve.specs.declared.connection.End.{End}
+use Rattle.gserve.specs.Packings.{ReportsLastPacking, ReportsPacking}
+use Rattle.gserve.specs.Refusals.{err_packets}
+use Rattle.gserve.specs.declared.exchange.ExchangeEnd.{ExchangeEnd}
 use Rattle.gserve.specs.declared.connection.End.TheVariants as end
 use Rattle.gserve.specs.declared.exchange.ExchangeEnd.TheVariants as exchange
 use Rattle.gpkt.proofs.SendingLemmas.{fails_after, passes_join, passes_still}

@@ -2,22 +2,28 @@
 use Rattle.std.proofs.Common.{◌≡◌, ◌≢◌, ◌<◌, List, Bool, false, Result, Ok, Err, refl, sym, subst, arith}
 use Rattle.std.specs.Prelude.{OnOk}
 use Rattle.gpkt.specs.Sending.{Input, Output, IsUp, IsUnread, Passes}
-use Rattle.gpkt.specs.{Packets.Packet, Packets.canonical_all, declared.fault.LineFault.TheVariants.Memory as NoBuffer}
-use Rattle.gpkt.specs.{LineReading.ReadsLines, declared.fault.LineFault.LineFault}
-use Rattle.ggrammar.specs.{declared.ends.Ends.Ends, MessageReading.IsReadFailure, MessageReading.ReadsRefused}
-use Rattle.ggrammar.specs.{declared.fault.MessageFault.MessageFault, declared.fault.Why.TheVariants.Ended as EndedEarly}
+use Rattle.gpkt.specs.Packets.{Packet, canonical_all}
+use Rattle.gpkt.specs.declared.fault.LineFault.TheVariants.{Memory as NoBuffer}
+use Rattle.gpkt.specs.LineReading.{ReadsLines}
+use Rattle.gpkt.specs.declared.fault.LineFault.{LineFault}
+use Rattle.ggrammar.specs.declared.ends.Ends.{Ends}
+use Rattle.ggrammar.specs.MessageReading.{IsReadFailure, ReadsRefused}
+use Rattle.ggrammar.specs.declared.fault.MessageFault.{MessageFault}
+use Rattle.ggrammar.specs.declared.fault.Why.TheVariants.{Ended as EndedEarly}
 use Rattle.ggrammar.specs.Kinds.{ReadsMessage}
 use Rattle.gname.specs.declared.formats.Format.{Format}
 use Rattle.grequest.specs.Asked.{Asked, Empty, Fetches}
-use Rattle.grequest.specs.{Requests.Says, Requests.brings, Requests.judge}
+use Rattle.grequest.specs.Requests.{Says, brings, judge}
 use Rattle.gobject.specs.Packs.{PackFails, Packs}
 use Rattle.ganswer.specs.Answers.{Answers, Reply, Nothing}
-use Rattle.ganswer.specs.{Servers.Server, declared.fault.ServeFault.ServeFault}
+use Rattle.ganswer.specs.Servers.{Server}
+use Rattle.ganswer.specs.declared.fault.ServeFault.{ServeFault}
 use Rattle.ganswer.specs.declared.fault.ServeFault.TheVariants as serve
 use Rattle.gserve.specs.Exchanges.{Turn, Declines, Exchanges, LacksBuffer, RefusesAtOnce, IsDue, reply as due_reply, refusal as due_refusal, IsRefused, ReadsTurn, RefusesToAnswer, RefusesToRead, reply_packets}
 use Rattle.gserve.specs.steps.Connections.{PassesPackets, IsDueFor, reply, refusal, Replies, ReportsRefusal}
 use Rattle.gserve.specs.steps.Connections.{end_of_reply}
-use Rattle.gserve.specs.{Refusals.err_packets, declared.exchange.ExchangeEnd.ExchangeEnd}
+use Rattle.gserve.specs.Refusals.{err_packets}
+use Rattle.gserve.specs.declared.exchange.ExchangeEnd.{ExchangeEnd}
 use Rattle.gserve.specs.declared.exchange.ExchangeEnd.TheVariants as end
 
 -- ---- a reply

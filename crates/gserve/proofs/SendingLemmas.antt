@@ -3,12 +3,17 @@ use Rattle.std.proofs.Common.{◌≡◌, ℕ, ◌≤◌, Bool, false, List, [], 
 use Rattle.std.proofs.Common.{Ok, Err, ap, length-append, arith}
 use Rattle.std.specs.Prelude.{IsErrAnd}
 use Rattle.gpkt.specs.Sending.{output_of}
-use Rattle.gpkt.specs.{LineWriting.Writer, LineWriting.HasPushed, Packets.Packet, Packets.Data, Packets.line_feed}
-use Rattle.gpkt.specs.{declared.fault.WriteFault.WriteFault, declared.fault.LineFault.LineFault}
+use Rattle.gpkt.specs.LineWriting.{Writer, HasPushed}
+use Rattle.gpkt.specs.Packets.{Packet, Data, line_feed}
+use Rattle.gpkt.specs.declared.fault.WriteFault.{WriteFault}
+use Rattle.gpkt.specs.declared.fault.LineFault.{LineFault}
 use Rattle.gpkt.specs.Laws.{Fits, PushesWritten}
-use Rattle.ggrammar.specs.{Writing.WritesLines, Faults.line_phrase, Faults.why_row, declared.fault.Why.Why}
+use Rattle.ggrammar.specs.Writing.{WritesLines}
+use Rattle.ggrammar.specs.Faults.{line_phrase, why_row}
+use Rattle.ggrammar.specs.declared.fault.Why.{Why}
 use Rattle.ggrammar.specs.Texts.{text_packet}
-use Rattle.ganswer.specs.{declared.fault.ServeFault.ServeFault, Faults.serve_fault_row}
+use Rattle.ganswer.specs.declared.fault.ServeFault.{ServeFault}
+use Rattle.ganswer.specs.Faults.{serve_fault_row}
 use Rattle.ggrammar.proofs.PassingLemmas.{push_fails, pushed_passes, write_fails}
 use Rattle.gserve.specs.Refusals.{err_packets, err_text, max_err_text}
 use Rattle.gserve.specs.steps.Connections.{PassesPackets, max_phrase}

@@ -1,28 +1,38 @@
 -- A connection with known bytes and devices that are well is a conversation over the bytes.
 use Rattle.std.proofs.Common.{◌≡◌, ℕ, ◌<◌, ◌++◌, List, [], length, Bool, false, Option, Some, None, Ok, refl, sym}
-use Rattle.std.proofs.Common.{subst, ◌∙◌, inl, inr, append-nil, ◌≤◌, ◌+◌, ◌∷◌, All, Err, ap}
-use Rattle.std.proofs.Common.{ap₂, append_assoc, arith}
+use Rattle.std.proofs.Common.{subst, ◌∙◌, inl, inr, append-nil, ◌≤◌, ◌+◌, ◌∷◌, All, Err, ap, ap₂, append_assoc, arith}
 use Rattle.std.proofs.lemmas.Bool.{false≢true}
 use Rattle.std.specs.List.{flat_map}
-use Rattle.gpkt.specs.{LineReading.Reads, LineReading.ReadsLines, Packets.Packet, Packets.canonical_all}
-use Rattle.gpkt.specs.{Sending.Input, Sending.IsUp, Laws.SpellingsSplit}
+use Rattle.gpkt.specs.LineReading.{Reads, ReadsLines}
+use Rattle.gpkt.specs.Packets.{Packet, canonical_all}
+use Rattle.gpkt.specs.Sending.{Input, IsUp}
+use Rattle.gpkt.specs.Laws.{SpellingsSplit}
 use Rattle.gpkt.specs.declared.fault.LineFault.TheVariants as line
 use Rattle.ggrammar.specs.MessageBytes.{known, IsFront, IsOfBytes, LawsOfBytes}
 use Rattle.ggrammar.specs.MessageReading.{IsReasonAfter, ReadsRefused, IsReadFailure}
-use Rattle.ggrammar.specs.{declared.fault.MessageFault.MessageFault, declared.fault.Why.Why, declared.ends.Ends.Ends}
-use Rattle.ggrammar.specs.{Grammar.Judge, Kinds.OneMeaning}
+use Rattle.ggrammar.specs.declared.fault.MessageFault.{MessageFault}
+use Rattle.ggrammar.specs.declared.fault.Why.{Why}
+use Rattle.ggrammar.specs.declared.ends.Ends.{Ends}
+use Rattle.ggrammar.specs.Grammar.{Judge}
+use Rattle.ggrammar.specs.Kinds.{OneMeaning}
 use Rattle.ggrammar.specs.declared.fault.Why.TheVariants as why
 use Rattle.grequest.specs.Asked.{Asked, FetchAsked, Empty, Fetches}
-use Rattle.grequest.specs.{Requests.brings, Requests.judge, Requests.Says, RequestReading.IsMissingWhereEmpty}
-use Rattle.gobject.specs.{Packs.PackFails, Packs.Packs, declared.node.Entry.Entry, Objects.node_at}
+use Rattle.grequest.specs.Requests.{brings, judge, Says}
+use Rattle.grequest.specs.RequestReading.{IsMissingWhereEmpty}
+use Rattle.gobject.specs.Packs.{PackFails, Packs}
+use Rattle.gobject.specs.declared.node.Entry.{Entry}
+use Rattle.gobject.specs.Objects.{node_at}
 use Rattle.ganswer.specs.Answers.{Answers, FetchRefuses, Reply, Fetch}
-use Rattle.ganswer.specs.{Servers.Server, declared.fault.ServeFault.ServeFault}
+use Rattle.ganswer.specs.Servers.{Server}
+use Rattle.ganswer.specs.declared.fault.ServeFault.{ServeFault}
 use Rattle.ganswer.specs.declared.fault.ServeFault.TheVariants as serve
 use Rattle.gserve.specs.Conversations.{CannotBegin, Converses, HasEnded, max_requests, rest_of, talk_bytes}
 use Rattle.gserve.specs.Exchanges.{Turn, IsRefused, ReadsEmpty, ReadsTurns, Declines, IsTurn, RefusesToAnswer}
 use Rattle.gserve.specs.Exchanges.{RefusesToRead}
 use Rattle.gserve.specs.Talks.{Stops, Talks, giving, last_packets, EndsByOwnFault, HoldsNone, HoldsTurns, IsOwnFault}
-use Rattle.gserve.specs.{Refusals.err_packets, Laws.ServingIsTalking, declared.connection.End.End}
+use Rattle.gserve.specs.Refusals.{err_packets}
+use Rattle.gserve.specs.Laws.{ServingIsTalking}
+use Rattle.gserve.specs.declared.connection.End.{End}
 use Rattle.gserve.specs.declared.connection.End.TheVariants as end
 use Rattle.gserve.proofs.ConnectionLemmas.{moved_empty, moved_refused}
 use Rattle.std.proofs.lemmas.List.Elements.{All-head, All-tail}

@@ -3,14 +3,18 @@
 use Rattle.std.specs.Prelude.{◌≡◌, ◌<◌, ◌⊎◌, ℕ, List, ◌++◌, length, Option, flat_map}
 use Rattle.gname.specs.declared.formats.Format.{Format}
 use Rattle.gpkt.specs.Sending.{Input, Output, IsUnread, IsUp, Passes, SendsAndFails, SendsSome}
-use Rattle.gpkt.specs.{Packets.Bytes, Packets.Packet, Packets.canonical_all, Devices.KeepsPassed}
+use Rattle.gpkt.specs.Packets.{Bytes, Packet, canonical_all}
+use Rattle.gpkt.specs.Devices.{KeepsPassed}
 use Rattle.ggrammar.specs.declared.ends.Ends.{Ends}
 use Rattle.ghello.specs.Adverts.{canonical_advert}
 use Rattle.gobject.specs.Packs.{PackFails, Packs}
-use Rattle.ganswer.specs.{Adverts.advertised, Servers.Server, declared.fault.ServeFault.ServeFault}
+use Rattle.ganswer.specs.Adverts.{advertised}
+use Rattle.ganswer.specs.Servers.{Server}
+use Rattle.ganswer.specs.declared.fault.ServeFault.{ServeFault}
 use Rattle.ganswer.specs.declared.fault.ServeFault.TheVariants as serve
 use Rattle.gserve.specs.Exchanges.{Turn, IsDue, IsRefused, LacksBuffer, ReadsEmpty, ReadsEnd, ReadsTurns, reply_packets}
-use Rattle.gserve.specs.{Refusals.err_packets, declared.connection.End.End}
+use Rattle.gserve.specs.Refusals.{err_packets}
+use Rattle.gserve.specs.declared.connection.End.{End}
 use Rattle.gserve.specs.declared.connection.End.TheVariants as end
 
 -- the most requests of a connection; then nothing more is read

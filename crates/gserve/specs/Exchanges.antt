@@ -2,18 +2,26 @@
 use Rattle.std.specs.Prelude.{◌≡◌, ◌≢◌, ◌⊎◌, false, List, [], All, Ok, None, flat_map}
 use Rattle.gname.specs.declared.formats.Format.{Format}
 use Rattle.gpkt.specs.Sending.{Input, Output, IsUnread, IsUp, IsUnwritten, Passes, SendsSome}
-use Rattle.gpkt.specs.{Packets.Packet, Packets.canonical_all, declared.fault.LineFault.TheVariants.Memory as NoBuffer}
-use Rattle.gpkt.specs.{Change.Change, LineReading.Reads, LineReading.ReadsLines, Devices.KeepsPassed}
-use Rattle.ggrammar.specs.{MessageReading.ReadsRefused, MessageReading.IsReadFailure, declared.ends.Ends.Ends}
-use Rattle.ggrammar.specs.{declared.fault.MessageFault.MessageFault, declared.fault.Why.TheVariants.Ended as EndedEarly}
-use Rattle.grequest.specs.{Asked.Asked, Asked.Empty, Asked.Fetches, Requests.Says, Requests.brings, Requests.judge}
+use Rattle.gpkt.specs.Packets.{Packet, canonical_all}
+use Rattle.gpkt.specs.declared.fault.LineFault.TheVariants.{Memory as NoBuffer}
+use Rattle.gpkt.specs.Change.{Change}
+use Rattle.gpkt.specs.LineReading.{Reads, ReadsLines}
+use Rattle.gpkt.specs.Devices.{KeepsPassed}
+use Rattle.ggrammar.specs.MessageReading.{ReadsRefused, IsReadFailure}
+use Rattle.ggrammar.specs.declared.ends.Ends.{Ends}
+use Rattle.ggrammar.specs.declared.fault.MessageFault.{MessageFault}
+use Rattle.ggrammar.specs.declared.fault.Why.TheVariants.{Ended as EndedEarly}
+use Rattle.grequest.specs.Asked.{Asked, Empty, Fetches}
+use Rattle.grequest.specs.Requests.{Says, brings, judge}
 use Rattle.glsreply.specs.LsReplies.{canonical_reply as ls_packets}
 use Rattle.gfetchreply.specs.FetchReplies.{canonical_reply as fetch_packets}
 use Rattle.gobject.specs.Packs.{PackFails, Packs}
 use Rattle.ganswer.specs.Answers.{Answers, FetchRefuses, Reply, Nothing, Ls, Fetch}
-use Rattle.ganswer.specs.{Servers.Server, declared.fault.ServeFault.ServeFault}
+use Rattle.ganswer.specs.Servers.{Server}
+use Rattle.ganswer.specs.declared.fault.ServeFault.{ServeFault}
 use Rattle.ganswer.specs.declared.fault.ServeFault.TheVariants as serve
-use Rattle.gserve.specs.{Refusals.err_packets, declared.exchange.ExchangeEnd.ExchangeEnd}
+use Rattle.gserve.specs.Refusals.{err_packets}
+use Rattle.gserve.specs.declared.exchange.ExchangeEnd.{ExchangeEnd}
 use Rattle.gserve.specs.declared.exchange.ExchangeEnd.TheVariants as end
 
 -- ---- a request that is answered

@@ -5,7 +5,9 @@ use Rattle.gpkt.specs.Packets.{Bytes}
 use Rattle.ggrammar.specs.declared.ends.Ends.{Ends}
 use Rattle.gobject.specs.Packs.{PackFails, Packs}
 use Rattle.ganswer.specs.Servers.{IsServer, Server}
-use Rattle.gserve.specs.{Conversations.Serves, Talks.Talks, Talks.EndsByOwnFault, declared.connection.End.End}
+use Rattle.gserve.specs.Conversations.{Serves}
+use Rattle.gserve.specs.Talks.{Talks, EndsByOwnFault}
+use Rattle.gserve.specs.declared.connection.End.{End}
 use Rattle.gserve.specs.declared.connection.End.TheVariants as end
 
 -- a connection with known bytes, whose source is well and which did not end by its sink, is a conversation over

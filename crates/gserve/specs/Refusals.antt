@@ -3,7 +3,8 @@ use Rattle.std.specs.Prelude.{ℕ, List, [], ◌∷◌, ◌++◌, codes}
 use Rattle.gname.specs.Ids.{id_text}
 use Rattle.gpkt.specs.Packets.{Bytes, Packet}
 use Rattle.ggrammar.specs.Texts.{text_packet}
-use Rattle.ganswer.specs.{Faults.serve_fault_row, declared.fault.ServeFault.ServeFault}
+use Rattle.ganswer.specs.Faults.{serve_fault_row}
+use Rattle.ganswer.specs.declared.fault.ServeFault.{ServeFault}
 use Rattle.ganswer.specs.declared.fault.ServeFault.TheVariants as serve
 
 -- the most bytes of a refusal's text

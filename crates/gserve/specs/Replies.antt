@@ -1,7 +1,10 @@
 -- Writing a reply of a server, apart from a connection.
 use Rattle.std.specs.Prelude.{◌≡◌, ℕ, Bool, List, Option, Result, Ok}
-use Rattle.gpkt.specs.{LineWriting.Writer, declared.fault.WriteFault.WriteFault, Packets.Bytes}
-use Rattle.ggrammar.specs.{Writing.WritesLines, declared.ends.Ends.Ends}
+use Rattle.gpkt.specs.LineWriting.{Writer}
+use Rattle.gpkt.specs.declared.fault.WriteFault.{WriteFault}
+use Rattle.gpkt.specs.Packets.{Bytes}
+use Rattle.ggrammar.specs.Writing.{WritesLines}
+use Rattle.ggrammar.specs.declared.ends.Ends.{Ends}
 use Rattle.ganswer.specs.Answers.{Reply, Nothing}
 use Rattle.gserve.specs.Exchanges.{reply_packets}
 

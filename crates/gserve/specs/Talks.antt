@@ -1,15 +1,19 @@
 -- A conversation over bytes: what a server writes to a client that sends these bytes, and how it ends. No device plays
 -- a part (gitprotocol-v2(5), "Capability Advertisement" and "Command Request").
 use Rattle.std.specs.Prelude.{◌≡◌, ℕ, ◌<◌, ◌⊎◌, ⊤, false, List, [], ◌++◌, length}
-use Rattle.gpkt.specs.{Packets.Bytes, Packets.Packet, Packets.canonical_all, Sending.Input}
-use Rattle.ggrammar.specs.{MessageBytes.known, declared.ends.Ends.Ends}
+use Rattle.gpkt.specs.Packets.{Bytes, Packet, canonical_all}
+use Rattle.gpkt.specs.Sending.{Input}
+use Rattle.ggrammar.specs.MessageBytes.{known}
+use Rattle.ggrammar.specs.declared.ends.Ends.{Ends}
 use Rattle.ggrammar.specs.declared.fault.Why.TheVariants as why
 use Rattle.gobject.specs.Packs.{PackFails, Packs}
-use Rattle.ganswer.specs.{Servers.Server, declared.fault.ServeFault.ServeFault}
+use Rattle.ganswer.specs.Servers.{Server}
+use Rattle.ganswer.specs.declared.fault.ServeFault.{ServeFault}
 use Rattle.ganswer.specs.declared.fault.ServeFault.TheVariants as serve
 use Rattle.gserve.specs.Exchanges.{Turn, IsRefused, ReadsEmpty, ReadsTurns}
 use Rattle.gserve.specs.Conversations.{CannotBegin, max_requests, talk_bytes}
-use Rattle.gserve.specs.{Refusals.err_packets, declared.connection.End.End}
+use Rattle.gserve.specs.Refusals.{err_packets}
+use Rattle.gserve.specs.declared.connection.End.{End}
 use Rattle.gserve.specs.declared.connection.End.TheVariants as end
 
 -- a source that does not fail: it gives the front of these bytes, and the rest is still to come

@@ -28,11 +28,9 @@ use Rattle.gsession.specs.Sessions.{SessionState, AreCommons, IsOpenFetch}
 use Rattle.gsession.specs.steps.Calls.{AnswersLs, AnswersRead, AnswersRefs, AnswersReply, IsAcksFault}
 use Rattle.gsession.specs.TakingRefs.{AwaitsRefs, IsLsFault, IsRefsFault, ReadsRefs}
 use Rattle.gsession.specs.TakingReplies.{Awaits, HasPack, IsFirstStrange, IsReplyFault, IsTakeFault, ReadsFetch}
-use Rattle.gsession.specs.TakingReplies.{RefusesPack, TakesHead}
-use Rattle.gsession.specs.TakingReplies.{after_acks, reading_for}
+use Rattle.gsession.specs.TakingReplies.{RefusesPack, TakesHead, after_acks, reading_for}
 use Rattle.gsession.specs.declared.fault.ClientFault.{ClientFault}
-use Rattle.gsession.specs.declared.fault.ClientFault.TheVariants.{Index, Message, Repo, StrangeAck}
-use Rattle.gsession.specs.declared.fault.ClientFault.TheVariants.{TooManyWants}
+use Rattle.gsession.specs.declared.fault.ClientFault.TheVariants.{Index, Message, Repo, StrangeAck, TooManyWants}
 use Rattle.gsession.specs.declared.stage.Stage.{Stage}
 use Rattle.gsession.specs.declared.stage.Stage.TheVariants.{Fetching}
 use Rattle.gsession.specs.declared.taken.LsTaken.{LsTaken}

@@ -1,5 +1,4 @@
 //! Ids that a server acknowledges.
-#![tactic(auto)]
 
 ghost use Rattle.std.specs.Prelude.{◌≡◌, ◌↔◌, ◌++◌, true, All, Contains, IfOk, IfSome, MatchOption};
 ghost use Rattle.std.specs.Str.{bytes_eq};

@@ -1,5 +1,4 @@
 //! What a session asks for.
-#![tactic(auto)]
 
 ghost use Rattle.std.specs.Prelude.{◌≡◌, ◌↔◌, ◌∷◌, [], true, All, IfErr, IfOk, IsTrue};
 ghost use Rattle.gname.specs.Ids.{IsIdOf};

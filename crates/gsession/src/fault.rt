@@ -1,5 +1,4 @@
 //! Why a call of a session is refused.
-#![tactic(auto)]
 
 ghost use Rattle.std.specs.Prelude.{◌≡◌, Some};
 ghost use Rattle.gdag.specs.declared.fault.GraphFault.TheVariants.{Memory};

@@ -1,5 +1,4 @@
 //! The pack of a reply on its way to the indexer.
-#![tactic(auto)]
 
 ghost use Rattle.std.specs.Prelude.{◌≡◌, ◌++◌, [], false, MatchResult};
 ghost use Rattle.gpkt.specs.Packets.{Bytes};

@@ -1,5 +1,4 @@
 //! The laws of sessions: functions without effect, whose contracts they are.
-#![tactic(auto)]
 
 ghost use Rattle.std.specs.Prelude.{◌≡◌};
 ghost use Rattle.gsession.specs.Bounds.{BeganBegins, BeganStays, BeganStaysOn, BeginsCounted, BeginsOffered};

@@ -1,5 +1,4 @@
 //! The requests that a session makes.
-#![tactic(auto)]
 
 ghost use Rattle.std.specs.Prelude.{◌≡◌, ◌+◌, ◌<◌, ◌≤◌, ◌++◌, All, length, IfOk, OnOk, Some, None};
 ghost use Rattle.gname.specs.Ids.{IsIdOf};

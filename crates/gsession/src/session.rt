@@ -1,5 +1,4 @@
 //! A client's session: how it begins, what it lends, and how it settles.
-#![tactic(auto)]
 
 ghost use Rattle.std.specs.Prelude.{◌≡◌, ◌↔◌, [], IsTrue, All, MatchBool, MatchResult, Ok, Err, IfOk, IfSome, option_map};
 ghost use Rattle.std.specs.Map.{values_of};

@@ -1,5 +1,4 @@
 //! How far a session is.
-#![tactic(auto)]
 
 /// What a session waits for, or asks for next.
 #[derive(Clone, Copy, Debug, PartialEq, Eq, Drop)]

@@ -1,5 +1,4 @@
 //! What a session took.
-#![tactic(auto)]
 
 use gclientrepo::{Asks, RefUpdate};
 use gname::RefName;

@@ -14,8 +14,7 @@ use Rattle.gdag.proofs.Choosing.{selects_keep, selects_skip}
 use Rattle.gdag.proofs.Holding.{own_place}
 use Rattle.gdag.proofs.PeelLemmas.{tags_on}
 use Rattle.gdag.proofs.Reaching.{place_same, place_of_node}
-use Rattle.gtopowalk.proofs.Places.{entry_there}
-use Rattle.gtopowalk.proofs.Places.{parents_first, marked_inside}
+use Rattle.gtopowalk.proofs.Places.{entry_there, parents_first, marked_inside}
 use Rattle.gtopowalk.proofs.TagChains.{chain_peels, commit_below}
 use Rattle.gtopowalk.proofs.Counting.{shut_idle}
 

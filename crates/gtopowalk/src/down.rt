@@ -1,6 +1,5 @@
 //! The pass down: from the last position at which something is wanted or known to the first below which
 //! nothing is new.
-#![tactic(auto)]
 
 ghost use Rattle.std.specs.Prelude.{◌≡◌, ◌≤◌, ◌<◌, ◌+◌, ℕ, List, IfErr, IfOk, ◌||◌, length, slice_set, true};
 ghost use Rattle.gname.specs.Ids.{Id};

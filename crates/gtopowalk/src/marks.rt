@@ -1,5 +1,4 @@
 //! Marks by position, and the positions of some ids.
-#![tactic(auto)]
 
 ghost use Rattle.std.specs.Prelude.{◌≡◌, ◌≤◌, ◌<◌, ℕ, IfErr, IfOk, false, length, replicate, slice_set, true};
 ghost use Rattle.gtopowalk.specs.steps.Passes.{IsInOrder, IsPlaceOf, MarksAll, is_marked};

@@ -1,5 +1,4 @@
 //! The list to send: what the pass down found to be new, with its tags.
-#![tactic(auto)]
 
 ghost use Rattle.std.specs.Prelude.{◌≡◌, IfErr, IfOk};
 ghost use Rattle.gdag.specs.Graphs.{IsOrdered};

@@ -1,5 +1,4 @@
 //! Tags to send: those on the chains of tags that lead from tips to new commits.
-#![tactic(auto)]
 
 ghost use Rattle.std.specs.Prelude.{◌≡◌, ◌⊎◌, ◌≤◌, ◌<◌, ℕ, IfErr, IfOk, MatchOption, length, true};
 ghost use Rattle.gtopowalk.specs.steps.Passes.{IsCommitAt, IsInOrder, IsOnChain, IsPeeledAt, IsPlaceOf, IsTagAt, MarksChain, MarksTags, is_open};

@@ -1,5 +1,4 @@
 //! Reaching: one pass from the first position of some ids up, over the objects that reach them.
-#![tactic(auto)]
 
 ghost use Rattle.std.specs.Prelude.{◌≡◌, ◌↔◌, ◌≤◌, ◌<◌, ◌∷◌, [], ℕ, IfErr, IfOk, IsTrue, Ok, false, length, true};
 ghost use Rattle.std.specs.List.{Any};

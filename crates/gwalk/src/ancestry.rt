@@ -1,5 +1,4 @@
 //! What is missing of the ancestries of some ids.
-#![tactic(auto)]
 
 ghost use Rattle.std.specs.Prelude.{◌≡◌, IfOk, IfErr, IsTrue, is_ok};
 ghost use Rattle.gdag.specs.Graphs.{IsOrdered};

@@ -1,5 +1,4 @@
 //! What both ends have, and what reaches it.
-#![tactic(auto)]
 
 ghost use Rattle.std.specs.Prelude.{◌≡◌, ◌↔◌, ◌<◌, [], List, Ok, Some, length, not, is_some, filter, IfOk, IfErr, IsTrue, false, All, Contains};
 ghost use Rattle.std.specs.List.{Any};

@@ -1,5 +1,4 @@
 //! The laws of marks: functions without effect, whose contracts they are.
-#![tactic(auto)]
 
 ghost use Rattle.gwalk.specs.Marks.{CoveringStays, MarksStayFull, StopsAtMarks};
 

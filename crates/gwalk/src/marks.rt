@@ -1,5 +1,4 @@
 //! Marks of connected ids.
-#![tactic(auto)]
 
 ghost use Rattle.std.specs.Prelude.{◌≡◌, ℕ, List, [], length, IfOk, ◌||◌, OnOk, OnErr, IfErr, All, slice_index_or, false};
 ghost use Rattle.gobject.specs.declared.node.Entry.{Entry};

@@ -1,5 +1,4 @@
 //! The ids that a client offers as haves.
-#![tactic(auto)]
 
 ghost use Rattle.std.specs.Prelude.{◌≡◌, ◌<◌, [], IfOk, IfErr, List, length, not, ◌&&◌, slice_index_or, false};
 ghost use Rattle.gname.specs.Ids.{Id};

@@ -1,5 +1,4 @@
 //! The objects to send.
-#![tactic(auto)]
 
 ghost use Rattle.std.specs.Prelude.{◌≡◌, ◌↔◌, ◌⊎◌, [], IfOk, IfErr, IfSome, IsSome, IsTrue, ℕ, Some, length, slice_index_or, true, false};
 ghost use Rattle.std.specs.Map.{values_of};

@@ -1,5 +1,4 @@
 //! Why there is no such world, and why a run stopped.
-#![tactic(auto)]
 
 ghost use Rattle.std.specs.Prelude.{◌≡◌, Some};
 ghost use Rattle.gworld.specs.Faults.{run_fault_row, run_fault_text, world_fault_row, world_fault_text};

@@ -1,5 +1,4 @@
 //! Bytes come as the reply to the request that waits.
-#![tactic(auto)]
 
 ghost use Rattle.std.specs.Prelude.{◌≡◌, MatchResult, take, Some};
 ghost use Rattle.gworld.specs.steps.Bringing.{IsAwaited, TakesIfOpen, refs_outcome};

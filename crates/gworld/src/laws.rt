@@ -1,5 +1,4 @@
 //! The laws of worlds: functions without effect, whose contracts they are.
-#![tactic(auto)]
 
 ghost use Rattle.std.specs.Prelude.{◌≡◌, false};
 ghost use Rattle.gworld.specs.Laws.{CommonsStayShared, PromisesAreRuns, RefsStayWhole, RequestsStayFew, StepsKeep};

@@ -1,5 +1,4 @@
 //! What came of an event.
-#![tactic(auto)]
 
 /// What came of an event.
 #[derive(Clone, Copy, Debug, PartialEq, Eq, Drop)]

@@ -1,5 +1,4 @@
 //! A world without its packer and its indexer.
-#![tactic(auto)]
 
 ghost use Rattle.std.specs.Prelude.{◌≡◌, slice_get};
 ghost use Rattle.std.specs.Option.{option_copied};

@@ -1,5 +1,4 @@
 //! A world, and its runs.
-#![tactic(auto)]
 
 ghost use Rattle.std.specs.Prelude.{◌≡◌, MatchResult};
 ghost use Rattle.gworld.specs.Promises.{AreRefsWhole, Promises};

@@ -1,20 +1,29 @@
 -- The steps by which a server is made, and by which fetch and ls-refs are answered.
 use Rattle.std.specs.Prelude.{◌≡◌, ◌≢◌, ⊤, List, [], All, Result, Ok, Err, ◌∷◌, ◌++◌, Option, Some, None}
-use Rattle.gname.specs.{Ids.Id, Names.Name}
+use Rattle.gname.specs.Ids.{Id}
+use Rattle.gname.specs.Names.{Name}
 use Rattle.gpkt.specs.Packets.{Bytes}
-use Rattle.gobject.specs.{declared.node.Entry.Entry, Packs.PackFails, Packs.Packs, declared.fault.PackFault.PackFault}
+use Rattle.gobject.specs.declared.node.Entry.{Entry}
+use Rattle.gobject.specs.Packs.{PackFails, Packs}
+use Rattle.gobject.specs.declared.fault.PackFault.{PackFault}
 use Rattle.gdag.specs.Graphs.{Holds, IsFirstAbsent}
 use Rattle.grefs.specs.RefLists.{RefList}
 use Rattle.grequest.specs.Asked.{FetchAsked, LsRefsAsked}
 use Rattle.ganswer.specs.LsAnswers.{ShowsLines, all_refs, unborn_of}
-use Rattle.ganswer.specs.{FetchAnswers.FailsToPack, FetchAnswers.SendsPack, Servers.Server, Servers.IsFirstDangling}
-use Rattle.ganswer.specs.{declared.fault.BuildFault.BuildFault, declared.fault.ServeFault.ServeFault}
-use Rattle.ganswer.specs.{declared.one_pack.Packing.Packing, declared.fault.ServeRow.ServeRow}
+use Rattle.ganswer.specs.FetchAnswers.{FailsToPack, SendsPack}
+use Rattle.ganswer.specs.Servers.{Server, IsFirstDangling}
+use Rattle.ganswer.specs.declared.fault.BuildFault.{BuildFault}
+use Rattle.ganswer.specs.declared.fault.ServeFault.{ServeFault}
+use Rattle.ganswer.specs.declared.one_pack.Packing.{Packing}
+use Rattle.ganswer.specs.declared.fault.ServeRow.{ServeRow}
 use Rattle.ganswer.specs.declared.fault.BuildFault.TheVariants as build
 use Rattle.ganswer.specs.declared.fault.ServeFault.TheVariants as serve
 use Rattle.ganswer.specs.declared.one_pack.Packing.TheVariants as packing
 use Rattle.ggrammar.specs.Faults.{WhyRow}
-use Rattle.glsreply.specs.{LentViews.lent_view, LsReplies.LsReply, RefTexts.RefLine, declared.lent.LentLine.LentLine}
+use Rattle.glsreply.specs.LentViews.{lent_view}
+use Rattle.glsreply.specs.LsReplies.{LsReply}
+use Rattle.glsreply.specs.RefTexts.{RefLine}
+use Rattle.glsreply.specs.declared.lent.LentLine.{LentLine}
 
 -- ---- making a server
 

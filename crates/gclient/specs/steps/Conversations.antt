@@ -1,16 +1,22 @@
 -- The steps of a conversation.
 use Rattle.std.specs.Prelude.{◌≡◌, List, Option, None, Result, Ok, Err}
-use Rattle.gname.specs.{declared.formats.Format.Format, Names.Name}
+use Rattle.gname.specs.declared.formats.Format.{Format}
+use Rattle.gname.specs.Names.{Name}
 use Rattle.gpkt.specs.Sending.{Input, Output, IsUnread, IsUnwritten, IsUp, Passes}
-use Rattle.gpkt.specs.{LineReading.ReadsLines, Packets.Packet}
+use Rattle.gpkt.specs.LineReading.{ReadsLines}
+use Rattle.gpkt.specs.Packets.{Packet}
 use Rattle.ggrammar.specs.Capabilities.{Capability}
 use Rattle.gobject.specs.Packs.{Indexes, IndexFails}
-use Rattle.gclientrepo.specs.{Changes.SettlesAsks, Repos.RepoState}
+use Rattle.gclientrepo.specs.Changes.{SettlesAsks}
+use Rattle.gclientrepo.specs.Repos.{RepoState}
 use Rattle.grequest.specs.Asked.{Asked, Empty}
 use Rattle.gsession.specs.declared.stage.Stage.TheVariants.{Fetching, Settling}
 use Rattle.gsession.specs.declared.taken.Taken.TheVariants.{Round, PackTaken}
-use Rattle.gsession.specs.{Sessions.SessionState, Sessions.no_memory, Sessions.tells_unborn, declared.stage.Stage.Stage}
-use Rattle.gsession.specs.{Requesting.Requests, declared.fault.ClientFault.ClientFault, declared.taken.Settled.Settled}
+use Rattle.gsession.specs.Sessions.{SessionState, no_memory, tells_unborn}
+use Rattle.gsession.specs.declared.stage.Stage.{Stage}
+use Rattle.gsession.specs.Requesting.{Requests}
+use Rattle.gsession.specs.declared.fault.ClientFault.{ClientFault}
+use Rattle.gsession.specs.declared.taken.Settled.{Settled}
 use Rattle.gsession.specs.declared.taken.Taken.{Taken}
 use Rattle.gsession.specs.declared.fault.ClientFault.TheVariants as client
 use Rattle.gclient.specs.Conversations.{Start, Advertises, Converses, Fails, FailsToSend, HasAsked, IsLeft}

@@ -1,13 +1,18 @@
 -- The steps of settling, ask by ask.
 use Rattle.std.specs.Prelude.{◌≡◌, ⊤, ◌+◌, List, length, count_by, Result, Ok, Err}
-use Rattle.gname.specs.{Ids.Id, Names.Name}
+use Rattle.gname.specs.Ids.{Id}
+use Rattle.gname.specs.Names.{Name}
 use Rattle.gobject.specs.declared.node.Entry.{Entry}
 use Rattle.gdag.specs.declared.fault.GraphFault.TheVariants as graph
-use Rattle.grefs.specs.{RefLists.{RefList, CannotSet, SetsRef}, declared.fault.RefsFault.RefsFault}
+use Rattle.grefs.specs.RefLists.{RefList, CannotSet, SetsRef}
+use Rattle.grefs.specs.declared.fault.RefsFault.{RefsFault}
 use Rattle.grefs.specs.declared.fault.RefsFault.TheVariants as refs
 use Rattle.gclientrepo.specs.Settling.{CannotSettle, IsUpdate, Settles, is_new}
-use Rattle.gclientrepo.specs.declared.ask.{Ask.Ask, RefUpdate.{RefUpdate, TheVariants.{Moved, Same, NotForward}}}
-use Rattle.gclientrepo.specs.declared.fault.RepoFault.{RepoFault, TheVariants.{Graph, Refs}}
+use Rattle.gclientrepo.specs.declared.ask.Ask.{Ask}
+use Rattle.gclientrepo.specs.declared.ask.RefUpdate.{RefUpdate}
+use Rattle.gclientrepo.specs.declared.ask.RefUpdate.TheVariants.{Moved, Same, NotForward}
+use Rattle.gclientrepo.specs.declared.fault.RepoFault.{RepoFault}
+use Rattle.gclientrepo.specs.declared.fault.RepoFault.TheVariants.{Graph, Refs}
 
 -- what setting a ref answers: the name stands at the id; or it can't be set; or out of memory
 abbrev pub SetsOne : RefList → Name → Id → RefList → Result (Unit {0}) RefsFault → Type 0

@@ -11,11 +11,10 @@ use Rattle.ggrammar.specs.MessageReading.{IsReason}
 use Rattle.ggrammar.specs.declared.fault.Why.{Why}
 use Rattle.ggrammar.specs.declared.message.Step.{Step}
 use Rattle.ggrammar.specs.declared.message.Step.TheVariants as step
-use Rattle.gfetchreply.specs.FetchReplies.{Reading, State}
+use Rattle.gfetchreply.specs.FetchReplies.{Reading, State, next_place, payload_brings, place_of}
 use Rattle.gfetchreply.specs.FetchReplies.{Place, Start, Acking, AfterNak, AfterReady, BeforePack, InPack, Over}
 use Rattle.gfetchreply.specs.FetchReplies.{ReplyForm, Acknowledgments, Nak, Readiness, Packfile, Ack, reply_form}
 use Rattle.gfetchreply.specs.FetchReplies.{ack_texts, acks_of, band_payloads, data_in, data_of, first_place, is_ready}
-use Rattle.gfetchreply.specs.FetchReplies.{next_place, payload_brings, place_of}
 use Rattle.gfetchreply.specs.Values.{Acks}
 use Rattle.gfetchreply.specs.declared.sections.Place as coded
 use Rattle.gfetchreply.specs.declared.sections.Place.TheVariants as place

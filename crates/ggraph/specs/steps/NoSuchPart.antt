@@ -1,8 +1,13 @@
 -- The steps of reading a line that is refused: what a part of it may not be, where a reader finds none.
 use Rattle.std.specs.Prelude.{◌≡◌, ℕ, ◌≤◌, List, ◌∷◌, ◌++◌, length, All, codes}
-use Rattle.gname.specs.{Ids.{Id, IsIdOf, id_text}, Names.Name, declared.formats.Format.Format}
-use Rattle.gobject.specs.{Objects.max_parents, PlainPackText.{ids_text, letter}, declared.node.Kind.Kind}
-use Rattle.grefs.specs.{RefLists.IsBelowRefs, declared.head.Head.Head}
+use Rattle.gname.specs.Ids.{Id, IsIdOf, id_text}
+use Rattle.gname.specs.Names.{Name}
+use Rattle.gname.specs.declared.formats.Format.{Format}
+use Rattle.gobject.specs.Objects.{max_parents}
+use Rattle.gobject.specs.PlainPackText.{ids_text, letter}
+use Rattle.gobject.specs.declared.node.Kind.{Kind}
+use Rattle.grefs.specs.RefLists.{IsBelowRefs}
+use Rattle.grefs.specs.declared.head.Head.{Head}
 use Rattle.grefs.specs.declared.head.Head.TheVariants as head_is
 use Rattle.ggraph.specs.RepositoryText.{IsHead, head_line}
 

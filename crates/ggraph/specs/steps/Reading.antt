@@ -1,14 +1,23 @@
 -- The steps of reading a repository text: line by line, which may come next, and what they add.
 use Rattle.std.specs.Prelude.{◌≡◌, ◌⊎◌, ⊤, ℕ, List, [], ◌∷◌, ◌++◌}
-use Rattle.gname.specs.{Ids.Id, Names.Name, declared.formats.Format.{Format, TheVariants.Sha1}}
-use Rattle.gobject.specs.{PlainPackText.node_text, declared.node.Entry.Entry}
+use Rattle.gname.specs.Ids.{Id}
+use Rattle.gname.specs.Names.{Name}
+use Rattle.gname.specs.declared.formats.Format.{Format}
+use Rattle.gname.specs.declared.formats.Format.TheVariants.{Sha1}
+use Rattle.gobject.specs.PlainPackText.{node_text}
+use Rattle.gobject.specs.declared.node.Entry.{Entry}
 use Rattle.gdag.specs.Graphs.{History}
-use Rattle.grefs.specs.{RefLists.RefList, declared.head.Head.Head}
+use Rattle.grefs.specs.RefLists.{RefList}
+use Rattle.grefs.specs.declared.head.Head.{Head}
 use Rattle.grefs.specs.declared.head.Head.TheVariants as head_is
 use Rattle.ggraph.specs.RepositoryText.{IsHead, MayFollow, RefMayFollow, first_line, head_line, last_line, ref_line}
-use Rattle.ggraph.specs.declared.fault.LoadFault.{LoadFault, TheVariants.{Memory, Text, ParentLater}}
-use Rattle.ggraph.specs.declared.text.{Order.{Order, TheVariants.{Any, ParentsFirst}}, reading.Reading.Reading}
-use Rattle.ggraph.specs.declared.text.reading.Stage.{Stage, TheVariants.{First, Nodes, Refs, Last, Done}}
+use Rattle.ggraph.specs.declared.fault.LoadFault.{LoadFault}
+use Rattle.ggraph.specs.declared.fault.LoadFault.TheVariants.{Memory, Text, ParentLater}
+use Rattle.ggraph.specs.declared.text.Order.{Order}
+use Rattle.ggraph.specs.declared.text.Order.TheVariants.{Any, ParentsFirst}
+use Rattle.ggraph.specs.declared.text.reading.Reading.{Reading}
+use Rattle.ggraph.specs.declared.text.reading.Stage.{Stage}
+use Rattle.ggraph.specs.declared.text.reading.Stage.TheVariants.{First, Nodes, Refs, Last, Done}
 
 -- what a line stands for
 pub data Item (A : Type 0) : Type 0 where

@@ -1,5 +1,4 @@
 //! The laws that reading a repository text rests on.
-#![tactic(auto)]
 
 ghost use Rattle.ggraph.specs.steps.TextLaws.{TextLaws};
 

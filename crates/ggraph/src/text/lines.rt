@@ -1,5 +1,4 @@
 //! The lines of a repository text, one kind at a time.
-#![tactic(auto)]
 
 ghost use Rattle.std.specs.Prelude.{◌≡◌, ◌++◌, ◌∷◌, MatchOption, MatchResult, codes};
 ghost use Rattle.gobject.specs.PlainPackText.{letter};

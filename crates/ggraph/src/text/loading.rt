@@ -1,5 +1,4 @@
 //! Loading a repository text.
-#![tactic(auto)]
 
 ghost use Rattle.std.specs.Prelude.{◌≡◌, ◌++◌, ◌≤◌, MatchOption, IfOk, IfErr};
 ghost use Rattle.gobject.specs.PlainPackText.{IsInLine, line};

@@ -1,5 +1,4 @@
 //! The parts of a line: ids in lower case, and names.
-#![tactic(auto)]
 
 ghost use Rattle.std.specs.Prelude.{◌≡◌, ◌++◌, ◌≤◌, MatchOption, MatchResult, All, IsTrue, ◌↔◌, codes, false, length, take};
 ghost use Rattle.std.specs.Char.{is_ascii_uppercase};

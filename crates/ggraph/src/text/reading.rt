@@ -1,5 +1,4 @@
 //! A repository text, read so far.
-#![tactic(auto)]
 
 ghost use Rattle.std.specs.Prelude.{◌≡◌, ◌++◌, ◌∷◌, [], IfErr, OnOk, IsTrue, ◌↔◌, All, codes};
 ghost use Rattle.gname.specs.Ids.{IsIdOf};

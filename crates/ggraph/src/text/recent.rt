@@ -1,5 +1,4 @@
 //! The ids that were read last.
-#![tactic(auto)]
 
 ghost use Rattle.std.specs.Prelude.{◌≡◌, ◌≢◌, ◌++◌, [], IfSome};
 ghost use Rattle.gname.specs.Ids.{id_text};

@@ -1,5 +1,4 @@
 //! Writing a repository text.
-#![tactic(auto)]
 
 ghost use Rattle.std.specs.Prelude.{◌≡◌, ◌++◌, All, IfOk, IsTrue, ◌↔◌, ◌∷◌, ◌<◌, [], MatchOption, MatchResult, OnOk, Some, length, map, slice_get};
 ghost use Rattle.gdag.specs.Graphs.{IsGraph};

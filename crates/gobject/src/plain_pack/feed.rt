@@ -1,5 +1,4 @@
 //! A plain pack that is read in pieces.
-#![tactic(auto)]
 
 ghost use Rattle.std.specs.Prelude.{[], ◌++◌, ◌∷◌, ℕ, List, MatchResult};
 ghost use Rattle.gobject.specs.PlainPackText.{IsPack, IndexRefuses};

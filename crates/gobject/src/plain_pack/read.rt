@@ -1,5 +1,4 @@
 //! Reading a plain pack part by part.
-#![tactic(auto)]
 
 ghost use Rattle.std.specs.Prelude.{◌≡◌, [], ℕ, ◌+◌, List, length, decimal, MatchOption, IfOk, OnErr, IsTrue, ◌↔◌};
 ghost use Rattle.gname.specs.Ids.{IsIdText};

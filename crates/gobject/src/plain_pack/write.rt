@@ -1,5 +1,4 @@
 //! Writing a plain pack: its length is known before memory is taken.
-#![tactic(auto)]
 
 ghost use Rattle.std.specs.Prelude.{◌≡◌, ◌≤◌, ◌++◌, ◌∷◌, [], length, IsTrue, ◌↔◌, OnOk, MatchResult, IfOk};
 ghost use Rattle.gname.specs.Limits.{max_pack};

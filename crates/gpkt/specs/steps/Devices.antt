@@ -1,6 +1,8 @@
 -- The steps of the devices' models: each by its parts, which the checker of clauses asks for.
-use Rattle.std.specs.{Coded.{Coded, code_by, coded×, coded_bool, coded_list, coded_ℕ}, Prelude.{ℕ, Bool, refl}}
-use Rattle.gpkt.specs.{Devices.{Device, Written}, Packets.Bytes}
+use Rattle.std.specs.Coded.{Coded, code_by, coded×, coded_bool, coded_list, coded_ℕ}
+use Rattle.std.specs.Prelude.{ℕ, Bool, refl}
+use Rattle.gpkt.specs.Devices.{Device, Written}
+use Rattle.gpkt.specs.Packets.{Bytes}
 
 -- a device is its two parts, which the checker of clauses asks for
 abbrev pub device_code : {X : Type 0} → Coded X → Coded (Device X)

@@ -1,5 +1,6 @@
 -- The steps of a packet reader's model.
-use Rattle.std.specs.{Coded.{Coded, code_by, coded×, coded_bool}, Prelude.{Bool, refl}}
+use Rattle.std.specs.Coded.{Coded, code_by, coded×, coded_bool}
+use Rattle.std.specs.Prelude.{Bool, refl}
 use Rattle.gpkt.specs.LineReading.{Reader}
 
 -- a reader is its two parts, which the checker of clauses asks for

@@ -1,5 +1,6 @@
 -- The steps of a packet writer's model.
-use Rattle.std.specs.{Coded.{Coded, code_by, coded×, coded_bool}, Prelude.{Bool, refl}}
+use Rattle.std.specs.Coded.{Coded, code_by, coded×, coded_bool}
+use Rattle.std.specs.Prelude.{Bool, refl}
 use Rattle.gpkt.specs.LineWriting.{Writer}
 
 -- a writer is its two parts, which the checker of clauses asks for

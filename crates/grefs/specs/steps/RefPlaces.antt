@@ -1,6 +1,8 @@
 -- The steps of look-ups and edits of refs: what a search finds in order, and what an edit at that position does.
 use Rattle.std.specs.Cmp.Lexicographic.{slice_cmp}
-use Rattle.std.specs.{Ordering.nat_cmp, Prelude.{◌≡◌, ⊤, ℕ, zero, suc, [], ◌∷◌}, declared.cmp.Ordering.TheVariants.Less}
+use Rattle.std.specs.Ordering.{nat_cmp}
+use Rattle.std.specs.Prelude.{◌≡◌, ⊤, ℕ, zero, suc, [], ◌∷◌}
+use Rattle.std.specs.declared.cmp.Ordering.TheVariants.{Less}
 use Rattle.gname.specs.Names.{Name}
 use Rattle.grefs.specs.RefLists.{RefList}
 

@@ -1,7 +1,8 @@
 -- The steps of reading a scenario, word by word.
 use Rattle.std.specs.Prelude.{◌≡◌, ⊤, ℕ, List, [], ◌∷◌, Option, Result, MatchOption, MatchResult}
 use Rattle.gscenario.specs.ScenarioText.{AreArguments, command_of, words_of}
-use Rattle.gscenario.specs.declared.{command.Command.Command, event.Event.Event}
+use Rattle.gscenario.specs.declared.command.Command.{Command}
+use Rattle.gscenario.specs.declared.event.Event.{Event}
 
 -- the words of what follows a word: nothing, or a space and a text
 abbrev pub words_after : List ℕ → List (List ℕ)

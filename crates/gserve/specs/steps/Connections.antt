@@ -2,15 +2,20 @@
 use Rattle.std.specs.Prelude.{◌≡◌, ◌≢◌, ℕ, ◌<◌, ◌⊎◌, List, length, Option, Some, None, Result, Ok, Err}
 use Rattle.gname.specs.declared.formats.Format.{Format}
 use Rattle.gpkt.specs.Sending.{Input, Output, IsUnwritten, IsUp, Passes, SendsSome}
-use Rattle.gpkt.specs.{Packets.Packet, Packets.canonical_all, Devices.KeepsPassed}
+use Rattle.gpkt.specs.Packets.{Packet, canonical_all}
+use Rattle.gpkt.specs.Devices.{KeepsPassed}
 use Rattle.ggrammar.specs.declared.ends.Ends.{Ends}
 use Rattle.grequest.specs.Asked.{Asked, Empty}
 use Rattle.gobject.specs.Packs.{PackFails, Packs}
-use Rattle.ganswer.specs.{Answers.Answers, Answers.Reply, Servers.Server, declared.fault.ServeFault.ServeFault}
+use Rattle.ganswer.specs.Answers.{Answers, Reply}
+use Rattle.ganswer.specs.Servers.{Server}
+use Rattle.ganswer.specs.declared.fault.ServeFault.{ServeFault}
 use Rattle.ganswer.specs.declared.fault.ServeFault.TheVariants as serve
 use Rattle.gserve.specs.Exchanges.{Turn, Declines, ReadsTurns, reply_packets}
-use Rattle.gserve.specs.{Conversations.advert_packets, Conversations.talk_bytes, declared.connection.End.End}
-use Rattle.gserve.specs.{Refusals.err_packets, declared.exchange.ExchangeEnd.ExchangeEnd}
+use Rattle.gserve.specs.Conversations.{advert_packets, talk_bytes}
+use Rattle.gserve.specs.declared.connection.End.{End}
+use Rattle.gserve.specs.Refusals.{err_packets}
+use Rattle.gserve.specs.declared.exchange.ExchangeEnd.{ExchangeEnd}
 use Rattle.gserve.specs.declared.exchange.ExchangeEnd.TheVariants as exchange
 use Rattle.gserve.specs.declared.connection.End.TheVariants as end
 

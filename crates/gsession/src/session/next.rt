@@ -1,5 +1,4 @@
 //! The requests of a session.
-#![tactic(auto)]
 
 ghost use Rattle.std.specs.Prelude.{◌≡◌, List, None, MatchResult, Ok, Err, IfOk};
 ghost use Rattle.gobject.specs.declared.node.Entry.{Entry};

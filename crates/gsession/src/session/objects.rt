@@ -1,5 +1,4 @@
 //! How a session takes the reply to fetch.
-#![tactic(auto)]
 
 ghost use Rattle.std.specs.Prelude.{◌≡◌, ◌++◌, false, All, Contains, MatchOption, MatchResult, IfOk, length};
 ghost use Rattle.gpkt.specs.Change.{change_of};

@@ -1,5 +1,4 @@
 //! How a session takes the reply to ls-refs.
-#![tactic(auto)]
 
 ghost use Rattle.std.specs.Prelude.{◌≡◌, ◌≤◌, List, All, MatchBool, None, Err, length};
 ghost use Rattle.gobject.specs.declared.node.Entry.{Entry};

@@ -1,5 +1,4 @@
 //! Changes of the ends.
-#![tactic(auto)]
 
 ghost use Rattle.std.specs.Prelude.{◌≡◌, MatchBool, MatchResult};
 ghost use Rattle.ganswer.specs.Faults.{build_fault_row};

@@ -1,5 +1,4 @@
 //! Replies that come.
-#![tactic(auto)]
 
 ghost use Rattle.std.specs.Prelude.{◌≡◌, ◌↔◌, MatchResult, slice_get, IsTrue, IfOk, Some};
 ghost use Rattle.gworld.specs.Taking.{IsPackTaken};

@@ -1,5 +1,4 @@
 //! What an event does.
-#![tactic(auto)]
 
 ghost use Rattle.std.specs.Prelude.{◌≡◌, MatchResult};
 ghost use Rattle.gworld.specs.Promises.{Promises};

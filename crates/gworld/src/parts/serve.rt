@@ -1,5 +1,4 @@
 //! The server at work.
-#![tactic(auto)]
 
 ghost use Rattle.std.specs.Prelude.{◌≡◌, ◌≢◌, ◌∷◌, ◌++◌, [], IfOk, MatchResult, length, slice_get};
 ghost use Rattle.ganswer.specs.Faults.{serve_fault_row};

@@ -1,5 +1,4 @@
 //! The client's session.
-#![tactic(auto)]
 
 ghost use Rattle.std.specs.Prelude.{◌≡◌, MatchResult, Ok, Err};
 ghost use Rattle.gfetchreply.specs.Values.{default_limit};

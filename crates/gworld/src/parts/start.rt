@@ -1,5 +1,4 @@
 //! How a world begins.
-#![tactic(auto)]
 
 ghost use Rattle.std.specs.Prelude.{◌≡◌, ◌≢◌, ◌<◌, length, MatchBool, MatchOption, MatchResult};
 ghost use Rattle.gdag.specs.Reach.{Agree};

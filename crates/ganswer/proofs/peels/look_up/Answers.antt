@@ -1,6 +1,8 @@
 use Rattle.std.proofs.Common.{◌≡◌, ℕ, zero, suc, List, Option, Some, None, IsSome, refl, sym, subst, ap, ◌∙◌}
 use Rattle.std.specs.Option.{IfSome}
-use Rattle.gobject.specs.{declared.node.Kind.TheVariants.Tag, declared.node.Node.Node, declared.node.Entry.Entry}
+use Rattle.gobject.specs.declared.node.Kind.TheVariants.{Tag}
+use Rattle.gobject.specs.declared.node.Node.{Node}
+use Rattle.gobject.specs.declared.node.Entry.{Entry}
 use Rattle.gobject.specs.Objects.{node_at}
 use Rattle.gdag.specs.Peeling.{PeelsTo}
 use Rattle.ganswer.specs.LsAnswers.{IsPeeled, TagPeelsTo}

@@ -2,9 +2,11 @@ use Rattle.std.proofs.Common.{ℕ, ◌≤◌, ◌+◌, List, Result, refl, sym, 
 use Rattle.gpkt.specs.Sending.{input_of, output_of}
 use Rattle.gdag.specs.Walks.{CountsReached}
 use Rattle.gclient.specs.steps.Conversations.{client_of, start_with}
-use Rattle.gclient.specs.{Conversations.FetchesOver, Conversations.IsLeft, declared.fault.FetchFault.FetchFault}
+use Rattle.gclient.specs.Conversations.{FetchesOver, IsLeft}
+use Rattle.gclient.specs.declared.fault.FetchFault.{FetchFault}
 use Rattle.gclient.specs.declared.fetched.Fetched.{Fetched}
-use Rattle.gclient.proofs.{StepLemmas.err_of, TalkLemmas.closed, TalkLemmas.not_closed, TalkLemmas.same_tips}
+use Rattle.gclient.proofs.StepLemmas.{err_of}
+use Rattle.gclient.proofs.TalkLemmas.{closed, not_closed, same_tips}
 use Rattle.gclient.proofs.conversation.converse.Goals as goal
 
 pub returns-in_err-unborn-clause-fetches : goal.returns-in_err-unborn-clause-fetches

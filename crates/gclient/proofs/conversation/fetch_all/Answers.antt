@@ -4,7 +4,8 @@ use Rattle.gclientrepo.specs.Repos.{RepoState}
 use Rattle.gclient.specs.steps.Conversations.{TalksTo, client_of, stage_after}
 use Rattle.gclient.specs.declared.fault.FetchFault.{FetchFault}
 use Rattle.gclient.proofs.TurnLemmas.{round_began, round_taken, rounds_within, turn_kept}
-use Rattle.gclient.proofs.{StepLemmas.err_of, TalkLemmas.talk_failed, TalkLemmas.talked_more}
+use Rattle.gclient.proofs.StepLemmas.{err_of}
+use Rattle.gclient.proofs.TalkLemmas.{talk_failed, talked_more}
 use Rattle.gclient.proofs.conversation.fetch_all.Goals as goal
 
 pub rounds-init : goal.rounds-init

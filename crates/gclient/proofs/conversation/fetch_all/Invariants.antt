@@ -2,8 +2,10 @@
 -- rounds as objects.
 use Rattle.std.proofs.Common.{◌≡◌, ◌-◌, ℕ, List, length, false, Option, None}
 use Rattle.gpkt.specs.Sending.{input_of, output_of}
-use Rattle.gsession.specs.{Bounds.BeganOn, declared.stage.Stage.TheVariants.Fetching}
-use Rattle.gclient.specs.{Conversations.Start, steps.Conversations.HasTalked, steps.Conversations.client_of}
+use Rattle.gsession.specs.Bounds.{BeganOn}
+use Rattle.gsession.specs.declared.stage.Stage.TheVariants.{Fetching}
+use Rattle.gclient.specs.Conversations.{Start}
+use Rattle.gclient.specs.steps.Conversations.{HasTalked, client_of}
 use Rattle.gclient.proofs.conversation.fetch_all.Given as goal
 
 abbrev pub invariant-rounds : goal.invariant-rounds

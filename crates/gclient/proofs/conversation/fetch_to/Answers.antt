@@ -3,7 +3,8 @@ use Rattle.gpkt.specs.Sending.{input_of, output_of}
 use Rattle.gsession.specs.Sessions.{SessionState}
 use Rattle.gclient.specs.Conversations.{Start, FetchesOver, cannot_begin, no_buffer, start_of}
 use Rattle.gclient.specs.steps.Conversations.{HasBegun, start_with}
-use Rattle.gclient.specs.{declared.fault.FetchFault.FetchFault, declared.fetched.Fetched.Fetched}
+use Rattle.gclient.specs.declared.fault.FetchFault.{FetchFault}
+use Rattle.gclient.specs.declared.fetched.Fetched.{Fetched}
 use Rattle.gclient.specs.declared.fault.FetchFault.TheVariants as fetch
 use Rattle.gclient.proofs.StepLemmas.{err_of}
 use Rattle.gclient.proofs.conversation.fetch_to.Goals as goal

@@ -4,7 +4,8 @@ use Rattle.gsession.specs.declared.taken.Taken.{Taken}
 use Rattle.gclient.specs.steps.Conversations.{TakesTurn, client_of}
 use Rattle.gclient.specs.declared.fault.FetchFault.{FetchFault}
 use Rattle.gclient.specs.declared.fault.FetchFault.TheVariants as fetch
-use Rattle.gclient.proofs.{StepLemmas.err_of, TurnLemmas.not_asked, TurnLemmas.not_turned, TurnLemmas.takes_turn}
+use Rattle.gclient.proofs.StepLemmas.{err_of}
+use Rattle.gclient.proofs.TurnLemmas.{not_asked, not_turned, takes_turn}
 use Rattle.gclient.proofs.turn.fetch.Goals as goal
 
 pub returns-in_err-ask-clause-turns : goal.returns-in_err-ask-clause-turns

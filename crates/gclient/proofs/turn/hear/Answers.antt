@@ -1,7 +1,8 @@
 use Rattle.std.proofs.Common.{Result, sym, subst}
 use Rattle.gpkt.specs.Sending.{input_of}
 use Rattle.gsession.specs.declared.fault.ClientFault.TheVariants as client
-use Rattle.gclient.specs.{steps.Conversations.HearsServer, declared.fault.FetchFault.FetchFault}
+use Rattle.gclient.specs.steps.Conversations.{HearsServer}
+use Rattle.gclient.specs.declared.fault.FetchFault.{FetchFault}
 use Rattle.gclient.specs.declared.fault.FetchFault.TheVariants as fetch
 use Rattle.gclient.proofs.StepLemmas.{err_of, mismatches}
 use Rattle.gclient.proofs.turn.hear.Goals as goal

@@ -1,6 +1,8 @@
 use Rattle.std.proofs.Common.{◌<◌, ◌≤◌, ℕ, length, subst, arith}
-use Rattle.std.proofs.lemmas.{List.take_all, Option.get_or_from_slice_get}
-use Rattle.gclientrepo.specs.{Asks.aimed, declared.ask.Ask.Ask}
+use Rattle.std.proofs.lemmas.List.{take_all}
+use Rattle.std.proofs.lemmas.Option.{get_or_from_slice_get}
+use Rattle.gclientrepo.specs.Asks.{aimed}
+use Rattle.gclientrepo.specs.declared.ask.Ask.{Ask}
 use Rattle.gclientrepo.proofs.SettlingLemmas.{NoHead, no_head_more, no_head_there}
 use Rattle.gclientrepo.proofs.settling.asks_for_head.Goals as goal
 

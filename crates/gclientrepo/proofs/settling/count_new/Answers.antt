@@ -1,7 +1,10 @@
 use Rattle.std.proofs.Common.{◌≡◌, ◌∙◌, ◌<◌, ◌+◌, Bool, not, ℕ, ap, length, subst, sym}
-use Rattle.std.proofs.lemmas.{List.Sums.{count_by_more_no, count_by_more_yes}, Option.get_or_from_slice_get}
+use Rattle.std.proofs.lemmas.List.Sums.{count_by_more_no, count_by_more_yes}
+use Rattle.std.proofs.lemmas.Option.{get_or_from_slice_get}
 use Rattle.std.specs.Option.{is_some}
-use Rattle.gclientrepo.specs.{Asks.aimed, Settling.is_new, declared.ask.Ask.Ask}
+use Rattle.gclientrepo.specs.Asks.{aimed}
+use Rattle.gclientrepo.specs.Settling.{is_new}
+use Rattle.gclientrepo.specs.declared.ask.Ask.{Ask}
 use Rattle.gclientrepo.proofs.settling.count_new.Goals.{then-is_none, else-is_none}
 use Rattle.gclientrepo.proofs.settling.count_new.Goals as goal
 

@@ -1,6 +1,9 @@
 use Rattle.std.proofs.Common.{◌≡◌, ℕ, ◌<◌, length, subst, ◌+◌, ◌++◌, ◌∷◌, [], take, ap, ◌∙◌}
-use Rattle.std.proofs.lemmas.{List.take_more, Option.get_or_from_slice_get, Result.err_from_is_err_and}
-use Rattle.gclientrepo.specs.{Asks.aimed, declared.ask.Ask.Ask}
+use Rattle.std.proofs.lemmas.List.{take_more}
+use Rattle.std.proofs.lemmas.Option.{get_or_from_slice_get}
+use Rattle.std.proofs.lemmas.Result.{err_from_is_err_and}
+use Rattle.gclientrepo.specs.Asks.{aimed}
+use Rattle.gclientrepo.specs.declared.ask.Ask.{Ask}
 use Rattle.gclientrepo.proofs.SettlingLemmas.{settles_none, settles_more, differ_before, cannot_settle, refuses_ask}
 use Rattle.gclientrepo.proofs.settling.settled.Goals as goal
 

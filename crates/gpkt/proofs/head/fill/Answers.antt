@@ -1,4 +1,5 @@
-use Rattle.std.proofs.{Common.{sym, subst, rules}, KnownBytes.Consumes-trans}
+use Rattle.std.proofs.Common.{sym, subst, rules}
+use Rattle.std.proofs.KnownBytes.{Consumes-trans}
 use Rattle.std.specs.Io.KnownBytes.{Consumes}
 use Rattle.gpkt.proofs.Pieces.{take-put_mid_front}
 use Rattle.gpkt.proofs.head.fill.Goals as goal

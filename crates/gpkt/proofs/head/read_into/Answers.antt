@@ -1,6 +1,7 @@
 use Rattle.std.proofs.Common.{◌≤◌, length, length-take-le, Some, Ok, ap, ◌∙◌, arith}
 use Rattle.std.proofs.lemmas.Result.{err_from_is_err_and}
-use Rattle.gpkt.specs.{Packets.max_payload, steps.Heads.ReadsHead}
+use Rattle.gpkt.specs.Packets.{max_payload}
+use Rattle.gpkt.specs.steps.Heads.{ReadsHead}
 use Rattle.gpkt.specs.declared.head.Head.TheVariants as head
 use Rattle.gpkt.proofs.Steps.{change, Reads-from_refused, Reads-from_cut, Reads-from_payload}
 use Rattle.gpkt.proofs.head.read_into.Goals as goal

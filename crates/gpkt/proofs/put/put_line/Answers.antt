@@ -1,6 +1,9 @@
-use Rattle.std.proofs.{Common.◌++◌, KnownBytes.Appends-trans, lemmas.Result.{err_from_is_err_and, on_err_weaker}}
+use Rattle.std.proofs.Common.{◌++◌}
+use Rattle.std.proofs.KnownBytes.{Appends-trans}
+use Rattle.std.proofs.lemmas.Result.{err_from_is_err_and, on_err_weaker}
 use Rattle.gpkt.specs.LineWriting.{AppendsFront}
-use Rattle.gpkt.proofs.{Pieces.{AppendsFront-more, AppendsFront-after}, Steps.change}
+use Rattle.gpkt.proofs.Pieces.{AppendsFront-more, AppendsFront-after}
+use Rattle.gpkt.proofs.Steps.{change}
 use Rattle.gpkt.proofs.put.put_line.Goals as goal
 
 pub returns-in_err-write_all-clause-err : goal.returns-in_err-write_all-clause-err

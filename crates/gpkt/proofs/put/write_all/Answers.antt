@@ -1,4 +1,6 @@
-use Rattle.std.proofs.{Common.{◌++◌, take, rules}, KnownBytes.{Appends-trans, Keeps-trans}, lemmas.Bool.false≢true}
+use Rattle.std.proofs.Common.{◌++◌, take, rules}
+use Rattle.std.proofs.KnownBytes.{Appends-trans, Keeps-trans}
+use Rattle.std.proofs.lemmas.Bool.{false≢true}
 use Rattle.gpkt.proofs.Pieces.{split_more}
 use Rattle.gpkt.proofs.put.write_all.Goals as goal
 

@@ -1,4 +1,5 @@
-use Rattle.std.proofs.{Common.rules, lemmas.Fn.always_returns_same}
+use Rattle.std.proofs.Common.{rules}
+use Rattle.std.proofs.lemmas.Fn.{always_returns_same}
 use Rattle.grefs.proofs.RefLemmas.{order, searched}
 use Rattle.grefs.proofs.refs.place_of.Goals as goal
 

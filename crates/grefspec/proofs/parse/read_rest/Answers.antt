@@ -1,4 +1,5 @@
-use Rattle.std.proofs.{Common.{sym, ◌+◌}, lemmas.List.take_rest}
+use Rattle.std.proofs.Common.{sym, ◌+◌}
+use Rattle.std.proofs.lemmas.List.{take_rest}
 use Rattle.grefspec.proofs.SpecLemmas.{with_colon, without_colon}
 use Rattle.grefspec.proofs.parse.read_rest.Goals as goal
 

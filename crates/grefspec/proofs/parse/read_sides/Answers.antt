@@ -1,4 +1,6 @@
-use Rattle.std.proofs.{Common.{codes, Some, None}, lemmas.Bool.Decides.Decides-eqb, lemmas.Slice.Eq.strip_suffix_is}
+use Rattle.std.proofs.Common.{codes, Some, None}
+use Rattle.std.proofs.lemmas.Bool.Decides.{Decides-eqb}
+use Rattle.std.proofs.lemmas.Slice.Eq.{strip_suffix_is}
 use Rattle.grefspec.proofs.SpecLemmas.{both_stars, not_both_stars}
 use Rattle.grefspec.proofs.parse.read_sides.Goals as goal
 

@@ -1,4 +1,6 @@
-use Rattle.std.proofs.{Common.{codes, Some, None}, lemmas.Bool.Decides.Decides-eqb, lemmas.Slice.Eq.strip_prefix_is}
+use Rattle.std.proofs.Common.{codes, Some, None}
+use Rattle.std.proofs.lemmas.Bool.Decides.{Decides-eqb}
+use Rattle.std.proofs.lemmas.Slice.Eq.{strip_prefix_is}
 use Rattle.grefspec.proofs.SpecLemmas.{with_plus, without_plus}
 use Rattle.grefspec.proofs.parse.read_spec.Goals as goal
 

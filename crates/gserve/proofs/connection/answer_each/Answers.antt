@@ -1,6 +1,8 @@
 use Rattle.std.proofs.Common.{◌≡◌, ℕ, refl, sym, subst, ◌∙◌, arith}
 use Rattle.gpkt.specs.Sending.{input_of, output_of}
-use Rattle.gserve.specs.{Exchanges.Exchanges, steps.Connections.HasAnswered, declared.exchange.ExchangeEnd.ExchangeEnd}
+use Rattle.gserve.specs.Exchanges.{Exchanges}
+use Rattle.gserve.specs.steps.Connections.{HasAnswered}
+use Rattle.gserve.specs.declared.exchange.ExchangeEnd.{ExchangeEnd}
 use Rattle.gserve.specs.Conversations.{max_requests}
 use Rattle.gserve.specs.declared.exchange.ExchangeEnd.TheVariants as ended
 use Rattle.gserve.proofs.ConnectionLemmas.{answered_all, answered_more, answered_none, ended_by, none_is_answered}

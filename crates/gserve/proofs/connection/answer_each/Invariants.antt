@@ -1,8 +1,10 @@
 -- Each request so far was answered, and both the reader and the writer go on.
 use Rattle.std.proofs.Common.{◌≡◌, false}
-use Rattle.gpkt.specs.{Packets.canonical_all, Sending.input_of, Sending.output_of, Sending.Passes}
+use Rattle.gpkt.specs.Packets.{canonical_all}
+use Rattle.gpkt.specs.Sending.{input_of, output_of, Passes}
 use Rattle.ganswer.specs.declared.one_pack.Packing.TheVariants.{Unasked}
-use Rattle.gserve.specs.{Conversations.advert_packets, steps.Connections.HasAnswered}
+use Rattle.gserve.specs.Conversations.{advert_packets}
+use Rattle.gserve.specs.steps.Connections.{HasAnswered}
 use Rattle.gserve.proofs.connection.answer_each.Given as goal
 
 abbrev pub invariant-loop-requests : goal.invariant-loop-requests

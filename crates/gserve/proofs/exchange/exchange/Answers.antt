@@ -1,7 +1,8 @@
 use Rattle.std.proofs.Common.{◌≡◌, Option, Ok, ap, subst, ◌∙◌}
 use Rattle.gpkt.specs.Sending.{input_of}
 use Rattle.ggrammar.specs.Kinds.{ReadsIfAny}
-use Rattle.grequest.specs.{RequestValues.asked_by_request, RequestValues.asked_result, declared.request.Request.Request}
+use Rattle.grequest.specs.RequestValues.{asked_by_request, asked_result}
+use Rattle.grequest.specs.declared.request.Request.{Request}
 use Rattle.grequest.specs.Requests.{Says, brings, judge}
 use Rattle.gdag.specs.Graphs.{History}
 use Rattle.gserve.proofs.ExchangeLemmas.{exchanged, reading_refused, refused_to_read}

@@ -1,5 +1,6 @@
 use Rattle.std.proofs.Common.{inr, refl}
-use Rattle.gserve.proofs.{ExchangeLemmas.refused_at_once, ConnectionLemmas.refused_packing}
+use Rattle.gserve.proofs.ExchangeLemmas.{refused_at_once}
+use Rattle.gserve.proofs.ConnectionLemmas.{refused_packing}
 use Rattle.ganswer.specs.declared.fault.ServeFault.TheVariants as serve
 use Rattle.gserve.proofs.exchange.serve_one_to.Goals as goal
 

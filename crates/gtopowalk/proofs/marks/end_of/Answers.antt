@@ -2,8 +2,7 @@ use Rattle.std.proofs.Common.{◌∙◌, ◌+◌, inl, inr, sym, arith}
 use Rattle.std.proofs.lemmas.Option.{none-some}
 use Rattle.std.proofs.lemmas.List.{take_all}
 use Rattle.gdag.proofs.Reaching.{place_inside}
-use Rattle.gtopowalk.proofs.Places.{one_place}
-use Rattle.gtopowalk.proofs.Places.{is_none, max_is, place_next}
+use Rattle.gtopowalk.proofs.Places.{one_place, is_none, max_is, place_next}
 use Rattle.gtopowalk.proofs.marks.end_of.Goals as goal
 use Rattle.gtopowalk.proofs.marks.end_of.Goals.{in-Some, in_default}
 

@@ -1,8 +1,7 @@
 use Rattle.std.proofs.Common.{◌∙◌, inl, inr, sym, arith}
 use Rattle.std.proofs.lemmas.Option.{none-some}
 use Rattle.std.proofs.lemmas.List.{take_all}
-use Rattle.gtopowalk.proofs.Places.{one_place}
-use Rattle.gtopowalk.proofs.Places.{is_none, place_next}
+use Rattle.gtopowalk.proofs.Places.{one_place, is_none, place_next}
 use Rattle.gtopowalk.proofs.marks.first_of.Goals as goal
 use Rattle.gtopowalk.proofs.marks.first_of.Goals.{in-Some, in_default}
 

@@ -1,4 +1,5 @@
-use Rattle.ganswer.proofs.{ServerLemmas.grown_or_same, PeelLemmas.stays_known}
+use Rattle.ganswer.proofs.ServerLemmas.{grown_or_same}
+use Rattle.ganswer.proofs.PeelLemmas.{stays_known}
 use Rattle.ganswer.proofs.server.Server.add.Goals as goal
 
 pub returns-clause-server : goal.returns-clause-server

@@ -2,7 +2,8 @@ use Rattle.std.proofs.Common.{[], ◌∷◌, List, ℕ, sym, subst}
 use Rattle.ggrammar.proofs.BuildingLemmas.{only_memory}
 use Rattle.glsreply.specs.RefTexts.{RefLine}
 use Rattle.ganswer.specs.LsAnswers.{ShowsLines}
-use Rattle.ganswer.proofs.{FitLemmas.goes, FitLemmas.room, LsLemmas.with_lines}
+use Rattle.ganswer.proofs.FitLemmas.{goes, room}
+use Rattle.ganswer.proofs.LsLemmas.{with_lines}
 use Rattle.ganswer.proofs.server.Server.add_line.Goals as goal
 
 pub no_memory-requires : goal.no_memory-requires

@@ -1,7 +1,8 @@
 use Rattle.std.proofs.Common.{◌<◌, ℕ, List, length, take, ◌++◌, get_or, ap, ◌∙◌, arith}
 use Rattle.grefs.specs.RefLists.{RefList}
 use Rattle.ganswer.specs.LsAnswers.{head_id, head_ref}
-use Rattle.ganswer.proofs.{PeelLemmas.ref_there, LsLemmas.ref_next, LsLemmas.refs_more}
+use Rattle.ganswer.proofs.PeelLemmas.{ref_there}
+use Rattle.ganswer.proofs.LsLemmas.{ref_next, refs_more}
 use Rattle.ganswer.proofs.server.Server.add_refs.Goals as goal
 
 pub add_line-requires-clause-next : goal.add_line-requires-clause-next

@@ -1,5 +1,6 @@
 use Rattle.std.proofs.Common.{◌++◌, take}
-use Rattle.ganswer.specs.{LsAnswers.head_id, LsAnswers.head_ref, steps.Answers.IsAnswering}
+use Rattle.ganswer.specs.LsAnswers.{head_id, head_ref}
+use Rattle.ganswer.specs.steps.Answers.{IsAnswering}
 use Rattle.ganswer.proofs.server.Server.add_refs.Given as goal
 
 abbrev pub invariant-loop-place : goal.invariant-loop-place

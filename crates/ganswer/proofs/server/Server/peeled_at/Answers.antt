@@ -1,7 +1,8 @@
 use Rattle.std.specs.Prelude.{slice_get, IfSome}
 use Rattle.std.proofs.Common.{◌≡◌, ℕ, List, Option, Some, sym, subst}
 use Rattle.std.specs.Slice.{IsItemAt}
-use Rattle.ganswer.specs.{LsAnswers.IsPeeled, Servers.Server}
+use Rattle.ganswer.specs.LsAnswers.{IsPeeled}
+use Rattle.ganswer.specs.Servers.{Server}
 use Rattle.ganswer.proofs.PeelLemmas.{known_item}
 use Rattle.ganswer.proofs.server.Server.peeled_at.Goals as goal
 

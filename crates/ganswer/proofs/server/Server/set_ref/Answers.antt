@@ -1,6 +1,7 @@
 use Rattle.std.proofs.Common.{sym, subst}
 use Rattle.ganswer.specs.LsAnswers.{KnowsPeels}
-use Rattle.ganswer.proofs.{ServerLemmas.with_ref_or_same, PeelLemmas.knows_none}
+use Rattle.ganswer.proofs.ServerLemmas.{with_ref_or_same}
+use Rattle.ganswer.proofs.PeelLemmas.{knows_none}
 use Rattle.ganswer.proofs.server.Server.set_ref.Goals as goal
 
 pub invariant_of-self : goal.invariant_of-self

@@ -1,8 +1,10 @@
 use Rattle.std.proofs.Common.{ℕ, List, [], ◌∷◌, map, sym, ap, ◌∙◌, subst}
 use Rattle.ggrammar.specs.Writing.{IsWriting, WritesPart}
 use Rattle.grefs.specs.RefLists.{RefList}
-use Rattle.glsreply.specs.{LsReplies.ref_packet, RefTexts.RefLine}
-use Rattle.ganswer.specs.{LsAnswers.ShowsLines, LsAnswers.head_ref, steps.Answers.line_list}
+use Rattle.glsreply.specs.LsReplies.{ref_packet}
+use Rattle.glsreply.specs.RefTexts.{RefLine}
+use Rattle.ganswer.specs.LsAnswers.{ShowsLines, head_ref}
+use Rattle.ganswer.specs.steps.Answers.{line_list}
 use Rattle.ganswer.proofs.LsLemmas.{one_list, shows_none}
 use Rattle.ganswer.proofs.server.Server.write_head.Goals as goal
 

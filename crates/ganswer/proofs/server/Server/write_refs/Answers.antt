@@ -3,9 +3,12 @@ use Rattle.std.specs.Option.{option_copied}
 use Rattle.std.proofs.lemmas.List.{drop_all}
 use Rattle.ggrammar.specs.Writing.{IsWriting}
 use Rattle.grefs.specs.RefLists.{RefList}
-use Rattle.glsreply.specs.{LsReplies.ref_packet, RefTexts.RefLine}
-use Rattle.ganswer.specs.{LsAnswers.ShowsLines, steps.Answers.line_list}
-use Rattle.ganswer.proofs.{PeelLemmas.ref_there, LsLemmas.one_list, LsLemmas.shows_none, LsLemmas.next_line}
+use Rattle.glsreply.specs.LsReplies.{ref_packet}
+use Rattle.glsreply.specs.RefTexts.{RefLine}
+use Rattle.ganswer.specs.LsAnswers.{ShowsLines}
+use Rattle.ganswer.specs.steps.Answers.{line_list}
+use Rattle.ganswer.proofs.PeelLemmas.{ref_there}
+use Rattle.ganswer.proofs.LsLemmas.{one_list, shows_none, next_line}
 use Rattle.ganswer.proofs.server.Server.write_refs.Goals as goal
 
 pub loop-place-init : goal.loop-place-init

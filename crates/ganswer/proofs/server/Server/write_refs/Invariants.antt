@@ -1,7 +1,8 @@
 -- The lines of the refs from here on are to come.
 use Rattle.std.proofs.Common.{List, drop, map}
 use Rattle.ggrammar.specs.Writing.{IsWriting}
-use Rattle.glsreply.specs.{LsReplies.ref_packet, RefTexts.RefLine}
+use Rattle.glsreply.specs.LsReplies.{ref_packet}
+use Rattle.glsreply.specs.RefTexts.{RefLine}
 use Rattle.ganswer.specs.LsAnswers.{ShowsLines}
 use Rattle.ganswer.proofs.server.Server.write_refs.Given as goal
 

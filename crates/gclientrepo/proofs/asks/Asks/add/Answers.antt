@@ -1,5 +1,6 @@
 use Rattle.std.proofs.Common.{◌≡◌, ◌++◌, ◌∷◌, List, [], false, sym, ap, ◌∙◌, subst}
-use Rattle.gclientrepo.specs.{Asks.{NamesDiffer, asks_of, is_asked}, declared.ask.Ask.Ask}
+use Rattle.gclientrepo.specs.Asks.{NamesDiffer, asks_of, is_asked}
+use Rattle.gclientrepo.specs.declared.ask.Ask.{Ask}
 use Rattle.gclientrepo.proofs.AskLemmas.{differ_push, pushed_asks, with_ask_new}
 use Rattle.gclientrepo.proofs.asks.Asks.add.Goals as goal
 

@@ -1,6 +1,8 @@
-use Rattle.std.proofs.{Common.{◌≡◌, List, Some, subst}, lemmas.Option.MatchOption-at_some}
+use Rattle.std.proofs.Common.{◌≡◌, List, Some, subst}
+use Rattle.std.proofs.lemmas.Option.{MatchOption-at_some}
 use Rattle.std.specs.List.{slice_get}
-use Rattle.gclientrepo.specs.{Asks.aimed, declared.ask.Ask.Ask}
+use Rattle.gclientrepo.specs.Asks.{aimed}
+use Rattle.gclientrepo.specs.declared.ask.Ask.{Ask}
 use Rattle.gclientrepo.proofs.AskLemmas.{at_place}
 use Rattle.gclientrepo.proofs.asks.Asks.aim.Goals as goal
 

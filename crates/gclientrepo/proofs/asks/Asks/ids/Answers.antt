@@ -1,6 +1,8 @@
 use Rattle.std.proofs.Common.{◌≡◌, ℕ, List, IfOk, ap, ◌∙◌, map, subst}
 use Rattle.std.specs.Map.{values_of}
-use Rattle.gclientrepo.specs.{Asks.asked_ids, declared.ask.Ask.Ask, declared.asks.Aim.Aim}
+use Rattle.gclientrepo.specs.Asks.{asked_ids}
+use Rattle.gclientrepo.specs.declared.ask.Ask.{Ask}
+use Rattle.gclientrepo.specs.declared.asks.Aim.{Aim}
 use Rattle.gclientrepo.proofs.AskLemmas.{ids_pairs}
 use Rattle.gclientrepo.proofs.asks.Asks.ids.Goals as goal
 

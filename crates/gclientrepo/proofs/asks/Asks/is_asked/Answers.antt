@@ -1,5 +1,6 @@
 use Rattle.std.proofs.Common.{List, ◌∙◌, ap}
-use Rattle.gclientrepo.specs.{Asks.is_asked, declared.ask.Ask.Ask}
+use Rattle.gclientrepo.specs.Asks.{is_asked}
+use Rattle.gclientrepo.specs.declared.ask.Ask.{Ask}
 use Rattle.gclientrepo.proofs.AskLemmas.{asked_pairs}
 use Rattle.gclientrepo.proofs.asks.Asks.is_asked.Goals as goal
 

@@ -1,9 +1,11 @@
 use Rattle.std.proofs.Common.{◌≡◌, ap, ◌∙◌, [], Err, subst, sym}
-use Rattle.std.proofs.lemmas.{List.Elements.All-head, Result.err_from_is_err_and}
+use Rattle.std.proofs.lemmas.List.Elements.{All-head}
+use Rattle.std.proofs.lemmas.Result.{err_from_is_err_and}
 use Rattle.gdag.specs.Reach.{IsFull}
 use Rattle.grefs.specs.RefLists.{CannotSet, RefList}
 use Rattle.gclientrepo.specs.Repos.{RepoState}
-use Rattle.gclientrepo.proofs.{RepoLemmas.set_from, SettlingLemmas.cannot_set_local}
+use Rattle.gclientrepo.proofs.RepoLemmas.{set_from}
+use Rattle.gclientrepo.proofs.SettlingLemmas.{cannot_set_local}
 use Rattle.gclientrepo.proofs.repo.Repo.set_local_ref.Goals as goal
 
 pub returns-in_err-set-clause-sets : goal.returns-in_err-set-clause-sets

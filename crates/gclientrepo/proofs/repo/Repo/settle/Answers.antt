@@ -1,6 +1,9 @@
-use Rattle.std.proofs.{Common.{◌≡◌, ap, ◌∙◌}, lemmas.Result.err_from_is_err_and}
-use Rattle.gclientrepo.specs.{Asks.asked_ids, Repos.RepoState}
-use Rattle.gclientrepo.proofs.{KeepingWhole.come_from, SettlingLemmas.refuses_asks}
+use Rattle.std.proofs.Common.{◌≡◌, ap, ◌∙◌}
+use Rattle.std.proofs.lemmas.Result.{err_from_is_err_and}
+use Rattle.gclientrepo.specs.Asks.{asked_ids}
+use Rattle.gclientrepo.specs.Repos.{RepoState}
+use Rattle.gclientrepo.proofs.KeepingWhole.{come_from}
+use Rattle.gclientrepo.proofs.SettlingLemmas.{refuses_asks}
 use Rattle.gclientrepo.proofs.repo.Repo.settle.Goals as goal
 
 pub returns-in_err-refs-clause-settles : goal.returns-in_err-refs-clause-settles

@@ -1,4 +1,6 @@
-use Rattle.std.proofs.{Common.{Some, ◌∷◌, []}, lemmas.Bool.Decides.Decides-eqb, lemmas.Slice.Eq.strip_prefix_is}
+use Rattle.std.proofs.Common.{Some, ◌∷◌, []}
+use Rattle.std.proofs.lemmas.Bool.Decides.{Decides-eqb}
+use Rattle.std.proofs.lemmas.Slice.Eq.{strip_prefix_is}
 use Rattle.ggraph.proofs.ReadingLemmas.{head_on_line}
 use Rattle.ggraph.proofs.text.lines.head_of.Goals as goal
 

@@ -1,4 +1,6 @@
-use Rattle.std.proofs.{Common.{None, ◌∷◌, []}, lemmas.Bool.Decides.Decides-eqb, lemmas.Slice.Eq.strip_prefix_is}
+use Rattle.std.proofs.Common.{None, ◌∷◌, []}
+use Rattle.std.proofs.lemmas.Bool.Decides.{Decides-eqb}
+use Rattle.std.proofs.lemmas.Slice.Eq.{strip_prefix_is}
 use Rattle.ggraph.proofs.TextLemmas.{no_ref_id, no_ref_space}
 use Rattle.ggraph.proofs.text.lines.ref_parts.Goals as goal
 

@@ -1,11 +1,14 @@
-use Rattle.std.proofs.{Common.{◌≡◌, [], Bool, true, false, not, rules, refl}, lemmas.Result.err_from_is_err_and}
+use Rattle.std.proofs.Common.{◌≡◌, [], Bool, true, false, not, rules, refl}
+use Rattle.std.proofs.lemmas.Result.{err_from_is_err_and}
 use denote.Enum.Bare.{same_true}
 use Rattle.ggraph.specs.contracts.text.reading.Stage.{the_type}
-use Rattle.ggraph.specs.declared.{fault.LoadFault.TheVariants.Text, text.reading.Stage.TheVariants.Done}
+use Rattle.ggraph.specs.declared.fault.LoadFault.TheVariants.{Text}
+use Rattle.ggraph.specs.declared.text.reading.Stage.TheVariants.{Done}
 use Rattle.ggraph.proofs.text.loading.load.Goals.{then-not-is_empty-via-then-not-is_empty, then-not-is_empty-via-else-not-is_empty+then-ne}
 use Rattle.ggraph.proofs.LoadLemmas.{progress_more, progress_done}
 use Rattle.ggraph.proofs.Stopping.{accepts_err, accepts_ok, stops_early, stops_refused}
-use Rattle.ggraph.proofs.{WholeLemmas.whole_read, text.loading.load.Given.Over}
+use Rattle.ggraph.proofs.WholeLemmas.{whole_read}
+use Rattle.ggraph.proofs.text.loading.load.Given.{Over}
 use Rattle.ggraph.proofs.text.loading.load.Goals as goal
 
 not_false : (b : Bool) → false ≡ not b → b ≡ true

@@ -1,4 +1,5 @@
-use Rattle.std.proofs.{Common.{sym, ◌∙◌}, lemmas.Bool.false≢true}
+use Rattle.std.proofs.Common.{sym, ◌∙◌}
+use Rattle.std.proofs.lemmas.Bool.{false≢true}
 use Rattle.ggraph.proofs.SaveLemmas.{head_is_not, head_is_other}
 use Rattle.ggraph.proofs.text.saving.other_head.Goals as goal
 

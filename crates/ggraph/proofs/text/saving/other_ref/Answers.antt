@@ -1,4 +1,6 @@
-use Rattle.std.proofs.{Common.{◌<◌, ◌≤◌, length, sym, ◌∙◌, arith}, lemmas.Bool.false≢true, lemmas.List.take_all}
+use Rattle.std.proofs.Common.{◌<◌, ◌≤◌, length, sym, ◌∙◌, arith}
+use Rattle.std.proofs.lemmas.Bool.{false≢true}
+use Rattle.std.proofs.lemmas.List.{take_all}
 use Rattle.ggraph.proofs.SaveLemmas.{first_ref, ids_push}
 use Rattle.ggraph.proofs.text.saving.other_ref.Goals as goal
 

@@ -1,4 +1,5 @@
-use Rattle.std.proofs.{Common.{◌≤◌, ◌<◌, length, arith}, lemmas.List.take_all}
+use Rattle.std.proofs.Common.{◌≤◌, ◌<◌, length, arith}
+use Rattle.std.proofs.lemmas.List.{take_all}
 use Rattle.ggraph.proofs.SaveLemmas.{nodes_more}
 use Rattle.ggraph.proofs.text.saving.put_nodes.Goals as goal
 

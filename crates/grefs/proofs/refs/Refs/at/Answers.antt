@@ -1,4 +1,6 @@
-use Rattle.std.proofs.{Common.{sym, refl}, lemmas.Bool.ltb-true, lemmas.Option.slice_get_read}
+use Rattle.std.proofs.Common.{sym, refl}
+use Rattle.std.proofs.lemmas.Bool.{ltb-true}
+use Rattle.std.proofs.lemmas.Option.{slice_get_read}
 use Rattle.grefs.proofs.refs.Refs.at.Goals as goal
 
 pub returns-clause-pair : goal.returns-clause-pair

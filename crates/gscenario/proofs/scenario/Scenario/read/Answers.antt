@@ -1,4 +1,5 @@
-use Rattle.std.proofs.{Common.sym, lemmas.Result.err_from_is_err_and}
+use Rattle.std.proofs.Common.{sym}
+use Rattle.std.proofs.lemmas.Result.{err_from_is_err_and}
 use Rattle.gobject.proofs.PlainPackFeed.{nil-of_empty}
 use Rattle.gscenario.proofs.LineLemmas.{all_read, goes_on, reads_no_line, stops_at, takes_memory}
 use Rattle.gscenario.proofs.scenario.Scenario.read.Goals as goal

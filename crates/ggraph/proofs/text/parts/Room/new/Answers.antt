@@ -1,7 +1,9 @@
 use Rattle.std.proofs.Common.{ℕ, List, IsOk, Ok, Err, Result, refl, replicate, true≢false}
 use Rattle.std.proofs.lemmas.List.{get_or-replicate}
 use Rattle.gname.specs.Ids.{ReadsId}
-use Rattle.gname.specs.declared.{formats.Format.TheVariants.Sha1, ids.OidFault.{OidFault, TheVariants.{Length, Digit}}}
+use Rattle.gname.specs.declared.formats.Format.TheVariants.{Sha1}
+use Rattle.gname.specs.declared.ids.OidFault.{OidFault}
+use Rattle.gname.specs.declared.ids.OidFault.TheVariants.{Length, Digit}
 use Rattle.ggraph.proofs.text.parts.Room.new.Goals as goal
 
 -- forty noughts are the text of an id

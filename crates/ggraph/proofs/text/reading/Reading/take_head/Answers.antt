@@ -1,4 +1,5 @@
-use Rattle.std.proofs.{Common.refl, lemmas.Result.err_from_is_err_and}
+use Rattle.std.proofs.Common.{refl}
+use Rattle.std.proofs.lemmas.Result.{err_from_is_err_and}
 use Rattle.ggraph.specs.steps.Reading.{heads}
 use Rattle.ggraph.proofs.ReadingLemmas.{symref_short}
 use Rattle.ggraph.proofs.text.reading.Reading.take_head.Goals as goal

@@ -1,4 +1,6 @@
-use Rattle.std.proofs.{Common.{Some, ◌∷◌, [], refl}, lemmas.Bool.Decides.Decides-eqb, lemmas.Slice.Eq.strip_prefix_is}
+use Rattle.std.proofs.Common.{Some, ◌∷◌, [], refl}
+use Rattle.std.proofs.lemmas.Bool.Decides.{Decides-eqb}
+use Rattle.std.proofs.lemmas.Slice.Eq.{strip_prefix_is}
 use Rattle.ggraph.specs.declared.text.Order.TheVariants.{Any}
 use Rattle.ggraph.proofs.ReadingLemmas.{no_ref_parts, ref_taken, ref_stopped}
 use Rattle.ggraph.proofs.text.reading.Reading.take_ref.Goals as goal
