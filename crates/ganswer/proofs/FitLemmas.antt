@@ -48,7 +48,8 @@ use Rattle.glsreply.proofs.ValueLemmas.{is_format-same}
 use Rattle.std.specs.List.{list_all}
 use Rattle.ggrammar.specs.declared.fault.Why.TheVariants.{BadText, Limit}
 use Rattle.gfetchreply.specs.FetchReplies.{max_acks, Acks, Ready, Pack, Reading}
-use Rattle.gfetchreply.specs.Values.{acks_fault, has_format}
+use Rattle.gfetchreply.specs.Values.{acks_fault}
+use Rattle.gname.specs.Ids.{has_format}
 use Rattle.gfetchreply.specs.WellFormed.{AreAcks}
 
 pub unmap : {X Y : Type 0} (P : Y → Type 0) (f : X → Y) (xs : List X) → All P (map f xs) → All (λ x. P (f x)) xs

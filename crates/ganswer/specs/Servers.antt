@@ -8,7 +8,8 @@ use Rattle.gobject.specs.declared.node.Entry.{Entry}
 use Rattle.gobject.specs.Objects.{node_at}
 use Rattle.gdag.specs.Graphs.{History, Holds, IsFirstAbsent, IsGraph}
 use Rattle.gdag.specs.Reach.{IsClosed}
-use Rattle.grefs.specs.RefLists.{RefList, IsBelowRefs, IsRefs}
+use Rattle.grefs.specs.Heads.{PointsBelowRefs}
+use Rattle.grefs.specs.RefLists.{RefList, IsRefs}
 use Rattle.grefs.specs.declared.head.Head.{Head}
 use Rattle.grefs.specs.declared.head.Head.TheVariants as heads
 use Rattle.ganswer.specs.declared.fault.BuildFault.{BuildFault}
@@ -33,12 +34,6 @@ abbrev pub HoldsHead : {A : Type 0} → List (Entry A) → Head A → Type 0
 HoldsHead g heads.None = ⊤
 HoldsHead g (heads.Id id) = Holds g id
 HoldsHead g (heads.Symref target) = ⊤
-
--- a ref that HEAD points at has a name below refs/
-abbrev pub PointsBelowRefs : {A : Type 0} → Head A → Type 0
-PointsBelowRefs heads.None = ⊤
-PointsBelowRefs (heads.Id id) = ⊤
-PointsBelowRefs (heads.Symref target) = IsBelowRefs target
 
 -- nothing is missing
 pub record IsServer {A : Type 0} (server : Server A) : Type 0 where

@@ -77,7 +77,7 @@ impl<A: Allocator + Copy> Server<A> {
     {
         // Laws.
         places_are_nodes::<A>();
-        let _haves = asked.haves();
+        asked.laws();
         let ids = self.common_ids(asked)?;
         Ok(Acks::from_ids(self.graph().format(), ids).unwrap())
     }

@@ -99,7 +99,7 @@ impl<A: Allocator + Copy> Server<A> {
         // Laws.
         places_are_nodes::<A>();
         ids_have_one_format();
-        let _refs = self.refs();
+        self.laws();
         let Some(line) = self.line(asked, name, id, known) else {
             return Ok(());
         };

@@ -9,7 +9,7 @@ ghost use Rattle.grefs.specs.RefLists.{IsRefs};
 ghost use Rattle.ganswer.specs.Changes.{Adds, Sets, SetsHead};
 ghost use Rattle.ganswer.specs.LsAnswers.{KnowsPeels};
 ghost use Rattle.ganswer.specs.LsAnswers.{IsPeeled};
-ghost use Rattle.ganswer.specs.Servers.{HoldsHead, HoldsRefs, IsServer, IsUnserved, Makes, PointsBelowRefs, parents_in, served};
+ghost use Rattle.ganswer.specs.Servers.{HoldsHead, HoldsRefs, IsServer, IsUnserved, Makes, parents_in, served};
 ghost use Rattle.ganswer.specs.steps.Answers.{MissesRef, ReportsRef};
 ghost use Rattle.gname.specs.Names.{Name, head_name};
 
@@ -85,6 +85,11 @@ impl<A: Allocator + Copy> Server<A> {
         &self.refs
     }
 
+    /// A law: what is true of each server.
+    pub fn laws(&self)
+        ensures { IsServer self.now }
+    {}
+
     /// What HEAD stands at.
     pub fn head(&self) -> &Head<A>
         ensures head { result.now ≡ self.now.head }
@@ -145,7 +150,7 @@ impl<A: Allocator + Copy> Server<A> {
             return Err(BuildFault::HeadMissing);
         }
         // Laws.
-        keeps_rules(&head);
+        head.laws();
         self.head = head;
         Ok(())
     }
@@ -177,8 +182,8 @@ fn check_parts<A: Allocator + Copy>(
     ensures peels { IfOk result (λ peels. KnowsPeels graph.now.entries refs.now peels.items) }
 {
     // Laws.
-    let _objects = graph.len();
-    keeps_rules(head);
+    graph.laws();
+    head.laws();
     if let Some(id) = missing_parent(graph) {
         return Err(BuildFault::NotClosed { id });
     }
@@ -244,15 +249,6 @@ fn ref_missing<A: Allocator + Copy>(name: &RefName<A>) -> BuildFault<A>
     match name.clone() {
         Ok(name) => BuildFault::RefMissing { name },
         Err(_) => BuildFault::Memory,
-    }
-}
-
-// What the type of a head says of it; the call has no effect.
-fn keeps_rules<A: Allocator + Copy>(head: &Head<A>)
-    ensures { PointsBelowRefs head.now }
-{
-    if let Head::Symref(target) = head {
-        let _name = target.name();
     }
 }
 

@@ -22,7 +22,8 @@ use Rattle.gsession.specs.declared.taken.LsTaken.{LsTaken}
 use Rattle.gsession.specs.TakingRefs.{TakesLs}
 use Rattle.gsession.specs.declared.fault.ClientFault.TheVariants as client
 use Rattle.gclient.specs.Conversations.{Start, Converses, Fails, cannot_ask, cannot_hear, cannot_send, cannot_settle}
-use Rattle.gclient.specs.Conversations.{cannot_take, HasFetched, request, ending, IsLeft, begun, heard, rest_of}
+use Rattle.gclient.specs.Conversations.{cannot_take, HasFetched, request, ending, IsLeft, begun, heard}
+use Rattle.gpkt.specs.Sending.{rest_of}
 use Rattle.gclient.specs.Conversations.{request_bytes, cannot_begin, no_buffer, FetchesOver}
 use Rattle.gclient.specs.steps.Conversations.{Closes, FailsTurn, unasked, unsent, untaken, HasTalked, HasTurned}
 use Rattle.gclient.specs.steps.Conversations.{HearsServer, client_of, HasBegun, start_with}

@@ -1,6 +1,6 @@
 -- From a request that is made and sent, and a reply that is taken, to a turn; and what turns keep.
 use Rattle.std.proofs.Common.{◌≡◌, ℕ, Bool, false, List, [], ◌∷◌, ◌++◌, Some, None, Ok, Err, refl, sym, ap, subst, ◌∙◌}
-use Rattle.std.proofs.Common.{◌+◌, ◌≤◌, length, All, Contains, bytes_eq, Option, arith}
+use Rattle.std.proofs.Common.{◌+◌, ◌≤◌, length, All, bytes_eq, Option, arith}
 use Rattle.gpkt.specs.Sending.{Input, Output, IsUnread, IsUp, Passes}
 use Rattle.gpkt.specs.Change.{Change}
 use Rattle.gpkt.specs.LineReading.{Reader, ReadsLines}
@@ -9,14 +9,12 @@ use Rattle.ggrammar.specs.MessageReading.{IsReadFailure}
 use Rattle.gfetchreply.specs.FetchReplies.{FetchReply}
 use Rattle.gobject.specs.Packs.{Indexes, IndexFails}
 use Rattle.gobject.specs.declared.node.Entry.{Entry}
-use Rattle.gobject.specs.Objects.{has_id}
 use Rattle.gdag.specs.Reach.{Grows, IsFull, SomeReaches}
 use Rattle.gdag.specs.Graphs.{Holds}
 use Rattle.gdag.specs.Laws.{DistinctAreOnce}
 use Rattle.gdag.proofs.Growing.{grows_none, grows_on, inserts_grows}
-use Rattle.gdag.proofs.Holding.{node_there}
+use Rattle.gdag.proofs.Reaching.{held_among}
 use Rattle.gdag.proofs.Counting.{ids_of}
-use Rattle.gdag.proofs.IdLists.{either_way}
 use Rattle.gclientrepo.specs.Repos.{RepoState, IsWhole}
 use Rattle.grequest.specs.Asked.{Asked, Empty, Ls, Fetches, LsRefsAsked, FetchAsked}
 use Rattle.gsession.specs.Sessions.{LeavesReplies, SessionState, IsSession, FitsStage, tips_of}
@@ -37,12 +35,10 @@ use Rattle.gclient.specs.Turns.{ClientState, FitsSource, IsTurn, IsUntaken, AreT
 use Rattle.gclient.specs.Conversations.{request_bytes}
 use Rattle.gclient.specs.declared.fault.FetchFault.{FetchFault}
 use Rattle.gclient.specs.declared.fault.FetchFault.TheVariants as fetch
-use Rattle.std.specs.Prelude.{IsSome}
 use Rattle.std.specs.List.{IsDistinct}
-use Rattle.std.proofs.lemmas.Bool.{false≢true}
 use Rattle.std.proofs.lemmas.Cmp.{nat_list_eq_equiv}
 use Rattle.std.proofs.lemmas.List.{length-map}
-use Rattle.std.proofs.lemmas.List.Elements.{All-contains, All-nil, Contains-append_right}
+use Rattle.std.proofs.lemmas.List.Elements.{All-contains, All-nil}
 use Rattle.std.proofs.lemmas.Map.Made.{is_member-Decides, length-le_from_is_member}
 use Rattle.std.proofs.lemmas.Slice.Eq.{bytes_eq-Decides}
 use Rattle.gsession.proofs.NextLaws.{tips_are_full}
@@ -359,14 +355,6 @@ module _ {A : Type 0} (indexes : Indexes A) (index_fails : IndexFails) where
       (stays g old.repo.graph.entries old.session is.waiting turn.asked grows began is.asks.1) is.takes
 
 -- ---- how often objects are asked for: distinct held ids are at most as many as there are objects
-
-held_among : {A : Type 0} (g : List (Entry A)) (a : List ℕ) → Holds g a → Contains (ids_of g) a
-held_among [] a held = absurd (false≢true held)
-held_among (entry ∷ g) a held =
-    either_way (has_id a entry)
-    (λ same. (0, omega arith, (bytes_eq-Decides entry.id a).0 same))
-    (λ other. Contains-append_right (entry.id ∷ []) (ids_of g) a
-    (held_among g a (subst IsSome (node_there entry g a other) held)))
 
 pub sent_are_few : {A : Type 0} (g : List (Entry A)) (s : SessionState A) → IsDistinct bytes_eq s.sent → BeganOn g s
     → length s.sent ≤ length g

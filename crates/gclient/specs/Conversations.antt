@@ -3,7 +3,7 @@
 use Rattle.std.specs.Prelude.{◌≡◌, ◌⊎◌, ℕ, ◌≤◌, false, List, [], ◌∷◌, ◌++◌, length, Option, None, Some, Result, Ok, Err}
 use Rattle.std.specs.List.{flat_map}
 use Rattle.gname.specs.declared.formats.Format.{Format}
-use Rattle.gpkt.specs.Sending.{Input, Output, IsUnread, IsUnwritten, IsUp, Passes, SendsAndFails, SendsSome}
+use Rattle.gpkt.specs.Sending.{Input, Output, IsUnread, IsUnwritten, IsUp, Passes, SendsAndFails, SendsSome, rest_of}
 use Rattle.gpkt.specs.LineReading.{ReadsLines}
 use Rattle.gpkt.specs.Packets.{Bytes, Packet, canonical_all}
 use Rattle.gpkt.specs.Devices.{KeepsPassed}
@@ -89,14 +89,6 @@ pub record RefusesToRead (input : Input) (cause : MessageFault) : Type 0 where
 abbrev pub RefusesAdvert : Format → Input → MessageFault → Type 0
 RefusesAdvert format input cause =
     RefusesToRead input cause ⊎ Mismatches format input cause
-
--- what is left of the input where so much of it is still to come
-abbrev pub rest_of : Input → Option Bytes → Input
-rest_of input between = record {
-  read = record { old = between; new = input.read.new };
-  was_down = input.was_down;
-  is_down = input.is_down;
-}
 
 -- nothing more is read, and the source is well
 pub record IsLeft (rest : Input) : Type 0 where

@@ -71,7 +71,7 @@ pub fn fetch_over<S: Source, W: Sink, A: Allocator + Copy, K: Indexer<A>>(
     let fetched = fetch_to(repo, source, &mut writer, indexer, &options);
     let _sink = writer.into_inner();
     // Laws.
-    let _format = repo.format();
+    repo.laws();
     fetched
 }
 
@@ -140,6 +140,7 @@ fn converse<S: Source, W: Sink, A: Allocator + Copy, K: Indexer<A>>(
     ensures source_loans { S.loans reader.new.source ≡ S.loans reader.old.source }
     ensures sink_loans { W.loans writer.new.sink ≡ W.loans writer.old.sink }
 {
+    // Laws.
     rounds_are_few::<A>();
     let unborn = talk(repo, session, reader, writer, indexer)?;
     let requests = session.rounds();
@@ -174,6 +175,7 @@ fn talk<S: Source, W: Sink, A: Allocator + Copy, K: Indexer<A>>(
     ensures source_loans { S.loans reader.new.source ≡ S.loans reader.old.source }
     ensures sink_loans { W.loans writer.new.sink ≡ W.loans writer.old.sink }
 {
+    // Laws.
     reads_join();
     distinct_are_once();
     began_stays::<A>();
@@ -217,6 +219,7 @@ fn fetch_all<S: Source, W: Sink, A: Allocator + Copy, K: Indexer<A>>(
     ensures source_loans { S.loans reader.new.source ≡ S.loans reader.old.source }
     ensures sink_loans { W.loans writer.new.sink ≡ W.loans writer.old.sink }
 {
+    // Laws.
     reads_join();
     began_stays::<A>();
     'rounds: loop {

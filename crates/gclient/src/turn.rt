@@ -85,6 +85,6 @@ pub(crate) fn fetch<S: Source, W: Sink, A: Allocator + Copy, K: Indexer<A>>(
     ask(repo, session, writer)?;
     let taken = session.take_reply(repo, reader, indexer)?;
     // Laws.
-    let _rounds = session.rounds();
+    session.laws();
     Ok(taken)
 }

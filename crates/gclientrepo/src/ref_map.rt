@@ -43,6 +43,7 @@ impl<A: Allocator + Copy> RefMap<A> {
     pub(crate) fn set(&mut self, name: RefName<A>, id: Oid) -> Result<(), RefsFault>
         ensures { SetsOne self.old name id self.new result }
     {
+        // Laws.
         names_are_clean();
         if name.is_head() {
             return Err(RefsFault::Refs);
@@ -76,6 +77,7 @@ impl<A: Allocator + Copy> RefMap<A> {
         ensures refs { IfOk result (λ refs. refs ≡ self) }
         ensures valid { IfOk result IsRefs }
     {
+        // Laws.
         refs_come_in_order();
         let mut refs = Refs::new(alloc);
         for (name, id) in self.refs {
@@ -93,6 +95,7 @@ fn tree_of<A: Allocator + Copy>(
     requires { IsRefs refs.now }
     ensures { IfOk result (λ copies. copies.entries ≡ refs.now) }
 {
+    // Laws.
     refs_come_in_order();
     let mut copies = BTreeMap::new(alloc);
     for pair in refs {

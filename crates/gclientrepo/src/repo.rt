@@ -92,9 +92,19 @@ impl<A: Allocator + Copy> Repo<A> {
         ensures graph { IsGraph self.now.graph }
         ensures refs { IsRefs self.now.refs }
     {
-        let _nodes = self.graph.len();
-        let _refs = self.refs.len();
+        // Laws.
+        self.laws();
         self.graph.format()
+    }
+
+    /// A law: what is true of each repository.
+    pub fn laws(&self)
+        ensures whole { IsWhole self.now }
+        ensures graph { IsGraph self.now.graph }
+        ensures refs { IsRefs self.now.refs }
+    {
+        self.graph.laws();
+        self.refs.laws();
     }
 
     /// What is missing of the ancestries of some ids: `None` where each of them is connected, and
@@ -119,6 +129,7 @@ impl<A: Allocator + Copy> Repo<A> {
         ensures grows { Grows self.old.graph.entries self.new.graph.entries }
         ensures whole { IsWhole self.new }
     {
+        // Laws.
         whole_stays::<A>();
         if let Some(id) = self.graph.first_absent(entry.node.parents.as_slice()) {
             return Err(RepoFault::MissingParent { id });
@@ -145,6 +156,7 @@ impl<A: Allocator + Copy> Repo<A> {
         ensures known { self.new.known ≡ self.old.known }
         ensures whole { IsWhole self.new }
     {
+        // Laws.
         whole_stays::<A>();
         self.graph.insert_all(entries)
     }
@@ -182,6 +194,7 @@ impl<A: Allocator + Copy> Repo<A> {
             (λ fault. SettlesAsks self.old asks.now self.new (Err fault)) }
         ensures whole { IsWhole self.new }
     {
+        // Laws.
         refs_come_in_order();
         let targets = asks.ids(self.graph.allocator())?;
         let ids = targets.as_slice();

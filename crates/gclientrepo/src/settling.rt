@@ -49,6 +49,7 @@ pub(crate) fn settled<A: Allocator + Copy>(
 fn cannot_settle<A: Allocator + Copy>(refs: &Refs<A>, asks: &Asks<A>) -> bool
     ensures { IsTrue result ↔ CannotSettle refs.now asks.now }
 {
+    // Laws.
     limits_are_the_constants();
     asks_for_head(asks) || count_new(refs, asks) > MAX_REFS - refs.len()
 }

@@ -1,4 +1,4 @@
--- The program that fetches into the repository of a file: `fetch`.
+-- The program that fetches into the repository of a file: `fetch` (as git-fetch(1)).
 use Rattle.std.specs.Prelude.{◌≡◌, ◌≢◌, ◌⊎◌, ℕ, ◌+◌, List, ◌∷◌, ◌++◌, length, All, Option, None, Some, Result, Ok, Err}
 use Rattle.std.specs.List.{AllZip}
 use Rattle.gpkt.specs.Packets.{Bytes}

@@ -1,4 +1,4 @@
--- The programs that serve the repository of a file: `ls --stdio-server` and `upload`.
+-- The programs that serve the repository of a file: `ls --stdio-server` and `upload` (as git-upload-pack(1)).
 use Rattle.std.specs.Prelude.{◌≡◌, ℕ, ◌⊎◌, Result, Ok, Err}
 use Rattle.gpkt.specs.Packets.{Bytes}
 use Rattle.ggraph.specs.Loading.{StopsAt}

@@ -165,9 +165,9 @@ fn text_of<A: Allocator + Copy>(alloc: A, repo: &Repo<A>) -> Result<Vec<u8, A>, 
     ensures { MatchResult result (λ text. NamesClient text.items repo.now)
         (λ fault. fault ≡ Memory) }
 {
-    // Laws. The look-up says that the repository is connected.
+    // Laws.
     places_are_nodes::<A>();
-    let _format = repo.format();
+    repo.laws();
     match save(alloc, repo.graph(), repo.refs(), &Head::None) {
         Ok(text) => Ok(text),
         Err(fault) => Err(fault),

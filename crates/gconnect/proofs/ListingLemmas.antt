@@ -16,7 +16,8 @@ use Rattle.grequest.specs.declared.flag.LsRefsFlag.TheVariants.{Unborn}
 use Rattle.grequest.specs.Asked.{LsRefsAsked, Ls, ls_with}
 use Rattle.gsession.specs.Sessions.{tells_unborn}
 use Rattle.gsession.specs.declared.fault.ClientFault.TheVariants as client
-use Rattle.gclient.specs.Conversations.{FailsToSend, IsLeft, request_bytes, rest_of}
+use Rattle.gclient.specs.Conversations.{FailsToSend, IsLeft, request_bytes}
+use Rattle.gpkt.specs.Sending.{rest_of}
 use Rattle.gclient.specs.declared.fault.FetchFault.TheVariants as fetch
 use Rattle.gconnect.specs.Listings.{FailsToList, FitsNone, HasHeard, HasListed, ReadsReply, RefusesReply}
 use Rattle.gconnect.specs.Listings.{asking_bytes, cannot_ask, cannot_end, cannot_take, ending_bytes}

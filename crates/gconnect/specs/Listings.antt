@@ -16,7 +16,8 @@ use Rattle.grequest.specs.declared.flag.LsRefsFlag.TheVariants.{Unborn}
 use Rattle.grequest.specs.Asked.{LsRefsAsked, Empty, Ls, ls_with}
 use Rattle.gsession.specs.Sessions.{tells_unborn}
 use Rattle.gsession.specs.declared.fault.ClientFault.TheVariants as client
-use Rattle.gclient.specs.Conversations.{Advertises, FailsToSend, IsLeft, RefusesToRead, request_bytes, rest_of}
+use Rattle.gclient.specs.Conversations.{Advertises, FailsToSend, IsLeft, RefusesToRead, request_bytes}
+use Rattle.gpkt.specs.Sending.{rest_of}
 use Rattle.gclient.specs.declared.fault.FetchFault.{FetchFault}
 use Rattle.gclient.specs.declared.fault.FetchFault.TheVariants as fetch
 use Rattle.gconnect.specs.Greetings.{CannotGreet, HasGreeted}

@@ -31,6 +31,7 @@ fn send_to<W: Sink>(text: &[u8], writer: &mut LineWriter<W>) -> Result<(), Write
         writer.new.sink) result (error_packets text.now) }
     ensures loans { W.loans writer.new.sink ≡ W.loans writer.old.sink }
 {
+    // Laws.
     writes_join::<W>();
     write_error(text, writer)?;
     writer.push()
@@ -41,6 +42,7 @@ fn write_error<W: Sink>(text: &[u8], writer: &mut LineWriter<W>) -> Result<(), W
     ensures { WritesLines W.contents W.passed_on W.is_down W.loans writer.old writer.new result
         (error_packets text.now) }
 {
+    // Laws.
     writes_lines::<W>();
     writer.text2(b"ERR ", text)
 }

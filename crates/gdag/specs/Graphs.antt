@@ -1,4 +1,5 @@
--- Graphs of commits and tags: which ids a graph holds, with which nodes, and which is a parent of which.
+-- Graphs of commits and tags (gitglossary(7), "DAG", "parent"): which ids a graph holds, with which nodes, and which
+-- is a parent of which.
 use Rattle.std.specs.Prelude.{◌≡◌, ℕ, ◌≤◌, List, ◌∷◌, ◌++◌, length, map, take, slice_get, Contains, All}
 use Rattle.std.specs.Prelude.{None, Some, IsSome}
 use Rattle.gname.specs.declared.formats.Format.{Format}

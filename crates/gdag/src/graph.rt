@@ -88,6 +88,11 @@ impl<A: Allocator + Copy> Graph<A> {
         self.nodes.len()
     }
 
+    /// A law: what is true of each graph.
+    pub fn laws(&self)
+        ensures { IsGraph self.now }
+    {}
+
     /// Whether the graph has no node.
     pub fn is_empty(&self) -> bool
         ensures { IsTrue result ↔ (self.now.entries ≡ []) }

@@ -16,7 +16,7 @@ use Rattle.std.specs.List.{list_all}
 use Rattle.std.proofs.lemmas.List.Elements.{All-cons}
 use Rattle.gname.specs.Ids.{IsIdOf}
 use Rattle.gname.specs.declared.formats.Format.{Format}
-use Rattle.gfetchreply.specs.Values.{has_format}
+use Rattle.gname.specs.Ids.{has_format}
 
 -- the ids from here on decide for all
 abbrev pub Tells : Format → List (List ℕ) → List (List ℕ) → Type 0

@@ -1,4 +1,4 @@
--- The reply to fetch without its pack, which goes to a sink piece by piece.
+-- The reply to fetch (gitprotocol-v2(5), "fetch") without its pack, which goes to a sink piece by piece.
 use Rattle.std.specs.Prelude.{Bool, true, false, List, []}
 use Rattle.gname.specs.Ids.{Id}
 use Rattle.gpkt.specs.Packets.{Bytes}

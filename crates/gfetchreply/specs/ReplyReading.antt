@@ -1,4 +1,4 @@
--- What reading a reply to fetch answers, and what it leaves in the sink.
+-- What reading a reply to fetch (gitprotocol-v2(5), "fetch") answers, and what it leaves in the sink.
 use Rattle.std.specs.Prelude.{◌≡◌, ◌≤◌, Bool, List, ◌++◌, length, Result, Ok, Err}
 use Rattle.gpkt.specs.Change.{Change}
 use Rattle.gpkt.specs.Packets.{Bytes, Packet}

@@ -1,11 +1,10 @@
--- The values of replies to fetch, and how they are built.
-use Rattle.std.specs.Prelude.{◌≡◌, ℕ, ◌≤◌, ◌<◌, ◌==◌, Bool, List, [], ◌∷◌, ◌++◌, length, nat_le, if◌then◌else◌}
+-- The values of replies to fetch (gitprotocol-v2(5), "fetch"), and how they are built.
+use Rattle.std.specs.Prelude.{◌≡◌, ℕ, ◌≤◌, ◌<◌, List, [], ◌∷◌, ◌++◌, length, nat_le, if◌then◌else◌}
 use Rattle.std.specs.Prelude.{Option, Some, None, Result, Ok, Err}
 use Rattle.std.specs.List.{list_all}
-use Rattle.gname.specs.Formats.{id_length}
 use Rattle.gname.specs.Limits.{max_pack}
 use Rattle.gname.specs.declared.formats.Format.{Format}
-use Rattle.gname.specs.Ids.{Id}
+use Rattle.gname.specs.Ids.{Id, has_format}
 use Rattle.gpkt.specs.Packets.{Bytes}
 use Rattle.ggrammar.specs.declared.fault.Why.{Why}
 use Rattle.ggrammar.specs.declared.fault.Why.TheVariants as why
@@ -23,10 +22,6 @@ pub record Acks : Type 0 where
 
 abbrev pub with_id : Acks → Id → Acks
 with_id acks id = record acks { ids = acks.ids ++ id ∷ [] }
-
--- an id has the format
-abbrev pub has_format : Format → Id → Bool
-has_format format id = length id == id_length format
 
 -- why ids are not acknowledged together: one has another format; else they are too many
 abbrev pub acks_fault : Format → List Id → Option Why

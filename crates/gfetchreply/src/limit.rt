@@ -50,6 +50,11 @@ impl PackLimit {
     {
         self.bytes
     }
+
+    /// A law: what is true of each limit.
+    pub fn laws(self)
+        ensures { self ≤ max_pack }
+    {}
 }
 
 /// 16,777,216 bytes.

@@ -102,6 +102,7 @@ impl<'s, T: PackSink, A: Allocator + Copy, L: Lent<T>> ReplyReader<'s, T, A, L> 
             (data_there (place_in self.old.sections.place) (packet_of line.entry))
             self.old.sink.now self.new.sink.now result }
     {
+        // Laws.
         T::laws();
         match line {
             Line::Data(payload) => self.take_payload(payload),
@@ -125,6 +126,7 @@ impl<'s, T: PackSink, A: Allocator + Copy, L: Lent<T>> ReplyReader<'s, T, A, L> 
             (data_there (place_in self.old.sections.place) (Data payload.now)) self.old.sink.now
             self.new.sink.now result }
     {
+        // Laws.
         T::laws();
         if let Some(said) = peer_error(payload) {
             return Err(Why::RemoteErr(PeerText::new(said)));
@@ -151,6 +153,7 @@ impl<'s, T: PackSink, A: Allocator + Copy, L: Lent<T>> ReplyReader<'s, T, A, L> 
             (kept_in self.new.sections)
             (data_in (band_form payload.now)) self.old.sink.now self.new.sink.now result }
     {
+        // Laws.
         T::laws();
         match band_of(payload) {
             Ok(Band::Data(bytes)) => self.take_data(bytes),
@@ -170,6 +173,7 @@ impl<'s, T: PackSink, A: Allocator + Copy, L: Lent<T>> ReplyReader<'s, T, A, L> 
             (with_band (kept_in self.old.sections) (length bytes.now)) (kept_in self.new.sections)
             bytes.now self.old.sink.now self.new.sink.now result }
     {
+        // Laws.
         T::laws();
         let total = match self.sections.with_room(self.reading.limit, bytes.len()) {
             Some(total) => total,
@@ -257,6 +261,7 @@ pub fn read_fetch_reply_into_in<S: Source, T: PackSink, A: Allocator + Copy, B: 
     ensures loans { S.loans reader.new.source ≡ S.loans reader.old.source }
     ensures reader { LeavesReader S.is_down reader.old reader.new result }
 {
+    // Laws.
     T::laws();
     let direct = reading.direct;
     let mut reply = ReplyReader::<T, B, Brand>::new(alloc, reading, sink);
@@ -314,7 +319,8 @@ pub fn read_fetch_reply_in<S: Source, A: Allocator + Copy, B: Allocator + Copy>(
     ensures loans { S.loans reader.new.source ≡ S.loans reader.old.source }
     ensures reader { LeavesReader S.is_down reader.old reader.new result }
 {
-    let _limit = reading.limit.bytes();
+    // Laws.
+    reading.limit.laws();
     let mut pack = Vec::new(alloc);
     match read_fetch_reply_into_in(reader, reading, &mut pack, alloc) {
         Ok(head) => Ok(FetchReply::with_pack(head, pack)),

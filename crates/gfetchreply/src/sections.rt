@@ -107,6 +107,7 @@ impl<A: Allocator + Copy> Sections<A> {
         ensures { TakesAs (judge_ack self.old.acks.format (state_in self.old) id.now) true
             (kept_in self.new ≡ with_text Acking (kept_in self.old) (Ack id.now)) result }
     {
+        // Laws.
         texts_have_one_reading();
         let id = match id_of_text(self.acks.format(), id) {
             Some(id) => id,

@@ -11,7 +11,8 @@ ghost use Rattle.gfetchreply.specs.steps.FetchHeads.{reply_with};
 ghost use Rattle.gfetchreply.specs.steps.Views.{KeepsFormat};
 ghost use Rattle.gfetchreply.specs.Views.{head_in, reply_in};
 ghost use Rattle.gfetchreply.specs.steps.Values.{AddsId};
-ghost use Rattle.gfetchreply.specs.Values.{MakesAcks, MakesPack, has_format, with_id};
+ghost use Rattle.gfetchreply.specs.Values.{MakesAcks, MakesPack, with_id};
+ghost use Rattle.gname.specs.Ids.{has_format};
 
 use ggrammar::{MessageFault, Why};
 use gname::{Format, MAX_PACK, Oid};

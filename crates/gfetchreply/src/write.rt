@@ -55,6 +55,7 @@ fn write_acks<W: Sink>(
         ((heading_packet ∷ (nak_if_none (map ack_packet ids.now) ++ Flush ∷ []))
         ++ ends_with ends) }
 {
+    // Laws.
     writes_lines::<W>();
     writer.text(b"acknowledgments")?;
     write_ids_or_nak(ids, writer)?;
@@ -72,6 +73,7 @@ fn write_ready<W: Sink>(
         ((heading_packet ∷ (map ack_packet ids.now
         ++ ready_packet ∷ Delim ∷ pack_section pack.now)) ++ ends_with ends) }
 {
+    // Laws.
     writes_lines::<W>();
     writer.text(b"acknowledgments")?;
     write_ids(ids, writer)?;
@@ -89,6 +91,7 @@ fn write_pack<W: Sink>(
     ensures { WritesLines W.contents W.passed_on W.is_down W.loans writer.old writer.new result
         (pack_section pack.now ++ ends_with ends) }
 {
+    // Laws.
     writes_lines::<W>();
     writer.text(b"packfile")?;
     write_pieces(pack, writer)?;
@@ -100,6 +103,7 @@ fn write_pieces<W: Sink>(pack: &[u8], writer: &mut LineWriter<W>) -> Result<(), 
     ensures { WritesPart W.contents W.passed_on W.is_down W.loans writer.old writer.new result
         (map data_packet (pieces pack.now)) }
 {
+    // Laws.
     writes_lines::<W>();
     for piece in in_pieces(pack) {
         writer.put_band(&Band::Data(piece))?;
@@ -120,6 +124,7 @@ fn write_ids_or_nak<W: Sink>(ids: &[Oid], writer: &mut LineWriter<W>) -> Result<
     ensures { WritesPart W.contents W.passed_on W.is_down W.loans writer.old writer.new result
         (nak_if_none (map ack_packet ids.now)) }
 {
+    // Laws.
     writes_lines::<W>();
     if ids.is_empty() {
         writer.text(b"NAK")
@@ -133,6 +138,7 @@ fn write_ids<W: Sink>(ids: &[Oid], writer: &mut LineWriter<W>) -> Result<(), Wri
     ensures { WritesPart W.contents W.passed_on W.is_down W.loans writer.old writer.new result
         (map ack_packet ids.now) }
 {
+    // Laws.
     writes_lines::<W>();
     for id in ids {
         write_id(id, writer)?;
@@ -145,6 +151,7 @@ fn write_id<W: Sink>(id: &Oid, writer: &mut LineWriter<W>) -> Result<(), WriteFa
     ensures { WritesLines W.contents W.passed_on W.is_down W.loans writer.old writer.new result
         (ack_packet id.now ∷ []) }
 {
+    // Laws.
     writes_lines::<W>();
     let mut digits = [0; MAX_ID_TEXT];
     let count = id.to_hex(&mut digits);
@@ -156,6 +163,7 @@ fn write_end<W: Sink>(ends: Ends, writer: &mut LineWriter<W>) -> Result<(), Writ
     ensures { WritesLines W.contents W.passed_on W.is_down W.loans writer.old writer.new result
         (Flush ∷ ends_with ends) }
 {
+    // Laws.
     writes_lines::<W>();
     match ends {
         Ends::Plain => writer.flush_pkt(),

@@ -1,8 +1,12 @@
 -- The text packets of messages (gitprotocol-common(5), "pkt-line Format"): a text is written with a line feed after it,
 -- and read with or without.
-use Rattle.std.specs.Prelude.{◌≡◌, List, [], ◌∷◌, ◌++◌, Option, Some, None}
+use Rattle.std.specs.Prelude.{◌≡◌, ℕ, Bool, List, [], ◌∷◌, ◌++◌, Option, Some, None, nat_eq}
 use Rattle.std.specs.List.{filter_map}
 use Rattle.gpkt.specs.Packets.{Bytes, Packet, Data, line_feed, text as stripped}
+
+-- whether a byte is a space, by which the words of a text are parted
+abbrev pub is_space : ℕ → Bool
+is_space byte = nat_eq byte 32
 
 -- the packet of a text that is written
 abbrev pub text_packet : Bytes → Packet

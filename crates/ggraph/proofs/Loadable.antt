@@ -13,7 +13,7 @@ use Rattle.grefs.specs.declared.head.Head.TheVariants.{Id, Symref, None}
 use Rattle.ggraph.specs.RepositoryText.{EachFollows, IsHead, IsLoadable, MayFollow, RefMayFollow}
 use Rattle.ggraph.specs.Saving.{head_ids, named_ids, ref_ids}
 use Rattle.ggraph.specs.declared.text.Order.TheVariants.{Any}
-use Rattle.ggraph.specs.steps.Saving.{PointsBelowRefs}
+use Rattle.grefs.specs.Heads.{PointsBelowRefs}
 
 nodes_follow : {A : Type 0} → EntriesComeInOrder A → (g : History A) → IsGraph g → EachFollows (MayFollow Any g.format) g.entries
 nodes_follow {A} law g graph front x rest e =

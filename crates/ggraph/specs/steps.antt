@@ -1,5 +1,4 @@
 -- The steps: what only private functions and proofs speak of.
 pub mod NoSuchPart
 pub mod Reading
-pub mod Saving
 pub mod TextLaws

@@ -1,5 +1,5 @@
 -- What a client looks for among the capabilities of a server (gitprotocol-v2(5), "Capabilities").
-use Rattle.std.specs.Prelude.{◌≡◌, ℕ, Bool, true, false, not, ◌&&◌, if◌then◌else◌, List, [], ◌∷◌, codes, nat_eq}
+use Rattle.std.specs.Prelude.{◌≡◌, ℕ, Bool, true, false, not, ◌&&◌, if◌then◌else◌, List, [], ◌∷◌, codes}
 use Rattle.std.specs.Prelude.{Option, Some, None}
 use Rattle.std.specs.List.{list_any, slice_split}
 use Rattle.std.specs.Str.{bytes_eq}
@@ -8,6 +8,7 @@ use Rattle.gname.specs.declared.formats.Format.{Format}
 use Rattle.gname.specs.declared.formats.Format.TheVariants.{Sha1}
 use Rattle.gpkt.specs.Packets.{Bytes}
 use Rattle.ggrammar.specs.Capabilities.{Capability}
+use Rattle.ggrammar.specs.Texts.{is_space}
 use Rattle.ggrammar.specs.declared.fault.Why.{Why}
 use Rattle.ggrammar.specs.declared.fault.Why.TheVariants.{UnknownCommand, Format as OtherFormat}
 
@@ -23,9 +24,6 @@ first_with key (capability ∷ capabilities) =
 abbrev pub value_in : Option Capability → Option Bytes
 value_in None = None
 value_in (Some capability) = capability.value
-
-abbrev pub is_space : ℕ → Bool
-is_space byte = nat_eq byte 32
 
 -- there is a value, and the word is one of its parts between spaces
 abbrev pub has_word : Bytes → Option Bytes → Bool
@@ -46,13 +44,13 @@ is_name_of format None = false
 is_name_of format (Some name) = bytes_eq name (format_name format)
 
 -- the ids are of this format
-abbrev pub has_format : Format → List Capability → Bool
-has_format format capabilities = is_name_of format (named_format (first_with (codes "object-format") capabilities))
+abbrev pub is_of_format : Format → List Capability → Bool
+is_of_format format capabilities = is_name_of format (named_format (first_with (codes "object-format") capabilities))
 
 -- the format of the ids; there is none where another is named
 abbrev pub IsFormatOf : List Capability → Option Format → Type 0
-IsFormatOf capabilities (Some format) = has_format format capabilities ≡ true
-IsFormatOf capabilities None = (format : Format) → has_format format capabilities ≡ false
+IsFormatOf capabilities (Some format) = is_of_format format capabilities ≡ true
+IsFormatOf capabilities None = (format : Format) → is_of_format format capabilities ≡ false
 
 -- the server lists no refs, or fetches nothing
 abbrev pub lacks_command : List Capability → Bool
@@ -63,4 +61,4 @@ lacks_command capabilities =
 abbrev pub check_fault : Format → List Capability → Option Why
 check_fault format capabilities =
     if lacks_command capabilities then Some UnknownCommand
-    else (if has_format format capabilities then None else Some OtherFormat)
+    else (if is_of_format format capabilities then None else Some OtherFormat)

@@ -14,7 +14,8 @@ ghost use Rattle.ggrammar.specs.MessageReading.{LeavesReader, TakesAs};
 ghost use Rattle.ggrammar.specs.Texts.{text_packet};
 ghost use Rattle.ggrammar.specs.Writing.{WritesLines, WritesPart};
 ghost use Rattle.ghello.specs.Adverts.{AreCapabilities, Says, brings, canonical_advert, capability_packet, version, has_room, is_capability, is_value_or_none, judge, judge_version, judge_capability, max_advertised};
-ghost use Rattle.ghello.specs.Offers.{IsFormatOf, check_fault, first_with, has_feature, has_format, has_key, has_word, is_name_of, is_space, lacks_command, named_format};
+ghost use Rattle.ghello.specs.Offers.{IsFormatOf, check_fault, first_with, has_feature, is_of_format, has_key, has_word, is_name_of, lacks_command, named_format};
+ghost use Rattle.ggrammar.specs.Texts.{is_space};
 ghost use Rattle.ghello.specs.steps.AdvertReading.{IsKept, added_by, brings_after, judge_after};
 
 use arrayvec::ArrayVec;
@@ -92,6 +93,7 @@ impl<A: Allocator + Copy> OwnedCapability<A> {
         ensures { WritesLines W.contents W.passed_on W.is_down W.loans writer.old writer.new result
             (capability_packet self.now ∷ []) }
     {
+        // Laws.
         writes_lines::<W>();
         let mut text = ArrayVec::new();
         compose(self.as_capability(), &mut text);
@@ -218,10 +220,10 @@ impl<A: Allocator + Copy> Advert<A> {
     pub fn format(&self) -> Option<Format>
         ensures { IsFormatOf self.now result }
     {
-        if self.has_format(Format::Sha1) {
+        if self.is_of_format(Format::Sha1) {
             return Some(Format::Sha1);
         }
-        if self.has_format(Format::Sha256) {
+        if self.is_of_format(Format::Sha256) {
             return Some(Format::Sha256);
         }
         None
@@ -247,7 +249,7 @@ impl<A: Allocator + Copy> Advert<A> {
         if self.lacks_command() {
             return Err(MessageFault::of_value(Why::UnknownCommand));
         }
-        if !self.has_format(format) {
+        if !self.is_of_format(format) {
             return Err(MessageFault::of_value(Why::Format));
         }
         Ok(())
@@ -266,8 +268,8 @@ impl<A: Allocator + Copy> Advert<A> {
     }
 
     // An advertisement that names no format is for SHA-1.
-    fn has_format(&self, format: Format) -> bool
-        ensures { result ≡ has_format format self.now }
+    fn is_of_format(&self, format: Format) -> bool
+        ensures { result ≡ is_of_format format self.now }
     {
         let name = match self.value_of(OBJECT_FORMAT) {
             Some(capability) => capability.value,
@@ -371,8 +373,9 @@ pub fn write_advert<A: Allocator + Copy, W: Sink>(
         result (canonical_advert advert.now) }
     ensures form { AreCapabilities advert.now }
 {
-    let capabilities = advert.capabilities.as_slice();
+    // Laws.
     writes_lines::<W>();
+    let capabilities = advert.capabilities.as_slice();
     write_version(writer)?;
     write_capabilities(capabilities, writer)?;
     write_flush(writer)
@@ -382,6 +385,7 @@ fn write_version<W: Sink>(writer: &mut LineWriter<W>) -> Result<(), WriteFault>
     ensures { WritesLines W.contents W.passed_on W.is_down W.loans writer.old writer.new result
         (text_packet version ∷ []) }
 {
+    // Laws.
     writes_lines::<W>();
     writer.text(VERSION)
 }
@@ -390,6 +394,7 @@ fn write_flush<W: Sink>(writer: &mut LineWriter<W>) -> Result<(), WriteFault>
     ensures { WritesLines W.contents W.passed_on W.is_down W.loans writer.old writer.new result
         (Flush ∷ []) }
 {
+    // Laws.
     writes_lines::<W>();
     writer.flush_pkt()
 }
@@ -402,6 +407,7 @@ fn write_capabilities<A: Allocator + Copy, W: Sink>(
     ensures { WritesPart W.contents W.passed_on W.is_down W.loans writer.old writer.new result
         (map capability_packet capabilities.now) }
 {
+    // Laws.
     writes_lines::<W>();
     for kept in capabilities {
         kept.write(writer)?;
@@ -490,6 +496,7 @@ impl<A: Allocator + Copy> AdvertReader<A> {
             × (self.new.advert ≡ self.old.advert ++ option_to_list (capability_of text.now)))
             result }
     {
+        // Laws.
         texts_are_classified();
         let Some(capability) = capability_of(text) else {
             return Err(Why::BadText);
@@ -511,6 +518,7 @@ impl<A: Allocator + Copy> Message for AdvertReader<A> {
     ghost left = { λ reader packets. ⊤ };
 
     fn take(&mut self, line: Line<'_>) -> Result<Step, Why> {
+        // Laws.
         texts_are_read();
         self.take_packet(line)
     }

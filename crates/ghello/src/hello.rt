@@ -161,6 +161,7 @@ pub fn write_hello<A: Allocator + Copy, W: Sink>(
         result (canonical_hello hello.now) }
     ensures form { IsHello hello.now }
 {
+    // Laws.
     writes_lines::<W>();
     let mut line = ArrayVec::new();
     compose(hello, &mut line);

@@ -11,7 +11,8 @@ use Rattle.std.proofs.lemmas.List.Splits.{slice_split_first, slice_split_none, s
 use Rattle.std.proofs.lemmas.List.Sums.{position_or_len_is, fails_before_first}
 use Rattle.ggrammar.specs.declared.fault.Why.TheVariants.{BadText}
 use Rattle.gname.proofs.ListLemmas.{position-None}
-use Rattle.glsreply.specs.RefTexts.{is_space, parts_of, unborn_after_head}
+use Rattle.glsreply.specs.RefTexts.{parts_of, unborn_after_head}
+use Rattle.ggrammar.specs.Texts.{is_space}
 
 -- a text is cut at its first space
 pub parts-at : (text : List ℕ) (at : ℕ) → Some at ≡ position is_space text

@@ -20,7 +20,8 @@ use Rattle.gname.proofs.NameLemmas.{name_clean}
 use Rattle.ggrammar.proofs.IdLemmas.{is_spelt, spelt_by}
 use Rattle.ggrammar.proofs.TextLemmas.{follows_word, is_none-None}
 use Rattle.glsreply.specs.RefTexts.{RefLine, Attribute, Symref, Peeled, UnknownAttribute, peeled_or_unknown}
-use Rattle.glsreply.specs.RefTexts.{symref_or_else, is_space, parts_of, is_name, attribute_of, with_attribute}
+use Rattle.glsreply.specs.RefTexts.{symref_or_else, parts_of, is_name, attribute_of, with_attribute}
+use Rattle.ggrammar.specs.Texts.{is_space}
 use Rattle.glsreply.specs.RefTexts.{with_attributes, with_id, line_with_id, line_of_parts, line_of, unborn_target}
 use Rattle.glsreply.specs.RefTexts.{unborn_after_head, unborn_of_parts, UnbornForm, RefForm, first_of_parts, first_form}
 use Rattle.glsreply.specs.RefTexts.{unborn_text, FirstForm}

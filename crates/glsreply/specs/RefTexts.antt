@@ -1,6 +1,6 @@
 -- The texts of the reply to ls-refs as they are read (gitprotocol-v2(5), "ls-refs"; its grammar is in `LsManual`): the
 -- parts of a text are separated by one space each, and are judged from left to right.
-use Rattle.std.specs.Prelude.{ℕ, Bool, List, [], ◌∷◌, ◌++◌, codes, nat_eq, if◌then◌else◌, Option, Some, None, is_none}
+use Rattle.std.specs.Prelude.{ℕ, Bool, List, [], ◌∷◌, ◌++◌, codes, if◌then◌else◌, Option, Some, None, is_none}
 use Rattle.std.specs.Prelude.{Result, Ok, Err}
 use Rattle.std.specs.List.{slice_split}
 use Rattle.std.specs.Str.{bytes_eq}
@@ -10,6 +10,7 @@ use Rattle.gname.specs.declared.formats.Format.{Format}
 use Rattle.gpkt.specs.Packets.{Bytes}
 use Rattle.ggrammar.specs.Ids.{id_of_text}
 use Rattle.ggrammar.specs.PeerErrors.{after_word}
+use Rattle.ggrammar.specs.Texts.{is_space}
 use Rattle.ggrammar.specs.declared.fault.Why.{Why}
 use Rattle.ggrammar.specs.declared.fault.Why.TheVariants.{BadText, BadId, BadName}
 
@@ -19,9 +20,6 @@ pub record RefLine : Type 0 where
   pub name : Name
   pub symref : Option Name
   pub peeled : Option Id
-
-abbrev pub is_space : ℕ → Bool
-is_space byte = nat_eq byte 32
 
 unfoldable pub parts_of : Bytes → List Bytes
 parts_of text = slice_split is_space text

@@ -8,7 +8,6 @@ ghost use Rattle.glsreply.specs.RefTexts.{peeled_text, ref_text, symref_text};
 ghost use Rattle.glsreply.specs.TextLengths.{max_peeled_text, max_ref_text, max_symref_text};
 ghost use Rattle.glsreply.specs.steps.WellFormed.{IsLine};
 
-use crate::reply::keeps_rules;
 use arrayvec::ArrayVec;
 use ggrammar::compose::{add, add_id};
 use gname::{Oid, RefName};
@@ -55,19 +54,19 @@ impl<'a, A: Allocator + Copy> LentLine<'a, A> {
             peeled,
         }
     }
-}
 
-// A law: what the type of a line says of it.
-pub(crate) fn keeps_forms<A: Allocator + Copy>(line: &LentLine<'_, A>)
-    ensures { IsLine (lent_view line.now) }
-{
-    let _id = line.id.as_bytes();
-    keeps_rules(line.name);
-    if let Some(target) = line.symref {
-        keeps_rules(target);
-    }
-    if let Some(id) = &line.peeled {
-        let _peeled = id.as_bytes();
+    /// A law: what is true of each line.
+    pub(crate) fn laws(&self)
+        ensures { IsLine (lent_view self.now) }
+    {
+        self.id.laws();
+        self.name.laws();
+        if let Some(target) = self.symref {
+            target.laws();
+        }
+        if let Some(id) = &self.peeled {
+            id.laws();
+        }
     }
 }
 

@@ -2,7 +2,8 @@
 
 ghost use Rattle.std.specs.Prelude.{◌≡◌, ◌∷◌, ◌<◌, codes, length, position, IfSome, None, Ok};
 ghost use Rattle.ggrammar.specs.PeerErrors.{after_word};
-ghost use Rattle.glsreply.specs.RefTexts.{is_space, parts_of, is_name, attribute_of, with_attributes, line_with_name, line_of, first_form, unborn_target, unborn_of_parts, unborn_after_head};
+ghost use Rattle.glsreply.specs.RefTexts.{parts_of, is_name, attribute_of, with_attributes, line_with_name, line_of, first_form, unborn_target, unborn_of_parts, unborn_after_head};
+ghost use Rattle.ggrammar.specs.Texts.{is_space};
 ghost use Rattle.glsreply.specs.steps.LineViews.{line_parts, line_read, attribute_view, form_view, target_read, parts_left};
 
 use ggrammar::{Why, after_word, id_of_text};

@@ -3,13 +3,12 @@
 ghost use Rattle.std.specs.Prelude.{◌≡◌, [], length, IfErr, None};
 ghost use Rattle.std.specs.List.{slice_get};
 ghost use Rattle.std.specs.Option.{option_copied};
-ghost use Rattle.gname.specs.Names.{IsRefName};
 ghost use Rattle.ggrammar.specs.declared.fault.Why.TheVariants.{Limit};
 ghost use Rattle.glsreply.specs.LentViews.{lent_view};
 ghost use Rattle.glsreply.specs.steps.WellFormed.{Adds};
 ghost use Rattle.glsreply.specs.WellFormed.{IsReplyValue, Pushes, SetsUnborn, has_one_format, has_room, last_frame, line_count};
 
-use crate::lent::{LentLine, keeps_forms};
+use crate::lent::LentLine;
 use ggrammar::{Ends, MessageFault, Why};
 use gname::laws::ids_have_one_format;
 use gname::{Oid, RefName};
@@ -98,7 +97,8 @@ impl<A: Allocator + Copy> LsReply<A> {
         ensures sets { SetsUnborn self.old target self.new result }
         ensures full { IfErr result (λ fault. fault.why ≡ Limit) }
     {
-        keeps_rules(&target);
+        // Laws.
+        target.laws();
         if self.unborn.is_none() && !self.has_room() {
             return Err(MessageFault::of_value(Why::Limit));
         }
@@ -112,8 +112,9 @@ impl<A: Allocator + Copy> LsReply<A> {
     pub fn push(&mut self, line: RefLine<A>) -> Result<(), MessageFault>
         ensures { Pushes self.old line self.new result }
     {
+        // Laws.
         ids_have_one_format();
-        keeps_forms(&line.lend());
+        line.lend().laws();
         if !goes_with(self.lines(), &line) {
             return Err(MessageFault::of_value(Why::BadText));
         }
@@ -211,11 +212,4 @@ fn add_line<A: Allocator + Copy>(
         Ok(()) => Ok(()),
         Err(_) => Err(MessageFault::of_value(Why::Memory)),
     }
-}
-
-// A law: what the type of a name says of it.
-pub(crate) fn keeps_rules<A: Allocator + Copy>(name: &RefName<A>)
-    ensures { IsRefName name.now }
-{
-    let _bytes = name.as_bytes();
 }

@@ -13,7 +13,7 @@ ghost use Rattle.glsreply.specs.RefTexts.{ref_text};
 ghost use Rattle.glsreply.specs.TextLengths.{max_ref_text};
 ghost use Rattle.glsreply.specs.WellFormed.{BeginsIn, HasIdsOf, IsLsReplyIn, IsRefLine};
 
-use crate::lent::{LentLine, RefText, keeps_forms};
+use crate::lent::{LentLine, RefText};
 use crate::reply::{LsReply, RefLine};
 use ggrammar::Ends;
 use ggrammar::laws::writes_lines;
@@ -39,6 +39,7 @@ pub fn write_ls_reply<A: Allocator + Copy, W: Sink>(
     ensures form { (format : Format) → BeginsIn format reply.now.lines
         → IsLsReplyIn format reply.now }
 {
+    // Laws.
     writes_lines::<W>();
     ids_have_one_format();
     let lines = reply.lines();
@@ -59,6 +60,7 @@ pub fn write_unborn<A: Allocator + Copy, W: Sink>(
         result (unborn_packets (option_copied target.entry)) }
     ensures form { IfSome (option_copied target.entry) IsRefName }
 {
+    // Laws.
     writes_lines::<W>();
     match target {
         None => Ok(()),
@@ -75,6 +77,7 @@ fn write_refs<A: Allocator + Copy, W: Sink>(
     ensures { WritesLines W.contents W.passed_on W.is_down W.loans writer.old writer.new result
         (map ref_packet lines.now ++ Flush ∷ ends_with ends) }
 {
+    // Laws.
     writes_lines::<W>();
     let mut text = RefText::new();
     for line in lines {
@@ -99,8 +102,9 @@ pub fn write_ref<A: Allocator + Copy, W: Sink>(
     ensures form { (format : Format) → HasIdsOf format (lent_view line.now)
         → IsRefLine format (lent_view line.now) }
 {
+    // Laws.
     writes_lines::<W>();
-    keeps_forms(line);
+    line.laws();
     text.set(line);
     writer.text(text.as_bytes())
 }
@@ -111,6 +115,7 @@ pub fn write_end<W: Sink>(ends: Ends, writer: &mut LineWriter<W>) -> Result<(), 
     ensures { WritesLines W.contents W.passed_on W.is_down W.loans writer.old writer.new result
         (Flush ∷ ends_with ends) }
 {
+    // Laws.
     writes_lines::<W>();
     match ends {
         Ends::Plain => writer.flush_pkt(),

@@ -1,5 +1,5 @@
 -- Object ids, and the texts that spell them (gitprotocol-common(5), "ABNF Notation": `obj-id`).
-use Rattle.std.specs.Prelude.{◌≡◌, ◌≢◌, ℕ, ◌<◌, ◌==◌, false, if◌then◌else◌, List, length, take, slice_index, Result, Ok, Err}
+use Rattle.std.specs.Prelude.{◌≡◌, ◌≢◌, ℕ, ◌<◌, ◌==◌, Bool, false, if◌then◌else◌, List, length, take, slice_index, Result, Ok, Err}
 use Rattle.std.specs.List.{AllPass}
 use Rattle.std.specs.Ordering.{nat_cmp, on, then_cmp}
 use Rattle.std.specs.declared.cmp.Ordering.{Ordering}
@@ -21,6 +21,10 @@ Id = List ℕ
 pub record IsIdOf (format : Format) (id : Id) : Type 0 where
   pub long : length id ≡ id_length format
   pub bytes : IsBytes id
+
+-- whether bytes are as many as an id of the format has
+abbrev pub has_format : Format → Id → Bool
+has_format format id = length id == id_length format
 
 -- the format of an object id, which its length tells
 abbrev pub format_of : Id → Format

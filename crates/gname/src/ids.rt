@@ -122,6 +122,13 @@ impl Oid {
             Digest::Sha256(bytes) => bytes,
         }
     }
+
+    /// A law: what is true of each id.
+    pub fn laws(&self)
+        ensures { IsId self.now }
+    {
+        let _bytes = self.as_bytes();
+    }
 }
 
 impl PartialEq for Oid {

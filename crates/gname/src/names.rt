@@ -106,6 +106,13 @@ impl<A: Allocator + Copy> RefName<A> {
     {
         self.text.as_slice()
     }
+
+    /// A law: what is true of each name.
+    pub fn laws(&self)
+        ensures name { IsRefName self.now }
+        ensures within { length self.now ≤ max_name }
+        ensures clean { IsClean self.now }
+    {}
 }
 
 impl<A: Allocator + Copy> Clone for RefName<A> {

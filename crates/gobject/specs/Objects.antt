@@ -1,4 +1,5 @@
--- Objects of a repository, commits and tags, each with its id, and lists of them.
+-- Objects of a repository, commits and tags, each with its id (gitglossary(7), "commit object", "tag object"), and
+-- lists of them.
 use Rattle.std.specs.Prelude.{◌≡◌, ℕ, ◌≤◌, ⊤, Bool, List, [], ◌∷◌, length, find, position, All, Option, None}
 use Rattle.std.specs.Str.{bytes_eq}
 use Rattle.std.specs.Option.{option_map}

@@ -1,4 +1,4 @@
--- What a packet reader's call gives, and what it takes from its source.
+-- What a packet reader's call gives, and what it takes from its source (gitprotocol-common(5), "pkt-line Format").
 use Rattle.std.specs.Prelude.{◌≡◌, ℕ, ◌<◌, ◌≤◌, ◌⊎◌, Bool, true, false, List, [], ◌++◌, length, take, drop, Option}
 use Rattle.std.specs.Prelude.{Some, None, option_map, Result, Ok, Err}
 use Rattle.gpkt.specs.Change.{Change, WhereKnown, change_of}

@@ -1,4 +1,4 @@
--- What a packet writer's call writes, and what it leaves.
+-- What a packet writer's call writes, and what it leaves (gitprotocol-common(5), "pkt-line Format").
 use Rattle.std.specs.Io.KnownBytes.{Appends, Keeps}
 use Rattle.std.specs.Prelude.{◌≡◌, ℕ, ◌<◌, Bool, true, false, List, ◌++◌, length, Option, Result, Ok, Err}
 use Rattle.gpkt.specs.Change.{Change, change_of}

@@ -15,6 +15,14 @@ abbrev pub input_of : {S : Type 0} → (S → Option Bytes) → (S → Bool) →
 input_of remaining is_down old new =
     record { read = change_of remaining old new; was_down = is_down old; is_down = is_down new }
 
+-- what is left of the input where so much of it is still to come
+abbrev pub rest_of : Input → Option Bytes → Input
+rest_of input between = record {
+  read = record { old = between; new = input.read.new };
+  was_down = input.was_down;
+  is_down = input.is_down;
+}
+
 -- a sink before a call and after it: the bytes that were written, and those that were passed on, where they are
 -- known, and whether it is down
 pub record Output : Type 0 where

@@ -1,4 +1,5 @@
 pub mod Faults
+pub mod Heads
 pub mod Laws
 pub mod RefLists
 pub mod steps

@@ -2,6 +2,7 @@
 
 ghost use Rattle.std.specs.Prelude.{◌≡◌, ◌≢◌, IfOk, MatchOption};
 ghost use Rattle.gname.specs.Names.{head_name};
+ghost use Rattle.grefs.specs.Heads.{PointsBelowRefs};
 ghost use Rattle.grefs.specs.RefLists.{IsBelowRefs};
 
 use gname::laws::names_are_clean;
@@ -32,6 +33,7 @@ impl<A: Allocator + Copy> Target<A> {
         ensures { MatchOption result (name ≡ head_name)
             (λ target. (target ≡ name) × (name ≢ head_name)) }
     {
+        // Laws.
         names_are_clean();
         if name.is_head() {
             return None;
@@ -76,6 +78,15 @@ impl<A: Allocator + Copy> Head<A> {
             Head::None => Ok(Head::None),
             Head::Id(id) => Ok(Head::Id(*id)),
             Head::Symref(target) => Ok(Head::Symref(target.copy_in(alloc)?)),
+        }
+    }
+
+    /// A law: what is true of each head.
+    pub fn laws(&self)
+        ensures { PointsBelowRefs self.now }
+    {
+        if let Head::Symref(target) = self {
+            let _name = target.name();
         }
     }
 }

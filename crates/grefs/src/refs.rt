@@ -48,6 +48,11 @@ impl<A: Allocator + Copy> Refs<A> {
         self.refs.len()
     }
 
+    /// A law: what is true of all refs together.
+    pub fn laws(&self)
+        ensures { IsRefs self.now }
+    {}
+
     /// Whether there is no ref.
     pub fn is_empty(&self) -> bool
         ensures { IsTrue result ↔ (self.now ≡ []) }
@@ -137,6 +142,7 @@ impl<A: Allocator + Copy> Refs<A> {
         ensures err { OnErr result (self.new ≡ self.old) }
         ensures refs { IsRefs self.new }
     {
+        // Laws.
         names_are_clean();
         let count = self.refs.len();
         if name.is_head() {

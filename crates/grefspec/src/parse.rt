@@ -14,6 +14,7 @@ use std::alloc::Allocator;
 pub(crate) fn read_spec<A: Allocator + Copy>(alloc: A, text: &[u8]) -> Result<Spec<A>, SpecFault>
     ensures { Reads (IsSpec text.now) result }
 {
+    // Laws.
     names_are_clean();
     match text.strip_prefix(b"+") {
         Some(rest) => read_rest(alloc, true, rest),
@@ -25,6 +26,7 @@ pub(crate) fn read_spec<A: Allocator + Copy>(alloc: A, text: &[u8]) -> Result<Sp
 fn read_rest<A: Allocator + Copy>(alloc: A, forced: bool, text: &[u8]) -> Result<Spec<A>, SpecFault>
     ensures { Reads (IsRest forced text.now) result }
 {
+    // Laws.
     names_are_clean();
     match first_colon(text) {
         Some(at) => read_sides(alloc, forced, &text[..at], &text[at + 1..]),
@@ -49,6 +51,7 @@ fn read_sides<A: Allocator + Copy>(
 ) -> Result<Spec<A>, SpecFault>
     ensures { Reads (HasTexts forced source.now destination.now) result }
 {
+    // Laws.
     names_are_clean();
     match source.strip_suffix(b"*") {
         Some(stem) => match destination.strip_suffix(b"*") {

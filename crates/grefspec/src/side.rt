@@ -28,6 +28,7 @@ pub(crate) fn is_below_refs(text: &[u8]) -> bool
 pub(crate) fn is_stem(text: &[u8]) -> bool
     ensures { IsTrue result ↔ IsStem text.now }
 {
+    // Laws.
     names_are_clean();
     match join(text, b"x") {
         Some(name) => text.ends_with(b"/") && is_below_refs(name.as_slice()),

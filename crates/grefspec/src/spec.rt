@@ -141,6 +141,7 @@ impl<A: Allocator + Copy> Spec<A> {
         ensures finds { FindsDestination self.now name.now result }
         ensures below { IfOk result (λ found. IfSome found IsBelowRefs) }
     {
+        // Laws.
         names_are_clean();
         if !self.matches(name) {
             return Ok(None);

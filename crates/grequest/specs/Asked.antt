@@ -1,4 +1,4 @@
--- What a request asks for.
+-- What a request asks for (gitprotocol-v2(5), "Command Request", "ls-refs", "fetch").
 use Rattle.std.specs.Prelude.{ℕ, Bool, ◌==◌, ◌||◌, List, length, Option}
 use denote.Enum.Bare.{sameb}
 use denote.Enum.Declared.{tag_of}

@@ -1,8 +1,6 @@
 -- What a request is built from.
-use Rattle.std.specs.Prelude.{◌==◌, Bool, false, [], length, None}
-use Rattle.gname.specs.Formats.{id_length}
+use Rattle.std.specs.Prelude.{false, [], None}
 use Rattle.gname.specs.declared.formats.Format.{Format}
-use Rattle.gname.specs.Ids.{Id}
 use Rattle.grequest.specs.Flags.{flags_where}
 use Rattle.grequest.specs.Arguments.{ls_flags, fetch_flags}
 use Rattle.grequest.specs.Asked.{LsRefsAsked, FetchAsked}
@@ -17,7 +15,3 @@ no_ls_refs = record { agent = None; flags = flags_where ls_flags (λ flag. false
 
 abbrev pub no_fetch : FetchAsked
 no_fetch = record { agent = None; wants = []; haves = []; flags = flags_where fetch_flags (λ flag. false) }
-
--- an id has the format
-abbrev pub has_format : Format → Id → Bool
-has_format format id = length id == id_length format

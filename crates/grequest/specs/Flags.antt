@@ -1,5 +1,5 @@
--- Flags: the arguments of a command that have no value. A command has a table of them, with a row for each: the flag,
--- and its text.
+-- Flags: the arguments of a command that have no value (gitprotocol-v2(5), "ls-refs", "fetch"). A command has a table
+-- of them, with a row for each: the flag, and its text.
 use Rattle.std.specs.Prelude.{ℕ, Bool, false, List, [], ◌∷◌, if◌then◌else◌, Option, Some, None, slice_index_or}
 use Rattle.std.specs.Str.{bytes_eq}
 use Rattle.gpkt.specs.Packets.{Bytes}

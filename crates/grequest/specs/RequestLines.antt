@@ -1,4 +1,5 @@
--- What the packets of a request say: where each stands, and what all of a kind say together.
+-- What the packets of a request say: where each stands, and what all of a kind say together (gitprotocol-v2(5),
+-- "Command Request").
 use Rattle.std.specs.Prelude.{false, Bool, List, [], ◌∷◌, Option, Some, None}
 use Rattle.std.specs.List.{filter_map, list_any}
 use Rattle.gname.specs.Ids.{Id}

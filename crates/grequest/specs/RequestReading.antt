@@ -1,4 +1,4 @@
--- When a request is missing.
+-- When a request is missing: the client has hung up, which ends a connection (gitprotocol-v2(5), "Command Request").
 use Rattle.std.specs.Prelude.{◌≡◌, ◌↔◌, ◌<◌, [], Option, None, Result, Ok, IfErr}
 use Rattle.gname.specs.declared.formats.Format.{Format}
 use Rattle.gpkt.specs.Packets.{Bytes}

@@ -1,4 +1,5 @@
--- The packets that are written of a request: each argument that is set, in one order.
+-- The packets that are written of a request: each argument that is set, in one order (gitprotocol-v2(5), "Command
+-- Request"). The manual leaves the order of arguments open; it is our own rule.
 use Rattle.std.specs.Prelude.{◌≡◌, Bool, true, false, List, [], ◌∷◌, ◌++◌, map, codes, Option, Some, None}
 use Rattle.gpkt.specs.Packets.{Bytes, Packet, Flush, Delim}
 use Rattle.gname.specs.Ids.{Id, id_text}

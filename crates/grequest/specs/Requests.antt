@@ -1,5 +1,5 @@
--- A request's grammar with its reasons: what is refused at each place, and why. The packets before one count
--- only by what is in `State`.
+-- A request's grammar (gitprotocol-v2(5), "Command Request") with its reasons: what is refused at each place, and why.
+-- The packets before one count only by what is in `State`.
 use Rattle.std.specs.Prelude.{◌≡◌, ℕ, Bool, true, false, ◌&&◌, List, [], length, if◌then◌else◌, nat_lt, ◌==◌, Option}
 use Rattle.std.specs.Prelude.{None, is_none, is_some}
 use Rattle.gname.specs.Ids.{Id}

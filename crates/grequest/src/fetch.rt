@@ -12,7 +12,8 @@ ghost use Rattle.grequest.specs.Flags.{flags_at};
 ghost use Rattle.grequest.specs.Arguments.{Have, Want, fetch_argument, fetch_flags};
 ghost use Rattle.grequest.specs.Asked.{fetch_has, fetch_number, fetch_with, is_direct, max_wants, max_haves, max_arguments};
 ghost use Rattle.grequest.specs.steps.Building.{HaveSameIds, KeepsAs};
-ghost use Rattle.grequest.specs.Building.{has_format, no_fetch};
+ghost use Rattle.grequest.specs.Building.{no_fetch};
+ghost use Rattle.gname.specs.Ids.{has_format};
 ghost use Rattle.grequest.specs.Requests.{judge_fetch_argument, fetch_argument_brings};
 ghost use Rattle.grequest.specs.steps.RequestState.{with_fetch_argument};
 ghost use Rattle.grequest.specs.WellFormed.{IsFetchAsked};
@@ -92,6 +93,11 @@ impl<A: Allocator + Copy> FetchRequest<A> {
     {
         self.format
     }
+
+    /// A law: what is true of each request for fetch.
+    pub fn laws(&self)
+        ensures { IsFetchAsked self.now.format self.now.asked }
+    {}
 
     /// The client's name for itself, 1 to 1,000 bytes from `!` to `~`, where it gave one.
     pub fn agent(&self) -> Option<&[u8]>
@@ -450,6 +456,7 @@ fn id_in(format: Format, text: &[u8]) -> Option<Oid>
     ensures id { result ≡ id_of_text format text.now }
     ensures same { IfSome result (λ id. has_format format id ≡ true) }
 {
+    // Laws.
     texts_have_one_reading();
     id_of_text(format, text)
 }

@@ -72,6 +72,11 @@ impl<A: Allocator + Copy> LsRefsRequest<A> {
         }
     }
 
+    /// A law: what is true of each request for ls-refs.
+    pub fn laws(&self)
+        ensures { IsLsRefsAsked self.now }
+    {}
+
     /// The client's name for itself, 1 to 1,000 bytes from `!` to `~`, where it gave one.
     pub fn agent(&self) -> Option<&[u8]>
         ensures agent { option_copied result ≡ self.now.agent }
@@ -236,6 +241,7 @@ impl<A: Allocator + Copy> LsRefsRequest<A> {
             self.old self.new (record self.old { prefixes = self.old.prefixes ++ prefix.now ∷ [] })
             result }
     {
+        // Laws.
         rules_never_report_memory();
         match Prefix::new(*self.prefixes.allocator(), prefix) {
             Ok(prefix) if has_room => match self.prefixes.push(prefix) {

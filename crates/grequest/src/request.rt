@@ -23,7 +23,21 @@ impl<A: Allocator + Copy> Request<A> {
     ghost use Rattle.grequest.specs.Requests.{agent_of};
     ghost use Rattle.grequest.specs.steps.RequestState.{with_agent};
     ghost use Rattle.grequest.specs.Building.{FormattedFetch};
-    ghost use Rattle.grequest.specs.RequestValues.{asked_by_request, ids_format};
+    ghost use Rattle.gname.specs.declared.formats.Format.{Format};
+    ghost use Rattle.grequest.specs.RequestValues.{IsOfFormat, asked_by_request, ids_format};
+    ghost use Rattle.grequest.specs.WellFormed.{IsAsked};
+
+    /// A law: what is true of each request whose ids have one format.
+    pub fn laws(&self)
+        ensures { (format : Format) → IsOfFormat format self.now
+            → IsAsked format (asked_by_request self.now) }
+    {
+        match self {
+            Request::Empty => {}
+            Request::Ls(asked) => asked.laws(),
+            Request::Fetch(asked) => asked.laws(),
+        }
+    }
 
     /// The client's name for itself, where it gave one.
     pub(crate) fn agent(&self) -> Option<&[u8]>

@@ -42,28 +42,13 @@ pub fn write_request<A: Allocator + Copy, W: Sink>(
         result (canonical_request format (asked_by_request request.now)) }
     ensures form { IsAsked format (asked_by_request request.now) }
 {
+    // Laws.
     writes_lines::<W>();
-    keeps_forms(request);
+    request.laws();
     match request {
         Request::Empty => writer.flush_pkt(),
         Request::Ls(asked) => write_ls_refs(asked, format, writer),
         Request::Fetch(asked) => write_fetch(asked, format, writer),
-    }
-}
-
-// What the type of a request says of it; the call has no effect.
-fn keeps_forms<A: Allocator + Copy>(request: &Request<A>)
-    ensures { (format : Format) → IsOfFormat format request.now
-        → IsAsked format (asked_by_request request.now) }
-{
-    match request {
-        Request::Empty => {}
-        Request::Ls(asked) => {
-            let _agent = asked.agent();
-        }
-        Request::Fetch(asked) => {
-            let _agent = asked.agent();
-        }
     }
 }
 
@@ -75,6 +60,7 @@ fn write_ls_refs<A: Allocator + Copy, W: Sink>(
     ensures { WritesLines W.contents W.passed_on W.is_down W.loans writer.old writer.new result
         (canonical_request format (Ls asked.now)) }
 {
+    // Laws.
     writes_lines::<W>();
     write_head(Command::LsRefs, asked.agent(), format, writer)?;
     write_flags(LS_REFS_FLAGS, asked.flags(), writer)?;
@@ -90,6 +76,7 @@ fn write_fetch<A: Allocator + Copy, W: Sink>(
     ensures { WritesLines W.contents W.passed_on W.is_down W.loans writer.old writer.new result
         (canonical_request format (Fetches asked.now.asked)) }
 {
+    // Laws.
     writes_lines::<W>();
     write_head(Command::Fetch, asked.agent(), format, writer)?;
     write_flags(FETCH_FLAGS, &asked.early_flags(), writer)?;
@@ -111,6 +98,7 @@ fn write_head<W: Sink>(
         (command_packet command
         ∷ (agent_packets (option_copied agent.entry) ++ format_packets format ++ Delim ∷ [])) }
 {
+    // Laws.
     writes_lines::<W>();
     write_text(b"command=", command.name().as_bytes(), writer)?;
     write_agent(agent, writer)?;
@@ -123,6 +111,7 @@ fn write_agent<W: Sink>(agent: Option<&[u8]>, writer: &mut LineWriter<W>) -> Res
     ensures { WritesPart W.contents W.passed_on W.is_down W.loans writer.old writer.new result
         (agent_packets (option_copied agent.entry)) }
 {
+    // Laws.
     writes_lines::<W>();
     match agent {
         Some(agent) => write_text(b"agent=", agent, writer),
@@ -134,6 +123,7 @@ fn write_format<W: Sink>(format: Format, writer: &mut LineWriter<W>) -> Result<(
     ensures { WritesPart W.contents W.passed_on W.is_down W.loans writer.old writer.new result
         (format_packets format) }
 {
+    // Laws.
     writes_lines::<W>();
     match format {
         Format::Sha1 => Ok(()),
@@ -151,6 +141,7 @@ fn write_flags<F: Flag, W: Sink>(
     ensures { WritesPart W.contents W.passed_on W.is_down W.loans writer.old writer.new result
         (flags_packets (table_in table.now) (flags_at F.number (table_in table.now) flags.now)) }
 {
+    // Laws.
     writes_lines::<W>();
     for (flag, word) in table {
         write_flag(word.as_bytes(), flags[flag.number()], writer)?;
@@ -167,6 +158,7 @@ fn write_flag<W: Sink>(
     ensures { WritesPart W.contents W.passed_on W.is_down W.loans writer.old writer.new result
         (flag_packets word.now is_set) }
 {
+    // Laws.
     writes_lines::<W>();
     if is_set {
         write_text(b"", word, writer)
@@ -182,6 +174,7 @@ fn write_prefixes<A: Allocator + Copy, W: Sink>(
     ensures { WritesPart W.contents W.passed_on W.is_down W.loans writer.old writer.new result
         (map prefix_packet prefixes.now) }
 {
+    // Laws.
     writes_lines::<W>();
     for prefix in prefixes {
         write_text(b"ref-prefix ", prefix.as_bytes(), writer)?;
@@ -199,6 +192,7 @@ fn write_ids<W: Sink>(
     ensures { WritesPart W.contents W.passed_on W.is_down W.loans writer.old writer.new result
         (map (id_packet word.now) ids.now) }
 {
+    // Laws.
     writes_lines::<W>();
     for id in ids {
         write_id(word, id, writer)?;
@@ -227,6 +221,7 @@ fn write_text<W: Sink>(
     ensures { WritesLines W.contents W.passed_on W.is_down W.loans writer.old writer.new result
         (text_packet (word.now ++ rest.now) ∷ []) }
 {
+    // Laws.
     writes_lines::<W>();
     writer.text2(word, rest)
 }

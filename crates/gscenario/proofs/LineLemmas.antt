@@ -1,9 +1,10 @@
 -- The lines of a scenario.
 use Rattle.std.proofs.Common.{◌≡◌, ◌∙◌, inl, inr, ℕ, suc, ◌+◌, ◌≤◌, List, [], ◌∷◌, ◌++◌, length, Option, None, Some}
-use Rattle.std.proofs.Common.{MatchOption, refl, sym, ap, ap₂, subst, arith, append_assoc, append-nil}
+use Rattle.std.proofs.Common.{MatchOption, refl, sym, ap, subst, arith, append_assoc, append-nil}
 use Rattle.std.proofs.lemmas.List.{length-append}
 use Rattle.std.proofs.lemmas.Option.{MatchOption-at_none, MatchOption-at_some}
 use Rattle.gobject.specs.PlainPackText.{IsInLine, line}
+use Rattle.gobject.proofs.PlainPackLines.{line_parts}
 use Rattle.gscenario.specs.ScenarioText.{BeginsWithCommand, BeginsWrong, IsLineOf, IsNoLine, IsScenario, IsWrongLine}
 use Rattle.gscenario.specs.ScenarioText.{TakesMemory, command_text}
 use Rattle.gscenario.specs.declared.command.Command.{Command}
@@ -49,19 +50,14 @@ named_back command.ClientRef = refl
 pub same_command : (c d : Command) → command_text c ≡ command_text d → c ≡ d
 same_command c d same = sym (named_back c) ∙ ap named same ∙ named_back d
 
-line_parts : (here after : List ℕ) → line here ++ after ≡ here ++ 10 ∷ after
-line_parts here after = append_assoc here (10 ∷ []) after
+line_then : (here after : List ℕ) → line here ++ after ≡ here ++ 10 ∷ after
+line_then here after = append_assoc here (10 ∷ []) after
 
 -- of two texts that begin with lines, which are followed by the same, the lines are the same
 pub same_lines : (one other rest more : List ℕ) → IsInLine one → IsInLine other → one ++ 10 ∷ rest ≡ other ++ 10 ∷ more
     → (one ≡ other) × (rest ≡ more)
-same_lines [] [] rest more h k same = (refl, (cc))
-same_lines [] (b ∷ other) rest more h k same = absurd (k 0 (cc))
-same_lines (b ∷ one) [] rest more h k same = absurd (h 0 (cc))
-same_lines (b ∷ one) (c ∷ other) rest more h k same =
-    let both = same_lines one other rest more (λ at. h (suc at)) (λ at. k (suc at)) (cc) in
-    let first : b ≡ c = cc in
-    (ap₂ (λ (x : ℕ) (l : List ℕ). x ∷ l) first both.0, both.1)
+same_lines one other rest more h k same =
+    line_parts one other rest more h k (line_then one rest ∙ same ∙ sym (line_then other more))
 
 pub unended_none : (other rest : List ℕ) → [] ≡ other ++ 10 ∷ rest → ⊥
 unended_none [] rest same = cc
@@ -117,7 +113,7 @@ module _ {A : Type 0} where
       parts = reads.parts;
       before = reads.before;
       wrong =
-          inl (here, after, split.0 ∙ line_parts here after, split.1, MatchOption-at_none _ (IsLineOf here) none is);
+          inl (here, after, split.0 ∙ line_then here after, split.1, MatchOption-at_none _ (IsLineOf here) none is);
       at = reads.at;
     }
 
@@ -148,7 +144,7 @@ module _ {A : Type 0} where
       line = here;
       rest = after;
       events = events;
-      parts = reads.parts ∙ ap (λ (l : List ℕ). reads.front ++ l) (split.0 ∙ line_parts here after);
+      parts = reads.parts ∙ ap (λ (l : List ℕ). reads.front ++ l) (split.0 ∙ line_then here after);
       before = reads.before;
       inside = split.1;
       begins = begins;

@@ -27,7 +27,8 @@ use Rattle.ganswer.specs.declared.fault.ServeFault.TheVariants as serve
 use Rattle.gserve.specs.Exchanges.{Turn, Exchanges, IsDue, reply, refusal, IsRefused, IsTurn, ReadsEmpty, ReadsEnd}
 use Rattle.gserve.specs.Exchanges.{ReadsTurns, reply_packets}
 use Rattle.gserve.specs.Conversations.{advert_packets, talk, talk_bytes, CannotBegin, Converses, HasEnded, advert}
-use Rattle.gserve.specs.Conversations.{refusal as refusal_first, Serves, max_requests, rest_of}
+use Rattle.gserve.specs.Conversations.{refusal as refusal_first, Serves, max_requests}
+use Rattle.gpkt.specs.Sending.{rest_of}
 use Rattle.gserve.specs.steps.Connections.{Advertises, HasAnswered, PassesPackets, RefusesFirst, end_after}
 use Rattle.gserve.specs.steps.Connections.{ReportsRefusal}
 use Rattle.gserve.specs.declared.connection.End.{End}

@@ -26,7 +26,8 @@ use Rattle.ganswer.specs.Answers.{Answers, FetchRefuses, Reply, Fetch}
 use Rattle.ganswer.specs.Servers.{Server}
 use Rattle.ganswer.specs.declared.fault.ServeFault.{ServeFault}
 use Rattle.ganswer.specs.declared.fault.ServeFault.TheVariants as serve
-use Rattle.gserve.specs.Conversations.{CannotBegin, Converses, HasEnded, max_requests, rest_of, talk_bytes}
+use Rattle.gserve.specs.Conversations.{CannotBegin, Converses, HasEnded, max_requests, talk_bytes}
+use Rattle.gpkt.specs.Sending.{rest_of}
 use Rattle.gserve.specs.Exchanges.{Turn, IsRefused, ReadsEmpty, ReadsTurns, Declines, IsTurn, RefusesToAnswer}
 use Rattle.gserve.specs.Exchanges.{RefusesToRead}
 use Rattle.gserve.specs.Talks.{Stops, Talks, giving, last_packets, EndsByOwnFault, HoldsNone, HoldsTurns, IsOwnFault}

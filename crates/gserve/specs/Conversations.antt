@@ -2,7 +2,7 @@
 -- and "Command Request").
 use Rattle.std.specs.Prelude.{◌≡◌, ◌<◌, ◌⊎◌, ℕ, List, ◌++◌, length, Option, flat_map}
 use Rattle.gname.specs.declared.formats.Format.{Format}
-use Rattle.gpkt.specs.Sending.{Input, Output, IsUnread, IsUp, Passes, SendsAndFails, SendsSome}
+use Rattle.gpkt.specs.Sending.{Input, Output, IsUnread, IsUp, Passes, SendsAndFails, SendsSome, rest_of}
 use Rattle.gpkt.specs.Packets.{Bytes, Packet, canonical_all}
 use Rattle.gpkt.specs.Devices.{KeepsPassed}
 use Rattle.ggrammar.specs.declared.ends.Ends.{Ends}
@@ -45,14 +45,6 @@ pub data IsDueFirst (format : Format) (input : Input) : List Packet → Type 0 w
   refusal : (fault : ServeFault) → CannotBegin input fault → IsDueFirst format input (err_packets fault)
 
 -- ---- the requests
-
--- what is left of the input where so much of it is still to come
-abbrev pub rest_of : Input → Option Bytes → Input
-rest_of input between = record {
-  read = record { old = between; new = input.read.new };
-  was_down = input.was_down;
-  is_down = input.is_down;
-}
 
 -- so many requests are read, each of which is answered, and then this holds of the rest of the input
 pub record Converses {A : Type 0} (server : Server A) (packs : Packs A) (input : Input) (requests : ℕ)

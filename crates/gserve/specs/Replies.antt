@@ -1,4 +1,4 @@
--- Writing a reply of a server, apart from a connection.
+-- Writing a reply of a server, apart from a connection (gitprotocol-v2(5), "Command Request").
 use Rattle.std.specs.Prelude.{◌≡◌, ℕ, Bool, List, Option, Result, Ok}
 use Rattle.gpkt.specs.LineWriting.{Writer}
 use Rattle.gpkt.specs.declared.fault.WriteFault.{WriteFault}

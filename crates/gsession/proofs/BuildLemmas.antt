@@ -12,7 +12,7 @@ use Rattle.gdag.specs.Levels.{distinct_of, is_in}
 use Rattle.gdag.proofs.IdLists.{new_ids-append}
 use Rattle.grefspec.specs.Refspecs.{Refspec}
 use Rattle.gobject.specs.declared.node.Entry.{Entry}
-use Rattle.grequest.specs.Building.{has_format}
+use Rattle.gname.specs.Ids.{has_format}
 use Rattle.grequest.specs.RequestValues.{asked_by_request}
 use Rattle.grequest.specs.declared.request.Request.{Request}
 use Rattle.gsession.specs.Requesting.{MakesNext, Requests, is_due}

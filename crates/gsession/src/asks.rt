@@ -60,6 +60,7 @@ fn add_line<A: Allocator + Copy>(
 ) -> Result<(), NameFault>
     ensures { AddsAsks asks.old (asks_by spec.now (line.now ∷ [])) asks.new result }
 {
+    // Laws.
     rules_never_report_memory();
     let Some(name) = spec.destination(asks.allocator(), &line.name)? else {
         return Ok(());
@@ -84,6 +85,7 @@ pub(crate) fn wants_of<A: Allocator + Copy>(
         → All (IsIdOf format) wants.items) }
     ensures fault { IfErr result (λ fault. fault ≡ Memory) }
 {
+    // Laws.
     distinct_are_once();
     let alloc = repo.graph().allocator();
     let asked = asks.ids(alloc)?;
@@ -129,8 +131,9 @@ fn missing_of<A: Allocator + Copy>(repo: &Repo<A>, id: &Oid) -> Result<Option<Oi
 fn is_known<A: Allocator + Copy>(repo: &Repo<A>, id: &Oid) -> bool
     ensures { result ≡ true → IsFull repo.now.graph.entries id.now }
 {
+    // Laws.
     places_are_nodes::<A>();
-    let _format = repo.format();
+    repo.laws();
     match repo.graph().number(id) {
         Some(number) => repo.known().marked(number),
         None => false,

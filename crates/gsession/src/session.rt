@@ -195,6 +195,11 @@ impl<A: Allocator + Copy> Session<A> {
         self.rounds
     }
 
+    /// A law: what is true of each session.
+    pub fn laws(&self)
+        ensures { IsSession self.now }
+    {}
+
     // The allocator of the session's lists.
     fn allocator(&self) -> A {
         *self.wants.allocator()
@@ -284,9 +289,10 @@ fn tips_of<A: Allocator + Copy>(alloc: A, repo: &Repo<A>) -> Result<Vec<Oid, A>,
     ensures tips { IfOk result (λ tips. tips.items ≡ distinct_of (values_of repo.now.refs)) }
     ensures ids { IfOk result (λ tips. All (IsIdOf repo.now.graph.format) tips.items) }
 {
+    // Laws.
     distinct_are_once();
     places_are_nodes::<A>();
-    let _format = repo.format();
+    repo.laws();
     let ids = repo.refs().ids(alloc)?;
     distinct_ids(alloc, ids.as_slice())
 }

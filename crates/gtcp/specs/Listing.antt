@@ -1,4 +1,4 @@
--- What is shown of the refs of a server.
+-- What is shown of the refs of a server (as git-ls-remote(1)).
 use Rattle.std.specs.Prelude.{[], ◌++◌, codes, Option, None, Some}
 use Rattle.std.specs.List.{flat_map}
 use Rattle.gname.specs.Names.{Name}

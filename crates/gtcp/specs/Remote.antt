@@ -1,4 +1,5 @@
--- The programs that open sockets: what each does and writes, and the new file.
+-- The programs that open sockets (as git-daemon(1), git-ls-remote(1), git-fetch(1)): what each does and writes, and
+-- the new file.
 use Rattle.std.specs.Prelude.{◌≡◌, ◌⊎◌, ◌<◌, List, ℕ, ◌++◌, codes, Option, None, Result, Ok, Err}
 use Rattle.std.specs.Fmt.{decimal}
 use Rattle.gpkt.specs.Sending.{Output, IsUnwritten, Sends}

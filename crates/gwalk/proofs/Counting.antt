@@ -8,8 +8,8 @@ use Rattle.std.proofs.lemmas.Option.{none-some, same_Some}
 use Rattle.std.proofs.lemmas.List.Elements.{All-nil, All-cons}
 use Rattle.std.proofs.lemmas.List.Sums.{sum_by-cons, sum_by-le}
 use Rattle.gobject.specs.declared.node.Entry.{Entry}
+use Rattle.gdag.proofs.Holding.{mapped_from}
 use Rattle.gwalk.specs.steps.Walks.{marked, parents_in}
-use Rattle.gwalk.proofs.Stopping.{mapped}
 
 pub marked_none : {A : Type 0} (g : List (Entry A)) (n : ℕ) → marked g (replicate n false) ≡ []
 marked_none [] n = refl
@@ -50,7 +50,7 @@ marked_all P (entry ∷ g) (false ∷ marks) each = marked_all P g marks (λ p. 
 -- few parents were counted with this one
 pub counts_fit : {A : Type 0} (g : List (Entry A)) (marks : List Bool) (parents p : ℕ) (more : List (List ℕ)) → parents ≡ parents_in (marked g marks) → p < length marks → get_or marks p false ≡ false → option_map (λ entry. entry.node.parents) (slice_get g p) ≡ Some more → length g ≤ 1048576 → ((q : ℕ) (entry : Entry A) → slice_get g q ≡ Some entry → length entry.node.parents ≤ 64) → parents + length more < 2 ^ 64
 counts_fit {A} g marks parents p more are inside free is small narrow =
-    let w = mapped (λ (entry : Entry A). entry.node.parents) (slice_get g p) more is in
+    let w = mapped_from (λ (entry : Entry A). entry.node.parents) (slice_get g p) more is in
     let e = marked_more g marks p w.0 inside free w.1 in
     let all = marked_all (λ (entry : Entry A). length entry.node.parents ≤ 64) g (set marks p true) narrow in
     let few = sum_by-le (λ (entry : Entry A). length entry.node.parents) 64 (marked g (set marks p true)) all in

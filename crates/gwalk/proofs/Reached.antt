@@ -16,12 +16,12 @@ use Rattle.gdag.specs.Walks.{CountsReached, Misses}
 use Rattle.gwalk.proofs.Marking.{none_in}
 use Rattle.gtopowalk.proofs.Places.{entry_there}
 use Rattle.gdag.proofs.IdLists.{either_way, nothing_in_nil}
-use Rattle.gdag.proofs.Holding.{held_node, not_held, own_place}
+use Rattle.gdag.proofs.Holding.{held_node, not_held, own_place, mapped_from}
 use Rattle.std.proofs.Common.{All, zero, ◌++◌, ◌≡◌}
 use Rattle.gwalk.specs.steps.Walks.{IsWalk, AreMarked, marked}
 use Rattle.gdag.proofs.Reaching.{held_at_place, node_at_place, place_inside, kept_along, some_reaches, place_of_node}
 use Rattle.gwalk.proofs.LevelWalk.{met_reached, reached_met}
-use Rattle.gwalk.proofs.Stopping.{bare_if, stop_place, stop_slice, stopped_entry, mapped}
+use Rattle.gwalk.proofs.Stopping.{bare_if, stop_place, stop_slice, stopped_entry}
 use Rattle.gdag.proofs.Places.{id_at_place}
 
 -- the marked positions are those of the ids that are reached
@@ -73,7 +73,7 @@ found_at g a p e =
 pub held_by : {A : Type 0} (g : List (Entry A)) (a : List ℕ) (node : Node A) → IsNode g a node → IsHeldBy g a node
 held_by {A} g a node held =
     let p = place_of_node g a node held in
-    let m = mapped (λ (entry : Entry A). entry.node) (slice_get g p.0) node (sym (node_at_place g a p.0 p.1) ∙ held) in
+    let m = mapped_from (λ (entry : Entry A). entry.node) (slice_get g p.0) node (sym (node_at_place g a p.0 p.1) ∙ held) in
     record { place = p.0; place_is = p.1; entry = m.0; at = m.1; node_is = m.2; id_is = id_at_place g a p.0 m.0 p.1 m.1 }
 
 -- graphs with the same positions hold the same ids

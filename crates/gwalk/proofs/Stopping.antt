@@ -2,10 +2,10 @@
 use Rattle.std.proofs.Common.{◌≡◌, ℕ, zero, suc, ◌<◌, ◌≤◌, Bool, true, false, cond, List, [], ◌∷◌, length, get_or, All, Option, Some, None, refl, sym, ap, ◌∙◌, subst, arith}
 use Rattle.std.specs.List.{position_or_len, slice_get}
 use Rattle.std.specs.Option.{option_map}
-use Rattle.std.proofs.lemmas.Option.{none-some}
 use Rattle.gobject.specs.declared.node.Entry.{Entry}
 use Rattle.gobject.specs.Objects.{has_id, place_of, entry_of, node_of, IsShaped}
 use Rattle.gdag.proofs.Growing.{all_standing}
+use Rattle.gdag.proofs.Holding.{mapped_from}
 use Rattle.gtopowalk.proofs.Places.{entry_there}
 use Rattle.gwalk.specs.Marks.{stop_at}
 use Rattle.gwalk.proofs.Marking.{none_in}
@@ -50,13 +50,9 @@ narrow_if : {A : Type 0} (mark : Bool) (entry : Entry A) → length entry.node.p
 narrow_if true entry few = omega arith
 narrow_if false entry few = few
 
-pub mapped : {X Y : Type 0} (f : X → Y) (o : Option X) (y : Y) → option_map f o ≡ Some y → (x : X) × (o ≡ Some x) × (f x ≡ y)
-mapped f None y e = absurd (none-some y e)
-mapped f (Some x) y e = (x, refl, let e2 : Some (f x) ≡ Some y = e in cc)
-
 -- what stands at a position here is the entry that stands there, perhaps without parents
 pub stopped_entry : {A : Type 0} (marks : List Bool) (g : List (Entry A)) (p : ℕ) (entry : Entry A) → slice_get (stop_at marks g) p ≡ Some entry → (whole : Entry A) × (slice_get g p ≡ Some whole) × (bare_if (get_or marks p false) whole ≡ entry)
-stopped_entry marks g p entry at = mapped (bare_if (get_or marks p false)) (slice_get g p) entry (sym (stop_slice marks g p) ∙ at)
+stopped_entry marks g p entry at = mapped_from (bare_if (get_or marks p false)) (slice_get g p) entry (sym (stop_slice marks g p) ∙ at)
 
 pub stop_narrow : {A : Type 0} (marks : List Bool) (g : List (Entry A)) → All (λ entry. IsShaped entry.node) g → (p : ℕ) (entry : Entry A) → slice_get (stop_at marks g) p ≡ Some entry → length entry.node.parents ≤ 64
 stop_narrow {A} marks g shaped p entry at =
@@ -70,5 +66,5 @@ lends_none marks g p marked inside = rw (stop_slice marks g p, marked, (entry_th
 
 pub lends_all : {A : Type 0} (marks : List Bool) (g : List (Entry A)) (p : ℕ) (parents : List (List ℕ)) → get_or marks p false ≡ false → option_map (λ (entry : Entry A). entry.node.parents) (slice_get g p) ≡ Some parents → option_map (λ (entry : Entry A). entry.node.parents) (slice_get (stop_at marks g) p) ≡ Some parents
 lends_all {A} marks g p parents free are =
-    let w = mapped (λ (entry : Entry A). entry.node.parents) (slice_get g p) parents are in
+    let w = mapped_from (λ (entry : Entry A). entry.node.parents) (slice_get g p) parents are in
     rw (stop_slice marks g p, free, w.1) (ap Some w.2)

@@ -18,8 +18,8 @@ use Rattle.gwalk.specs.steps.Walks.{HasMet, IsLost, IsWalk, parents_in, places}
 use Rattle.gdag.proofs.IdLists.{either_way, nothing_in_nil, in_or_not, in_from_contains, new_ids-old, new_ids-new, contains_from_in, with_new}
 use Rattle.gdag.proofs.Growing.{take_one}
 use Rattle.gdag.proofs.Reaching.{place_inside, place_same, node_at_none, held_at_place}
+use Rattle.gdag.proofs.Holding.{mapped_from}
 use Rattle.gwalk.proofs.Counting.{marked_none, marked_more, marked_few}
-use Rattle.gwalk.proofs.Stopping.{mapped}
 use Rattle.gwalk.proofs.LevelWalk.{with_new-nil, with_new-append, IsWalked, walk_begins, walk_goes, walk_ends}
 use Rattle.gtopowalk.proofs.Places.{parents_are}
 
@@ -124,7 +124,7 @@ module _ {A : Type 0} (g : List (Entry A)) (ids : List (List ℕ)) (marks : List
       let P : List (List ℕ) → Type 0 = λ l. HasMet g l (set marks p true) (met ++ p ∷ []) lost (parents + length more) in
       let inside : p < length marks = let h = place_inside g a p e in let l = old.long in omega arith in
       let out : ¬ (Contains ids a) = λ c. false≢true (sym free ∙ (old.marked a p e).1 c) in
-      let w = mapped (λ (entry : Entry A). entry.node.parents) (slice_get g p) more are in
+      let w = mapped_from (λ (entry : Entry A). entry.node.parents) (slice_get g p) more are in
       let counted = marked_more g marks p w.0 inside free w.1 in
       let before = old.parents_are in let once = old.once in let many = ap length w.2 in
       let long = length-append met (p ∷ []) in

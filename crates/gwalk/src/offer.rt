@@ -66,6 +66,7 @@ fn first_untold<A: Allocator + Copy>(
         sent.now.marks.items sent.now.met.items sent.now.lost sent.now.parents →
         IsOffer graph.now.entries tips.now commons others n list.items) }
 {
+    // Laws.
     levels_are_distances::<A>();
     let mut list = Vec::new(graph.allocator());
     let mut walk = Walk::new(graph)?;

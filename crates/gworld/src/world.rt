@@ -98,7 +98,8 @@ impl<K: Packer<A> + Indexer<A> + Drop, A: Allocator + Copy> World<K, A> {
             self.old.world events.now (outcomes_before fault) self.new.world) }
     {
         let result = self.parts.run(events, &self.tools);
-        self.parts.ends_are_whole();
+        // Laws.
+        self.parts.laws();
         result
     }
 }

@@ -65,6 +65,7 @@ pub(crate) fn ref_parts(format: Format, text: &[u8]) -> Option<RefLine<'_>>
     ensures { MatchOption result (BeginsWithNoRefId format text.now) (λ it.
         (text.now ≡ id_text it.id ++ (codes " " ++ it.name.now)) × IsIdOf format it.id) }
 {
+    // Laws.
     text_laws();
     let Some(first) = take_id(format, text) else {
         return None;
@@ -105,6 +106,7 @@ fn head_at<A: Allocator + Copy>(format: Format, digits: &[u8]) -> Option<Head<A>
     ensures { MatchOption result (IsNoIdText format digits.now)
         (λ head. IsHeadAt format digits.now head) }
 {
+    // Laws.
     text_laws();
     match take_id(format, digits) {
         Some(found) => {

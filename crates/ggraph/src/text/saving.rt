@@ -7,7 +7,7 @@ ghost use Rattle.gname.specs.Ids.{IsIdOf};
 ghost use Rattle.gobject.specs.PlainPackText.{line, node_text, text_of};
 ghost use Rattle.ggraph.specs.RepositoryText.{IsLoadable, head_line, first_line, ref_line, repository_text};
 ghost use Rattle.ggraph.specs.Saving.{IsFirstOther, SaveRefuses, head_ids, named_ids, ref_ids};
-ghost use Rattle.ggraph.specs.steps.Saving.{PointsBelowRefs};
+ghost use Rattle.grefs.specs.Heads.{PointsBelowRefs};
 
 use crate::fault::SaveFault;
 use crate::text::Order;
@@ -32,6 +32,7 @@ pub fn save<A: Allocator + Copy>(
         (SaveRefuses graph.now.format refs.now head.now) }
     ensures loadable { IfOk result (λ text. IsLoadable Order.Any graph.now refs.now head.now) }
 {
+    // Laws.
     gdag::laws::entries_come_in_order::<A>();
     grefs::laws::refs_come_in_order();
     if let Some(id) = other_id(graph.format(), refs.as_slice(), head) {
@@ -107,6 +108,9 @@ fn written<A: Allocator + Copy>(
     ensures head { IfOk result (λ _. PointsBelowRefs head.now) }
     ensures text { IfOk result (λ text. text.items ≡ repository_text graph.now refs.now head.now) }
 {
+    // Laws.
+    graph.laws();
+    head.laws();
     let mut text = Vec::new(alloc);
     text.extend_from_slice(line_of(graph.format()))?;
     put_nodes(&mut text, graph)?;
@@ -117,9 +121,8 @@ fn written<A: Allocator + Copy>(
 }
 
 fn put_nodes<A: Allocator + Copy>(text: &mut Vec<u8, A>, graph: &Graph<A>) -> Result<(), AllocError>
-    ensures text { OnOk result (text.new.items
+    ensures { OnOk result (text.new.items
         ≡ text.old.items ++ text_of (map node_text graph.now.entries)) }
-    ensures graph { IsGraph graph.now }
 {
     for place in 0..graph.len() {
         put_node(text, graph, place)?;
@@ -166,8 +169,7 @@ fn put_ref<A: Allocator + Copy>(
 }
 
 fn put_head<A: Allocator + Copy>(text: &mut Vec<u8, A>, head: &Head<A>) -> Result<(), AllocError>
-    ensures text { OnOk result (text.new.items ≡ text.old.items ++ line (head_line head.now)) }
-    ensures below { OnOk result (PointsBelowRefs head.now) }
+    ensures { OnOk result (text.new.items ≡ text.old.items ++ line (head_line head.now)) }
 {
     match head {
         Head::None => text.extend_from_slice(b"h none\n"),

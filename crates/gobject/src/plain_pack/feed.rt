@@ -40,6 +40,7 @@ impl<A: Allocator + Copy> PlainFeed<A> {
         requires { IsPart text.now }
         ensures { Feeds self.old self.new result text.now }
     {
+        // Laws.
         id_texts_are_digits();
         match self.part.try_extend_from_slice(text) {
             Ok(()) => Ok(()),

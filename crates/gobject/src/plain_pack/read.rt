@@ -69,6 +69,7 @@ fn format_of(part: &[u8]) -> Format
 fn id_of(part: &[u8]) -> Option<Oid>
     ensures { MatchOption result (NoId part.now) (IsIdText part.now) }
 {
+    // Laws.
     id_texts_are_digits();
     ids_have_one_format();
     match Oid::from_hex_in(format_of(part), part) {
@@ -242,6 +243,7 @@ impl<A: Allocator + Copy> Lines<A> {
     pub fn take(&mut self, part: &[u8], separator: Separator) -> Result<(), IndexFault>
         ensures { Reads self.old self.new result part.now separator }
     {
+        // Laws.
         id_texts_are_digits();
         let fault = self.bad_line();
         let next = mem::replace(&mut self.next, Next::Nothing);
@@ -266,6 +268,7 @@ impl<A: Allocator + Copy> Lines<A> {
     pub fn finish(self, part: &[u8]) -> Result<Vec<Entry<A>, A>, IndexFault>
         ensures { Finishes self result part.now }
     {
+        // Laws.
         id_texts_are_digits();
         if !self.has_ended(part) {
             return Err(self.bad_line());

@@ -16,8 +16,9 @@ use std::alloc::{AllocError, Allocator};
 fn room_after_id(room: usize, id: &Oid) -> Option<usize>
     ensures { Leaves room result (length (ids_text (id.now ∷ []))) }
 {
+    // Laws.
     ids_have_texts();
-    let _bytes = id.as_bytes();
+    id.laws();
     room.checked_sub(id.format().id_text_length() + 1)
 }
 

@@ -107,10 +107,11 @@ impl<A: Allocator + Copy> Session<A> {
             (λ fault. fault ≡ no_memory) }
         ensures fits { IfOk result (λ batch. FitsBatch self.now batch.items) }
     {
+        // Laws.
         offers_are_exact::<A>();
         places_are_nodes::<A>();
         ids_have_one_format();
-        let _format = repo.format();
+        repo.laws();
         let offer = haves(
             repo.graph(),
             self.tips.as_slice(),

@@ -173,6 +173,7 @@ impl<A: Allocator + Copy> Session<A> {
             (IsAcksFault asked.haves acks.now) }
         ensures commons { IfOk result (λ commons. AreCommons self.now.format commons.items) }
     {
+        // Laws.
         distinct_are_once();
         let alloc = self.allocator();
         if let Some(id) = first_strange(alloc, self.open_haves(), acks) {

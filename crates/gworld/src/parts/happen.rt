@@ -45,14 +45,14 @@ impl<A: Allocator + Copy> Parts<A> {
         }
     }
 
-    /// What the types of server, repository and session keep. The call has no effect.
-    pub(crate) fn ends_are_whole(&self)
+    /// A law: what is true of the two ends, and of the session.
+    pub(crate) fn laws(&self)
         ensures { AreEndsWhole self.now }
     {
-        let _objects = self.server.graph();
-        let _format = self.repo.format();
+        self.server.laws();
+        self.repo.laws();
         if let Some(session) = &self.session {
-            let _pending = session.pending();
+            session.laws();
         }
     }
 
@@ -73,10 +73,12 @@ impl<A: Allocator + Copy> Parts<A> {
             self.old event.now outcome self.new)
             (λ _. self.new ≡ self.old) }
     {
+        // Laws.
         steps_keep::<A, K>();
-        self.ends_are_whole();
+        self.laws();
         let outcome = self.happen(event, tools)?;
-        self.ends_are_whole();
+        // Laws.
+        self.laws();
         Ok(outcome)
     }
 

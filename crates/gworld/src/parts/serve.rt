@@ -87,6 +87,7 @@ fn talk<A: Allocator + Copy, K: Packer<A>>(
     ensures { IfOk result (TalksTo server.now (K.packs packer.now) (K.pack_fails packer.now)
         bytes.now) }
 {
+    // Laws.
     serving_is_talking::<A, K>();
     let mut source = SliceSource::new(bytes);
     let mut sink = VecSink::new(alloc);

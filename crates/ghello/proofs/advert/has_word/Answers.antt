@@ -2,7 +2,7 @@ use Rattle.std.proofs.Common.{rules, tests}
 use Rattle.std.specs.Str.{bytes_eq}
 use Rattle.std.proofs.lemmas.Iterator.Splits.{YieldsList-from_slice_split}
 use Rattle.std.proofs.lemmas.Iterator.Search.{any_from_yields_List}
-use Rattle.ghello.specs.Offers.{is_space}
+use Rattle.ggrammar.specs.Texts.{is_space}
 use Rattle.ghello.proofs.advert.has_word.Goals as goal
 
 pub returns-in-Some : goal.returns-in-Some

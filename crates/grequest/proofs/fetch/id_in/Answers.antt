@@ -5,7 +5,7 @@ use Rattle.gname.specs.Laws.{TextsHaveOneReading}
 use Rattle.gname.specs.declared.formats.Format.{Format}
 use Rattle.ggrammar.specs.Ids.{id_of_text}
 use Rattle.ggrammar.proofs.IdLemmas.{id_formed}
-use Rattle.grequest.specs.Building.{has_format}
+use Rattle.gname.specs.Ids.{has_format}
 use Rattle.grequest.proofs.fetch.id_in.Goals as goal
 
 -- an id that a text spells has the format of the reading

@@ -11,7 +11,7 @@ returns-clause-text g c =
     let first = first_is ∙ ap (λ (t : List ℕ). t ++ line (first_line c.args.graph.now.format)) c.new-text.ensures.items in
     c.in_ok-extend_from_slice-2.ensures.items
     ∙ ap (λ (t : List ℕ). t ++ codes "end\n")
-    (c.in_ok-put_head.ensures.text
+    (c.in_ok-put_head.ensures
     ∙ ap (λ (t : List ℕ). t ++ line (head_line c.args.head.now))
-    (refs ∙ ap (λ (t : List ℕ). t ++ text_of (map ref_line c.args.refs.now)) (c.in_ok-put_nodes.ensures.text ∙ ap (λ (t : List ℕ). t ++ text_of (map node_text c.args.graph.now.entries)) first)))
+    (refs ∙ ap (λ (t : List ℕ). t ++ text_of (map ref_line c.args.refs.now)) (c.in_ok-put_nodes.ensures ∙ ap (λ (t : List ℕ). t ++ text_of (map node_text c.args.graph.now.entries)) first)))
     ∙ whole_text c.args.graph.now c.args.refs.now c.args.head.now
