@@ -38,7 +38,8 @@ use Rattle.glsreply.specs.LsReplies.{LsReply, max_lines, unborn_packets}
 use Rattle.glsreply.specs.RefTexts.{RefLine}
 use Rattle.ganswer.specs.LsAnswers.{HasAttributes, IsPeeledIf, ShowsLines, all_refs, head_id, head_ref, is_asked}
 use Rattle.ganswer.specs.LsAnswers.{is_shown, missing_target, name_and_id, target_of}
-use Rattle.ganswer.specs.Servers.{Server, HoldsHead, HoldsRefs, IsServer, PointsBelowRefs}
+use Rattle.grefs.specs.Heads.{PointsBelowRefs}
+use Rattle.ganswer.specs.Servers.{Server, HoldsHead, HoldsRefs, IsServer}
 use Rattle.ganswer.specs.steps.Answers.{IsNextRef}
 use Rattle.ganswer.specs.FetchAnswers.{commons_of}
 use Rattle.ganswer.specs.Laws.{FetchAnswersFit, LsAnswersFit}

@@ -88,7 +88,9 @@ impl<A: Allocator + Copy> Server<A> {
     /// A law: what is true of each server.
     pub fn laws(&self)
         ensures { IsServer self.now }
-    {}
+    {
+        let _ = &self.graph;
+    }
 
     /// What HEAD stands at.
     pub fn head(&self) -> &Head<A>

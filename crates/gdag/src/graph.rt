@@ -91,7 +91,9 @@ impl<A: Allocator + Copy> Graph<A> {
     /// A law: what is true of each graph.
     pub fn laws(&self)
         ensures { IsGraph self.now }
-    {}
+    {
+        let _ = &self.nodes;
+    }
 
     /// Whether the graph has no node.
     pub fn is_empty(&self) -> bool

@@ -54,7 +54,9 @@ impl PackLimit {
     /// A law: what is true of each limit.
     pub fn laws(self)
         ensures { self ≤ max_pack }
-    {}
+    {
+        let _ = self.bytes;
+    }
 }
 
 /// 16,777,216 bytes.

@@ -112,7 +112,9 @@ impl<A: Allocator + Copy> RefName<A> {
         ensures name { IsRefName self.now }
         ensures within { length self.now ≤ max_name }
         ensures clean { IsClean self.now }
-    {}
+    {
+        let _bytes = self.as_bytes();
+    }
 }
 
 impl<A: Allocator + Copy> Clone for RefName<A> {

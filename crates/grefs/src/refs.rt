@@ -51,7 +51,9 @@ impl<A: Allocator + Copy> Refs<A> {
     /// A law: what is true of all refs together.
     pub fn laws(&self)
         ensures { IsRefs self.now }
-    {}
+    {
+        let _ = &self.refs;
+    }
 
     /// Whether there is no ref.
     pub fn is_empty(&self) -> bool

@@ -97,7 +97,9 @@ impl<A: Allocator + Copy> FetchRequest<A> {
     /// A law: what is true of each request for fetch.
     pub fn laws(&self)
         ensures { IsFetchAsked self.now.format self.now.asked }
-    {}
+    {
+        let _ = &self.flags;
+    }
 
     /// The client's name for itself, 1 to 1,000 bytes from `!` to `~`, where it gave one.
     pub fn agent(&self) -> Option<&[u8]>

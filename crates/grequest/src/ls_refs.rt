@@ -75,7 +75,9 @@ impl<A: Allocator + Copy> LsRefsRequest<A> {
     /// A law: what is true of each request for ls-refs.
     pub fn laws(&self)
         ensures { IsLsRefsAsked self.now }
-    {}
+    {
+        let _ = &self.flags;
+    }
 
     /// The client's name for itself, 1 to 1,000 bytes from `!` to `~`, where it gave one.
     pub fn agent(&self) -> Option<&[u8]>

@@ -198,7 +198,9 @@ impl<A: Allocator + Copy> Session<A> {
     /// A law: what is true of each session.
     pub fn laws(&self)
         ensures { IsSession self.now }
-    {}
+    {
+        let _ = &self.rounds;
+    }
 
     // The allocator of the session's lists.
     fn allocator(&self) -> A {

@@ -10,7 +10,7 @@ use Rattle.gfetchreply.proofs.reading.read_fetch_reply_in.Goals as goal
 pub with_pack-requires : goal.with_pack-requires
 with_pack-requires g c =
     let short = short_pack _ _ _ _ _ _ c.read_fetch_reply_into_in.new.sink.items c.in-Ok.ensures.read c.new-pack.ensures.items (λ xs e. e) in
-    omega (arith, short, c.bytes-limit.ensures.within)
+    omega (arith, short, c.laws.ensures)
 
 pub returns-in-Ok-clause-read : goal.returns-in-Ok-clause-read
 returns-in-Ok-clause-read g c =

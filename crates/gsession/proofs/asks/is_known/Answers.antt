@@ -11,4 +11,4 @@ returns-in-Some g c = λ marked.
     let mark : slice_index_or c.args.repo.now.known c.in-Some.number false ≡ true =
     sym (ap (λ m. slice_index_or m c.in-Some.number false) c.known.ensures) ∙ sym c.marked.ensures ∙ marked in
     known_full c.places_are_nodes.ensures graph.entries c.args.repo.now.known c.args.id.now c.in-Some.number
-    c.format-format.ensures.graph.differ c.format-format.ensures.whole.full at mark
+    c.laws.ensures.graph.differ c.laws.ensures.whole.full at mark

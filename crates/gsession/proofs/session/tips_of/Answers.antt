@@ -9,7 +9,7 @@ use Rattle.gsession.proofs.session.tips_of.Goals as goal
 pub returns-clause-ids : goal.returns-clause-ids
 returns-clause-ids g c =
     let repo = c.args.repo.now in
-    let held = c.format-format.ensures in
+    let held = c.laws.ensures in
     let ids : c.as_slice.result.now ≡ values_of repo.refs =
     c.as_slice.ensures.value ∙ c.in_ok-ids.ensures ∙ ap values_of c.refs.ensures in
     let all : All (IsIdOf repo.graph.format) (distinct_of (values_of repo.refs)) =

@@ -12,8 +12,8 @@ no_memory-requires g c =
     let asked = c.args.asked.now in
     let ref : List ℕ × List ℕ = (c.args.name.now, c.args.id) in
     let shows = subst (λ (line : RefLine). ShowsLines server asked (ref ∷ []) (line ∷ [])) (sym c.in_ok-line.ensures) c.in-Some.ensures in
-    let fits = goes c.places_are_nodes.ensures c.ids_have_one_format.ensures server c.refs-refs.ensures.server asked ref c.args.reply.now c.requires.next c.in_ok-line.line shows in
-    let space = room c.places_are_nodes.ensures c.ids_have_one_format.ensures server c.refs-refs.ensures.server asked ref c.args.reply.now c.requires.next in
+    let fits = goes c.places_are_nodes.ensures c.ids_have_one_format.ensures server c.laws.ensures asked ref c.args.reply.now c.requires.next c.in_ok-line.line shows in
+    let space = room c.places_are_nodes.ensures c.ids_have_one_format.ensures server c.laws.ensures asked ref c.args.reply.now c.requires.next in
     only_memory _ _ c.in-Err.fault.why fits space c.in-Err.ensures.2
 
 pub returns-in-Ok-clause-added : goal.returns-in-Ok-clause-added

@@ -29,7 +29,7 @@ returns-then-len-clause-fits g c =
     let room : length commons + length offer ≤ max_haves = omega arith in
     rw (← c.self.view_is)
     (offer_fits c.offers_are_exact.ensures c.places_are_nodes.ensures c.ids_have_one_format.ensures _
-    c.args.repo.now.graph _ offer c.self.invariant.0 c.format-format.ensures.graph
+    c.args.repo.now.graph _ offer c.self.invariant.0 c.laws.ensures.graph
     (rw (
       c.graph.ensures,
       c.as_slice.ensures.value,
