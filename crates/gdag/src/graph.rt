@@ -92,7 +92,7 @@ impl<A: Allocator + Copy> Graph<A> {
     pub fn laws(&self)
         ensures { IsGraph self.now }
     {
-        let _ = &self.nodes;
+        let _ = &self.format;
     }
 
     /// Whether the graph has no node.
