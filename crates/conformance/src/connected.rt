@@ -4,7 +4,7 @@
 use crate::play::{Devices, Job};
 use gclient::FetchFault;
 use gcmd::{ProgramFault, finish, load_server, send_text};
-use gconnect::{GitEnd, list_git, serve_git};
+use gconnect::{Export, GitEnd, list_git, serve_git};
 use ggrammar::MessageFault;
 use ggraph::Packer;
 use ghello::Hello;
@@ -40,8 +40,12 @@ fn served<'m, K: Packer<&'m Scarce<Global>>, I: Source, O: Sink>(
     output: &mut O,
 ) -> Result<(), Failed<'m>> {
     let server = load_server(job.memory, job.file)?;
-    let path = job.command.path.as_bytes();
-    outcome_of(serve_git(&server, packer, path, job.command.ends, input, output))
+    let export = Export {
+        server: &server,
+        path: job.command.path.as_bytes(),
+        ends: job.command.ends,
+    };
+    outcome_of(serve_git(&export, packer, input, output))
 }
 
 // How a connection came out. That its client asked for another path is no fault of it.

@@ -10,7 +10,7 @@ use crate::report::report_of;
 use crate::trouble::Trouble;
 use gclient::{FetchFault, Fetched, Repo, fetch_over};
 use gcmd::{ProgramFault, Spec, cmd_failed};
-use gconnect::fetch_git;
+use gconnect::{GitFetch, fetch_git};
 use ggraph::{Head, Indexer, Order, load, save};
 use gpkt::{Sink, Source, write_all};
 use gserve::{End, ExchangeEnd, Server, serve, serve_one};
@@ -147,7 +147,13 @@ fn converse<'m, K: Indexer<&'m Scarce<Global>>, I: Source, O: Sink>(
         return fetch_over(repo, input, output, indexer, specs, limit, ends);
     }
     let hello = hello_of(job)?;
-    fetch_git(repo, &hello, input, output, indexer, specs, limit, ends)
+    let fetch = GitFetch {
+        hello: &hello,
+        specs,
+        limit,
+        ends,
+    };
+    fetch_git(repo, input, output, indexer, &fetch)
 }
 
 fn failed<'m, I, O, R, E: Sink>(

@@ -19,6 +19,19 @@ use ghello::Hello;
 use gpkt::{Sink, Source};
 use std::alloc::Allocator;
 
+/// What is fetched over a `git://` connection, and how.
+#[derive(Clone, Copy)]
+pub struct GitFetch<'a, A: Allocator + Copy> {
+    /// The first line, which names the path that is asked for.
+    pub hello: &'a Hello<A>,
+    /// By which refspecs: at most 16, and the first that leads to a ref counts.
+    pub specs: &'a [Spec<A>],
+    /// How many bytes a pack may have at most.
+    pub limit: PackLimit,
+    /// How each reply ends.
+    pub ends: Ends,
+}
+
 /// Fetches by refspecs from a server (gitprotocol-pack(5), "Git Transport"): writes the first line, which names the
 /// path that is asked for, passes it on, and goes on as [`fetch_over`].
 ///
@@ -26,16 +39,13 @@ use std::alloc::Allocator;
 /// fails as `fetch_over` does. After every fault the refs are as before, and the graph has at most gained objects.
 pub fn fetch_git<S: Source, W: Sink, A: Allocator + Copy, K: Indexer<A>>(
     repo: &mut Repo<A>,
-    hello: &Hello<A>,
     source: &mut S,
     sink: &mut W,
     indexer: &K,
-    specs: &[Spec<A>],
-    limit: PackLimit,
-    ends: Ends,
+    fetch: &GitFetch<'_, A>,
 ) -> Result<Fetched<A>, FetchFault<A>>
     ensures fetches { FetchesGit (K.indexes indexer.now) (K.index_fails indexer.now)
-        (start_of repo.old specs.now limit ends) hello.now
+        (start_of repo.old fetch.now.specs.now fetch.now.limit fetch.now.ends) fetch.now.hello.now
         (input_of S.remaining S.is_down source.old source.new)
         (output_of W.contents W.passed_on W.is_down sink.old sink.new) repo.new result }
     ensures settled { IfOk result (λ fetched. Settles repo.new.graph.entries repo.old.refs
@@ -51,7 +61,8 @@ pub fn fetch_git<S: Source, W: Sink, A: Allocator + Copy, K: Indexer<A>>(
 {
     // Laws.
     let _format = repo.format();
-    match greet(hello, sink) {
+    let (specs, limit, ends) = (fetch.specs, fetch.limit, fetch.ends);
+    match greet(fetch.hello, sink) {
         Ok(()) => fetch_over(repo, source, sink, indexer, specs, limit, ends),
         Err(_) => Err(FetchFault::WriteFailed),
     }

@@ -45,6 +45,6 @@ mod greeting;
 mod listing;
 mod serving;
 
-pub use crate::fetching::fetch_git;
+pub use crate::fetching::{GitFetch, fetch_git};
 pub use crate::listing::{list_git, list_over};
-pub use crate::serving::{GitEnd, hear, serve_git};
+pub use crate::serving::{Export, GitEnd, hear, serve_git};

@@ -15,6 +15,17 @@ use gpkt::{LineBuffer, LineReader, Sink, Source, WriteFault};
 use gserve::{MAX_ERR_TEXT, Served, err_text, serve};
 use std::alloc::Allocator;
 
+/// A repository that is served at a path, as git-daemon(1) exports one.
+#[derive(Clone, Copy)]
+pub struct Export<'a, A: Allocator + Copy> {
+    /// The repository.
+    pub server: &'a Server<A>,
+    /// The path, which a client has to ask for byte for byte.
+    pub path: &'a [u8],
+    /// How each reply ends.
+    pub ends: Ends,
+}
+
 /// How a `git://` connection ended.
 #[derive(Debug, Drop)]
 pub enum GitEnd {
@@ -30,27 +41,26 @@ pub enum GitEnd {
 }
 
 /// Serves one connection (gitprotocol-pack(5), "Git Transport"): reads the client's first line, and where it asks for
-/// the path goes on as [`serve`]. The path is compared byte by byte, and the host is not judged.
+/// the path that is served goes on as [`serve`]. The path is compared byte by byte, and the host is not judged.
 ///
 /// Another path, and a first line that is refused, are answered by an `ERR` packet instead of the advertisement, and
 /// nothing after the first line is read. Out of memory before it, nothing is read, and the packet says so.
 pub fn serve_git<S: Source, W: Sink, A: Allocator + Copy, K: Packer<A>>(
-    server: &Server<A>,
+    export: &Export<'_, A>,
     packer: &K,
-    path: &[u8],
-    ends: Ends,
     source: &mut S,
     sink: &mut W,
 ) -> GitEnd
-    ensures serves { ServesGit server.now (K.packs packer.now) (K.pack_fails packer.now) path.now
-        ends (input_of S.remaining S.is_down source.old source.new)
+    ensures serves { ServesGit export.now.server.now (K.packs packer.now) (K.pack_fails packer.now)
+        export.now.path.now export.now.ends
+        (input_of S.remaining S.is_down source.old source.new)
         (output_of W.contents W.passed_on W.is_down sink.old sink.new) result }
     ensures source_loans { S.loans source.new ≡ S.loans source.old }
     ensures sink_loans { W.loans sink.new ≡ W.loans sink.old }
 {
-    match hear(source, server.graph().allocator()) {
-        Ok(hello) if asks_for(path, &hello) => {
-            GitEnd::Served(serve(server, packer, ends, source, sink))
+    match hear(source, export.server.graph().allocator()) {
+        Ok(hello) if asks_for(export.path, &hello) => {
+            GitEnd::Served(serve(export.server, packer, export.ends, source, sink))
         }
         Ok(_) => match send_away(sink) {
             Ok(()) => GitEnd::Elsewhere,

@@ -15,7 +15,7 @@ ghost use Rattle.gtcp.specs.steps.Remote.{MakesRequest};
 
 use crate::stream::{MESSAGE_BUFFER, send_at_once};
 use gclient::{FetchFault, Fetched, Repo, Spec};
-use gconnect::{fetch_git, list_git};
+use gconnect::{GitFetch, fetch_git, list_git};
 use gfetchreply::PackLimit;
 use ggrammar::{Ends, MessageFault};
 use ggraph::Indexer;
@@ -27,15 +27,6 @@ use grequest::LsRefsRequest;
 use std::alloc::Allocator;
 use std::io::{BufReader, BufWriter, Read, Write};
 use std::net::TcpStream;
-
-/// From where, what is fetched, and how.
-#[derive(Clone, Copy)]
-pub(crate) struct Wanted<'a, A: Allocator + Copy> {
-    pub(crate) hello: &'a Hello<A>,
-    pub(crate) specs: &'a [Spec<A>],
-    pub(crate) limit: PackLimit,
-    pub(crate) ends: Ends,
-}
 
 /// Fetches by refspecs from the server at the other end of the stream: writes the first line of a `git://` connection
 /// (gitprotocol-pack(5), "Git Transport"), which names the host and the path, and then does as `gclient::fetch_over`.
@@ -71,13 +62,13 @@ pub fn fetch_on<A: Allocator + Copy, K: Indexer<A>>(
         Ok(hello) => hello,
         Err(fault) => return Err(FetchFault::from(fault)),
     };
-    let wanted = Wanted {
+    let fetch = GitFetch {
         hello: &hello,
         specs,
         limit,
         ends,
     };
-    fetch_from(&stream, repo, indexer, &wanted)
+    fetch_from(&stream, repo, indexer, &fetch)
 }
 
 /// Fetches as [`fetch_on`] does, with a first line that is made.
@@ -85,11 +76,11 @@ pub(crate) fn fetch_from<A: Allocator + Copy, K: Indexer<A>>(
     stream: &TcpStream,
     repo: &mut Repo<A>,
     indexer: &K,
-    wanted: &Wanted<'_, A>,
+    fetch: &GitFetch<'_, A>,
 ) -> Result<Fetched<A>, FetchFault<A>>
     ensures fetches { FetchesFrom (K.indexes indexer.now) (K.index_fails indexer.now)
-        (start_of repo.old wanted.now.specs.now wanted.now.limit wanted.now.ends)
-        wanted.now.hello.now repo.new result }
+        (start_of repo.old fetch.now.specs.now fetch.now.limit fetch.now.ends)
+        fetch.now.hello.now repo.new result }
     ensures settled { IfOk result (λ fetched. Settles repo.new.graph.entries repo.old.refs
         fetched.settled.asks fetched.settled.updates.items repo.new.refs) }
     ensures refs { OnErr result (repo.new.refs ≡ repo.old.refs) }
@@ -109,7 +100,7 @@ pub(crate) fn fetch_from<A: Allocator + Copy, K: Indexer<A>>(
     let Ok(mut writer) = BufWriter::with_capacity(alloc, MESSAGE_BUFFER, stream) else {
         return Err(FetchFault::NoBuffer);
     };
-    let fetched = fetch_between(&mut reader, &mut writer, repo, indexer, wanted);
+    let fetched = fetch_between(&mut reader, &mut writer, repo, indexer, fetch);
     // What could not be written is not tried again.
     let (_stream, _unwritten) = writer.into_parts();
     fetched
@@ -121,11 +112,11 @@ fn fetch_between<A: Allocator + Copy, K: Indexer<A>, R: Read, W: Write>(
     writer: &mut W,
     repo: &mut Repo<A>,
     indexer: &K,
-    wanted: &Wanted<'_, A>,
+    fetch: &GitFetch<'_, A>,
 ) -> Result<Fetched<A>, FetchFault<A>>
     ensures fetches { FetchesBetween (K.indexes indexer.now) (K.index_fails indexer.now)
-        (start_of repo.old wanted.now.specs.now wanted.now.limit wanted.now.ends)
-        wanted.now.hello.now
+        (start_of repo.old fetch.now.specs.now fetch.now.limit fetch.now.ends)
+        fetch.now.hello.now
         (change_of R.remaining reader.old reader.new) (change_of W.contents writer.old writer.new)
         repo.new result }
     ensures settled { IfOk result (λ fetched. Settles repo.new.graph.entries repo.old.refs
@@ -139,17 +130,7 @@ fn fetch_between<A: Allocator + Copy, K: Indexer<A>, R: Read, W: Write>(
 {
     let mut source = FromRead::new(reader);
     let mut sink = ToWrite::new(writer);
-    let (hello, specs, limit, ends) = (wanted.hello, wanted.specs, wanted.limit, wanted.ends);
-    fetch_git(
-        repo,
-        hello,
-        &mut source,
-        &mut sink,
-        indexer,
-        specs,
-        limit,
-        ends,
-    )
+    fetch_git(repo, &mut source, &mut sink, indexer, fetch)
 }
 
 /// Lists the refs of the server at the other end of the stream that begin with one of the prefixes, or all where there

@@ -12,7 +12,7 @@ use crate::stream::set_up;
 use ganswer::Server;
 use gclient::{FetchFault, Fetched, Repo, Spec};
 use gcmd::ProgramFault;
-use gconnect::{fetch_git, hear};
+use gconnect::{GitFetch, fetch_git, hear};
 use gfetchreply::PackLimit;
 use ggrammar::{Ends, MessageFault};
 use ggraph::PlainPack;
@@ -311,17 +311,13 @@ fn fetch_as_client<A: Allocator + Copy, S: Source, W: Sink>(
         Ok(hello) => hello,
         Err(fault) => return Err(FetchFault::from(fault)),
     };
-    let limit = PackLimit::default();
-    fetch_git(
-        repo,
-        &hello,
-        answers,
-        requests,
-        &PlainPack,
+    let fetch = GitFetch {
+        hello: &hello,
         specs,
-        limit,
-        Ends::Plain,
-    )
+        limit: PackLimit::default(),
+        ends: Ends::Plain,
+    };
+    fetch_git(repo, answers, requests, &PlainPack, &fetch)
 }
 
 // The first line that the client writes.

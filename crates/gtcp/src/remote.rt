@@ -11,7 +11,7 @@ ghost use Rattle.gcmd.specs.declared.fault.ProgramFault.TheVariants.{Socket};
 ghost use Rattle.gtcp.specs.Remote.{Announces, AsksRemote, FetchesAt, FetchesRemote, ListsRemote, Meets};
 ghost use Rattle.gtcp.specs.Remote.{RunsServing, ServesRemote, ShowsReply};
 
-use crate::fetching::{Wanted, fetch_from, ls_from, request_for};
+use crate::fetching::{fetch_from, ls_from, request_for};
 use crate::listing::text_of;
 use crate::pair::fetch_in_pair;
 use crate::place::Place;
@@ -21,6 +21,7 @@ use gclient::{FetchFault, Fetched, Repo, Spec};
 use gcmd::{
     FetchRun, ProgramFault, conclude, finish, load_server, open_client, send_report, send_text,
 };
+use gconnect::GitFetch;
 use gfetchreply::PackLimit;
 use ggrammar::Ends;
 use ggraph::PlainPack;
@@ -336,13 +337,13 @@ where
         Ok(stream) => stream,
         Err(fault) => return Err(fault),
     };
-    let wanted = Wanted {
+    let git_fetch = GitFetch {
         hello: fetch.place.hello(),
         specs: fetch.specs,
         limit: fetch.limit,
         ends: fetch.ends,
     };
-    match fetch_from(&stream, repo, &PlainPack, &wanted) {
+    match fetch_from(&stream, repo, &PlainPack, &git_fetch) {
         Ok(fetched) => Ok(fetched),
         Err(fault) => Err(ProgramFault::Fetch(fault)),
     }

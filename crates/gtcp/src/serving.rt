@@ -2,8 +2,7 @@
 
 ghost use Rattle.std.specs.Prelude.{◌≡◌};
 ghost use Rattle.gpkt.specs.Change.{change_of};
-ghost use Rattle.gpkt.specs.Sending.{input_of, output_of};
-ghost use Rattle.gconnect.specs.GitConnections.{ServesGit};
+ghost use Rattle.gpkt.specs.Sending.{output_of};
 ghost use Rattle.gcmd.specs.Serving.{outcome_of_connection};
 ghost use Rattle.gtcp.specs.Sockets.{HoldsServing, IsServed, ServesEach, outcome_of};
 ghost use Rattle.gtcp.specs.steps.Sockets.{ServesBetween, ServesFrom};
@@ -12,23 +11,14 @@ ghost use Rattle.gtcp.specs.steps.Remote.{Tells};
 use crate::stream::{MESSAGE_BUFFER, hang_up, set_up};
 use ganswer::Server;
 use gcmd::{ProgramFault, print_fault};
-use gconnect::{GitEnd, serve_git};
+use gconnect::{Export, GitEnd, serve_git};
 use ggrammar::Ends;
 use ggraph::Packer;
-use gpkt::{FromRead, Sink, Source, ToWrite};
+use gpkt::{FromRead, Sink, ToWrite};
 use gserve::End;
 use std::alloc::Allocator;
 use std::io::{BufReader, BufWriter, Read, Write};
 use std::net::{TcpListener, TcpStream};
-
-// A repository, the path at which it is served, and how.
-#[derive(Drop)]
-struct Site<'a, K, A: Allocator + Copy> {
-    server: &'a Server<A>,
-    packer: &'a K,
-    path: &'a [u8],
-    ends: Ends,
-}
 
 /// Serves so many connections, one after the other, each from its first line on (gitprotocol-pack(5), "Git
 /// Transport"). The fault of one is one line on `errors`, and the next is served all the same. A peer that says
@@ -51,24 +41,20 @@ pub fn serve_listener<A: Allocator + Copy, K: Packer<A>, E: Sink>(
         (output_of E.contents E.passed_on E.is_down errors.old errors.new) connections result }
     ensures loans { E.loans errors.new ≡ E.loans errors.old }
 {
-    let site = Site {
-        server,
-        packer,
-        path,
-        ends,
-    };
-    serve_each(&site, &listener, connections, errors)
+    let export = Export { server, path, ends };
+    serve_each(&export, packer, &listener, connections, errors)
 }
 
 // Serves so many connections.
 fn serve_each<A: Allocator + Copy, K: Packer<A>, E: Sink>(
-    site: &Site<'_, K, A>,
+    export: &Export<'_, A>,
+    packer: &K,
     listener: &TcpListener,
     connections: u32,
     errors: &mut E,
 ) -> Result<(), ProgramFault<A>>
-    ensures serves { ServesEach site.now.server.now (K.packs site.now.packer.now)
-        (K.pack_fails site.now.packer.now) site.now.path.now site.now.ends
+    ensures serves { ServesEach export.now.server.now (K.packs packer.now) (K.pack_fails packer.now)
+        export.now.path.now export.now.ends
         (output_of E.contents E.passed_on E.is_down errors.old errors.new) connections result }
     ensures loans { E.loans errors.new ≡ E.loans errors.old }
 {
@@ -77,7 +63,7 @@ fn serve_each<A: Allocator + Copy, K: Packer<A>, E: Sink>(
         let Ok((stream, _)) = listener.accept() else {
             return Err(ProgramFault::Socket);
         };
-        can_tell = tell(serve_stream(site, &stream), can_tell, errors);
+        can_tell = tell(serve_stream(export, packer, &stream), can_tell, errors);
     }
     Ok(())
 }
@@ -101,92 +87,78 @@ fn tell<A: Allocator + Copy, E: Sink>(
 
 // Serves one connection. Where its peer's silence can't be limited it is closed, as if a write had failed.
 fn serve_stream<A: Allocator + Copy, K: Packer<A>>(
-    site: &Site<'_, K, A>,
+    export: &Export<'_, A>,
+    packer: &K,
     stream: &TcpStream,
 ) -> Result<(), ProgramFault<A>>
-    ensures { IsServed site.now.server.now (K.packs site.now.packer.now)
-        (K.pack_fails site.now.packer.now) site.now.path.now site.now.ends result }
+    ensures { IsServed export.now.server.now (K.packs packer.now) (K.pack_fails packer.now)
+        export.now.path.now export.now.ends result }
 {
     if set_up(stream).is_err() {
         return Err(ProgramFault::WriteFailed);
     }
-    let ended = serve_buffered(site, stream);
+    let ended = serve_buffered(export, packer, stream);
     hang_up(stream);
     outcome_of(ended)
 }
 
 // Serves it through buffers, where there is memory for them.
 fn serve_buffered<A: Allocator + Copy, K: Packer<A>>(
-    site: &Site<'_, K, A>,
+    export: &Export<'_, A>,
+    packer: &K,
     stream: &TcpStream,
 ) -> GitEnd
-    ensures { HoldsServing site.now.server.now (K.packs site.now.packer.now)
-        (K.pack_fails site.now.packer.now) site.now.path.now site.now.ends result }
+    ensures { HoldsServing export.now.server.now (K.packs packer.now) (K.pack_fails packer.now)
+        export.now.path.now export.now.ends result }
 {
-    match BufReader::new(site.server.graph().allocator(), stream) {
-        Ok(mut reader) => serve_from(site, &mut reader, stream),
+    match BufReader::new(export.server.graph().allocator(), stream) {
+        Ok(mut reader) => serve_from(export, packer, &mut reader, stream),
         Err(_) => {
             let mut reader = stream;
-            serve_from(site, &mut reader, stream)
+            serve_from(export, packer, &mut reader, stream)
         }
     }
 }
 
 // Serves it from a reader.
 fn serve_from<A: Allocator + Copy, K: Packer<A>, R: Read>(
-    site: &Site<'_, K, A>,
+    export: &Export<'_, A>,
+    packer: &K,
     reader: &mut R,
     stream: &TcpStream,
 ) -> GitEnd
-    ensures { ServesFrom site.now.server.now (K.packs site.now.packer.now)
-        (K.pack_fails site.now.packer.now)
-        site.now.path.now site.now.ends (change_of R.remaining reader.old reader.new) result }
+    ensures { ServesFrom export.now.server.now (K.packs packer.now) (K.pack_fails packer.now)
+        export.now.path.now export.now.ends (change_of R.remaining reader.old reader.new) result }
 {
-    let alloc = site.server.graph().allocator();
+    let alloc = export.server.graph().allocator();
     match BufWriter::with_capacity(alloc, MESSAGE_BUFFER, stream) {
         Ok(mut writer) => {
-            let ended = serve_between(site, reader, &mut writer);
+            let ended = serve_between(export, packer, reader, &mut writer);
             // What could not be written is not tried again.
             let (_stream, _unwritten) = writer.into_parts();
             ended
         }
         Err(_) => {
             let mut writer = stream;
-            serve_between(site, reader, &mut writer)
+            serve_between(export, packer, reader, &mut writer)
         }
     }
 }
 
 // Serves it between a reader and a writer.
 fn serve_between<A: Allocator + Copy, K: Packer<A>, R: Read, W: Write>(
-    site: &Site<'_, K, A>,
+    export: &Export<'_, A>,
+    packer: &K,
     reader: &mut R,
     writer: &mut W,
 ) -> GitEnd
-    ensures { ServesBetween site.now.server.now (K.packs site.now.packer.now)
-        (K.pack_fails site.now.packer.now)
-        site.now.path.now site.now.ends (change_of R.remaining reader.old reader.new)
+    ensures { ServesBetween export.now.server.now (K.packs packer.now) (K.pack_fails packer.now)
+        export.now.path.now export.now.ends (change_of R.remaining reader.old reader.new)
         (change_of W.contents writer.old writer.new) result }
 {
     let mut source = FromRead::new(reader);
     let mut sink = ToWrite::new(writer);
-    serve_devices(site, &mut source, &mut sink)
-}
-
-// Serves it between devices.
-fn serve_devices<A: Allocator + Copy, K: Packer<A>, S: Source, W: Sink>(
-    site: &Site<'_, K, A>,
-    source: &mut S,
-    sink: &mut W,
-) -> GitEnd
-    ensures serves { ServesGit site.now.server.now (K.packs site.now.packer.now)
-        (K.pack_fails site.now.packer.now)
-        site.now.path.now site.now.ends (input_of S.remaining S.is_down source.old source.new)
-        (output_of W.contents W.passed_on W.is_down sink.old sink.new) result }
-    ensures source_loans { S.loans source.new ≡ S.loans source.old }
-    ensures sink_loans { W.loans sink.new ≡ W.loans sink.old }
-{
-    serve_git(site.server, site.packer, site.path, site.ends, source, sink)
+    serve_git(export, packer, &mut source, &mut sink)
 }
 
 // How a connection came out. That its client asked for another path is no fault of it.

@@ -5,9 +5,9 @@ use Rattle.gtcp.proofs.serving.serve_each.Goals as goal
 pub loop-number-init : goal.loop-number-init
 loop-number-init g c = record {
   serves =
-      serves_none g.E.Sink.contents g.E.Sink.passed_on g.E.Sink.is_down c.args.site.now.server.now
-      (g.K.Packer.packs c.args.site.now.packer.now) (g.K.Packer.pack_fails c.args.site.now.packer.now) c.args.site.now.path.now
-      c.args.site.now.ends c.args.errors.now;
+      serves_none g.E.Sink.contents g.E.Sink.passed_on g.E.Sink.is_down c.args.export.now.server.now
+      (g.K.Packer.packs c.args.packer.now) (g.K.Packer.pack_fails c.args.packer.now) c.args.export.now.path.now
+      c.args.export.now.ends c.args.errors.now;
   same_loans = refl;
 }
 
