@@ -8,7 +8,7 @@ use gtcp::Place;
 pub enum Command {
     /// `check FILE`
     Check {
-        /// The repository.
+        /// The name of the file of the repository.
         file: String,
     },
     /// `fetch (--stdio or --tcp ADDR --path PATH) [--limit N] [--response-end] FILE SPEC...`
@@ -17,7 +17,7 @@ pub enum Command {
     Lines,
     /// `ls --stdio-server FILE`
     LsStdioServer {
-        /// The repository of the server.
+        /// The name of the file of the server's repository.
         file: String,
     },
     /// `ls --tcp ADDR --path PATH [PREFIX]...`
@@ -29,9 +29,9 @@ pub enum Command {
     },
     /// `pair SERVERFILE CLIENTFILE SPEC...`
     Pair {
-        /// The repository of the server.
+        /// The name of the file of the server's repository.
         server: String,
-        /// That of the client.
+        /// That of the client's.
         client: String,
         /// The refspecs, at least one.
         specs: Vec<String>,
@@ -44,7 +44,7 @@ pub enum Command {
     Upload {
         /// How replies end.
         ends: Ends,
-        /// The repository of the server.
+        /// The name of the file of the server's repository.
         file: String,
     },
 }
@@ -58,7 +58,7 @@ pub struct Fetch {
     pub limit: PackLimit,
     /// How replies end.
     pub ends: Ends,
-    /// The repository of the client, which is written anew.
+    /// The name of the file of the client's repository, which is written anew.
     pub file: String,
     /// The refspecs, at least one. Whether they are any is not looked at.
     pub specs: Vec<String>,
@@ -73,17 +73,17 @@ pub struct Serve {
     pub connections: u32,
     /// How replies end.
     pub ends: Ends,
-    /// The repository.
+    /// The name of the file of the repository.
     pub file: String,
 }
 
 /// What is simulated, by its files.
 #[derive(Debug, Drop)]
 pub struct Simulate {
-    /// The repository of the server.
+    /// The name of the file of the server's repository.
     pub server: String,
-    /// That of the client.
+    /// That of the client's.
     pub client: String,
-    /// The events.
+    /// That of the events.
     pub scenario: String,
 }

@@ -36,12 +36,12 @@ use std::alloc::Allocator;
 /// flush, and then moves the refs here. What is written is passed on after each request, and nothing after the last
 /// reply is read. A pack may have at most as many bytes as the limit says, and each reply ends as `ends` says.
 ///
-/// It fails with 82 over 16 refspecs, and with 64 or 28 where it is out of memory to begin, and nothing is read then.
-/// Else the first fault ends it: 20 to 25, 29, 30 and 41 to 54 where the advertisement or a reply is refused, 43 or
-/// 52 where the client can't go on with the server; 84, 66, 60 to 63 and 75 where a reply is not taken, 47 or 86
-/// where its refs are not; 27 where the sink fails, and a beginning of the requests stands then; 85 or 69 where the
-/// refs can't move; 64 where it is out of memory. After every fault the refs are as before, and to the graph objects
-/// only came.
+/// It fails with `TooManySpecs` over 16 refspecs, and, out of memory to begin, with `Repo` or `NoBuffer`; nothing is
+/// read then. Else the first fault ends it: `Message` where the advertisement or a reply is refused, the client can't
+/// go on with the server (`UnknownCommand`, `Format`), or a ref that is asked for can't have its name (`BadName`);
+/// `TooManyWants`; `StrangeAck`, `Index` or `Repo` where a reply is not taken; `WriteFailed` where the sink fails, and
+/// a beginning of the requests stands then; `Repo` where the refs can't move (`NotConnected`, `Refs`), or out of
+/// memory. After every fault the refs are as before, and to the graph objects only came.
 pub fn fetch_over<S: Source, W: Sink, A: Allocator + Copy, K: Indexer<A>>(
     repo: &mut Repo<A>,
     source: &mut S,

@@ -1,7 +1,6 @@
 //! The laws of conversations: functions without effect, whose contracts they are.
 
-ghost use Rattle.gclient.specs.Laws.{EndsAreFew, FailingKeepsRefs, FetchingGrows, NextIsFew, RoundsAreAsked};
-ghost use Rattle.gclient.specs.Laws.{TalksAreFew};
+ghost use Rattle.gclient.specs.Laws.{EndsAreFew, FailingKeepsRefs, FetchingGrows, NextIsFew, RoundsAreAsked, TalksAreFew};
 
 use ggraph::Indexer;
 use gsession::laws::{

@@ -3,8 +3,7 @@
 ghost use Rattle.std.specs.Prelude.{◌≡◌, false, OnOk};
 ghost use Rattle.gpkt.specs.Sending.{output_of};
 ghost use Rattle.grequest.specs.RequestValues.{IsOfFormat, asked_by_request};
-ghost use Rattle.gclient.specs.Conversations.{request_bytes};
-ghost use Rattle.gclient.specs.Conversations.{HasPassed};
+ghost use Rattle.gclient.specs.Conversations.{request_bytes, HasPassed};
 
 use gname::Format;
 use gpkt::laws::writes_join;

@@ -193,7 +193,7 @@ printed_of program.Socket = plain (96, codes "Socket")
 -- ---- their texts
 abbrev pub program_fault_text : {A : Type 0} → ProgramFault A → Bytes
 program_fault_text program.Memory = out_of_memory_text
-program_fault_text program.File = codes "the file can't be read"
+program_fault_text program.File = codes "the file can't be read or written"
 program_fault_text (program.Text fault) = load_fault_text fault
 program_fault_text (program.Build fault) = build_fault_text fault
 program_fault_text (program.Request fault) = serve_fault_text fault

@@ -68,7 +68,7 @@ impl<A: Allocator + Copy> fmt::Display for ProgramFault<A> {
     fn fmt<W: fmt::Write>(&self, f: &mut fmt::Formatter<W>) -> fmt::Result {
         match self {
             ProgramFault::Memory => f.write_str(OUT_OF_MEMORY_TEXT),
-            ProgramFault::File => f.write_str("the file can't be read"),
+            ProgramFault::File => f.write_str("the file can't be read or written"),
             ProgramFault::Text(fault) => fmt::Display::fmt(fault, f),
             ProgramFault::Build(fault) => fmt::Display::fmt(fault, f),
             ProgramFault::Request(fault) => fmt::Display::fmt(fault, f),

@@ -60,7 +60,7 @@ pub fn fetch_git<S: Source, W: Sink, A: Allocator + Copy, K: Indexer<A>>(
     ensures sink_loans { W.loans sink.new ≡ W.loans sink.old }
 {
     // Laws.
-    let _format = repo.format();
+    repo.laws();
     let (specs, limit, ends) = (fetch.specs, fetch.limit, fetch.ends);
     match greet(fetch.hello, sink) {
         Ok(()) => fetch_over(repo, source, sink, indexer, specs, limit, ends),

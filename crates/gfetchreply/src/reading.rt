@@ -39,7 +39,8 @@ pub struct FetchReading {
     pub ends: Ends,
 }
 
-// The sink that a reading was lent, what it was and had taken before, and how the reply is read.
+// The sink that a reading was lent, what it was and had taken before, and how the reply is read. A call at `Brand` picks
+// these members in its `Invariants.antt`; a type has them, since `Message` speaks of a reader and its packets alone.
 trait Lent<T> {
     ghost use Rattle.gfetchreply.specs.FetchReplies.{Reading};
 
@@ -52,6 +53,7 @@ trait Lent<T> {
     ghost starts: { T → Type 0 };
 }
 
+// Values that no call uses.
 impl<T> Lent<T> for Brand {
     ghost use Rattle.gfetchreply.specs.steps.Views.{no_reading};
 
@@ -205,6 +207,7 @@ impl<T: PackSink, A: Allocator + Copy, L: Lent<T>> Message for ReplyReader<'_, T
     fn laws() {}
 
     fn take(&mut self, line: Line<'_>) -> Result<Step, Why> {
+        // Laws.
         T::laws();
         self.take_packet(line)
     }

@@ -47,6 +47,7 @@ pub(crate) struct Sections<A: Allocator + Copy> {
     pub(crate) place: Place,
     acks: Acks<A>,
     ready: bool,
+    // The packets of the pack's section so far, those of progress too.
     band_count: u32,
     byte_count: usize,
 }

@@ -2,7 +2,7 @@
 
 ghost use Rattle.std.specs.Prelude.{◌≡◌, ◌≤◌, [], length, nat_lt, All, IsTrue};
 ghost use Rattle.std.specs.List.{list_all};
-ghost use Rattle.gname.specs.Ids.{IsIdOf};
+ghost use Rattle.gname.specs.Ids.{IsIdOf, has_format};
 ghost use Rattle.gname.specs.Limits.{max_pack};
 ghost use Rattle.ggrammar.specs.Building.{Builds};
 ghost use Rattle.gfetchreply.specs.FetchReplies.{max_acks};
@@ -12,7 +12,6 @@ ghost use Rattle.gfetchreply.specs.steps.Views.{KeepsFormat};
 ghost use Rattle.gfetchreply.specs.Views.{head_in, reply_in};
 ghost use Rattle.gfetchreply.specs.steps.Values.{AddsId};
 ghost use Rattle.gfetchreply.specs.Values.{MakesAcks, MakesPack, with_id};
-ghost use Rattle.gname.specs.Ids.{has_format};
 
 use ggrammar::{MessageFault, Why};
 use gname::{Format, MAX_PACK, Oid};

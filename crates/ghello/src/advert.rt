@@ -11,11 +11,10 @@ ghost use Rattle.ggrammar.specs.CapabilityView.{capability_view};
 ghost use Rattle.ggrammar.specs.Building.{Builds};
 ghost use Rattle.ggrammar.specs.Kinds.{ReadsOrRefuses};
 ghost use Rattle.ggrammar.specs.MessageReading.{LeavesReader, TakesAs};
-ghost use Rattle.ggrammar.specs.Texts.{text_packet};
+ghost use Rattle.ggrammar.specs.Texts.{text_packet, is_space};
 ghost use Rattle.ggrammar.specs.Writing.{WritesLines, WritesPart};
 ghost use Rattle.ghello.specs.Adverts.{AreCapabilities, Says, brings, canonical_advert, capability_packet, version, has_room, is_capability, is_value_or_none, judge, judge_version, judge_capability, max_advertised};
 ghost use Rattle.ghello.specs.Offers.{IsFormatOf, check_fault, first_with, has_feature, is_of_format, has_key, has_word, is_name_of, lacks_command, named_format};
-ghost use Rattle.ggrammar.specs.Texts.{is_space};
 ghost use Rattle.ghello.specs.steps.AdvertReading.{IsKept, added_by, brings_after, judge_after};
 
 use arrayvec::ArrayVec;

@@ -8,7 +8,7 @@
 //!
 //! # Only tested
 //!
-//! One run of `ls` (`args`, `stdin`, `stdout`, `data/`). The other runs are tried by hand: no test of the gate sees which
+//! One run of `ls --stdio-server` (`args`, `stdin`, `stdout`, `data/`). The other runs are tried by hand: no test of the gate sees which
 //! function `run` calls for the other commands, in which order the files of `pair` are read, what a missing file gives, or
 //! that `fetch` writes its file before it reports. `examples/over-tcp.sh` runs those that open sockets.
 //!
@@ -93,7 +93,7 @@ fn fail<E: Sink>(fault: ProgramFault<Global>, errors: &mut E) -> u8 {
     cmd_failed(fault, errors)
 }
 
-// The first fault where a file can't be read: that of the server's or the client's file, where one of them is none.
+// Why nothing is done where a file can't be read: an earlier file that is refused, else that.
 fn unread(alloc: Global, server: &[u8], client: Option<&[u8]>) -> ProgramFault<Global> {
     if let Err(fault) = load_server(alloc, server) {
         return fault;

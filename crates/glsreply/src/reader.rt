@@ -57,12 +57,11 @@ pub fn read_ls_reply_in<S: Source, A: Allocator + Copy, B: Allocator + Copy>(
     ensures loans { S.loans reader.new.source ≡ S.loans reader.old.source }
     ensures reader { LeavesReader S.is_down reader.old reader.new result }
 {
+    // Laws.
+    texts_have_one_reading();
     let mut reply = LsReplyReader::new(alloc, format, ends);
     match read_message(reader, &mut reply) {
-        Ok(()) => {
-            texts_have_one_reading();
-            Ok(reply.finish())
-        }
+        Ok(()) => Ok(reply.finish()),
         Err(fault) => Err(fault),
     }
 }

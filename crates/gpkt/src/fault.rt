@@ -1,8 +1,7 @@
 //! Why a packet was not read, or not written, and why a payload is of no band.
 
 ghost use Rattle.std.specs.Prelude.{◌≡◌, Some};
-ghost use Rattle.gpkt.specs.Faults.{band_fault_row, band_fault_text, line_fault_row, line_fault_text, write_fault_row};
-ghost use Rattle.gpkt.specs.Faults.{write_fault_text};
+ghost use Rattle.gpkt.specs.Faults.{band_fault_row, band_fault_text, line_fault_row, line_fault_text, write_fault_row, write_fault_text};
 
 use std::error::Error;
 use std::fmt;

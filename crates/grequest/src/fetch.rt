@@ -2,7 +2,7 @@
 
 ghost use Rattle.std.specs.Prelude.{ℕ, All, ◌≡◌, ◌↔◌, ◌≤◌, ◌<◌, ◌++◌, ◌∷◌, [], true, false, length, nat_lt, IfOk, IfSome, IsTrue, OnOk, OnErr, Some};
 ghost use Rattle.std.specs.Option.{option_copied};
-ghost use Rattle.gname.specs.Ids.{IsIdOf};
+ghost use Rattle.gname.specs.Ids.{IsIdOf, has_format};
 ghost use Rattle.ggrammar.specs.Building.{Builds};
 ghost use Rattle.ggrammar.specs.Capabilities.{is_word_value};
 ghost use Rattle.ggrammar.specs.Ids.{id_of_text};
@@ -13,7 +13,6 @@ ghost use Rattle.grequest.specs.Arguments.{Have, Want, fetch_argument, fetch_fla
 ghost use Rattle.grequest.specs.Asked.{fetch_has, fetch_number, fetch_with, is_direct, max_wants, max_haves, max_arguments};
 ghost use Rattle.grequest.specs.steps.Building.{HaveSameIds, KeepsAs};
 ghost use Rattle.grequest.specs.Building.{no_fetch};
-ghost use Rattle.gname.specs.Ids.{has_format};
 ghost use Rattle.grequest.specs.Requests.{judge_fetch_argument, fetch_argument_brings};
 ghost use Rattle.grequest.specs.steps.RequestState.{with_fetch_argument};
 ghost use Rattle.grequest.specs.WellFormed.{IsFetchAsked};

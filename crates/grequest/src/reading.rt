@@ -9,8 +9,7 @@ ghost use Rattle.ggrammar.specs.Grammar.{Verdict, Refused};
 ghost use Rattle.ggrammar.specs.declared.fault.Why.TheVariants as why;
 ghost use Rattle.grequest.specs.Arguments.{Agent, ObjectFormat, capability_form, command_form};
 ghost use Rattle.grequest.specs.Requests.{brings, capability_brings, judge, judge_at, judge_capability, judge_command, judge_delim, judge_flush, judge_text, state_of, text_brings, unless_unnamed};
-ghost use Rattle.grequest.specs.steps.RequestState.{HoldsPackets, LeavesNothing, packet_brings};
-ghost use Rattle.grequest.specs.steps.RequestState.{with_capability, with_command, with_delim, with_packet, with_text};
+ghost use Rattle.grequest.specs.steps.RequestState.{HoldsPackets, LeavesNothing, packet_brings, with_capability, with_command, with_delim, with_packet, with_text};
 
 use crate::command::{Command, CommandForm, command_form};
 use crate::fetch::FetchRequest;
@@ -40,9 +39,8 @@ pub(crate) struct RequestReader<A: Allocator + Copy> {
 }
 
 impl<A: Allocator + Copy> Model for RequestReader<A> {
-    ghost use Rattle.grequest.specs.steps.RequestState.{RequestSoFar, one};
+    ghost use Rattle.grequest.specs.steps.RequestState.{RequestSoFar, one, place_in};
     ghost use Rattle.grequest.specs.RequestValues.{asked_by_request, IsOfFormat};
-    ghost use Rattle.grequest.specs.steps.RequestState.{place_in};
 
     ghost Value = { RequestSoFar };
 

@@ -1,7 +1,6 @@
 //! The words of a line, and what single words say.
 
-ghost use Rattle.std.specs.Prelude.{◌≡◌, ◌≢◌, ◌∷◌, ◌<◌, ◌^◌, [], ℕ, List, Some, decimal, codes, ⊤};
-ghost use Rattle.std.specs.Prelude.{MatchBool, MatchOption, MatchResult};
+ghost use Rattle.std.specs.Prelude.{◌≡◌, ◌≢◌, ◌∷◌, ◌<◌, ◌^◌, [], ℕ, List, Some, decimal, codes, ⊤, MatchBool, MatchOption, MatchResult};
 ghost use Rattle.gname.specs.Ids.{IsIdText};
 ghost use Rattle.gname.specs.Names.{IsRefName};
 ghost use Rattle.gobject.specs.steps.PlainPackReading.{NoId};

@@ -1,14 +1,8 @@
 //! The laws of sessions: functions without effect, whose contracts they are.
 
 ghost use Rattle.std.specs.Prelude.{◌≡◌};
-ghost use Rattle.gsession.specs.Bounds.{BeganBegins, BeganStays, BeganStaysOn, BeginsCounted, BeginsOffered};
-ghost use Rattle.gsession.specs.Bounds.{CountedAreFew, CountedStays, DoneAsksLast, LastStays, NoneFollows};
-ghost use Rattle.gsession.specs.Bounds.{OfferedStays, OffersAreNew, RoundsAreFew};
-ghost use Rattle.gsession.specs.Laws.{EachDoes, FirstIsAsked, OpenIsTheSessions};
-ghost use Rattle.gsession.specs.Laws.{AsksAreOfLines, CommonsAreHaves, EachGoesOn, HavesAreFull, HavesAreNew};
-ghost use Rattle.gsession.specs.Laws.{ListingIsDecided, OneNext, OverHearsNone, OverRequestsNone, OverSettlesNone};
-ghost use Rattle.gsession.specs.Laws.{OverTakesNoRefs, OverTakesNoReply, RepliesAddCommons};
-ghost use Rattle.gsession.specs.Laws.{TakingOnlyGrows, WantsAreExact};
+ghost use Rattle.gsession.specs.Bounds.{BeganBegins, BeganStays, BeganStaysOn, BeginsCounted, BeginsOffered, CountedAreFew, CountedStays, DoneAsksLast, LastStays, NoneFollows, OfferedStays, OffersAreNew, RoundsAreFew};
+ghost use Rattle.gsession.specs.Laws.{EachDoes, FirstIsAsked, OpenIsTheSessions, AsksAreOfLines, CommonsAreHaves, EachGoesOn, HavesAreFull, HavesAreNew, ListingIsDecided, OneNext, OverHearsNone, OverRequestsNone, OverSettlesNone, OverTakesNoRefs, OverTakesNoReply, RepliesAddCommons, TakingOnlyGrows, WantsAreExact};
 ghost use Rattle.gsession.specs.TakingReplies.{DoneIsLast, TakingIsDecided};
 ghost use Rattle.gsession.specs.Sessions.{max_specs};
 

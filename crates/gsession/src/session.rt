@@ -38,6 +38,7 @@ pub struct Session<A: Allocator + Copy = Global> {
     refspecs: Vec<Spec<A>, A>,
     limit: PackLimit,
     ends: Ends,
+    // The distinct ids of the refs when it began.
     tips: Vec<Oid, A>,
     offers_unborn: bool,
     stage: Stage,
@@ -45,9 +46,11 @@ pub struct Session<A: Allocator + Copy = Global> {
     pending: Option<Request<A>>,
     asks: Asks<A>,
     wants: Vec<Oid, A>,
+    // The ids that the server has acknowledged.
     commons: Vec<Oid, A>,
-    // The ids of all batches.
+    // The ids that were offered, of all batches.
     sent: Vec<Oid, A>,
+    // How many requests asked for objects.
     rounds: usize,
 }
 

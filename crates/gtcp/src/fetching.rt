@@ -9,8 +9,7 @@ ghost use Rattle.gclientrepo.specs.Settling.{Settles};
 ghost use Rattle.gsession.specs.Sessions.{tips_of};
 ghost use Rattle.gclient.specs.Conversations.{start_of};
 ghost use Rattle.gtcp.specs.steps.Sockets.{FetchesBetween, ListsBetween};
-ghost use Rattle.gtcp.specs.Sockets.{FetchesFrom, FetchesOn, ListsFrom};
-ghost use Rattle.gtcp.specs.Sockets.{ListsOn};
+ghost use Rattle.gtcp.specs.Sockets.{FetchesFrom, FetchesOn, ListsFrom, ListsOn};
 ghost use Rattle.gtcp.specs.steps.Remote.{MakesRequest};
 
 use crate::stream::{MESSAGE_BUFFER, send_at_once};
@@ -56,8 +55,8 @@ pub fn fetch_on<A: Allocator + Copy, K: Indexer<A>>(
         → CountsReached repo.old.graph.entries (tips_of repo.old) held parents
         → fetched.requests ≤ held + 1) }
 {
-    // A look-up says that the repository is whole.
-    let _format = repo.format();
+    // Laws.
+    repo.laws();
     let hello = match Hello::new(repo.graph().allocator(), path, host) {
         Ok(hello) => hello,
         Err(fault) => return Err(FetchFault::from(fault)),
@@ -90,8 +89,8 @@ pub(crate) fn fetch_from<A: Allocator + Copy, K: Indexer<A>>(
         → CountsReached repo.old.graph.entries (tips_of repo.old) held parents
         → fetched.requests ≤ held + 1) }
 {
-    // A look-up says that the repository is whole.
-    let _format = repo.format();
+    // Laws.
+    repo.laws();
     let alloc = repo.graph().allocator();
     send_at_once(stream);
     let Ok(mut reader) = BufReader::new(alloc, stream) else {

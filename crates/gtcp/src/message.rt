@@ -1,7 +1,6 @@
 //! Messages held back until they are whole.
 
-ghost use Rattle.std.specs.Prelude.{◌≡◌, ◌≤◌, ◌<◌, ◌+◌, ◌++◌, ◌||◌, [], false, true};
-ghost use Rattle.std.specs.Prelude.{◌&&◌, length, take, drop, nat_lt, not, is_err, IsErr, IsOk, OnErr, OnOk};
+ghost use Rattle.std.specs.Prelude.{◌≡◌, ◌≤◌, ◌<◌, ◌+◌, ◌++◌, ◌||◌, [], false, true, ◌&&◌, length, take, drop, nat_lt, not, is_err, IsErr, IsOk, OnErr, OnOk};
 ghost use Rattle.std.specs.Io.KnownBytes.{Appends, Keeps, append_known};
 ghost use Rattle.gpkt.specs.Change.{change_of};
 ghost use Rattle.gpkt.specs.Devices.{KeepsPassed};

@@ -8,8 +8,7 @@ ghost use Rattle.gclientrepo.specs.Settling.{Settles};
 ghost use Rattle.gcmd.specs.Fetching.{NamesClient};
 ghost use Rattle.gcmd.specs.Programs.{Runs};
 ghost use Rattle.gcmd.specs.declared.fault.ProgramFault.TheVariants.{Socket};
-ghost use Rattle.gtcp.specs.Remote.{Announces, AsksRemote, FetchesAt, FetchesRemote, ListsRemote, Meets};
-ghost use Rattle.gtcp.specs.Remote.{RunsServing, ServesRemote, ShowsReply};
+ghost use Rattle.gtcp.specs.Remote.{Announces, AsksRemote, FetchesAt, FetchesRemote, ListsRemote, Meets, RunsServing, ServesRemote, ShowsReply};
 
 use crate::fetching::{fetch_from, ls_from, request_for};
 use crate::listing::text_of;

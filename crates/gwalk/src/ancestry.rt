@@ -33,9 +33,10 @@ pub fn missing<A: Allocator + Copy>(
     ensures sure { IsOrdered graph.now.entries → IsTrue (is_ok result) }
     ensures fault { IfErr result (λ fault. fault ≡ Memory) }
 {
+    // Laws.
+    gdag::laws::ordered_is_closed::<A>();
+    gdag::laws::closed_is_full::<A>();
     if graph.is_ordered() {
-        gdag::laws::ordered_is_closed::<A>();
-        gdag::laws::closed_is_full::<A>();
         return Ok(graph.first_absent(ids));
     }
     let (missing, _count) = missing_counted(graph, ids)?;

@@ -10,8 +10,8 @@ use std::alloc::Allocator;
 /// Fetches by refspecs from a server (gitprotocol-v2(5)) into the client's repository whose text is given, and answers
 /// that repository.
 ///
-/// It fails with `Text` or `Fetch` where the text is that of no client's repository, and with `Fetch` where the
-/// conversation fails.
+/// It fails with `Text` where the text is that of no repository, and with `Fetch` where a ref is not connected or the
+/// conversation fails. HEAD is dropped.
 pub fn fetch_into<A: Allocator + Copy, S: Source, W: Sink>(
     alloc: A,
     text: &[u8],

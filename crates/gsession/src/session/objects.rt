@@ -27,8 +27,7 @@ impl<A: Allocator + Copy> Session<A> {
     ghost use Rattle.grequest.specs.Asked.{FetchAsked, is_direct};
     ghost use Rattle.gsession.specs.Sessions.{AreCommons, LeavesReplies};
     ghost use Rattle.gsession.specs.steps.Calls.{AnswersRead, AnswersReply, FitsHead, IsAcksFault, MayHaveFed};
-    ghost use Rattle.gsession.specs.TakingReplies.{Awaits, AwaitsObjects, HasPack, TakesReply};
-    ghost use Rattle.gsession.specs.TakingReplies.{after_acks, reading_for};
+    ghost use Rattle.gsession.specs.TakingReplies.{Awaits, AwaitsObjects, HasPack, TakesReply, after_acks, reading_for};
 
     /// Takes the reply to a request for objects, and nothing after it. Its pack goes to the indexer as it comes. Once
     /// the reply was read to its end, each acknowledged id must be one of the request's haves, and is common from then

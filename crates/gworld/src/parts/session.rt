@@ -5,8 +5,7 @@ ghost use Rattle.gfetchreply.specs.Values.{default_limit};
 ghost use Rattle.ggrammar.specs.declared.ends.Ends.TheVariants.{Plain};
 ghost use Rattle.ganswer.specs.Adverts.{advertised};
 ghost use Rattle.gsession.specs.Sessions.{Begins, Hears, SessionState};
-ghost use Rattle.gworld.specs.Events.{AsksNext, BeginsSession, Restarts, SettlesRefs};
-ghost use Rattle.gworld.specs.Events.{settled_outcome, is_moved, is_same, is_not_forward};
+ghost use Rattle.gworld.specs.Events.{AsksNext, BeginsSession, Restarts, SettlesRefs, settled_outcome, is_moved, is_same, is_not_forward};
 
 use super::{Parts, Sent, refuse};
 use crate::fault::NO_OPEN_REQUEST;
