@@ -4,14 +4,11 @@
 //! none of the usage. Else it is the command; where from, or where; the limit of a pack; how many connections; `plain`
 //! or `response-end`, as replies end; and the files, refspecs or prefixes in their order.
 
-use crate::trouble::Trouble;
+use cases::Trouble;
 use gargs::{Command, Fetch, Serve, Simulate, read_command};
 use gcmd::Ends;
 use gtcp::Place;
 use std::alloc::Global;
-
-/// What a line about words begins with.
-pub const KIND: &str = "asked";
 
 // The empty word, as it is written.
 const EMPTY: &str = "\"\"";

@@ -1,13 +1,12 @@
 //! Whether a run did what it is to do.
 
-use crate::command::{Command, Program};
-use crate::device::{Hindrance, Writer};
 use crate::play::Played;
-use crate::spell::{digit, number_of};
-use crate::table::{Change, Ending, Outcome, error_packet};
-use crate::talk::{Place, Talk};
-use crate::trouble::Trouble;
+use cases::{
+    Change, Command, Ending, Outcome, Place, Program, Talk, Trouble, error_packet, fault_text,
+    is_error, number_of,
+};
 use gcmd::cmd_check;
+use runs::{Hindrance, Writer};
 use std::alloc::Global;
 
 const NOTHING: &[u8] = b"";
@@ -306,20 +305,15 @@ fn is_outcome(
             Ok(
                 played.status == 1
                     && has_written(&played.output, before, packet.as_slice())
-                    && told(played.errors.written()) == Some(fault.as_slice()),
+                    && fault_text(played.errors.written()) == Some(fault.as_slice()),
             )
         }
     }
 }
 
-/// What is reported of the fault that is printed, if one is.
-pub fn told(errors: &[u8]) -> Option<&[u8]> {
-    errors.strip_prefix(b"gitv2: fault ")?.strip_suffix(b"\n")
-}
-
 // The number of the fault that is printed.
 fn fault_of(errors: &[u8]) -> usize {
-    let Some(text) = told(errors) else {
+    let Some(text) = fault_text(errors) else {
         return 0;
     };
     match text.split(|byte| *byte == b' ').next() {
@@ -343,22 +337,6 @@ fn advertises(row: &Row<'_>, played: &Played) -> bool {
         Program::Serve => has_advert(row, played) || is_error(played.output.written()),
         _ => true,
     }
-}
-
-// Whether this is a packet of an error.
-fn is_error(written: &[u8]) -> bool {
-    let Some(digits) = written.get(..4) else {
-        return false;
-    };
-    let mut len = 0usize;
-    for letter in digits {
-        let value = usize::from(digit(*letter));
-        len = len.saturating_mul(16).saturating_add(value);
-    }
-    len == written.len()
-        && written
-            .get(4..)
-            .is_some_and(|rest| rest.starts_with(b"ERR "))
 }
 
 fn has_advert(row: &Row<'_>, played: &Played) -> bool {
@@ -404,8 +382,11 @@ fn is_grown(alloc: Global, row: &Row<'_>, text: &[u8]) -> bool {
 fn is_safe(alloc: Global, file: &[u8]) -> bool {
     let mut output = Writer::new(alloc, Hindrance::NONE);
     let mut errors = Writer::new(alloc, Hindrance::NONE);
-    let status = cmd_check(alloc, file, &mut output, &mut errors);
-    status == 0 && output.written().ends_with(b" safe yes\n")
+    check(alloc, file, &mut output, &mut errors) == 0 && output.written().ends_with(b" safe yes\n")
+}
+
+fn check(alloc: Global, file: &[u8], output: &mut Writer, errors: &mut Writer) -> u8 {
+    cmd_check(alloc, file, output, errors)
 }
 
 // The objects of a repository's text, and what follows.

@@ -1,18 +1,25 @@
 //! Both ends of a fetch in one process, as `gitv2 pair` has them: over a connection of this process, so as they stand alone.
 
-use crate::command::first_of;
-use crate::device::{Hindrance, Writer};
-use crate::script::{Case, Script, Who};
-use crate::spell::text_named;
-use crate::trouble::Trouble;
-use gcmd::{cmd_failed, load_server, read_specs};
+use cases::{Case, Script, Trouble, Who, first_of, words_of};
+use gcmd::cmd_failed;
 use gtcp::{Pair, cmd_pair};
+use runs::{Hindrance, Writer, server_of, specs_of};
 use std::alloc::Global;
 use std::net::{Net, TcpListener, TcpStream};
 
 /// The names of both texts, and the refspecs, where the words are those of a pair.
-pub fn words_of(run: &str) -> Option<&str> {
+pub fn words_after(run: &str) -> Option<&str> {
     run.strip_prefix("pair ")
+}
+
+// A server and a client that fetches from it.
+#[derive(Clone, Copy)]
+struct Meeting<'b> {
+    // The texts of their repositories.
+    server: &'b [u8],
+    client: &'b [u8],
+    // The client's refspecs.
+    specs: &'b str,
 }
 
 /// Whether both ends come out as the case says, and what was printed on standard error.
@@ -26,9 +33,10 @@ pub fn is_as_due<N>(
 where
     N: Net<Stream = TcpStream, Listener = TcpListener>,
 {
+    let meeting = meeting_of(script, words)?;
     let mut output = Writer::new(alloc, Hindrance::NONE);
     let mut errors = Writer::new(alloc, Hindrance::NONE);
-    let status = meet(net, alloc, script, words, (&mut output, &mut errors))?;
+    let status = meet(net, alloc, meeting, &mut output, &mut errors)?;
     let report = said_by(alloc, case, Who::Report)?;
     let faults = said_by(alloc, case, Who::Errors)?;
     let is_right = (status == 1) != faults.is_empty()
@@ -37,50 +45,50 @@ where
     Ok((is_right, Vec::from_slice(alloc, errors.written())?))
 }
 
-// Runs both ends, and answers the exit status.
+// The two whose texts the words name.
+fn meeting_of<'b>(script: &'b Script<'_>, words: &'b str) -> Result<Meeting<'b>, Trouble> {
+    let (server, words) = first_of(words);
+    let (client, specs) = first_of(words);
+    Ok(Meeting {
+        server: script.text(server)?,
+        client: script.text(client)?,
+        specs,
+    })
+}
+
+// Runs both ends, and answers the exit status. A refspec that is none is met before a file that is none.
 fn meet<N>(
     net: &N,
     alloc: Global,
-    script: &Script<'_>,
-    words: &str,
-    (output, errors): (&mut Writer, &mut Writer),
+    meeting: Meeting<'_>,
+    output: &mut Writer,
+    errors: &mut Writer,
 ) -> Result<u8, Trouble>
 where
     N: Net<Stream = TcpStream, Listener = TcpListener>,
 {
-    let (server, words) = first_of(words);
-    let (client, words) = first_of(words);
-    let server = match load_server(alloc, text(script, server)?) {
-        Ok(server) => server,
+    let words = words_of(alloc, meeting.specs)?;
+    let specs = match specs_of(alloc, words.as_slice()) {
+        Ok(specs) => specs,
         Err(fault) => return Ok(cmd_failed(fault, errors)),
     };
-    let words = listed(alloc, words)?;
-    let specs = match read_specs(alloc, words.as_slice()) {
-        Ok(specs) => specs,
+    let server = match server_of(alloc, meeting.server) {
+        Ok(server) => server,
         Err(fault) => return Ok(cmd_failed(fault, errors)),
     };
     let pair = Pair {
         server: &server,
-        client: text(script, client)?,
+        client: meeting.client,
         specs: specs.as_slice(),
     };
-    Ok(cmd_pair(net, &pair, output, errors))
+    Ok(run_pair(net, &pair, output, errors))
 }
 
-/// The words of a text.
-pub fn listed(alloc: Global, words: &str) -> Result<Vec<String>, Trouble> {
-    let mut list = Vec::new(alloc);
-    for word in words.split(' ') {
-        list.push(String::from_str(alloc, word)?)?;
-    }
-    Ok(list)
-}
-
-fn text<'b>(script: &'b Script<'_>, name: &str) -> Result<&'b [u8], Trouble> {
-    match text_named(script.texts.as_slice(), name.as_bytes()) {
-        Some(text) => Ok(text),
-        None => Err(Trouble::NoName),
-    }
+fn run_pair<N>(net: &N, pair: &Pair<'_, Global>, output: &mut Writer, errors: &mut Writer) -> u8
+where
+    N: Net<Stream = TcpStream, Listener = TcpListener>,
+{
+    cmd_pair(net, pair, output, errors)
 }
 
 fn said_by(alloc: Global, case: &Case<'_>, who: Who) -> Result<Vec<u8>, Trouble> {

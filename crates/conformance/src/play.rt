@@ -1,19 +1,12 @@
-//! A run of a program over devices in memory.
+//! A run over devices in memory, and what it did.
 
-use crate::command::{Command, Program};
-use crate::connected::{list_refs, serve_connection};
-use crate::device::{AsStd, Hindrance, Reader, Writer};
-use crate::lying::{fetch_with, handed, serve_with};
-use crate::simulated::{simulate, simulate_with};
-use crate::trouble::Trouble;
-use crate::watch::Watch;
-use gcmd::{
-    PackLimit, Spec, cmd_check, cmd_failed, cmd_fetch, cmd_lines, cmd_ls, cmd_upload, read_specs,
-};
-use ggraph::PlainPack;
+use cases::{Command, Program, Trouble};
 use gpkt::{FromRead, Sink, Source, ToWrite};
+use gsimulate::{Simulation, cmd_simulate};
+use runs::{AsStd, Devices, Hindrance, Job, Ran, Reader, Watch, Writer, ran_without_file};
 use scarce::Scarce;
 use std::alloc::Global;
+use worlds::{Files, simulate_with};
 
 /// How a run is hindered: its devices, and which allocation is refused, if one is.
 #[derive(Clone, Copy)]
@@ -36,31 +29,43 @@ impl Trial {
         refused: 0,
         is_std: false,
     };
+
+    /// With an input of so many bytes a call, and an output of one.
+    pub fn in_pieces(most: usize) -> Trial {
+        let mut trial = Trial::FREE;
+        trial.read = Hindrance::pieces(most);
+        trial.write = Hindrance::pieces(1);
+        trial
+    }
+
+    /// With a device that fails at this call.
+    pub fn failing(device: Device, call: usize) -> Trial {
+        let mut trial = Trial::FREE;
+        let hindrance = Hindrance::failing(call);
+        match device {
+            Device::Input => trial.read = hindrance,
+            Device::Output => trial.write = hindrance,
+            Device::Report => trial.report = hindrance,
+            Device::Errors => trial.errors = hindrance,
+        }
+        trial
+    }
+
+    /// With the allocation of this number refused.
+    pub fn refusing(number: usize) -> Trial {
+        let mut trial = Trial::FREE;
+        trial.refused = number as u64;
+        trial
+    }
 }
 
-/// What is run: a command, the text of its repository, what it reads, and the memory that it takes.
+/// A device of a run.
 #[derive(Clone, Copy)]
-pub struct Job<'b, 'i, 'm> {
-    pub alloc: Global,
-    pub memory: &'m Scarce<Global>,
-    pub watch: &'m Watch,
-    pub command: Command<'b>,
-    pub file: &'b [u8],
-    pub input: &'i [u8],
-    /// The allocation that is refused.
-    pub refused: u64,
-}
-
-/// What a command left.
-#[derive(Drop)]
-pub struct Ran {
-    pub status: u8,
-    /// The new text of the client's file.
-    pub file: Option<Vec<u8>>,
-    /// The client's repository at the end, where it is known.
-    pub state: Option<Vec<u8>>,
-    /// Whether there was an allocation to be refused.
-    pub was_refused: bool,
+pub enum Device {
+    Input,
+    Output,
+    Report,
+    Errors,
 }
 
 /// What a run did.
@@ -83,13 +88,16 @@ pub struct Played {
     pub was_refused: bool,
 }
 
-/// What a program runs over.
-#[derive(Drop)]
-pub struct Devices<I, O, R, E> {
-    pub input: I,
-    pub output: O,
-    pub report: R,
-    pub errors: E,
+impl Played {
+    /// Whether the device failed.
+    pub fn has_failed(&self, device: Device) -> bool {
+        match device {
+            Device::Input => self.read_failed,
+            Device::Output => self.output.has_failed(),
+            Device::Report => self.report.has_failed(),
+            Device::Errors => self.errors.has_failed(),
+        }
+    }
 }
 
 /// Runs a command over a repository's text and an input.
@@ -187,185 +195,33 @@ fn run<I: Source, O: Sink, R: Sink, E: Sink>(
     job: &Job<'_, '_, '_>,
     devices: &mut Devices<I, O, R, E>,
 ) -> Result<Ran, Trouble> {
-    let words = words_of(job.memory, job.command.specs)?;
+    if job.command.program != Program::Simulate {
+        return runs::run(job, devices);
+    }
     job.memory.refuse(job.refused);
-    if job.command.program == Program::Fetch {
-        return fetch(job, words.as_slice(), devices);
-    }
-    if job.command.program == Program::Simulate {
-        return run_simulation(job, devices);
-    }
-    if job.command.program == Program::List {
-        let status = list_refs(job, words.as_slice(), devices);
-        return Ok(ran_without_file(job, status));
-    }
-    let status = match job.command.liar {
-        Some(liar) => serve_with(job, liar, devices),
-        None => run_plainly(job, devices),
-    };
+    let status = simulate(job, &mut devices.output, &mut devices.errors)?;
     Ok(ran_without_file(job, status))
 }
 
-fn run_simulation<I, O: Sink, R, E: Sink>(
+// Runs a simulation, and answers the exit status.
+fn simulate<O: Sink, E: Sink>(
     job: &Job<'_, '_, '_>,
-    devices: &mut Devices<I, O, R, E>,
-) -> Result<Ran, Trouble> {
-    let status = match job.command.liar {
-        Some(_) => simulate_with(job, devices)?,
-        None => simulate(job, devices),
+    output: &mut O,
+    errors: &mut E,
+) -> Result<u8, Trouble> {
+    let command = job.command;
+    if command.liar.is_some() {
+        let files = Files::of(command, job.file);
+        return simulate_with(job.alloc, job.memory, files, output, errors);
+    }
+    Ok(simulate_plainly(job, output, errors))
+}
+
+fn simulate_plainly<O: Sink, E: Sink>(job: &Job<'_, '_, '_>, output: &mut O, errors: &mut E) -> u8 {
+    let simulation = Simulation {
+        server: job.file,
+        client: job.command.client,
+        scenario: job.command.scenario,
     };
-    Ok(ran_without_file(job, status))
-}
-
-/// What a command left that has no file to be written.
-pub fn ran_without_file(job: &Job<'_, '_, '_>, status: u8) -> Ran {
-    Ran {
-        status,
-        file: None,
-        state: None,
-        was_refused: !job.memory.is_due(),
-    }
-}
-
-// Runs a command that leaves its file as it is.
-fn run_plainly<I: Source, O: Sink, R: Sink, E: Sink>(
-    job: &Job<'_, '_, '_>,
-    devices: &mut Devices<I, O, R, E>,
-) -> u8 {
-    match job.command.program {
-        Program::Ls => list(job, devices),
-        Program::Upload => upload(job, devices),
-        Program::Check => check(job, devices),
-        Program::Serve => serve_connection(job, &PlainPack, devices),
-        Program::Lines | Program::Fetch | Program::Simulate | Program::List => show(job, devices),
-    }
-}
-
-fn list<I: Source, O: Sink, R: Sink, E: Sink>(
-    job: &Job<'_, '_, '_>,
-    devices: &mut Devices<I, O, R, E>,
-) -> u8 {
-    cmd_ls(
-        job.memory,
-        job.file,
-        &mut devices.input,
-        &mut devices.output,
-        &mut devices.errors,
-    )
-}
-
-fn upload<I: Source, O: Sink, R: Sink, E: Sink>(
-    job: &Job<'_, '_, '_>,
-    devices: &mut Devices<I, O, R, E>,
-) -> u8 {
-    cmd_upload(
-        job.memory,
-        job.file,
-        job.command.ends,
-        &mut devices.input,
-        &mut devices.output,
-        &mut devices.errors,
-    )
-}
-
-fn check<I: Source, O: Sink, R: Sink, E: Sink>(
-    job: &Job<'_, '_, '_>,
-    devices: &mut Devices<I, O, R, E>,
-) -> u8 {
-    cmd_check(
-        job.memory,
-        job.file,
-        &mut devices.output,
-        &mut devices.errors,
-    )
-}
-
-fn show<I: Source, O: Sink, R: Sink, E: Sink>(
-    job: &Job<'_, '_, '_>,
-    devices: &mut Devices<I, O, R, E>,
-) -> u8 {
-    cmd_lines(
-        job.memory,
-        &mut devices.input,
-        &mut devices.output,
-        &mut devices.errors,
-    )
-}
-
-fn fetch<'m, I: Source, O: Sink, R: Sink, E: Sink>(
-    job: &Job<'_, '_, 'm>,
-    words: &[String<&'m Scarce<Global>>],
-    devices: &mut Devices<I, O, R, E>,
-) -> Result<Ran, Trouble> {
-    match read_specs(job.memory, words) {
-        Ok(specs) => fetch_by(job, specs.as_slice(), devices),
-        Err(fault) => Ok(ran_without_file(job, cmd_failed(fault, &mut devices.errors))),
-    }
-}
-
-fn fetch_by<'m, I: Source, O: Sink, R: Sink, E: Sink>(
-    job: &Job<'_, '_, 'm>,
-    specs: &[Spec<&'m Scarce<Global>>],
-    devices: &mut Devices<I, O, R, E>,
-) -> Result<Ran, Trouble> {
-    match job.command.liar {
-        Some(liar) => fetch_with(job, &handed(job, liar), specs, devices),
-        None if job.command.has_hello() => fetch_with(job, &PlainPack, specs, devices),
-        None => fetch_plainly(job, specs, devices),
-    }
-}
-
-fn fetch_plainly<'m, I: Source, O: Sink, R: Sink, E: Sink>(
-    job: &Job<'_, '_, 'm>,
-    specs: &[Spec<&'m Scarce<Global>>],
-    devices: &mut Devices<I, O, R, E>,
-) -> Result<Ran, Trouble> {
-    let run = cmd_fetch(
-        job.memory,
-        job.file,
-        specs,
-        limit_of(job.command.limit),
-        job.command.ends,
-        &mut devices.input,
-        &mut devices.output,
-        &mut devices.report,
-        &mut devices.errors,
-    );
-    let was_refused = !job.memory.is_due();
-    Ok(Ran {
-        status: run.status,
-        file: copied(job.alloc, &run.file)?,
-        state: None,
-        was_refused,
-    })
-}
-
-/// The limit of a pack, which is the greatest where this one is too large.
-pub fn limit_of(limit: usize) -> PackLimit {
-    match PackLimit::new(limit) {
-        Some(limit) => limit,
-        None => PackLimit::default(),
-    }
-}
-
-fn words_of<'m>(
-    memory: &'m Scarce<Global>,
-    text: &str,
-) -> Result<Vec<String<&'m Scarce<Global>>, &'m Scarce<Global>>, Trouble> {
-    let mut words = Vec::new(memory);
-    for word in text.split(' ') {
-        words.push(String::from_str(memory, word)?)?;
-    }
-    Ok(words)
-}
-
-/// A text in memory that does not end.
-pub fn copied(
-    alloc: Global,
-    text: &Option<Vec<u8, &Scarce<Global>>>,
-) -> Result<Option<Vec<u8>>, Trouble> {
-    match text {
-        Some(text) => Ok(Some(Vec::from_slice(alloc, text.as_slice())?)),
-        None => Ok(None),
-    }
+    cmd_simulate(job.memory, &simulation, output, errors)
 }

@@ -1,14 +1,14 @@
 //! Connections over a socket of this process: `gtcp` is at one end, and at the other what a case says of it is written and read.
 
-use crate::command::Program;
-use crate::device::{Hindrance, Writer};
 use crate::judge::Row;
-use crate::meeting::listed;
-use crate::play::limit_of;
-use crate::trouble::Trouble;
-use gcmd::{load_server, open_client, read_specs};
+use cases::{Command, Program, Trouble, words_of};
+use gclient::{FetchFault, Fetched, Repo};
+use gcmd::{ProgramFault, Spec};
 use ggraph::PlainPack;
-use gtcp::{fetch_on, ls_on, read_prefixes, serve_listener};
+use glsreply::LsReply;
+use gname::Prefix;
+use gtcp::{Server, fetch_on, ls_on, read_prefixes, serve_listener};
+use runs::{Hindrance, Writer, client_of, limit_of, server_of, specs_of};
 use std::alloc::Global;
 use std::io::{Read, Write};
 use std::net::{Net, Shutdown, TcpListener, TcpStream};
@@ -33,14 +33,15 @@ where
     let listener = TcpListener::bind(net, "127.0.0.1:0")?;
     let mut other = TcpStream::connect(net, listener.local_addr()?)?;
     say(&mut other, row.talk.input.as_slice(), is_slow)?;
-    let is_right = match row.command.program {
-        Program::Serve => is_served(alloc, row, listener)?,
-        Program::Fetch => is_fetched(alloc, row, &listener)?,
-        _ => is_listed(alloc, row, &listener)?,
-    };
-    let mut read = Vec::new(alloc);
-    other.read_to_end(&mut read)?;
+    let is_right = is_answered(alloc, row, listener)?;
+    let read = read_all(alloc, &mut other)?;
     Ok(is_right && read.as_slice() == row.talk.output.as_slice())
+}
+
+fn read_all(alloc: Global, other: &mut TcpStream) -> Result<Vec<u8>, Trouble> {
+    let mut bytes = Vec::new(alloc);
+    other.read_to_end(&mut bytes)?;
+    Ok(bytes)
 }
 
 // Writes what the other end says, and then no more.
@@ -56,56 +57,94 @@ fn say(other: &mut TcpStream, bytes: &[u8], is_slow: bool) -> Result<(), Trouble
     Ok(())
 }
 
+// Whether the end that listens does what the row says.
+fn is_answered(alloc: Global, row: &Row<'_>, listener: TcpListener) -> Result<bool, Trouble> {
+    match row.command.program {
+        Program::Serve => is_served(alloc, row, listener),
+        Program::Fetch => is_fetched(alloc, row, &listener),
+        _ => is_listed(alloc, row, &listener),
+    }
+}
+
 // Whether one connection is served, and its fault is printed.
 fn is_served(alloc: Global, row: &Row<'_>, listener: TcpListener) -> Result<bool, Trouble> {
-    let Ok(server) = load_server(alloc, row.file) else {
+    let Ok(server) = server_of(alloc, row.file) else {
         return Err(Trouble::NoGraph);
     };
     let mut errors = Writer::new(alloc, Hindrance::NONE);
-    let path = row.command.path.as_bytes();
-    let ends = row.command.ends;
-    let served = serve_listener(&server, &PlainPack, listener, path, 1, ends, &mut errors);
+    let is_served = serve(&server, row.command, listener, &mut errors).is_ok();
     let is_printed = errors.written() == row.talk.errors.as_slice();
-    Ok(served.is_ok() && is_printed && errors.is_passed_on())
+    Ok(is_served && is_printed && errors.is_passed_on())
+}
+
+fn serve(
+    server: &Server,
+    command: Command<'_>,
+    listener: TcpListener,
+    errors: &mut Writer,
+) -> Result<(), ProgramFault> {
+    let path = command.path.as_bytes();
+    serve_listener(server, &PlainPack, listener, path, 1, command.ends, errors)
 }
 
 fn is_fetched(alloc: Global, row: &Row<'_>, listener: &TcpListener) -> Result<bool, Trouble> {
-    let command = row.command;
-    let words = listed(alloc, command.specs)?;
-    let (Ok(mut repo), Ok(specs)) = (
-        open_client(alloc, row.file),
-        read_specs(alloc, words.as_slice()),
-    ) else {
+    let specs = refspecs_of(alloc, row.command)?;
+    let Ok(mut repo) = client_of(alloc, row.file) else {
         return Err(Trouble::NoGraph);
     };
     let (stream, _) = listener.accept()?;
-    let fetched = fetch_on(
+    Ok(fetch(stream, row.command, &mut repo, specs.as_slice()).is_ok())
+}
+
+fn refspecs_of(alloc: Global, command: Command<'_>) -> Result<Vec<Spec>, Trouble> {
+    let words = words_of(alloc, command.specs)?;
+    match specs_of(alloc, words.as_slice()) {
+        Ok(specs) => Ok(specs),
+        Err(_) => Err(Trouble::NoGraph),
+    }
+}
+
+fn fetch(
+    stream: TcpStream,
+    command: Command<'_>,
+    repo: &mut Repo,
+    specs: &[Spec],
+) -> Result<Fetched, FetchFault> {
+    fetch_on(
         stream,
         command.host.as_bytes(),
         command.path.as_bytes(),
-        &mut repo,
+        repo,
         &PlainPack,
-        specs.as_slice(),
+        specs,
         limit_of(command.limit),
         command.ends,
-    );
-    Ok(fetched.is_ok())
+    )
 }
 
 fn is_listed(alloc: Global, row: &Row<'_>, listener: &TcpListener) -> Result<bool, Trouble> {
-    let command = row.command;
-    let words = listed(alloc, command.specs)?;
-    let words = if command.specs.is_empty() {
-        &[]
-    } else {
-        words.as_slice()
-    };
-    let Ok(prefixes) = read_prefixes(alloc, words) else {
-        return Err(Trouble::NoId);
-    };
+    let prefixes = prefixes_of(alloc, row.command)?;
     let (stream, _) = listener.accept()?;
+    Ok(list(alloc, stream, row.command, prefixes.as_slice()).is_ok())
+}
+
+fn prefixes_of(alloc: Global, command: Command<'_>) -> Result<Vec<Prefix>, Trouble> {
+    if command.specs.is_empty() {
+        return Ok(Vec::new(alloc));
+    }
+    let words = words_of(alloc, command.specs)?;
+    match read_prefixes(alloc, words.as_slice()) {
+        Ok(prefixes) => Ok(prefixes),
+        Err(_) => Err(Trouble::NoId),
+    }
+}
+
+fn list(
+    alloc: Global,
+    stream: TcpStream,
+    command: Command<'_>,
+    prefixes: &[Prefix],
+) -> Result<LsReply<Global>, FetchFault> {
     let host = command.host.as_bytes();
-    let path = command.path.as_bytes();
-    let reply = ls_on(alloc, stream, host, path, prefixes.as_slice());
-    Ok(reply.is_ok())
+    ls_on(alloc, stream, host, command.path.as_bytes(), prefixes)
 }

@@ -1,6 +1,8 @@
 //! How much is tried, how often each way was, and what went wrong.
 
-use crate::vary::Way;
+use crate::ways::Way;
+use cases::Trouble;
+use std::io;
 
 /// How much is tried.
 #[derive(Clone, Copy, PartialEq, Eq)]
@@ -77,4 +79,17 @@ impl Tally {
             *runs = runs.saturating_add(more);
         }
     }
+}
+
+/// Counts a line of a file that can't be tried, and says why.
+pub fn tell_trouble<R: Print>(
+    rt: &R,
+    source: &str,
+    line: usize,
+    trouble: Trouble,
+    tally: &mut Tally,
+) -> io::Result<()> {
+    tally.count_wrong();
+    let why = trouble.text();
+    println!(rt; "{source}:{line}: {why}")
 }

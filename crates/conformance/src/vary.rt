@@ -1,19 +1,16 @@
-//! The ways in which a row is tried. Each answers the first of its tries that went wrong.
+//! A row, tried in each way. Each way answers the first of its tries that went wrong.
 
-use crate::command::Program;
-use crate::device::Hindrance;
 use crate::judge::{
     Reach, Row, Stop, is_as_due, is_errors_failed, is_in_table, is_kept, is_report_failed,
-    is_scarce, is_sound, is_stopped, is_unserved, is_write_failed, told,
+    is_scarce, is_sound, is_stopped, is_unserved, is_write_failed,
 };
-use crate::liars::Liar;
-use crate::play::{Played, Trial, play};
-use crate::simulated::{run_one_by_one, run_scarcely};
+use crate::play::{Device, Played, Trial, play};
 use crate::socket;
-use crate::table::Change;
-use crate::trouble::Trouble;
+use crate::ways::Way;
+use cases::{Change, Liar, Program, Trouble, fault_text};
 use std::alloc::Global;
 use std::net::{Net, TcpListener, TcpStream};
+use worlds::{Files, Happened, run_one_by_one, run_scarcely};
 
 /// More calls of a device, and more allocations, than any row has.
 const MOST_TRIES: usize = 1_000_000;
@@ -21,72 +18,35 @@ const MOST_TRIES: usize = 1_000_000;
 /// The values of one bit.
 const BITS: [u8; 8] = [1, 2, 4, 8, 16, 32, 64, 128];
 
-/// A way of trying a row.
-#[derive(Clone, Copy)]
-pub enum Way {
-    Whole,
-    Pieces,
-    OverStd,
-    OverSocket,
-    Watched,
-    FailingReads,
-    FailingWrites,
-    FailingReports,
-    FailingErrors,
-    Cut,
-    Changed,
-    Table,
-    Scarce,
+// What came of a try.
+#[derive(Clone, Copy, PartialEq, Eq)]
+enum Tried {
+    // All was right, and there is more to try.
+    Right,
+    // All was right, and nothing is left to try.
+    Last,
+    Wrong,
 }
 
-impl Way {
-    pub const ALL: [Way; 13] = [
-        Way::Whole,
-        Way::Pieces,
-        Way::OverStd,
-        Way::OverSocket,
-        Way::Watched,
-        Way::FailingReads,
-        Way::FailingWrites,
-        Way::FailingReports,
-        Way::FailingErrors,
-        Way::Cut,
-        Way::Changed,
-        Way::Table,
-        Way::Scarce,
-    ];
-
-    /// What is printed of the way.
-    pub fn name(self) -> &'static str {
-        match self {
-            Way::Whole => "as it stands",
-            Way::Pieces => "in pieces",
-            Way::OverStd => "over std's devices",
-            Way::OverSocket => "over a socket",
-            Way::Watched => "with an indexer that watches",
-            Way::FailingReads => "with a read that fails",
-            Way::FailingWrites => "with a write that fails",
-            Way::FailingReports => "with a report that fails",
-            Way::FailingErrors => "with standard error that fails",
-            Way::Cut => "cut",
-            Way::Changed => "with a byte changed",
-            Way::Table => "by the table",
-            Way::Scarce => "with an allocation refused",
+impl Tried {
+    fn of(is_right: bool, is_last: bool) -> Tried {
+        if !is_right {
+            Tried::Wrong
+        } else if is_last {
+            Tried::Last
+        } else {
+            Tried::Right
         }
     }
+}
 
-    /// Whether it takes many more tries than the others.
-    pub fn is_long(self) -> bool {
-        matches!(&self, Way::Changed)
-    }
-
-    /// Whether a long row is tried so, too.
-    pub fn is_short(self) -> bool {
-        matches!(
-            &self,
-            Way::Whole | Way::Pieces | Way::OverStd | Way::Watched
-        )
-    }
+// What was met as one allocation after the other was refused.
+#[derive(Clone, Copy)]
+struct Refusals {
+    // How many of the faults that the row names.
+    met: usize,
+    // Whether a server has reported a fault to the client.
+    has_served: bool,
 }
 
 /// A row that is tried, and how often it was.
@@ -114,21 +74,6 @@ impl<'a, 'b> Bench<'a, 'b> {
         }
     }
 
-    // The number of a run that went wrong, or that left a repository as it is not to be. What it printed is kept.
-    fn verdict(
-        &mut self,
-        is_right: bool,
-        number: usize,
-        played: &Played,
-    ) -> Result<Option<usize>, Trouble> {
-        if is_right && !played.was_misused && is_kept(self.alloc, self.row, played) {
-            return Ok(None);
-        }
-        self.printed.clear();
-        self.printed.extend_from_slice(played.errors.written())?;
-        Ok(Some(number))
-    }
-
     /// Tries the row in this way, and answers the first try that went wrong.
     pub fn try_way<N>(&mut self, net: &N, way: Way) -> Result<Option<usize>, Trouble>
     where
@@ -140,10 +85,10 @@ impl<'a, 'b> Bench<'a, 'b> {
             Way::OverStd => self.over_std(),
             Way::OverSocket => self.over_socket(net),
             Way::Watched => self.watched(),
-            Way::FailingReads => self.failing_reads(),
-            Way::FailingWrites => self.failing_writes(),
-            Way::FailingReports => self.failing_reports(),
-            Way::FailingErrors => self.failing_errors(),
+            Way::FailingReads => self.failing(Device::Input),
+            Way::FailingWrites => self.failing(Device::Output),
+            Way::FailingReports => self.failing(Device::Report),
+            Way::FailingErrors => self.failing(Device::Errors),
             Way::Cut => self.cut(),
             Way::Changed => self.changed(),
             Way::Table => self.by_table(),
@@ -166,21 +111,55 @@ impl<'a, 'b> Bench<'a, 'b> {
         self.play(row.talk.input.as_slice(), trial)
     }
 
+    // Whether a run went right, and left the repository as it is to be. Else what it printed is kept.
+    fn is_well(&mut self, is_right: bool, played: &Played) -> Result<bool, Trouble> {
+        if is_right && !played.was_misused && is_kept(self.alloc, self.row, played) {
+            return Ok(true);
+        }
+        self.printed.clear();
+        self.printed.extend_from_slice(played.errors.written())?;
+        Ok(false)
+    }
+
+    // Whether a run of the whole input goes as the row says.
+    fn goes_as_due(&mut self, trial: Trial) -> Result<bool, Trouble> {
+        let played = self.play_whole(trial)?;
+        let is_right = is_as_due(self.row, &played);
+        self.is_well(is_right, &played)
+    }
+
     // As it stands.
     fn whole(&mut self) -> Result<Option<usize>, Trouble> {
-        let played = self.play_whole(Trial::FREE)?;
-        let is_right = is_as_due(self.row, &played);
-        self.verdict(is_right, 0, &played)
+        let is_right = self.goes_as_due(Trial::FREE)?;
+        Ok(wrong_at(is_right, 0))
     }
 
     // With the input in pieces of one byte and of three, and with an output that takes a byte a call. The events of a
     // simulation happen one by one, too.
     fn in_pieces(&mut self) -> Result<Option<usize>, Trouble> {
-        let wrong = self.in_calls()?;
-        if wrong.is_some() || !self.has_world() || self.is_std {
-            return Ok(wrong);
+        for most in [1usize, 3] {
+            if !self.goes_as_due(Trial::in_pieces(most))? {
+                return Ok(Some(most));
+            }
         }
-        self.one_by_one()
+        if !self.has_world() || self.is_std {
+            return Ok(None);
+        }
+        let is_right = self.goes_one_by_one()?;
+        Ok(wrong_at(is_right, 0))
+    }
+
+    // Whether the row is a simulation that begins.
+    fn has_world(&self) -> bool {
+        self.row.command.program == Program::Simulate && self.row.talk.errors.is_empty()
+    }
+
+    // Whether events go as the row says in a world whose client is looked at after each.
+    fn goes_one_by_one(&mut self) -> Result<bool, Trouble> {
+        let row = self.row;
+        self.runs = self.runs.saturating_add(1);
+        let happened = run_one_by_one(self.alloc, Files::of(row.command, row.file))?;
+        Ok(happened.is_whole && happened.text.as_bytes() == row.talk.output.as_slice())
     }
 
     // Over a socket, to which the other end writes all at once, or a byte at a time.
@@ -200,35 +179,6 @@ impl<'a, 'b> Bench<'a, 'b> {
         Ok(None)
     }
 
-    // Whether the row is a simulation that begins.
-    fn has_world(&self) -> bool {
-        self.row.command.program == Program::Simulate && self.row.talk.errors.is_empty()
-    }
-
-    // In a world whose client is looked at after each event.
-    fn one_by_one(&mut self) -> Result<Option<usize>, Trouble> {
-        let row = self.row;
-        self.runs = self.runs.saturating_add(1);
-        let happened = run_one_by_one(self.alloc, row.command, row.file)?;
-        let is_right = happened.is_whole && happened.text.as_bytes() == row.talk.output.as_slice();
-        Ok(if is_right { None } else { Some(0) })
-    }
-
-    fn in_calls(&mut self) -> Result<Option<usize>, Trouble> {
-        for most in [1usize, 3] {
-            let mut trial = Trial::FREE;
-            trial.read = Hindrance::pieces(most);
-            trial.write = Hindrance::pieces(1);
-            let played = self.play_whole(trial)?;
-            let is_right = is_as_due(self.row, &played);
-            let wrong = self.verdict(is_right, most, &played)?;
-            if wrong.is_some() {
-                return Ok(wrong);
-            }
-        }
-        Ok(None)
-    }
-
     // Over std's readers and writers: as it stands, and, where the row is not long, in pieces; where each of its bytes is
     // changed in each bit, with each read and each write failing in turn, too.
     fn over_std(&mut self) -> Result<Option<usize>, Trouble> {
@@ -243,9 +193,9 @@ impl<'a, 'b> Bench<'a, 'b> {
         if wrong.is_some() || !self.is_thorough() {
             return Ok(wrong);
         }
-        wrong = self.failing_reads()?;
+        wrong = self.failing(Device::Input)?;
         if wrong.is_none() {
-            wrong = self.failing_writes()?;
+            wrong = self.failing(Device::Output)?;
         }
         Ok(wrong)
     }
@@ -292,150 +242,115 @@ impl<'a, 'b> Bench<'a, 'b> {
         Ok(wrong)
     }
 
-    // With each read failing in turn, a byte being read at a time.
-    fn failing_reads(&mut self) -> Result<Option<usize>, Trouble> {
+    // With each call of a device failing in turn, a byte being moved at a time.
+    fn failing(&mut self, device: Device) -> Result<Option<usize>, Trouble> {
         for call in 1..MOST_TRIES {
-            let mut trial = Trial::FREE;
-            trial.read = Hindrance::failing(call);
-            let played = self.play_whole(trial)?;
-            let is_right = self.is_read_failed(&played)?;
-            let wrong = self.verdict(is_right, call, &played)?;
-            if wrong.is_some() || !played.read_failed {
-                return Ok(wrong);
+            match self.fail_at(device, call)? {
+                Tried::Right => {}
+                Tried::Last => return Ok(None),
+                Tried::Wrong => return Ok(Some(call)),
             }
         }
         Ok(Some(MOST_TRIES))
     }
 
-    // Whether the run stopped at the failed read, if there was one.
-    fn is_read_failed(&mut self, played: &Played) -> Result<bool, Trouble> {
-        if !played.read_failed {
-            return Ok(is_as_due(self.row, played));
-        }
-        let len = self.row.talk.input.len().saturating_sub(played.left);
-        is_stopped(self.alloc, self.row, played, len, Stop::Failed)
+    fn fail_at(&mut self, device: Device, call: usize) -> Result<Tried, Trouble> {
+        let played = self.play_whole(Trial::failing(device, call))?;
+        let has_failed = played.has_failed(device);
+        let is_right = if has_failed {
+            self.is_failed(device, &played)?
+        } else {
+            is_as_due(self.row, &played)
+        };
+        let is_right = self.is_well(is_right, &played)?;
+        Ok(Tried::of(is_right, !has_failed))
     }
 
-    // With each write and flush failing in turn, a byte being taken at a time.
-    fn failing_writes(&mut self) -> Result<Option<usize>, Trouble> {
-        for call in 1..MOST_TRIES {
-            let mut trial = Trial::FREE;
-            trial.write = Hindrance::failing(call);
-            let played = self.play_whole(trial)?;
-            let has_failed = played.output.has_failed();
-            let is_right = if has_failed {
-                is_write_failed(self.row, &played)
-            } else {
-                is_as_due(self.row, &played)
-            };
-            let wrong = self.verdict(is_right, call, &played)?;
-            if wrong.is_some() || !has_failed {
-                return Ok(wrong);
+    // Whether the run did what it is to do where the device failed.
+    fn is_failed(&mut self, device: Device, played: &Played) -> Result<bool, Trouble> {
+        let row = self.row;
+        match device {
+            Device::Input => {
+                let len = row.talk.input.len().saturating_sub(played.left);
+                is_stopped(self.alloc, row, played, len, Stop::Failed)
             }
+            Device::Output => Ok(is_write_failed(row, played)),
+            Device::Report => Ok(is_report_failed(row, played)),
+            Device::Errors => Ok(is_errors_failed(row, played)),
         }
-        Ok(Some(MOST_TRIES))
-    }
-
-    // With each call of the report's sink failing in turn.
-    fn failing_reports(&mut self) -> Result<Option<usize>, Trouble> {
-        for call in 1..MOST_TRIES {
-            let mut trial = Trial::FREE;
-            trial.report = Hindrance::failing(call);
-            let played = self.play_whole(trial)?;
-            let has_failed = played.report.has_failed();
-            let is_right = if has_failed {
-                is_report_failed(self.row, &played)
-            } else {
-                is_as_due(self.row, &played)
-            };
-            let wrong = self.verdict(is_right, call, &played)?;
-            if wrong.is_some() || !has_failed {
-                return Ok(wrong);
-            }
-        }
-        Ok(Some(MOST_TRIES))
-    }
-
-    // With each call of standard error failing in turn.
-    fn failing_errors(&mut self) -> Result<Option<usize>, Trouble> {
-        for call in 1..MOST_TRIES {
-            let mut trial = Trial::FREE;
-            trial.errors = Hindrance::failing(call);
-            let played = self.play_whole(trial)?;
-            let has_failed = played.errors.has_failed();
-            let is_right = if has_failed {
-                is_errors_failed(self.row, &played)
-            } else {
-                is_as_due(self.row, &played)
-            };
-            let wrong = self.verdict(is_right, call, &played)?;
-            if wrong.is_some() || !has_failed {
-                return Ok(wrong);
-            }
-        }
-        Ok(Some(MOST_TRIES))
     }
 
     // With the input cut after each of its bytes.
     fn cut(&mut self) -> Result<Option<usize>, Trouble> {
-        let named = self.row.packets;
-        if !named.is_empty() && !self.row.talk.has_places(named) {
+        let row = self.row;
+        if !row.packets.is_empty() && !row.talk.has_places(row.packets) {
             return Ok(Some(MOST_TRIES));
         }
-        let whole = self.play_whole(Trial::FREE)?;
-        let input = self.row.talk.input.as_slice();
-        let read = input.len().saturating_sub(whole.left);
-        for (len, _) in input.iter().enumerate() {
-            let Some(part) = input.get(..len) else {
+        let read = self.count_read()?;
+        for len in 0..row.talk.input.len() {
+            if !self.is_cut_well(len, read)? {
                 return Ok(Some(len));
-            };
-            let played = self.play(part, Trial::FREE)?;
-            let is_right = if len < read {
-                is_stopped(self.alloc, self.row, &played, len, Stop::Ended)?
-            } else {
-                is_as_due(self.row, &played)
-            };
-            let wrong = self.verdict(is_right, len, &played)?;
-            if wrong.is_some() {
-                return Ok(wrong);
             }
         }
         Ok(None)
     }
 
+    // How many bytes of the input are read.
+    fn count_read(&mut self) -> Result<usize, Trouble> {
+        let whole = self.play_whole(Trial::FREE)?;
+        Ok(self.row.talk.input.len().saturating_sub(whole.left))
+    }
+
+    // Whether the run of so many bytes of the input does what it is to do, of which so many are read where all are there.
+    fn is_cut_well(&mut self, len: usize, read: usize) -> Result<bool, Trouble> {
+        let row = self.row;
+        let Some(part) = row.talk.input.as_slice().get(..len) else {
+            return Ok(false);
+        };
+        let played = self.play(part, Trial::FREE)?;
+        let is_right = if len < read {
+            is_stopped(self.alloc, row, &played, len, Stop::Ended)?
+        } else {
+            is_as_due(row, &played)
+        };
+        self.is_well(is_right, &played)
+    }
+
     // With each byte of the input changed.
     fn changed(&mut self) -> Result<Option<usize>, Trouble> {
-        let mut input = Vec::from_slice(self.alloc, self.row.talk.input.as_slice())?;
-        for (at, byte) in self.row.talk.input.as_slice().iter().enumerate() {
-            let wrong = self.changed_at(at, *byte, &mut input)?;
-            if wrong.is_some() {
-                return Ok(wrong);
+        let row = self.row;
+        let mut input = Vec::from_slice(self.alloc, row.talk.input.as_slice())?;
+        for (at, byte) in row.talk.input.as_slice().iter().enumerate() {
+            if !self.is_changed_well(at, *byte, &mut input)? {
+                return Ok(Some(at));
             }
             set(&mut input, at, *byte);
         }
         Ok(None)
     }
 
-    // With the byte at a position changed in each of its bits, in one of them, or to each other value.
-    fn changed_at(
+    // Whether all goes well with the byte at a position changed in each of its bits, in one of them, or to each other value.
+    fn is_changed_well(
         &mut self,
         at: usize,
         byte: u8,
         input: &mut Vec<u8>,
-    ) -> Result<Option<usize>, Trouble> {
+    ) -> Result<bool, Trouble> {
         for change in 1..=255u8 {
-            if !is_tried(self.row.reach, at, change) {
-                continue;
-            }
-            set(input, at, byte ^ change);
-            let played = self.play(input.as_slice(), Trial::FREE)?;
-            let is_right = is_sound(self.row, &played);
-            let wrong = self.verdict(is_right, at, &played)?;
-            if wrong.is_some() {
-                return Ok(wrong);
+            if is_tried(self.row.reach, at, change) {
+                set(input, at, byte ^ change);
+                if !self.is_sound(input.as_slice())? {
+                    return Ok(false);
+                }
             }
         }
-        Ok(None)
+        Ok(true)
+    }
+
+    fn is_sound(&mut self, input: &[u8]) -> Result<bool, Trouble> {
+        let played = self.play(input, Trial::FREE)?;
+        let is_right = is_sound(self.row, &played);
+        self.is_well(is_right, &played)
     }
 
     // With the request cut after each of its bytes, and each byte changed to each other value, where the row has a table.
@@ -446,47 +361,43 @@ impl<'a, 'b> Bench<'a, 'b> {
         }
         let mut input = Vec::from_slice(self.alloc, row.talk.input.as_slice())?;
         for (at, byte) in row.talk.input.as_slice().iter().enumerate() {
-            let mut wrong = self.cut_by_table(at)?;
-            if wrong.is_none() {
-                wrong = self.changed_by_table(at, *byte, &mut input)?;
-            }
-            if wrong.is_some() {
-                return Ok(wrong);
+            if !self.is_cut_by_table(at)? || !self.is_changed_by_table(at, *byte, &mut input)? {
+                return Ok(Some(at));
             }
             set(&mut input, at, *byte);
         }
         Ok(None)
     }
 
-    fn cut_by_table(&mut self, len: usize) -> Result<Option<usize>, Trouble> {
+    fn is_cut_by_table(&mut self, len: usize) -> Result<bool, Trouble> {
         let row = self.row;
-        let Some(part) = row.talk.input.as_slice().get(..len) else {
-            return Ok(Some(len));
-        };
-        let played = self.play(part, Trial::FREE)?;
-        let is_right = is_in_table(self.alloc, row, &played, part, Change::Cut(len))?;
-        self.verdict(is_right, len, &played)
+        match row.talk.input.as_slice().get(..len) {
+            Some(part) => self.goes_by_table(part, Change::Cut(len)),
+            None => Ok(false),
+        }
     }
 
-    fn changed_by_table(
+    fn is_changed_by_table(
         &mut self,
         at: usize,
         byte: u8,
         input: &mut Vec<u8>,
-    ) -> Result<Option<usize>, Trouble> {
-        let row = self.row;
+    ) -> Result<bool, Trouble> {
         for change in 1..=255u8 {
             let value = byte ^ change;
             set(input, at, value);
-            let played = self.play(input.as_slice(), Trial::FREE)?;
-            let changed = Change::Byte(at, value);
-            let is_right = is_in_table(self.alloc, row, &played, input.as_slice(), changed)?;
-            let wrong = self.verdict(is_right, at, &played)?;
-            if wrong.is_some() {
-                return Ok(wrong);
+            if !self.goes_by_table(input.as_slice(), Change::Byte(at, value))? {
+                return Ok(false);
             }
         }
-        Ok(None)
+        Ok(true)
+    }
+
+    // Whether the run of a changed input goes as the table says.
+    fn goes_by_table(&mut self, input: &[u8], change: Change) -> Result<bool, Trouble> {
+        let played = self.play(input, Trial::FREE)?;
+        let is_right = is_in_table(self.alloc, self.row, &played, input, change)?;
+        self.is_well(is_right, &played)
     }
 
     // With each allocation refused in turn; of a simulation in a world of its own, too.
@@ -495,21 +406,24 @@ impl<'a, 'b> Bench<'a, 'b> {
         if wrong.is_some() || !self.has_world() {
             return Ok(wrong);
         }
-        self.scarce_in_world()
+        let row = self.row;
+        let files = Files::of(row.command, row.file);
+        let ample = run_scarcely(self.alloc, files, 0)?;
+        self.scarce_in_world(files, &ample)
     }
 
     // The run stops or goes on, and what was not done then is done with memory in the same world.
-    fn scarce_in_world(&mut self) -> Result<Option<usize>, Trouble> {
-        let row = self.row;
-        let ample = run_scarcely(self.alloc, row.command, row.file, 0)?;
+    fn scarce_in_world(
+        &mut self,
+        files: Files<'_>,
+        ample: &Happened,
+    ) -> Result<Option<usize>, Trouble> {
         for number in 1..MOST_TRIES {
             self.runs = self.runs.saturating_add(1);
-            let happened = run_scarcely(self.alloc, row.command, row.file, number as u64)?;
-            if !happened.may_become(&ample) {
-                return Ok(Some(number));
-            }
-            if !happened.was_refused {
-                return Ok(None);
+            match happens_scarcely(self.alloc, files, number, ample)? {
+                Tried::Right => {}
+                Tried::Last => return Ok(None),
+                Tried::Wrong => return Ok(Some(number)),
             }
         }
         Ok(Some(MOST_TRIES))
@@ -518,29 +432,41 @@ impl<'a, 'b> Bench<'a, 'b> {
     // The faults that the row names are met in their order. Once a server has reported a fault to the client, it does so at
     // each later allocation.
     fn scarce_in_turn(&mut self) -> Result<Option<usize>, Trouble> {
-        let mut met = 0usize;
-        let mut has_served = false;
+        let mut refusals = Refusals {
+            met: 0,
+            has_served: false,
+        };
         for number in 1..MOST_TRIES {
-            let mut trial = Trial::FREE;
-            trial.refused = number as u64;
-            let played = self.play_whole(trial)?;
-            let is_right = if played.was_refused {
-                self.is_scarce(&played, has_served) && self.is_named(&played, &mut met)
-            } else {
-                is_as_due(self.row, &played) && self.has_met_all(met)
-            };
-            let wrong = self.verdict(is_right, number, &played)?;
-            if wrong.is_some() || !played.was_refused {
-                return Ok(wrong);
+            match self.refuse(number, &mut refusals)? {
+                Tried::Right => {}
+                Tried::Last => return Ok(None),
+                Tried::Wrong => return Ok(Some(number)),
             }
-            has_served = has_served
-                || !(is_as_due(self.row, &played) || is_unserved(self.row, &played));
         }
         Ok(Some(MOST_TRIES))
     }
 
-    fn is_scarce(&self, played: &Played, has_served: bool) -> bool {
-        is_scarce(self.row, played) && !(has_served && is_unserved(self.row, played))
+    fn refuse(&mut self, number: usize, refusals: &mut Refusals) -> Result<Tried, Trouble> {
+        let row = self.row;
+        let played = self.play_whole(Trial::refusing(number))?;
+        let is_right = if played.was_refused {
+            self.is_scarce(&played, refusals)
+        } else {
+            is_as_due(row, &played) && self.has_met_all(refusals.met)
+        };
+        let is_right = self.is_well(is_right, &played)?;
+        Ok(Tried::of(is_right, !played.was_refused))
+    }
+
+    // Whether the run did what it is to do where an allocation is refused, as the row names the faults.
+    fn is_scarce(&self, played: &Played, refusals: &mut Refusals) -> bool {
+        let row = self.row;
+        let is_unserved = is_unserved(row, played);
+        let is_right = is_scarce(row, played)
+            && !(refusals.has_served && is_unserved)
+            && self.is_named(played, &mut refusals.met);
+        refusals.has_served = refusals.has_served || !(is_unserved || is_as_due(row, played));
+        is_right
     }
 
     // Whether the row names the faults of memory. Of an indexer that it does not name they may be others.
@@ -558,7 +484,7 @@ impl<'a, 'b> Bench<'a, 'b> {
         if !self.names_faults() || is_as_due(self.row, played) {
             return true;
         }
-        let Some(text) = told(played.errors.written()) else {
+        let Some(text) = fault_text(played.errors.written()) else {
             return false;
         };
         if is_at(named, *met, text) {
@@ -567,6 +493,23 @@ impl<'a, 'b> Bench<'a, 'b> {
         }
         is_at(named, met.wrapping_sub(1), text)
     }
+}
+
+// The number of a try that went wrong.
+fn wrong_at(is_right: bool, number: usize) -> Option<usize> {
+    if is_right { None } else { Some(number) }
+}
+
+// Whether the events of a world may come so where an allocation is refused.
+fn happens_scarcely(
+    alloc: Global,
+    files: Files<'_>,
+    number: usize,
+    ample: &Happened,
+) -> Result<Tried, Trouble> {
+    let happened = run_scarcely(alloc, files, number as u64)?;
+    let is_right = happened.may_become(ample);
+    Ok(Tried::of(is_right, !happened.was_refused))
 }
 
 // Whether this text is named at the position.

@@ -1,0 +1,114 @@
+//! Facts, looked at whole, in pieces, and with each allocation refused.
+
+use crate::asked;
+use crate::tally::{Depth, Tally, tell_trouble};
+use cases::{Fact, Kind, Script, Trouble};
+use facts::{Finding, Limits};
+use std::alloc::Global;
+use std::io;
+use worlds::answer_by_chance;
+
+/// Looks at a fact, and tells of what is not due.
+pub fn try_fact<R: Print + AllocGlobal>(
+    rt: &R,
+    script: &Script<'_>,
+    fact: &Fact<'_>,
+    tally: &mut Tally,
+) -> io::Result<()> {
+    tally.count_fact();
+    match wrong_answer(rt.alloc(), script, fact, tally) {
+        Ok(None) => Ok(()),
+        Ok(Some(answer)) => tell_wrong_fact(rt, fact, answer.as_str(), tally),
+        Err(trouble) => tell_trouble(rt, fact.source, fact.line, trouble, tally),
+    }
+}
+
+fn tell_wrong_fact<R: Print>(
+    rt: &R,
+    fact: &Fact<'_>,
+    answer: &str,
+    tally: &mut Tally,
+) -> io::Result<()> {
+    tally.count_wrong();
+    let source = fact.source;
+    let line = fact.line;
+    let kind = fact.word;
+    println!(rt; "{source}:{line}: {kind} {answer}")
+}
+
+// Texts of more bytes are read without an allocation refused, and longer histories are looked at once.
+const LONG_TEXT: usize = 10_000;
+
+const LONG_GRAPH: usize = 150_000;
+
+// The first answer that is not due: whole, in pieces of one byte and of three, and with each allocation refused.
+fn wrong_answer(
+    alloc: Global,
+    script: &Script<'_>,
+    fact: &Fact<'_>,
+    tally: &mut Tally,
+) -> Result<Option<String>, Trouble> {
+    let graph = script.text(fact.graph)?;
+    let is_long = fact.kind == Kind::Random || graph.len() > LONG_GRAPH;
+    for most in [usize::MAX, 1, 3] {
+        let answer = answer(alloc, fact, graph, Limits { most, refused: 0 })?;
+        tally.count_try();
+        if answer.text.as_bytes() != fact.due.as_slice() {
+            return Ok(Some(answer.text));
+        }
+        if tally.depth == Depth::Once || is_long {
+            return Ok(None);
+        }
+    }
+    if fact.text.len() > LONG_TEXT {
+        return Ok(None);
+    }
+    wrong_without_memory(alloc, fact, graph, tally)
+}
+
+// The first answer, with an allocation refused, that is neither due nor that there is no memory.
+fn wrong_without_memory(
+    alloc: Global,
+    fact: &Fact<'_>,
+    graph: &[u8],
+    tally: &mut Tally,
+) -> Result<Option<String>, Trouble> {
+    for refused in 1..u64::MAX {
+        let limits = Limits {
+            most: usize::MAX,
+            refused,
+        };
+        let answer = answer(alloc, fact, graph, limits)?;
+        tally.count_try();
+        let is_due = answer.text.as_bytes() == fact.due.as_slice();
+        if !is_due && !(answer.was_refused && answer.text.as_str().ends_with(" Memory")) {
+            return Ok(Some(answer.text));
+        }
+        if !answer.was_refused {
+            break;
+        }
+    }
+    Ok(None)
+}
+
+// What is so of the fact.
+fn answer(
+    alloc: Global,
+    fact: &Fact<'_>,
+    graph: &[u8],
+    limits: Limits,
+) -> Result<Finding, Trouble> {
+    match fact.kind {
+        Kind::Asked => plain(asked::answer(alloc, fact.text.as_slice())),
+        Kind::Random => plain(answer_by_chance(alloc, fact, graph)),
+        _ => facts::answer(alloc, fact, graph, limits),
+    }
+}
+
+// What was found where no allocation was refused.
+fn plain(text: Result<String, Trouble>) -> Result<Finding, Trouble> {
+    Ok(Finding {
+        text: text?,
+        was_refused: false,
+    })
+}

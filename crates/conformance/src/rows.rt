@@ -1,0 +1,209 @@
+//! Cases, tried by each of their programs in each way.
+
+use crate::judge::{Reach, Row};
+use crate::meeting;
+use crate::tally::{Tally, tell_trouble};
+use crate::vary::Bench;
+use crate::ways::Way;
+use cases::{
+    Case, Command, Program, Script, Talk, Trouble, command_of, first_of, has_open_replies,
+};
+use ggrammar::Ends;
+use std::alloc::Global;
+use std::io;
+use std::net::{Net, TcpListener, TcpStream};
+
+// A case and one of its command lines, and whether its replies are to have ends of their own.
+#[derive(Clone, Copy)]
+struct Attempt<'b> {
+    case: &'b Case<'b>,
+    words: &'b str,
+    adds_ends: bool,
+}
+
+/// Tries a case by each of its programs, and again with replies that have ends of their own, where they may.
+pub fn try_case<'b, R>(
+    rt: &R,
+    script: &'b Script<'b>,
+    case: &'b Case<'b>,
+    tally: &mut Tally,
+) -> io::Result<()>
+where
+    R: Print + AllocGlobal + Net<Stream = TcpStream, Listener = TcpListener>,
+{
+    for words in case.runs.as_slice() {
+        let plain = Attempt {
+            case,
+            words,
+            adds_ends: false,
+        };
+        try_words(rt, script, plain, tally)?;
+    }
+    Ok(())
+}
+
+// Tries a command line of a case.
+fn try_words<'b, R>(
+    rt: &R,
+    script: &'b Script<'b>,
+    plain: Attempt<'b>,
+    tally: &mut Tally,
+) -> io::Result<()>
+where
+    R: Print + AllocGlobal + Net<Stream = TcpStream, Listener = TcpListener>,
+{
+    if let Some(words) = meeting::words_after(plain.words) {
+        return try_pair(rt, script, plain, words, tally);
+    }
+    let mut ended = plain;
+    ended.adds_ends = true;
+    try_run(rt, script, plain, tally)?;
+    try_run(rt, script, ended, tally)
+}
+
+// Tries both ends in one process.
+fn try_pair<R>(
+    rt: &R,
+    script: &Script<'_>,
+    run: Attempt<'_>,
+    words: &str,
+    tally: &mut Tally,
+) -> io::Result<()>
+where
+    R: Print + AllocGlobal + Net<Stream = TcpStream, Listener = TcpListener>,
+{
+    tally.count_row();
+    tally.count_runs(Way::Whole, 1);
+    match meeting::is_as_due(rt, rt.alloc(), script, run.case, words) {
+        Ok((true, _)) => Ok(()),
+        Ok((false, printed)) => tell_wrong(rt, run, (Way::Whole, 0), printed.as_slice(), tally),
+        Err(trouble) => tell_trouble(rt, run.case.source, run.case.line, trouble, tally),
+    }
+}
+
+fn try_run<'b, R>(
+    rt: &R,
+    script: &'b Script<'b>,
+    run: Attempt<'b>,
+    tally: &mut Tally,
+) -> io::Result<()>
+where
+    R: Print + AllocGlobal + Net<Stream = TcpStream, Listener = TcpListener>,
+{
+    match row_of(rt.alloc(), script, run) {
+        Ok(Some(row)) => try_row(rt, run, &row, tally),
+        Ok(None) => Ok(()),
+        Err(trouble) => tell_trouble(rt, run.case.source, run.case.line, trouble, tally),
+    }
+}
+
+// The row of a run; none where its replies may not have ends of their own.
+fn row_of<'b>(
+    alloc: Global,
+    script: &'b Script<'b>,
+    run: Attempt<'b>,
+) -> Result<Option<Row<'b>>, Trouble> {
+    let case = run.case;
+    let mut command = command_of(run.words, script.format)?;
+    command.liar = case.liar;
+    if run.adds_ends {
+        if !may_add_ends(command, case) {
+            return Ok(None);
+        }
+        command.ends = Ends::Response;
+    }
+    let talk = Talk::of(alloc, &command, case, run.adds_ends)?;
+    add_texts(script, &mut command)?;
+    let file = script.text(command.repository)?;
+    let new_file = match case.file {
+        Some(name) if command.program == Program::Fetch => Some(script.text(name)?),
+        _ => None,
+    };
+    Ok(Some(Row {
+        command,
+        file,
+        new_file,
+        talk,
+        memory: case.memory.as_slice(),
+        packets: case.packets.as_slice(),
+        table: case.table.as_slice(),
+        reach: reach_of(case, run.adds_ends),
+        is_long: case.is_long,
+    }))
+}
+
+// Gives a simulation the texts of its client and of its scenario.
+fn add_texts<'b>(script: &'b Script<'b>, command: &mut Command<'b>) -> Result<(), Trouble> {
+    if command.program != Program::Simulate {
+        return Ok(());
+    }
+    let (client, scenario) = first_of(command.specs);
+    command.client = script.text(client)?;
+    command.scenario = script.text(scenario)?;
+    Ok(())
+}
+
+// Whether the replies of a case may have ends of their own, which it does not say itself.
+fn may_add_ends(command: Command<'_>, case: &Case<'_>) -> bool {
+    command.program.has_ends()
+        && command.ends == Ends::Plain
+        && !case.is_plain
+        && has_open_replies(case, command.has_hello())
+}
+
+// Of a row's likes with ends of their own, each byte is changed in one bit.
+fn reach_of(case: &Case<'_>, adds_ends: bool) -> Reach {
+    if adds_ends {
+        Reach::OneBit
+    } else if case.is_deep {
+        Reach::Deep
+    } else {
+        Reach::Bits
+    }
+}
+
+// Tries a row in each way. Where it is wrong as it stands the other ways would say no more.
+fn try_row<R>(rt: &R, run: Attempt<'_>, row: &Row<'_>, tally: &mut Tally) -> io::Result<()>
+where
+    R: Print + AllocGlobal + Net<Stream = TcpStream, Listener = TcpListener>,
+{
+    tally.count_row();
+    for way in Way::ALL {
+        if (row.is_long && !way.is_short()) || !tally.depth.has(way) {
+            continue;
+        }
+        let mut bench = Bench::new(rt.alloc(), row);
+        let found = match bench.try_way(rt, way) {
+            Ok(found) => found,
+            Err(trouble) => {
+                return tell_trouble(rt, run.case.source, run.case.line, trouble, tally);
+            }
+        };
+        tally.count_runs(way, bench.runs);
+        if let Some(at) = found {
+            return tell_wrong(rt, run, (way, at), bench.printed.as_slice(), tally);
+        }
+    }
+    Ok(())
+}
+
+fn tell_wrong<R: Print>(
+    rt: &R,
+    run: Attempt<'_>,
+    (way, at): (Way, usize),
+    printed: &[u8],
+    tally: &mut Tally,
+) -> io::Result<()> {
+    tally.count_wrong();
+    let source = run.case.source;
+    let line = run.case.line;
+    let row = run.case.name;
+    let words = run.words;
+    let ends = if run.adds_ends { " (response-end)" } else { "" };
+    let name = way.name();
+    let printed = match std::str::from_utf8(printed) {
+        Ok(text) => text.trim_end(),
+        Err(_) => "",
+    };
+    println!(rt; "{source}:{line}: {row}: {words}{ends}: {name}, {at}: {printed}")
+}

@@ -1,0 +1,69 @@
+//! The ways in which a row is tried.
+
+/// A way of trying a row.
+#[derive(Clone, Copy)]
+pub enum Way {
+    Whole,
+    Pieces,
+    OverStd,
+    OverSocket,
+    Watched,
+    FailingReads,
+    FailingWrites,
+    FailingReports,
+    FailingErrors,
+    Cut,
+    Changed,
+    Table,
+    Scarce,
+}
+
+impl Way {
+    pub const ALL: [Way; 13] = [
+        Way::Whole,
+        Way::Pieces,
+        Way::OverStd,
+        Way::OverSocket,
+        Way::Watched,
+        Way::FailingReads,
+        Way::FailingWrites,
+        Way::FailingReports,
+        Way::FailingErrors,
+        Way::Cut,
+        Way::Changed,
+        Way::Table,
+        Way::Scarce,
+    ];
+
+    /// What is printed of the way.
+    pub fn name(self) -> &'static str {
+        match self {
+            Way::Whole => "as it stands",
+            Way::Pieces => "in pieces",
+            Way::OverStd => "over std's devices",
+            Way::OverSocket => "over a socket",
+            Way::Watched => "with an indexer that watches",
+            Way::FailingReads => "with a read that fails",
+            Way::FailingWrites => "with a write that fails",
+            Way::FailingReports => "with a report that fails",
+            Way::FailingErrors => "with standard error that fails",
+            Way::Cut => "cut",
+            Way::Changed => "with a byte changed",
+            Way::Table => "by the table",
+            Way::Scarce => "with an allocation refused",
+        }
+    }
+
+    /// Whether it takes many more tries than the others.
+    pub fn is_long(self) -> bool {
+        matches!(&self, Way::Changed)
+    }
+
+    /// Whether a long row is tried so, too.
+    pub fn is_short(self) -> bool {
+        matches!(
+            &self,
+            Way::Whole | Way::Pieces | Way::OverStd | Way::Watched
+        )
+    }
+}

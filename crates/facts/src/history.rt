@@ -1,0 +1,232 @@
+//! What is found in the history of a repository: `missing`, `counted`, `sent`, `sent-tags`, `sent-count`, `common`, `ready`,
+//! `reaches`, `offered` and `peeled`. Lists of ids are parted by ` / `; `none` stands for no id.
+
+use crate::text::loaded;
+use crate::told::told;
+use cases::{Fact, Trouble, id_text, number_of};
+use ggraph::{
+    Count, Entry, Graph, GraphFault, Order, Refs, common_ids, haves, missing, missing_counted,
+    reaches, ready, send_list, send_list_tags,
+};
+use gname::{Format, Oid};
+use scarce::Scarce;
+use std::alloc::Global;
+
+/// What is asked of a history.
+#[derive(Drop)]
+pub(crate) struct Asked {
+    pub(crate) first: Vec<Oid>,
+    pub(crate) second: Vec<Oid>,
+    pub(crate) count: usize,
+}
+
+// What is found.
+#[derive(Drop)]
+enum Found<'m> {
+    Ids(Vec<Oid, &'m Scarce<Global>>),
+    Entries(Vec<Entry<&'m Scarce<Global>>, &'m Scarce<Global>>),
+    Id(Option<Oid>),
+    Counted(Option<Oid>, Count),
+    Many(usize),
+    Whether(bool),
+}
+
+/// What is found in the history of a repository's text, the allocation of this number being refused.
+pub(crate) fn answer(
+    alloc: Global,
+    memory: &Scarce<Global>,
+    fact: &Fact<'_>,
+    file: &[u8],
+    refused: u64,
+) -> Result<String, Trouble> {
+    let Ok(repository) = loaded(memory, file, Order::Any) else {
+        return Err(Trouble::NoGraph);
+    };
+    let asked = asked_of(alloc, fact.text.as_slice())?;
+    memory.refuse(refused);
+    match look(&repository.graph, &repository.refs, fact.word, &asked) {
+        Ok(found) => text_of(alloc, &found),
+        Err(fault) => told(alloc, fault.code(), fault.name()),
+    }
+}
+
+/// The lists of ids that a text names, and its number.
+pub(crate) fn asked_of(alloc: Global, text: &[u8]) -> Result<Asked, Trouble> {
+    let mut parts = text.split(|byte| *byte == b'/');
+    let first = ids_of(alloc, parts.next().unwrap_or(b""))?;
+    let second = ids_of(alloc, parts.next().unwrap_or(b""))?;
+    let count = number_of(parts.next().unwrap_or(b""));
+    Ok(Asked {
+        first,
+        second,
+        count,
+    })
+}
+
+fn ids_of(alloc: Global, text: &[u8]) -> Result<Vec<Oid>, Trouble> {
+    let mut ids = Vec::new(alloc);
+    for word in text.split(|byte| *byte == b' ') {
+        if !word.is_empty() {
+            ids.push(id_of(word)?)?;
+        }
+    }
+    Ok(ids)
+}
+
+fn id_of(text: &[u8]) -> Result<Oid, Trouble> {
+    let format = if text.len() == Format::Sha256.id_text_length() {
+        Format::Sha256
+    } else {
+        Format::Sha1
+    };
+    match Oid::from_hex_in(format, text) {
+        Ok(id) => Ok(id),
+        Err(_) => Err(Trouble::NoId),
+    }
+}
+
+fn look<'m>(
+    graph: &Graph<&'m Scarce<Global>>,
+    refs: &Refs<&'m Scarce<Global>>,
+    word: &str,
+    asked: &Asked,
+) -> Result<Found<'m>, GraphFault> {
+    let first = asked.first.as_slice();
+    let second = asked.second.as_slice();
+    match word {
+        "missing" => lost(graph, first),
+        "counted" => counted(graph, first),
+        "sent" => sent(graph, first, second),
+        "sent-count" => sent_count(graph, first, second),
+        "sent-tags" => sent_tags(graph, (first, second), refs),
+        "common" => common(graph, first),
+        "ready" => is_ready(graph, first, second),
+        "offered" => offered(graph, first, second, asked.count),
+        "reaches" => all_reach(graph, first),
+        _ => Ok(peeled(graph, first)),
+    }
+}
+
+fn lost<'m>(graph: &Graph<&'m Scarce<Global>>, ids: &[Oid]) -> Result<Found<'m>, GraphFault> {
+    Ok(Found::Id(missing(graph, ids)?))
+}
+
+fn counted<'m>(graph: &Graph<&'m Scarce<Global>>, ids: &[Oid]) -> Result<Found<'m>, GraphFault> {
+    let (missing, count) = missing_counted(graph, ids)?;
+    Ok(Found::Counted(missing, count))
+}
+
+fn sent<'m>(
+    graph: &Graph<&'m Scarce<Global>>,
+    wants: &[Oid],
+    commons: &[Oid],
+) -> Result<Found<'m>, GraphFault> {
+    Ok(Found::Entries(send_list(graph, wants, commons)?))
+}
+
+fn sent_count<'m>(
+    graph: &Graph<&'m Scarce<Global>>,
+    wants: &[Oid],
+    commons: &[Oid],
+) -> Result<Found<'m>, GraphFault> {
+    Ok(Found::Many(send_list(graph, wants, commons)?.len()))
+}
+
+fn sent_tags<'m>(
+    graph: &Graph<&'m Scarce<Global>>,
+    (wants, commons): (&[Oid], &[Oid]),
+    refs: &Refs<&'m Scarce<Global>>,
+) -> Result<Found<'m>, GraphFault> {
+    Ok(Found::Entries(send_list_tags(graph, wants, commons, refs)?))
+}
+
+fn common<'m>(graph: &Graph<&'m Scarce<Global>>, haves: &[Oid]) -> Result<Found<'m>, GraphFault> {
+    Ok(Found::Ids(common_ids(graph, haves)?))
+}
+
+fn is_ready<'m>(
+    graph: &Graph<&'m Scarce<Global>>,
+    wants: &[Oid],
+    commons: &[Oid],
+) -> Result<Found<'m>, GraphFault> {
+    Ok(Found::Whether(ready(graph, wants, commons)?))
+}
+
+fn offered<'m>(
+    graph: &Graph<&'m Scarce<Global>>,
+    tips: &[Oid],
+    commons: &[Oid],
+    count: usize,
+) -> Result<Found<'m>, GraphFault> {
+    Ok(Found::Ids(haves(graph, tips, commons, &[], count)?))
+}
+
+// Whether the first id reaches the second.
+fn all_reach<'m>(graph: &Graph<&'m Scarce<Global>>, ids: &[Oid]) -> Result<Found<'m>, GraphFault> {
+    match ids {
+        [from, to] => Ok(Found::Whether(reaches(graph, from, to)?)),
+        _ => Ok(Found::Id(None)),
+    }
+}
+
+fn peeled<'m>(graph: &Graph<&'m Scarce<Global>>, ids: &[Oid]) -> Found<'m> {
+    match ids {
+        [id] => Found::Id(graph.peel(id)),
+        _ => Found::Whether(false),
+    }
+}
+
+fn text_of(alloc: Global, found: &Found<'_>) -> Result<String, Trouble> {
+    match found {
+        Found::Ids(ids) => text_of_ids(alloc, ids.as_slice()),
+        Found::Entries(entries) => text_of_entries(alloc, entries.as_slice()),
+        Found::Id(id) => text_of_id(alloc, *id),
+        Found::Counted(missing, count) => text_of_count(alloc, *missing, *count),
+        Found::Many(count) => Ok(format!(in alloc; "{count}")?),
+        Found::Whether(is_so) => Ok(String::from_str(alloc, if *is_so { "yes" } else { "no" })?),
+    }
+}
+
+fn text_of_entries(alloc: Global, entries: &[Entry<&Scarce<Global>>]) -> Result<String, Trouble> {
+    let mut ids = Vec::new(alloc);
+    for entry in entries {
+        ids.push(entry.id)?;
+    }
+    text_of_ids(alloc, ids.as_slice())
+}
+
+/// The text of a list of ids.
+pub(crate) fn text_of_ids(alloc: Global, ids: &[Oid]) -> Result<String, Trouble> {
+    if ids.is_empty() {
+        return text_of_id(alloc, None);
+    }
+    let mut text = String::new(alloc);
+    for id in ids {
+        if !text.is_empty() {
+            text.push(' ')?;
+        }
+        text.push_str(id_text(alloc, id)?.as_str())?;
+    }
+    Ok(text)
+}
+
+/// The text of an id.
+pub(crate) fn text_of_id(alloc: Global, id: Option<Oid>) -> Result<String, Trouble> {
+    match id {
+        Some(id) => id_text(alloc, &id),
+        None => Ok(String::from_str(alloc, "none")?),
+    }
+}
+
+/// The text of what is missing, and of how much was looked at.
+pub(crate) fn text_of_count(
+    alloc: Global,
+    missing: Option<Oid>,
+    count: Count,
+) -> Result<String, Trouble> {
+    let missing = text_of_id(alloc, missing)?;
+    let missing = missing.as_str();
+    let ids = count.ids;
+    let parents = count.parents;
+    Ok(format!(in alloc; "{missing} ids {ids} parents {parents}")?)
+}

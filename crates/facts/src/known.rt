@@ -1,0 +1,110 @@
+//! What a client knows whose refs stand at some ids: `known`, which objects it has marked; and `unheld` and `counted-past`,
+//! what it misses of the ancestry of others, and how much it looks at. Lists of ids are parted by ` / `, the last being the
+//! ids at which the refs stand.
+
+use crate::history::{Asked, asked_of, text_of_count, text_of_id, text_of_ids};
+use crate::text::loaded;
+use crate::told::told;
+use cases::{Fact, Trouble, add_number};
+use gclient::{Repo, RepoFault};
+use ggraph::{Count, Graph, GraphFault, Order, Refs, missing_known};
+use gname::{Oid, RefName};
+use scarce::Scarce;
+use std::alloc::Global;
+
+/// What is known of the history of a repository's text, the allocation of this number being refused.
+pub(crate) fn answer(
+    alloc: Global,
+    memory: &Scarce<Global>,
+    fact: &Fact<'_>,
+    file: &[u8],
+    refused: u64,
+) -> Result<String, Trouble> {
+    let Ok(repository) = loaded(memory, file, Order::Any) else {
+        return Err(Trouble::NoGraph);
+    };
+    let asked = asked_of(alloc, fact.text.as_slice())?;
+    let refs = refs_at(alloc, memory, tips_of(&asked, fact.word))?;
+    memory.refuse(refused);
+    match opened(repository.graph, refs) {
+        Ok(repo) => look(alloc, &repo, fact.word, asked.first.as_slice()),
+        Err(fault) => told(alloc, fault.code(), fault.name()),
+    }
+}
+
+fn opened<'m>(
+    graph: Graph<&'m Scarce<Global>>,
+    refs: Refs<&'m Scarce<Global>>,
+) -> Result<Repo<&'m Scarce<Global>>, RepoFault<&'m Scarce<Global>>> {
+    Repo::new(graph, refs)
+}
+
+// Where the refs stand.
+fn tips_of<'b>(asked: &'b Asked, word: &str) -> &'b [Oid] {
+    if word == "known" {
+        asked.first.as_slice()
+    } else {
+        asked.second.as_slice()
+    }
+}
+
+// Refs that stand at these ids, one after the other.
+fn refs_at<'m>(
+    alloc: Global,
+    memory: &'m Scarce<Global>,
+    tips: &[Oid],
+) -> Result<Refs<&'m Scarce<Global>>, Trouble> {
+    let mut refs = Refs::new(memory);
+    for (place, tip) in tips.iter().enumerate() {
+        let mut name = Vec::from_slice(alloc, b"refs/heads/")?;
+        add_number(alloc, 4, place, &mut name)?;
+        let Ok(name) = RefName::new(memory, name.as_slice()) else {
+            return Err(Trouble::NoName);
+        };
+        if refs.set(name, *tip).is_err() {
+            return Err(Trouble::NoGraph);
+        }
+    }
+    Ok(refs)
+}
+
+fn look(
+    alloc: Global,
+    repo: &Repo<&Scarce<Global>>,
+    word: &str,
+    ids: &[Oid],
+) -> Result<String, Trouble> {
+    match word {
+        "known" => text_of_ids(alloc, marked(alloc, repo)?.as_slice()),
+        "unheld" => match repo.missing(ids) {
+            Ok(missing) => text_of_id(alloc, missing),
+            Err(fault) => told(alloc, fault.code(), fault.name()),
+        },
+        _ => match counted_past(repo, ids) {
+            Ok((missing, count)) => text_of_count(alloc, missing, count),
+            Err(fault) => told(alloc, fault.code(), fault.name()),
+        },
+    }
+}
+
+// The marked ids, in the order of the store.
+fn marked(alloc: Global, repo: &Repo<&Scarce<Global>>) -> Result<Vec<Oid>, Trouble> {
+    let mut ids = Vec::new(alloc);
+    for place in 0..repo.graph().len() {
+        match repo.graph().at(place) {
+            Some((id, _)) if repo.known().marked(place) => ids.push(*id)?,
+            _ => {}
+        }
+    }
+    Ok(ids)
+}
+
+// What is missing, by a walk that does not go on from what is marked.
+fn counted_past(
+    repo: &Repo<&Scarce<Global>>,
+    ids: &[Oid],
+) -> Result<(Option<Oid>, Count), GraphFault> {
+    // Laws.
+    repo.laws();
+    missing_known(repo.graph(), ids, repo.known())
+}

@@ -1,0 +1,232 @@
+//! What is made of a text: of a name, a prefix, an id, a refspec, the first line of a `git://` connection, a repository, a
+//! pack, of a payload that is to be written, and of one that was read from a side band.
+//!
+//! Due is `ok`, of a pack with the number of its entries, of a first line with its host and its path, of a payload with its
+//! band and how many bytes are on it; or the number and the name of the fault, and its position or its line.
+
+use crate::text::{loaded, saved};
+use crate::told::{told, told_at};
+use cases::{Fact, Trouble};
+use ggrammar::MessageFault;
+use ggraph::{IndexFault, Indexer, LoadFault, Order, PlainPack, Repository};
+use ghello::{Hello, read_hello};
+use gname::{Format, NameFault, Oid, OidFault, Prefix, RefName};
+use gpkt::memory::{Limited, SliceSource, VecSink};
+use gpkt::{Band, LineReader, LineWriter, Source, WriteFault, band_of};
+use grefspec::{Spec, SpecFault};
+use scarce::Scarce;
+use std::alloc::Global;
+
+/// What is made of the text, which is read in pieces of so many bytes where it comes from a device.
+pub(crate) fn answer(
+    alloc: Global,
+    memory: &Scarce<Global>,
+    fact: &Fact<'_>,
+    most: usize,
+) -> Result<String, Trouble> {
+    let text = fact.text.as_slice();
+    match fact.word {
+        "name" => name(alloc, memory, text),
+        "prefix" => prefix(alloc, memory, text),
+        "id" => id(alloc, fact.format, text),
+        "id64" => id(alloc, Format::Sha256, text),
+        "spec" => spec(alloc, memory, text),
+        "hello" => hello(alloc, memory, text, most),
+        "load" => repository(alloc, memory, text, Order::Any),
+        "load-parents-first" => repository(alloc, memory, text, Order::ParentsFirst),
+        "pack" => pack(alloc, memory, text, most),
+        "band" => band(alloc, text),
+        _ => payload(alloc, text, most),
+    }
+}
+
+fn name(alloc: Global, memory: &Scarce<Global>, text: &[u8]) -> Result<String, Trouble> {
+    match RefName::new(memory, text) {
+        Ok(name) => read_back(alloc, name.as_bytes() == text),
+        Err(fault) => name_fault(alloc, &fault),
+    }
+}
+
+fn prefix(alloc: Global, memory: &Scarce<Global>, text: &[u8]) -> Result<String, Trouble> {
+    match Prefix::new(memory, text) {
+        Ok(prefix) => read_back(alloc, prefix.as_bytes() == text),
+        Err(fault) => name_fault(alloc, &fault),
+    }
+}
+
+fn id(alloc: Global, format: Format, text: &[u8]) -> Result<String, Trouble> {
+    match Oid::from_hex_in(format, text) {
+        Ok(_) => read_back(alloc, true),
+        Err(fault) => id_fault(alloc, &fault),
+    }
+}
+
+fn spec(alloc: Global, memory: &Scarce<Global>, text: &[u8]) -> Result<String, Trouble> {
+    match parsed(memory, text) {
+        Ok(_) => read_back(alloc, true),
+        Err(fault) => told(alloc, fault.code(), fault.name()),
+    }
+}
+
+fn parsed<'m>(
+    memory: &'m Scarce<Global>,
+    text: &[u8],
+) -> Result<Spec<&'m Scarce<Global>>, SpecFault> {
+    Spec::parse(memory, text)
+}
+
+fn hello(
+    alloc: Global,
+    memory: &Scarce<Global>,
+    text: &[u8],
+    most: usize,
+) -> Result<String, Trouble> {
+    let mut source = Limited::new(SliceSource::new(text)).with_most(most);
+    match LineReader::new(memory, &mut source) {
+        Ok(mut reader) => told_hello(alloc, &hello_of(memory, &mut reader)),
+        Err(fault) => told(alloc, fault.code(), fault.name()),
+    }
+}
+
+fn hello_of<'m, S: Source>(
+    memory: &'m Scarce<Global>,
+    reader: &mut LineReader<S, &'m Scarce<Global>>,
+) -> Result<Hello<&'m Scarce<Global>>, MessageFault> {
+    read_hello(reader, memory)
+}
+
+fn told_hello(
+    alloc: Global,
+    read: &Result<Hello<&Scarce<Global>>, MessageFault>,
+) -> Result<String, Trouble> {
+    match read {
+        Ok(hello) => named(alloc, hello.host(), hello.path()),
+        Err(fault) => told(alloc, fault.code(), fault.name()),
+    }
+}
+
+fn named(alloc: Global, host: &[u8], path: &[u8]) -> Result<String, Trouble> {
+    match (std::str::from_utf8(host), std::str::from_utf8(path)) {
+        (Ok(host), Ok(path)) => Ok(format!(in alloc; "ok {host} {path}")?),
+        _ => read_back(alloc, false),
+    }
+}
+
+// Of a repository that is read the text is written again.
+fn repository(
+    alloc: Global,
+    memory: &Scarce<Global>,
+    text: &[u8],
+    order: Order,
+) -> Result<String, Trouble> {
+    match loaded(memory, text, order) {
+        Ok(read) => write_again(alloc, memory, &read, text),
+        Err(fault) => load_fault(alloc, &fault),
+    }
+}
+
+fn write_again<'m>(
+    alloc: Global,
+    memory: &'m Scarce<Global>,
+    read: &Repository<&'m Scarce<Global>>,
+    text: &[u8],
+) -> Result<String, Trouble> {
+    match saved(memory, read) {
+        Ok(again) => read_back(alloc, again.as_slice() == text),
+        Err(fault) => told(alloc, fault.code(), fault.name()),
+    }
+}
+
+fn load_fault(alloc: Global, fault: &LoadFault) -> Result<String, Trouble> {
+    match fault {
+        LoadFault::Text { line } | LoadFault::ParentLater { line } => {
+            told_at(alloc, fault.code(), fault.name(), "line", *line)
+        }
+        LoadFault::Memory => told(alloc, fault.code(), fault.name()),
+    }
+}
+
+fn pack(
+    alloc: Global,
+    memory: &Scarce<Global>,
+    text: &[u8],
+    most: usize,
+) -> Result<String, Trouble> {
+    match count_entries(memory, text, most) {
+        Ok(count) => Ok(format!(in alloc; "ok {count}")?),
+        Err(IndexFault::Bad { line }) => told_at(alloc, 66, "Bad", "line", line),
+        Err(IndexFault::Memory) => told(alloc, 66, "Memory"),
+        Err(fault) => told(alloc, fault.code(), fault.name()),
+    }
+}
+
+// How many entries a pack has that is fed in pieces.
+fn count_entries(memory: &Scarce<Global>, text: &[u8], most: usize) -> Result<usize, IndexFault> {
+    let mut feed = PlainPack.start(memory)?;
+    let mut rest = text;
+    for _ in 0..text.len() {
+        let (piece, others) = rest.split_at(most.min(rest.len()));
+        if piece.is_empty() {
+            break;
+        }
+        PlainPack.feed(&mut feed, piece)?;
+        rest = others;
+    }
+    Ok(PlainPack.finish(feed)?.len())
+}
+
+// A payload is written whole as a packet, or nothing of it.
+fn payload(alloc: Global, text: &[u8], most: usize) -> Result<String, Trouble> {
+    let mut sink = Limited::new(VecSink::new(alloc)).with_most(most);
+    let put = put_to(&mut sink, text);
+    let sink = sink.into_inner();
+    match put {
+        Ok(()) => read_back(alloc, sink.written().get(4..) == Some(text)),
+        Err(fault) if sink.written().is_empty() => told(alloc, fault.code(), fault.name()),
+        Err(_) => read_back(alloc, false),
+    }
+}
+
+fn put_to(sink: &mut Limited<VecSink>, text: &[u8]) -> Result<(), WriteFault> {
+    let mut writer = LineWriter::new(sink);
+    let put = writer.put(text);
+    let _sink = writer.into_inner();
+    put
+}
+
+// Of a payload on a side band the band and the number of its bytes.
+fn band(alloc: Global, text: &[u8]) -> Result<String, Trouble> {
+    let (word, bytes) = match band_of(text) {
+        Ok(Band::Data(bytes)) => ("data", bytes),
+        Ok(Band::Progress(bytes)) => ("progress", bytes),
+        Ok(Band::Fatal(bytes)) => ("fatal", bytes),
+        Err(fault) => return told(alloc, fault.code(), fault.name()),
+    };
+    if text.get(1..) != Some(bytes) {
+        return read_back(alloc, false);
+    }
+    let count = bytes.len();
+    Ok(format!(in alloc; "ok {word} {count}")?)
+}
+
+fn read_back(alloc: Global, is_same: bool) -> Result<String, Trouble> {
+    let word = if is_same { "ok" } else { "another text" };
+    Ok(String::from_str(alloc, word)?)
+}
+
+fn name_fault(alloc: Global, fault: &NameFault) -> Result<String, Trouble> {
+    match fault {
+        NameFault::BadByte { at }
+        | NameFault::Component { at }
+        | NameFault::DoubleDot { at }
+        | NameFault::AtBrace { at } => told_at(alloc, fault.code(), fault.name(), "at", *at),
+        _ => told(alloc, fault.code(), fault.name()),
+    }
+}
+
+fn id_fault(alloc: Global, fault: &OidFault) -> Result<String, Trouble> {
+    match fault {
+        OidFault::Digit { at } => told_at(alloc, fault.code(), fault.name(), "at", *at),
+        _ => told(alloc, fault.code(), fault.name()),
+    }
+}

@@ -1,0 +1,211 @@
+//! Runs over a packer or an indexer that is not the plain one. No program of `gcmd` has another, so what stands around it
+//! there is done here: the file is read, a fault is printed, the file is written, and a fetch reports. What the client's
+//! repository is in the end is shown, too.
+
+use crate::connected::{Failed, hello_of, outcome_of_served, serve_connection};
+use crate::files::{client_of, server_of};
+use crate::handed::Handed;
+use crate::program::{Devices, Job, Ran, limit_of, ran_without_file};
+use crate::report::report_of;
+use cases::{Liar, Program, Trouble};
+use gclient::{FetchFault, Fetched, Repo, fetch_over};
+use gcmd::{ProgramFault, Spec, cmd_failed, finish, send_text};
+use gconnect::{GitFetch, fetch_git};
+use ggraph::{Head, Indexer, SaveFault, save};
+use gpkt::{Sink, Source};
+use gserve::{ExchangeEnd, serve, serve_one};
+use scarce::Scarce;
+use std::alloc::Global;
+
+/// Serves one request, or a connection, from a repository's text. It answers the exit status.
+pub(crate) fn serve_with<I: Source, O: Sink, R: Sink, E: Sink>(
+    job: &Job<'_, '_, '_>,
+    liar: Liar,
+    devices: &mut Devices<I, O, R, E>,
+) -> u8 {
+    let packer = handed(job, liar);
+    if job.command.program == Program::Serve {
+        return serve_connection(job, &packer, devices);
+    }
+    let outcome = if job.command.program == Program::Upload {
+        answer_all(job, &packer, &mut devices.input, &mut devices.output)
+    } else {
+        answer_one(job, &packer, &mut devices.input, &mut devices.output)
+    };
+    finish(outcome, &mut devices.errors)
+}
+
+/// The packer or the indexer of a job.
+pub(crate) fn handed<'i, 'm>(job: &Job<'_, 'i, 'm>, liar: Liar) -> Handed<'i, 'm> {
+    Handed {
+        liar,
+        format: job.command.format,
+        input: job.input,
+        watch: job.watch,
+    }
+}
+
+fn answer_all<'m, I: Source, O: Sink>(
+    job: &Job<'_, '_, 'm>,
+    packer: &Handed<'_, '_>,
+    input: &mut I,
+    output: &mut O,
+) -> Result<(), Failed<'m>> {
+    let server = server_of(job.memory, job.file)?;
+    outcome_of_served(serve(&server, packer, job.command.ends, input, output))
+}
+
+fn answer_one<'m, I: Source, O: Sink>(
+    job: &Job<'_, '_, 'm>,
+    packer: &Handed<'_, '_>,
+    input: &mut I,
+    output: &mut O,
+) -> Result<(), Failed<'m>> {
+    let server = server_of(job.memory, job.file)?;
+    outcome_of_exchange(serve_one(&server, packer, job.command.ends, input, output))
+}
+
+fn outcome_of_exchange<'m>(ended: ExchangeEnd) -> Result<(), Failed<'m>> {
+    match ended {
+        ExchangeEnd::Answered | ExchangeEnd::Closed | ExchangeEnd::Ended => Ok(()),
+        ExchangeEnd::Refused(fault) => Err(ProgramFault::Request(fault)),
+        ExchangeEnd::WriteFailed => Err(ProgramFault::WriteFailed),
+    }
+}
+
+/// Fetches into a repository's text, and answers what that left.
+pub(crate) fn fetch_with<'m, K, I: Source, O: Sink, R: Sink, E: Sink>(
+    job: &Job<'_, '_, 'm>,
+    indexer: &K,
+    specs: &[Spec<&'m Scarce<Global>>],
+    devices: &mut Devices<I, O, R, E>,
+) -> Result<Ran, Trouble>
+where
+    K: Indexer<&'m Scarce<Global>>,
+{
+    match client_of(job.memory, job.file) {
+        Ok(mut repo) => fetch_into(job, &mut repo, indexer, specs, devices),
+        Err(fault) => Ok(failed(job, fault, &mut devices.errors)),
+    }
+}
+
+fn fetch_into<'m, K, I: Source, O: Sink, R: Sink, E: Sink>(
+    job: &Job<'_, '_, 'm>,
+    repo: &mut Repo<&'m Scarce<Global>>,
+    indexer: &K,
+    specs: &[Spec<&'m Scarce<Global>>],
+    devices: &mut Devices<I, O, R, E>,
+) -> Result<Ran, Trouble>
+where
+    K: Indexer<&'m Scarce<Global>>,
+{
+    let fetched = converse(
+        job,
+        repo,
+        indexer,
+        specs,
+        (&mut devices.input, &mut devices.output),
+    );
+    match fetched {
+        Ok(fetched) => conclude(
+            job,
+            &*repo,
+            &fetched,
+            &mut devices.report,
+            &mut devices.errors,
+        ),
+        Err(fault) => give_up(job, &*repo, fault, &mut devices.errors),
+    }
+}
+
+// Fetches, from the first line of a connection on, where it has one.
+fn converse<'m, K: Indexer<&'m Scarce<Global>>, I: Source, O: Sink>(
+    job: &Job<'_, '_, 'm>,
+    repo: &mut Repo<&'m Scarce<Global>>,
+    indexer: &K,
+    specs: &[Spec<&'m Scarce<Global>>],
+    (input, output): (&mut I, &mut O),
+) -> Result<Fetched<&'m Scarce<Global>>, FetchFault<&'m Scarce<Global>>> {
+    let limit = limit_of(job.command.limit);
+    let ends = job.command.ends;
+    if !job.command.has_hello() {
+        return fetch_over(repo, input, output, indexer, specs, limit, ends);
+    }
+    let hello = hello_of(job)?;
+    let fetch = GitFetch {
+        hello: &hello,
+        specs,
+        limit,
+        ends,
+    };
+    fetch_git(repo, input, output, indexer, &fetch)
+}
+
+fn failed<'m, E: Sink>(job: &Job<'_, '_, 'm>, fault: Failed<'m>, errors: &mut E) -> Ran {
+    let status = cmd_failed(fault, errors);
+    ran_without_file(job, status)
+}
+
+// Ends a fetch that met a fault. The file stays, and the repository is shown as it is.
+fn give_up<'m, E: Sink>(
+    job: &Job<'_, '_, 'm>,
+    repo: &Repo<&'m Scarce<Global>>,
+    fault: FetchFault<&'m Scarce<Global>>,
+    errors: &mut E,
+) -> Result<Ran, Trouble> {
+    let mut ran = failed(job, ProgramFault::Fetch(fault), errors);
+    ran.state = Some(state_of(job, repo)?);
+    Ok(ran)
+}
+
+// Ends a fetch that settled the refs: makes the new text of the file, and reports. Where no memory is left for the text, the
+// refs here have moved, and the file stays.
+fn conclude<'m, R: Sink, E: Sink>(
+    job: &Job<'_, '_, 'm>,
+    repo: &Repo<&'m Scarce<Global>>,
+    fetched: &Fetched<&'m Scarce<Global>>,
+    report: &mut R,
+    errors: &mut E,
+) -> Result<Ran, Trouble> {
+    match text_of(job.memory, repo) {
+        Ok(text) => {
+            let status = tell(job, fetched, report, errors)?;
+            let mut ran = ran_without_file(job, status);
+            ran.file = Some(Vec::from_slice(job.alloc, text.as_slice())?);
+            ran.state = Some(state_of(job, repo)?);
+            Ok(ran)
+        }
+        Err(_) => Ok(failed(job, ProgramFault::Memory, errors)),
+    }
+}
+
+// Reports, and answers the exit status.
+fn tell<'m, R: Sink, E: Sink>(
+    job: &Job<'_, '_, 'm>,
+    fetched: &Fetched<&'m Scarce<Global>>,
+    report: &mut R,
+    errors: &mut E,
+) -> Result<u8, Trouble> {
+    let text = report_of(job.alloc, fetched)?;
+    let outcome: Result<(), Failed<'m>> = send_text(text.as_slice(), report);
+    Ok(finish(outcome, errors))
+}
+
+fn text_of<'m>(
+    memory: &'m Scarce<Global>,
+    repo: &Repo<&'m Scarce<Global>>,
+) -> Result<Vec<u8, &'m Scarce<Global>>, SaveFault> {
+    save(memory, repo.graph(), repo.refs(), &Head::None)
+}
+
+// The text of the repository as it is, in memory that does not end. No allocation is refused from now on.
+fn state_of<'m>(
+    job: &Job<'_, '_, 'm>,
+    repo: &Repo<&'m Scarce<Global>>,
+) -> Result<Vec<u8>, Trouble> {
+    job.memory.refuse(0);
+    match text_of(job.memory, repo) {
+        Ok(text) => Ok(Vec::from_slice(job.alloc, text.as_slice())?),
+        Err(_) => Err(Trouble::Memory),
+    }
+}

@@ -1,0 +1,229 @@
+//! The programs of `gcmd`, run over devices: a command, the text of its repository, and what it reads.
+
+use crate::connected::{list_refs, serve_connection};
+use crate::files::specs_of;
+use crate::lying::{fetch_with, handed, serve_with};
+use crate::watch::Watch;
+use cases::{Command, Program, Trouble, words_of};
+use gcmd::{
+    FetchRun, PackLimit, Spec, cmd_check, cmd_failed, cmd_fetch, cmd_lines, cmd_ls, cmd_upload,
+};
+use ggraph::PlainPack;
+use gpkt::{Sink, Source};
+use scarce::Scarce;
+use std::alloc::Global;
+
+/// What is run: a command, the text of its repository, what it reads, and the memory that it takes.
+#[derive(Clone, Copy)]
+pub struct Job<'b, 'i, 'm> {
+    pub alloc: Global,
+    pub memory: &'m Scarce<Global>,
+    pub watch: &'m Watch,
+    pub command: Command<'b>,
+    pub file: &'b [u8],
+    pub input: &'i [u8],
+    /// The allocation that is refused.
+    pub refused: u64,
+}
+
+/// What a command left.
+#[derive(Drop)]
+pub struct Ran {
+    pub status: u8,
+    /// The new text of the client's file.
+    pub file: Option<Vec<u8>>,
+    /// The client's repository at the end, where it is known.
+    pub state: Option<Vec<u8>>,
+    /// Whether there was an allocation to be refused.
+    pub was_refused: bool,
+}
+
+/// What a program runs over.
+#[derive(Drop)]
+pub struct Devices<I, O, R, E> {
+    pub input: I,
+    pub output: O,
+    pub report: R,
+    pub errors: E,
+}
+
+/// Runs a command that is no simulation.
+pub fn run<I: Source, O: Sink, R: Sink, E: Sink>(
+    job: &Job<'_, '_, '_>,
+    devices: &mut Devices<I, O, R, E>,
+) -> Result<Ran, Trouble> {
+    match job.command.program {
+        Program::Fetch => fetch(job, devices),
+        Program::List => list_prefixes(job, devices),
+        _ => Ok(run_without_words(job, devices)),
+    }
+}
+
+fn list_prefixes<I: Source, O: Sink, R: Sink, E: Sink>(
+    job: &Job<'_, '_, '_>,
+    devices: &mut Devices<I, O, R, E>,
+) -> Result<Ran, Trouble> {
+    let words = words_of(job.memory, job.command.specs)?;
+    job.memory.refuse(job.refused);
+    let status = list_refs(job, words.as_slice(), devices);
+    Ok(ran_without_file(job, status))
+}
+
+fn run_without_words<I: Source, O: Sink, R: Sink, E: Sink>(
+    job: &Job<'_, '_, '_>,
+    devices: &mut Devices<I, O, R, E>,
+) -> Ran {
+    job.memory.refuse(job.refused);
+    let status = match job.command.liar {
+        Some(liar) => serve_with(job, liar, devices),
+        None => run_plainly(job, devices),
+    };
+    ran_without_file(job, status)
+}
+
+/// What a command left that has no file to be written.
+pub fn ran_without_file(job: &Job<'_, '_, '_>, status: u8) -> Ran {
+    Ran {
+        status,
+        file: None,
+        state: None,
+        was_refused: !job.memory.is_due(),
+    }
+}
+
+// Runs a command that leaves its file as it is.
+fn run_plainly<I: Source, O: Sink, R: Sink, E: Sink>(
+    job: &Job<'_, '_, '_>,
+    devices: &mut Devices<I, O, R, E>,
+) -> u8 {
+    match job.command.program {
+        Program::Ls => list(job, devices),
+        Program::Upload => upload(job, devices),
+        Program::Check => check(job, devices),
+        Program::Serve => serve_connection(job, &PlainPack, devices),
+        Program::Lines | Program::Fetch | Program::Simulate | Program::List => show(job, devices),
+    }
+}
+
+fn list<I: Source, O: Sink, R: Sink, E: Sink>(
+    job: &Job<'_, '_, '_>,
+    devices: &mut Devices<I, O, R, E>,
+) -> u8 {
+    cmd_ls(
+        job.memory,
+        job.file,
+        &mut devices.input,
+        &mut devices.output,
+        &mut devices.errors,
+    )
+}
+
+fn upload<I: Source, O: Sink, R: Sink, E: Sink>(
+    job: &Job<'_, '_, '_>,
+    devices: &mut Devices<I, O, R, E>,
+) -> u8 {
+    cmd_upload(
+        job.memory,
+        job.file,
+        job.command.ends,
+        &mut devices.input,
+        &mut devices.output,
+        &mut devices.errors,
+    )
+}
+
+fn check<I: Source, O: Sink, R: Sink, E: Sink>(
+    job: &Job<'_, '_, '_>,
+    devices: &mut Devices<I, O, R, E>,
+) -> u8 {
+    cmd_check(
+        job.memory,
+        job.file,
+        &mut devices.output,
+        &mut devices.errors,
+    )
+}
+
+fn show<I: Source, O: Sink, R: Sink, E: Sink>(
+    job: &Job<'_, '_, '_>,
+    devices: &mut Devices<I, O, R, E>,
+) -> u8 {
+    cmd_lines(
+        job.memory,
+        &mut devices.input,
+        &mut devices.output,
+        &mut devices.errors,
+    )
+}
+
+fn fetch<I: Source, O: Sink, R: Sink, E: Sink>(
+    job: &Job<'_, '_, '_>,
+    devices: &mut Devices<I, O, R, E>,
+) -> Result<Ran, Trouble> {
+    let words = words_of(job.memory, job.command.specs)?;
+    job.memory.refuse(job.refused);
+    match specs_of(job.memory, words.as_slice()) {
+        Ok(specs) => fetch_by(job, specs.as_slice(), devices),
+        Err(fault) => Ok(ran_without_file(job, cmd_failed(fault, &mut devices.errors))),
+    }
+}
+
+fn fetch_by<'m, I: Source, O: Sink, R: Sink, E: Sink>(
+    job: &Job<'_, '_, 'm>,
+    specs: &[Spec<&'m Scarce<Global>>],
+    devices: &mut Devices<I, O, R, E>,
+) -> Result<Ran, Trouble> {
+    match job.command.liar {
+        Some(liar) => fetch_with(job, &handed(job, liar), specs, devices),
+        None if job.command.has_hello() => fetch_with(job, &PlainPack, specs, devices),
+        None => fetch_plainly(job, specs, devices),
+    }
+}
+
+fn fetch_plainly<'m, I: Source, O: Sink, R: Sink, E: Sink>(
+    job: &Job<'_, '_, 'm>,
+    specs: &[Spec<&'m Scarce<Global>>],
+    devices: &mut Devices<I, O, R, E>,
+) -> Result<Ran, Trouble> {
+    let run = fetch_file(job, specs, devices);
+    let mut ran = ran_without_file(job, run.status);
+    ran.file = copied(job.alloc, &run.file)?;
+    Ok(ran)
+}
+
+fn fetch_file<'m, I: Source, O: Sink, R: Sink, E: Sink>(
+    job: &Job<'_, '_, 'm>,
+    specs: &[Spec<&'m Scarce<Global>>],
+    devices: &mut Devices<I, O, R, E>,
+) -> FetchRun<&'m Scarce<Global>> {
+    cmd_fetch(
+        job.memory,
+        job.file,
+        specs,
+        limit_of(job.command.limit),
+        job.command.ends,
+        &mut devices.input,
+        &mut devices.output,
+        &mut devices.report,
+        &mut devices.errors,
+    )
+}
+
+/// The limit of a pack, which is the greatest where this one is too large.
+pub fn limit_of(limit: usize) -> PackLimit {
+    match PackLimit::new(limit) {
+        Some(limit) => limit,
+        None => PackLimit::default(),
+    }
+}
+
+// A text in memory that does not end.
+fn copied(
+    alloc: Global,
+    text: &Option<Vec<u8, &Scarce<Global>>>,
+) -> Result<Option<Vec<u8>>, Trouble> {
+    match text {
+        Some(text) => Ok(Some(Vec::from_slice(alloc, text.as_slice())?)),
+        None => Ok(None),
+    }
+}

@@ -1,0 +1,57 @@
+//! The report of a fetch, written apart from the program's.
+
+use cases::Trouble;
+use gclient::{Fetched, RefUpdate};
+use gname::{MAX_ID_TEXT, Oid, RefName};
+use scarce::Scarce;
+use std::alloc::Global;
+
+/// A line for each ref that was asked for, of what became of it, and one of where an unborn HEAD of the server points.
+pub(crate) fn report_of(
+    alloc: Global,
+    fetched: &Fetched<&Scarce<Global>>,
+) -> Result<Vec<u8>, Trouble> {
+    let mut text = Vec::new(alloc);
+    let updates = fetched.settled.updates.as_slice();
+    for (place, update) in updates.iter().enumerate() {
+        if let Some((name, id)) = fetched.settled.asks.at(place) {
+            add_update(&mut text, *update, name, id)?;
+        }
+    }
+    if let Some(name) = &fetched.unborn {
+        add_line(&mut text, b"unborn ", name, b"")?;
+    }
+    Ok(text)
+}
+
+fn add_update(
+    text: &mut Vec<u8>,
+    update: RefUpdate,
+    name: &RefName<&Scarce<Global>>,
+    id: Oid,
+) -> Result<(), Trouble> {
+    let mut digits = [b' '; MAX_ID_TEXT];
+    let count = id.to_hex(&mut digits);
+    match update {
+        RefUpdate::Moved => add_line(text, b"moved ", name, &digits[..count]),
+        RefUpdate::Same => add_line(text, b"same ", name, b""),
+        RefUpdate::NotForward => add_line(text, b"notforward ", name, b""),
+    }
+}
+
+// A line of a word, a name and perhaps an id.
+fn add_line(
+    text: &mut Vec<u8>,
+    word: &[u8],
+    name: &RefName<&Scarce<Global>>,
+    id: &[u8],
+) -> Result<(), Trouble> {
+    text.extend_from_slice(word)?;
+    text.extend_from_slice(name.as_bytes())?;
+    if !id.is_empty() {
+        text.push(b' ')?;
+        text.extend_from_slice(id)?;
+    }
+    text.push(b'\n')?;
+    Ok(())
+}
