@@ -5,7 +5,7 @@ use gpkt::{FromRead, Sink, Source, ToWrite};
 use gsimulate::{Simulation, cmd_simulate};
 use runs::{AsStd, Devices, Hindrance, Job, Ran, Reader, Watch, Writer, ran_without_file};
 use scarce::Scarce;
-use std::alloc::Global;
+use std::alloc::{Allocator, Global};
 use worlds::{Files, simulate_with};
 
 /// How a run is hindered: its devices, and which allocation is refused, if one is.
@@ -113,6 +113,7 @@ pub fn play(
     let job = Job {
         alloc,
         memory: &memory,
+        scarce: &memory,
         watch: &watch,
         command,
         file,
@@ -126,7 +127,10 @@ pub fn play(
     }
 }
 
-fn play_over_own(job: &Job<'_, '_, '_>, trial: Trial) -> Result<Played, Trouble> {
+fn play_over_own<A: Allocator + Copy>(
+    job: &Job<'_, '_, '_, A>,
+    trial: Trial,
+) -> Result<Played, Trouble> {
     let mut devices = Devices {
         input: Reader::new(job.input, trial.read, job.watch),
         output: Writer::new(job.alloc, trial.write),
@@ -137,7 +141,10 @@ fn play_over_own(job: &Job<'_, '_, '_>, trial: Trial) -> Result<Played, Trouble>
     Ok(left_by(job, ran, devices))
 }
 
-fn play_over_std(job: &Job<'_, '_, '_>, trial: Trial) -> Result<Played, Trouble> {
+fn play_over_std<A: Allocator + Copy>(
+    job: &Job<'_, '_, '_, A>,
+    trial: Trial,
+) -> Result<Played, Trouble> {
     let mut input = AsStd::new(Reader::new(job.input, trial.read, job.watch));
     let mut output = AsStd::new(Writer::new(job.alloc, trial.write));
     let mut report = AsStd::new(Writer::new(job.alloc, trial.report));
@@ -160,8 +167,8 @@ fn play_over_std(job: &Job<'_, '_, '_>, trial: Trial) -> Result<Played, Trouble>
 }
 
 // What a run did, from what its devices say.
-fn left_by(
-    job: &Job<'_, '_, '_>,
+fn left_by<A: Allocator + Copy>(
+    job: &Job<'_, '_, '_, A>,
     ran: Ran,
     devices: Devices<Reader<'_, '_>, Writer, Writer, Writer>,
 ) -> Played {
@@ -191,21 +198,21 @@ fn left_by(
 }
 
 // Runs the command.
-fn run<I: Source, O: Sink, R: Sink, E: Sink>(
-    job: &Job<'_, '_, '_>,
+fn run<A: Allocator + Copy, I: Source, O: Sink, R: Sink, E: Sink>(
+    job: &Job<'_, '_, '_, A>,
     devices: &mut Devices<I, O, R, E>,
 ) -> Result<Ran, Trouble> {
     if job.command.program != Program::Simulate {
         return runs::run(job, devices);
     }
-    job.memory.refuse(job.refused);
+    job.scarce.refuse(job.refused);
     let status = simulate(job, &mut devices.output, &mut devices.errors)?;
     Ok(ran_without_file(job, status))
 }
 
 // Runs a simulation, and answers the exit status.
-fn simulate<O: Sink, E: Sink>(
-    job: &Job<'_, '_, '_>,
+fn simulate<A: Allocator + Copy, O: Sink, E: Sink>(
+    job: &Job<'_, '_, '_, A>,
     output: &mut O,
     errors: &mut E,
 ) -> Result<u8, Trouble> {
@@ -217,7 +224,11 @@ fn simulate<O: Sink, E: Sink>(
     Ok(simulate_plainly(job, output, errors))
 }
 
-fn simulate_plainly<O: Sink, E: Sink>(job: &Job<'_, '_, '_>, output: &mut O, errors: &mut E) -> u8 {
+fn simulate_plainly<A: Allocator + Copy, O: Sink, E: Sink>(
+    job: &Job<'_, '_, '_, A>,
+    output: &mut O,
+    errors: &mut E,
+) -> u8 {
     let simulation = Simulation {
         server: job.file,
         client: job.command.client,

@@ -1,6 +1,7 @@
 //! What is found in the history of a repository: `missing`, `counted`, `sent`, `sent-tags`, `sent-count`, `common`, `ready`,
 //! `reaches`, `offered` and `peeled`. Lists of ids are parted by ` / `; `none` stands for no id.
 
+use crate::looking::Refusal;
 use crate::text::loaded;
 use crate::told::told;
 use cases::{Fact, Trouble, id_text, number_of};
@@ -9,8 +10,7 @@ use ggraph::{
     reaches, ready, send_list, send_list_tags,
 };
 use gname::{Format, Oid};
-use scarce::Scarce;
-use std::alloc::Global;
+use std::alloc::{Allocator, Global};
 
 /// What is asked of a history.
 #[derive(Drop)]
@@ -22,28 +22,28 @@ pub(crate) struct Asked {
 
 // What is found.
 #[derive(Drop)]
-enum Found<'m> {
-    Ids(Vec<Oid, &'m Scarce<Global>>),
-    Entries(Vec<Entry<&'m Scarce<Global>>, &'m Scarce<Global>>),
+enum Found<A: Allocator + Copy> {
+    Ids(Vec<Oid, A>),
+    Entries(Vec<Entry<A>, A>),
     Id(Option<Oid>),
     Counted(Option<Oid>, Count),
     Many(usize),
     Whether(bool),
 }
 
-/// What is found in the history of a repository's text, the allocation of this number being refused.
-pub(crate) fn answer(
+/// What is found in the history of a repository's text, an allocation being refused.
+pub(crate) fn answer<A: Allocator + Copy>(
     alloc: Global,
-    memory: &Scarce<Global>,
+    memory: A,
     fact: &Fact<'_>,
     file: &[u8],
-    refused: u64,
+    refusal: Refusal<'_>,
 ) -> Result<String, Trouble> {
     let Ok(repository) = loaded(memory, file, Order::Any) else {
         return Err(Trouble::NoGraph);
     };
     let asked = asked_of(alloc, fact.text.as_slice())?;
-    memory.refuse(refused);
+    refusal.begin();
     match look(&repository.graph, &repository.refs, fact.word, &asked) {
         Ok(found) => text_of(alloc, &found),
         Err(fault) => told(alloc, fault.code(), fault.name()),
@@ -85,12 +85,12 @@ fn id_of(text: &[u8]) -> Result<Oid, Trouble> {
     }
 }
 
-fn look<'m>(
-    graph: &Graph<&'m Scarce<Global>>,
-    refs: &Refs<&'m Scarce<Global>>,
+fn look<A: Allocator + Copy>(
+    graph: &Graph<A>,
+    refs: &Refs<A>,
     word: &str,
     asked: &Asked,
-) -> Result<Found<'m>, GraphFault> {
+) -> Result<Found<A>, GraphFault> {
     let first = asked.first.as_slice();
     let second = asked.second.as_slice();
     match word {
@@ -107,76 +107,76 @@ fn look<'m>(
     }
 }
 
-fn lost<'m>(graph: &Graph<&'m Scarce<Global>>, ids: &[Oid]) -> Result<Found<'m>, GraphFault> {
+fn lost<A: Allocator + Copy>(graph: &Graph<A>, ids: &[Oid]) -> Result<Found<A>, GraphFault> {
     Ok(Found::Id(missing(graph, ids)?))
 }
 
-fn counted<'m>(graph: &Graph<&'m Scarce<Global>>, ids: &[Oid]) -> Result<Found<'m>, GraphFault> {
+fn counted<A: Allocator + Copy>(graph: &Graph<A>, ids: &[Oid]) -> Result<Found<A>, GraphFault> {
     let (missing, count) = missing_counted(graph, ids)?;
     Ok(Found::Counted(missing, count))
 }
 
-fn sent<'m>(
-    graph: &Graph<&'m Scarce<Global>>,
+fn sent<A: Allocator + Copy>(
+    graph: &Graph<A>,
     wants: &[Oid],
     commons: &[Oid],
-) -> Result<Found<'m>, GraphFault> {
+) -> Result<Found<A>, GraphFault> {
     Ok(Found::Entries(send_list(graph, wants, commons)?))
 }
 
-fn sent_count<'m>(
-    graph: &Graph<&'m Scarce<Global>>,
+fn sent_count<A: Allocator + Copy>(
+    graph: &Graph<A>,
     wants: &[Oid],
     commons: &[Oid],
-) -> Result<Found<'m>, GraphFault> {
+) -> Result<Found<A>, GraphFault> {
     Ok(Found::Many(send_list(graph, wants, commons)?.len()))
 }
 
-fn sent_tags<'m>(
-    graph: &Graph<&'m Scarce<Global>>,
+fn sent_tags<A: Allocator + Copy>(
+    graph: &Graph<A>,
     (wants, commons): (&[Oid], &[Oid]),
-    refs: &Refs<&'m Scarce<Global>>,
-) -> Result<Found<'m>, GraphFault> {
+    refs: &Refs<A>,
+) -> Result<Found<A>, GraphFault> {
     Ok(Found::Entries(send_list_tags(graph, wants, commons, refs)?))
 }
 
-fn common<'m>(graph: &Graph<&'m Scarce<Global>>, haves: &[Oid]) -> Result<Found<'m>, GraphFault> {
+fn common<A: Allocator + Copy>(graph: &Graph<A>, haves: &[Oid]) -> Result<Found<A>, GraphFault> {
     Ok(Found::Ids(common_ids(graph, haves)?))
 }
 
-fn is_ready<'m>(
-    graph: &Graph<&'m Scarce<Global>>,
+fn is_ready<A: Allocator + Copy>(
+    graph: &Graph<A>,
     wants: &[Oid],
     commons: &[Oid],
-) -> Result<Found<'m>, GraphFault> {
+) -> Result<Found<A>, GraphFault> {
     Ok(Found::Whether(ready(graph, wants, commons)?))
 }
 
-fn offered<'m>(
-    graph: &Graph<&'m Scarce<Global>>,
+fn offered<A: Allocator + Copy>(
+    graph: &Graph<A>,
     tips: &[Oid],
     commons: &[Oid],
     count: usize,
-) -> Result<Found<'m>, GraphFault> {
+) -> Result<Found<A>, GraphFault> {
     Ok(Found::Ids(haves(graph, tips, commons, &[], count)?))
 }
 
 // Whether the first id reaches the second.
-fn all_reach<'m>(graph: &Graph<&'m Scarce<Global>>, ids: &[Oid]) -> Result<Found<'m>, GraphFault> {
+fn all_reach<A: Allocator + Copy>(graph: &Graph<A>, ids: &[Oid]) -> Result<Found<A>, GraphFault> {
     match ids {
         [from, to] => Ok(Found::Whether(reaches(graph, from, to)?)),
         _ => Ok(Found::Id(None)),
     }
 }
 
-fn peeled<'m>(graph: &Graph<&'m Scarce<Global>>, ids: &[Oid]) -> Found<'m> {
+fn peeled<A: Allocator + Copy>(graph: &Graph<A>, ids: &[Oid]) -> Found<A> {
     match ids {
         [id] => Found::Id(graph.peel(id)),
         _ => Found::Whether(false),
     }
 }
 
-fn text_of(alloc: Global, found: &Found<'_>) -> Result<String, Trouble> {
+fn text_of<A: Allocator + Copy>(alloc: Global, found: &Found<A>) -> Result<String, Trouble> {
     match found {
         Found::Ids(ids) => text_of_ids(alloc, ids.as_slice()),
         Found::Entries(entries) => text_of_entries(alloc, entries.as_slice()),
@@ -187,7 +187,10 @@ fn text_of(alloc: Global, found: &Found<'_>) -> Result<String, Trouble> {
     }
 }
 
-fn text_of_entries(alloc: Global, entries: &[Entry<&Scarce<Global>>]) -> Result<String, Trouble> {
+fn text_of_entries<A: Allocator + Copy>(
+    alloc: Global,
+    entries: &[Entry<A>],
+) -> Result<String, Trouble> {
     let mut ids = Vec::new(alloc);
     for entry in entries {
         ids.push(entry.id)?;

@@ -3,39 +3,36 @@
 //! ids at which the refs stand.
 
 use crate::history::{Asked, asked_of, text_of_count, text_of_id, text_of_ids};
+use crate::looking::Refusal;
 use crate::text::loaded;
 use crate::told::told;
 use cases::{Fact, Trouble, add_number};
 use gclient::{Repo, RepoFault};
 use ggraph::{Count, Graph, GraphFault, Order, Refs, missing_known};
 use gname::{Oid, RefName};
-use scarce::Scarce;
-use std::alloc::Global;
+use std::alloc::{Allocator, Global};
 
-/// What is known of the history of a repository's text, the allocation of this number being refused.
-pub(crate) fn answer(
+/// What is known of the history of a repository's text, an allocation being refused.
+pub(crate) fn answer<A: Allocator + Copy>(
     alloc: Global,
-    memory: &Scarce<Global>,
+    memory: A,
     fact: &Fact<'_>,
     file: &[u8],
-    refused: u64,
+    refusal: Refusal<'_>,
 ) -> Result<String, Trouble> {
     let Ok(repository) = loaded(memory, file, Order::Any) else {
         return Err(Trouble::NoGraph);
     };
     let asked = asked_of(alloc, fact.text.as_slice())?;
     let refs = refs_at(alloc, memory, tips_of(&asked, fact.word))?;
-    memory.refuse(refused);
+    refusal.begin();
     match opened(repository.graph, refs) {
         Ok(repo) => look(alloc, &repo, fact.word, asked.first.as_slice()),
         Err(fault) => told(alloc, fault.code(), fault.name()),
     }
 }
 
-fn opened<'m>(
-    graph: Graph<&'m Scarce<Global>>,
-    refs: Refs<&'m Scarce<Global>>,
-) -> Result<Repo<&'m Scarce<Global>>, RepoFault<&'m Scarce<Global>>> {
+fn opened<A: Allocator + Copy>(graph: Graph<A>, refs: Refs<A>) -> Result<Repo<A>, RepoFault<A>> {
     Repo::new(graph, refs)
 }
 
@@ -49,11 +46,11 @@ fn tips_of<'b>(asked: &'b Asked, word: &str) -> &'b [Oid] {
 }
 
 // Refs that stand at these ids, one after the other.
-fn refs_at<'m>(
+fn refs_at<A: Allocator + Copy>(
     alloc: Global,
-    memory: &'m Scarce<Global>,
+    memory: A,
     tips: &[Oid],
-) -> Result<Refs<&'m Scarce<Global>>, Trouble> {
+) -> Result<Refs<A>, Trouble> {
     let mut refs = Refs::new(memory);
     for (place, tip) in tips.iter().enumerate() {
         let mut name = Vec::from_slice(alloc, b"refs/heads/")?;
@@ -68,9 +65,9 @@ fn refs_at<'m>(
     Ok(refs)
 }
 
-fn look(
+fn look<A: Allocator + Copy>(
     alloc: Global,
-    repo: &Repo<&Scarce<Global>>,
+    repo: &Repo<A>,
     word: &str,
     ids: &[Oid],
 ) -> Result<String, Trouble> {
@@ -88,7 +85,7 @@ fn look(
 }
 
 // The marked ids, in the order of the store.
-fn marked(alloc: Global, repo: &Repo<&Scarce<Global>>) -> Result<Vec<Oid>, Trouble> {
+fn marked<A: Allocator + Copy>(alloc: Global, repo: &Repo<A>) -> Result<Vec<Oid>, Trouble> {
     let mut ids = Vec::new(alloc);
     for place in 0..repo.graph().len() {
         match repo.graph().at(place) {
@@ -100,8 +97,8 @@ fn marked(alloc: Global, repo: &Repo<&Scarce<Global>>) -> Result<Vec<Oid>, Troub
 }
 
 // What is missing, by a walk that does not go on from what is marked.
-fn counted_past(
-    repo: &Repo<&Scarce<Global>>,
+fn counted_past<A: Allocator + Copy>(
+    repo: &Repo<A>,
     ids: &[Oid],
 ) -> Result<(Option<Oid>, Count), GraphFault> {
     // Laws.

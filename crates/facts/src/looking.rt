@@ -3,7 +3,7 @@
 use crate::{history, known, made, shown};
 use cases::{Fact, Kind, Trouble};
 use scarce::Scarce;
-use std::alloc::Global;
+use std::alloc::{Allocator, Global};
 
 /// What limits a look: how many bytes at most are read a call, and which allocation is refused, if one is.
 #[derive(Clone, Copy)]
@@ -23,6 +23,20 @@ pub struct Finding {
     pub was_refused: bool,
 }
 
+/// Which allocation is refused from some call on, if one is.
+#[derive(Clone, Copy)]
+pub(crate) struct Refusal<'m> {
+    scarce: &'m Scarce<Global>,
+    number: u64,
+}
+
+impl Refusal<'_> {
+    /// Refuses it from now on.
+    pub(crate) fn begin(self) {
+        self.scarce.refuse(self.number);
+    }
+}
+
 /// What is so of a fact, whose graph is that of a repository's text: of a text, a history, a client or a fault.
 pub fn answer(
     alloc: Global,
@@ -31,38 +45,52 @@ pub fn answer(
     limits: Limits,
 ) -> Result<Finding, Trouble> {
     let memory = Scarce::new(alloc);
-    let text = look(alloc, &memory, fact, graph, limits)?;
+    let look = Look {
+        alloc,
+        refusal: Refusal {
+            scarce: &memory,
+            number: limits.refused,
+        },
+        most: limits.most,
+    };
+    let text = found(look, &memory, fact, graph)?;
     Ok(Finding {
         text,
         was_refused: !memory.is_due(),
     })
 }
 
-fn look(
+// How a fact is looked at.
+#[derive(Clone, Copy)]
+struct Look<'m> {
     alloc: Global,
-    memory: &Scarce<Global>,
+    refusal: Refusal<'m>,
+    most: usize,
+}
+
+fn found<A: Allocator + Copy>(
+    look: Look<'_>,
+    memory: A,
     fact: &Fact<'_>,
     graph: &[u8],
-    limits: Limits,
 ) -> Result<String, Trouble> {
     match fact.kind {
-        Kind::History => history::answer(alloc, memory, fact, graph, limits.refused),
-        Kind::Client => known::answer(alloc, memory, fact, graph, limits.refused),
+        Kind::History => history::answer(look.alloc, memory, fact, graph, look.refusal),
+        Kind::Client => known::answer(look.alloc, memory, fact, graph, look.refusal),
         _ => {
-            memory.refuse(limits.refused);
-            look_at_text(alloc, memory, fact, limits.most)
+            look.refusal.begin();
+            found_in_text(look, memory, fact)
         }
     }
 }
 
-fn look_at_text(
-    alloc: Global,
-    memory: &Scarce<Global>,
+fn found_in_text<A: Allocator + Copy>(
+    look: Look<'_>,
+    memory: A,
     fact: &Fact<'_>,
-    most: usize,
 ) -> Result<String, Trouble> {
     if fact.kind == Kind::Shown {
-        return shown::answer(alloc, fact);
+        return shown::answer(look.alloc, fact);
     }
-    made::answer(alloc, memory, fact, most)
+    made::answer(look.alloc, memory, fact, look.most)
 }

@@ -14,13 +14,12 @@ use gname::{Format, NameFault, Oid, OidFault, Prefix, RefName};
 use gpkt::memory::{Limited, SliceSource, VecSink};
 use gpkt::{Band, LineReader, LineWriter, Source, WriteFault, band_of};
 use grefspec::{Spec, SpecFault};
-use scarce::Scarce;
-use std::alloc::Global;
+use std::alloc::{Allocator, Global};
 
 /// What is made of the text, which is read in pieces of so many bytes where it comes from a device.
-pub(crate) fn answer(
+pub(crate) fn answer<A: Allocator + Copy>(
     alloc: Global,
-    memory: &Scarce<Global>,
+    memory: A,
     fact: &Fact<'_>,
     most: usize,
 ) -> Result<String, Trouble> {
@@ -40,14 +39,14 @@ pub(crate) fn answer(
     }
 }
 
-fn name(alloc: Global, memory: &Scarce<Global>, text: &[u8]) -> Result<String, Trouble> {
+fn name<A: Allocator + Copy>(alloc: Global, memory: A, text: &[u8]) -> Result<String, Trouble> {
     match RefName::new(memory, text) {
         Ok(name) => read_back(alloc, name.as_bytes() == text),
         Err(fault) => name_fault(alloc, &fault),
     }
 }
 
-fn prefix(alloc: Global, memory: &Scarce<Global>, text: &[u8]) -> Result<String, Trouble> {
+fn prefix<A: Allocator + Copy>(alloc: Global, memory: A, text: &[u8]) -> Result<String, Trouble> {
     match Prefix::new(memory, text) {
         Ok(prefix) => read_back(alloc, prefix.as_bytes() == text),
         Err(fault) => name_fault(alloc, &fault),
@@ -61,23 +60,20 @@ fn id(alloc: Global, format: Format, text: &[u8]) -> Result<String, Trouble> {
     }
 }
 
-fn spec(alloc: Global, memory: &Scarce<Global>, text: &[u8]) -> Result<String, Trouble> {
+fn spec<A: Allocator + Copy>(alloc: Global, memory: A, text: &[u8]) -> Result<String, Trouble> {
     match parsed(memory, text) {
         Ok(_) => read_back(alloc, true),
         Err(fault) => told(alloc, fault.code(), fault.name()),
     }
 }
 
-fn parsed<'m>(
-    memory: &'m Scarce<Global>,
-    text: &[u8],
-) -> Result<Spec<&'m Scarce<Global>>, SpecFault> {
+fn parsed<A: Allocator + Copy>(memory: A, text: &[u8]) -> Result<Spec<A>, SpecFault> {
     Spec::parse(memory, text)
 }
 
-fn hello(
+fn hello<A: Allocator + Copy>(
     alloc: Global,
-    memory: &Scarce<Global>,
+    memory: A,
     text: &[u8],
     most: usize,
 ) -> Result<String, Trouble> {
@@ -88,16 +84,16 @@ fn hello(
     }
 }
 
-fn hello_of<'m, S: Source>(
-    memory: &'m Scarce<Global>,
-    reader: &mut LineReader<S, &'m Scarce<Global>>,
-) -> Result<Hello<&'m Scarce<Global>>, MessageFault> {
+fn hello_of<A: Allocator + Copy, S: Source>(
+    memory: A,
+    reader: &mut LineReader<S, A>,
+) -> Result<Hello<A>, MessageFault> {
     read_hello(reader, memory)
 }
 
-fn told_hello(
+fn told_hello<A: Allocator + Copy>(
     alloc: Global,
-    read: &Result<Hello<&Scarce<Global>>, MessageFault>,
+    read: &Result<Hello<A>, MessageFault>,
 ) -> Result<String, Trouble> {
     match read {
         Ok(hello) => named(alloc, hello.host(), hello.path()),
@@ -113,9 +109,9 @@ fn named(alloc: Global, host: &[u8], path: &[u8]) -> Result<String, Trouble> {
 }
 
 // Of a repository that is read the text is written again.
-fn repository(
+fn repository<A: Allocator + Copy>(
     alloc: Global,
-    memory: &Scarce<Global>,
+    memory: A,
     text: &[u8],
     order: Order,
 ) -> Result<String, Trouble> {
@@ -125,10 +121,10 @@ fn repository(
     }
 }
 
-fn write_again<'m>(
+fn write_again<A: Allocator + Copy>(
     alloc: Global,
-    memory: &'m Scarce<Global>,
-    read: &Repository<&'m Scarce<Global>>,
+    memory: A,
+    read: &Repository<A>,
     text: &[u8],
 ) -> Result<String, Trouble> {
     match saved(memory, read) {
@@ -146,9 +142,9 @@ fn load_fault(alloc: Global, fault: &LoadFault) -> Result<String, Trouble> {
     }
 }
 
-fn pack(
+fn pack<A: Allocator + Copy>(
     alloc: Global,
-    memory: &Scarce<Global>,
+    memory: A,
     text: &[u8],
     most: usize,
 ) -> Result<String, Trouble> {
@@ -161,7 +157,11 @@ fn pack(
 }
 
 // How many entries a pack has that is fed in pieces.
-fn count_entries(memory: &Scarce<Global>, text: &[u8], most: usize) -> Result<usize, IndexFault> {
+fn count_entries<A: Allocator + Copy>(
+    memory: A,
+    text: &[u8],
+    most: usize,
+) -> Result<usize, IndexFault> {
     let mut feed = PlainPack.start(memory)?;
     let mut rest = text;
     for _ in 0..text.len() {

@@ -1,23 +1,22 @@
 //! Texts of repositories, read and written.
 
 use ggraph::{LoadFault, Order, Repository, SaveFault, load, save};
-use scarce::Scarce;
-use std::alloc::Global;
+use std::alloc::Allocator;
 
 /// The repository of a text.
-pub(crate) fn loaded<'m>(
-    memory: &'m Scarce<Global>,
+pub(crate) fn loaded<A: Allocator + Copy>(
+    memory: A,
     text: &[u8],
     order: Order,
-) -> Result<Repository<&'m Scarce<Global>>, LoadFault> {
+) -> Result<Repository<A>, LoadFault> {
     load(memory, text, order)
 }
 
 /// The text of a repository.
-pub(crate) fn saved<'m>(
-    memory: &'m Scarce<Global>,
-    repository: &Repository<&'m Scarce<Global>>,
-) -> Result<Vec<u8, &'m Scarce<Global>>, SaveFault> {
+pub(crate) fn saved<A: Allocator + Copy>(
+    memory: A,
+    repository: &Repository<A>,
+) -> Result<Vec<u8, A>, SaveFault> {
     save(
         memory,
         &repository.graph,

@@ -15,31 +15,27 @@ use gpkt::{Sink, Source};
 use grequest::LsRefsRequest;
 use gserve::{End, Served};
 use gtcp::read_prefixes;
-use scarce::Scarce;
-use std::alloc::{AllocError, Global};
-
-/// A fault, in memory that ends.
-pub(crate) type Failed<'m> = ProgramFault<&'m Scarce<Global>>;
+use std::alloc::{AllocError, Allocator};
 
 /// Serves a connection from its first line on. It answers 1 where the connection had a fault, which is printed.
-pub(crate) fn serve_connection<'m, K, I: Source, O: Sink, R: Sink, E: Sink>(
-    job: &Job<'_, '_, 'm>,
+pub(crate) fn serve_connection<A: Allocator + Copy, K, I: Source, O: Sink, R: Sink, E: Sink>(
+    job: &Job<'_, '_, '_, A>,
     packer: &K,
     devices: &mut Devices<I, O, R, E>,
 ) -> u8
 where
-    K: Packer<&'m Scarce<Global>>,
+    K: Packer<A>,
 {
     let outcome = served(job, packer, &mut devices.input, &mut devices.output);
     finish(outcome, &mut devices.errors)
 }
 
-fn served<'m, K: Packer<&'m Scarce<Global>>, I: Source, O: Sink>(
-    job: &Job<'_, '_, 'm>,
+fn served<A: Allocator + Copy, K: Packer<A>, I: Source, O: Sink>(
+    job: &Job<'_, '_, '_, A>,
     packer: &K,
     input: &mut I,
     output: &mut O,
-) -> Result<(), Failed<'m>> {
+) -> Result<(), ProgramFault<A>> {
     let server = server_of(job.memory, job.file)?;
     let export = Export {
         server: &server,
@@ -50,7 +46,7 @@ fn served<'m, K: Packer<&'m Scarce<Global>>, I: Source, O: Sink>(
 }
 
 // How a connection came out. That its client asked for another path is no fault of it.
-fn outcome_of<'m>(ended: GitEnd) -> Result<(), Failed<'m>> {
+fn outcome_of<A: Allocator + Copy>(ended: GitEnd) -> Result<(), ProgramFault<A>> {
     match ended {
         GitEnd::Served(served) => outcome_of_served(served),
         GitEnd::Elsewhere => Ok(()),
@@ -60,7 +56,9 @@ fn outcome_of<'m>(ended: GitEnd) -> Result<(), Failed<'m>> {
 }
 
 /// How a connection came out that was served.
-pub(crate) fn outcome_of_served<'m>(served: Served) -> Result<(), Failed<'m>> {
+pub(crate) fn outcome_of_served<A: Allocator + Copy>(
+    served: Served,
+) -> Result<(), ProgramFault<A>> {
     match served.end {
         End::Closed | End::Ended => Ok(()),
         End::Refused(fault) => Err(ProgramFault::Request(fault)),
@@ -70,20 +68,20 @@ pub(crate) fn outcome_of_served<'m>(served: Served) -> Result<(), Failed<'m>> {
 
 /// Lists the refs of a server that begin with one of the words, or all where there is none: a line each, reported. It
 /// answers the exit status.
-pub(crate) fn list_refs<'m, I: Source, O: Sink, R: Sink, E: Sink>(
-    job: &Job<'_, '_, 'm>,
-    words: &[String<&'m Scarce<Global>>],
+pub(crate) fn list_refs<A: Allocator + Copy, I: Source, O: Sink, R: Sink, E: Sink>(
+    job: &Job<'_, '_, '_, A>,
+    words: &[String<A>],
     devices: &mut Devices<I, O, R, E>,
 ) -> u8 {
     let outcome = listed(job, words, devices);
     finish(outcome, &mut devices.errors)
 }
 
-fn listed<'m, I: Source, O: Sink, R: Sink, E: Sink>(
-    job: &Job<'_, '_, 'm>,
-    words: &[String<&'m Scarce<Global>>],
+fn listed<A: Allocator + Copy, I: Source, O: Sink, R: Sink, E: Sink>(
+    job: &Job<'_, '_, '_, A>,
+    words: &[String<A>],
     devices: &mut Devices<I, O, R, E>,
-) -> Result<(), Failed<'m>> {
+) -> Result<(), ProgramFault<A>> {
     let prefixes = prefixes_of(job, words)?;
     let asked = ask(
         job,
@@ -97,51 +95,51 @@ fn listed<'m, I: Source, O: Sink, R: Sink, E: Sink>(
     }
 }
 
-fn prefixes_of<'m>(
-    job: &Job<'_, '_, 'm>,
-    words: &[String<&'m Scarce<Global>>],
-) -> Result<Vec<Prefix<&'m Scarce<Global>>, &'m Scarce<Global>>, Failed<'m>> {
+fn prefixes_of<A: Allocator + Copy>(
+    job: &Job<'_, '_, '_, A>,
+    words: &[String<A>],
+) -> Result<Vec<Prefix<A>, A>, ProgramFault<A>> {
     if job.command.specs.is_empty() {
         return Ok(Vec::new(job.memory));
     }
     read_prefixes(job.memory, words)
 }
 
-fn show<'m, R: Sink>(
-    memory: &'m Scarce<Global>,
-    reply: &LsReply<&'m Scarce<Global>>,
+fn show<A: Allocator + Copy, R: Sink>(
+    memory: A,
+    reply: &LsReply<A>,
     report: &mut R,
-) -> Result<(), Failed<'m>> {
+) -> Result<(), ProgramFault<A>> {
     match text_of(memory, reply) {
         Ok(text) => send_text(text.as_slice(), report),
         Err(_) => Err(ProgramFault::Memory),
     }
 }
 
-fn ask<'m, I: Source, O: Sink>(
-    job: &Job<'_, '_, 'm>,
-    prefixes: &[Prefix<&'m Scarce<Global>>],
+fn ask<A: Allocator + Copy, I: Source, O: Sink>(
+    job: &Job<'_, '_, '_, A>,
+    prefixes: &[Prefix<A>],
     input: &mut I,
     output: &mut O,
-) -> Result<LsReply<&'m Scarce<Global>>, FetchFault<&'m Scarce<Global>>> {
+) -> Result<LsReply<A>, FetchFault<A>> {
     let hello = hello_of(job)?;
     let asked = request_for(job.memory, prefixes)?;
     list_git(&hello, input, output, asked, job.memory)
 }
 
 /// The first line of the command's connection.
-pub(crate) fn hello_of<'m>(
-    job: &Job<'_, '_, 'm>,
-) -> Result<Hello<&'m Scarce<Global>>, MessageFault> {
+pub(crate) fn hello_of<A: Allocator + Copy>(
+    job: &Job<'_, '_, '_, A>,
+) -> Result<Hello<A>, MessageFault> {
     let command = job.command;
     Hello::new(job.memory, command.path.as_bytes(), command.host.as_bytes())
 }
 
 // A request for refs, with what they point at and lead to.
-fn request_for<'m>(
-    memory: &'m Scarce<Global>,
-    prefixes: &[Prefix<&'m Scarce<Global>>],
-) -> Result<LsRefsRequest<&'m Scarce<Global>>, MessageFault> {
+fn request_for<A: Allocator + Copy>(
+    memory: A,
+    prefixes: &[Prefix<A>],
+) -> Result<LsRefsRequest<A>, MessageFault> {
     let mut asked = LsRefsRequest::new(memory);
     asked.set_symrefs(true);
     asked.set_peel(true);
@@ -152,10 +150,7 @@ fn request_for<'m>(
 }
 
 // The lines of a reply: the ref at which an unborn `HEAD` points, and then each ref.
-fn text_of<'m>(
-    memory: &'m Scarce<Global>,
-    reply: &LsReply<&'m Scarce<Global>>,
-) -> Result<Vec<u8, &'m Scarce<Global>>, AllocError> {
+fn text_of<A: Allocator + Copy>(memory: A, reply: &LsReply<A>) -> Result<Vec<u8, A>, AllocError> {
     let mut text = Vec::new(memory);
     if let Some(target) = reply.unborn() {
         add_unborn(&mut text, target)?;
@@ -168,18 +163,18 @@ fn text_of<'m>(
     Ok(text)
 }
 
-fn add_unborn<'m>(
-    text: &mut Vec<u8, &'m Scarce<Global>>,
-    target: &RefName<&'m Scarce<Global>>,
+fn add_unborn<A: Allocator + Copy>(
+    text: &mut Vec<u8, A>,
+    target: &RefName<A>,
 ) -> Result<(), AllocError> {
     text.extend_from_slice(b"unborn HEAD symref-target:")?;
     text.extend_from_slice(target.as_bytes())?;
     text.extend_from_slice(b"\n")
 }
 
-fn add_ref<'m>(
-    text: &mut Vec<u8, &'m Scarce<Global>>,
-    line: &RefLine<&'m Scarce<Global>>,
+fn add_ref<A: Allocator + Copy>(
+    text: &mut Vec<u8, A>,
+    line: &RefLine<A>,
 ) -> Result<(), AllocError> {
     let mut shown = RefText::new();
     shown.set(&line.lend());

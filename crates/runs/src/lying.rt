@@ -2,7 +2,7 @@
 //! there is done here: the file is read, a fault is printed, the file is written, and a fetch reports. What the client's
 //! repository is in the end is shown, too.
 
-use crate::connected::{Failed, hello_of, outcome_of_served, serve_connection};
+use crate::connected::{hello_of, outcome_of_served, serve_connection};
 use crate::files::{client_of, server_of};
 use crate::handed::Handed;
 use crate::program::{Devices, Job, Ran, limit_of, ran_without_file};
@@ -14,12 +14,11 @@ use gconnect::{GitFetch, fetch_git};
 use ggraph::{Head, Indexer, SaveFault, save};
 use gpkt::{Sink, Source};
 use gserve::{ExchangeEnd, serve, serve_one};
-use scarce::Scarce;
-use std::alloc::Global;
+use std::alloc::Allocator;
 
 /// Serves one request, or a connection, from a repository's text. It answers the exit status.
-pub(crate) fn serve_with<I: Source, O: Sink, R: Sink, E: Sink>(
-    job: &Job<'_, '_, '_>,
+pub(crate) fn serve_with<A: Allocator + Copy, I: Source, O: Sink, R: Sink, E: Sink>(
+    job: &Job<'_, '_, '_, A>,
     liar: Liar,
     devices: &mut Devices<I, O, R, E>,
 ) -> u8 {
@@ -36,7 +35,10 @@ pub(crate) fn serve_with<I: Source, O: Sink, R: Sink, E: Sink>(
 }
 
 /// The packer or the indexer of a job.
-pub(crate) fn handed<'i, 'm>(job: &Job<'_, 'i, 'm>, liar: Liar) -> Handed<'i, 'm> {
+pub(crate) fn handed<'i, 'm, A: Allocator + Copy>(
+    job: &Job<'_, 'i, 'm, A>,
+    liar: Liar,
+) -> Handed<'i, 'm> {
     Handed {
         liar,
         format: job.command.format,
@@ -45,27 +47,27 @@ pub(crate) fn handed<'i, 'm>(job: &Job<'_, 'i, 'm>, liar: Liar) -> Handed<'i, 'm
     }
 }
 
-fn answer_all<'m, I: Source, O: Sink>(
-    job: &Job<'_, '_, 'm>,
+fn answer_all<A: Allocator + Copy, I: Source, O: Sink>(
+    job: &Job<'_, '_, '_, A>,
     packer: &Handed<'_, '_>,
     input: &mut I,
     output: &mut O,
-) -> Result<(), Failed<'m>> {
+) -> Result<(), ProgramFault<A>> {
     let server = server_of(job.memory, job.file)?;
     outcome_of_served(serve(&server, packer, job.command.ends, input, output))
 }
 
-fn answer_one<'m, I: Source, O: Sink>(
-    job: &Job<'_, '_, 'm>,
+fn answer_one<A: Allocator + Copy, I: Source, O: Sink>(
+    job: &Job<'_, '_, '_, A>,
     packer: &Handed<'_, '_>,
     input: &mut I,
     output: &mut O,
-) -> Result<(), Failed<'m>> {
+) -> Result<(), ProgramFault<A>> {
     let server = server_of(job.memory, job.file)?;
     outcome_of_exchange(serve_one(&server, packer, job.command.ends, input, output))
 }
 
-fn outcome_of_exchange<'m>(ended: ExchangeEnd) -> Result<(), Failed<'m>> {
+fn outcome_of_exchange<A: Allocator + Copy>(ended: ExchangeEnd) -> Result<(), ProgramFault<A>> {
     match ended {
         ExchangeEnd::Answered | ExchangeEnd::Closed | ExchangeEnd::Ended => Ok(()),
         ExchangeEnd::Refused(fault) => Err(ProgramFault::Request(fault)),
@@ -74,14 +76,14 @@ fn outcome_of_exchange<'m>(ended: ExchangeEnd) -> Result<(), Failed<'m>> {
 }
 
 /// Fetches into a repository's text, and answers what that left.
-pub(crate) fn fetch_with<'m, K, I: Source, O: Sink, R: Sink, E: Sink>(
-    job: &Job<'_, '_, 'm>,
+pub(crate) fn fetch_with<A: Allocator + Copy, K, I: Source, O: Sink, R: Sink, E: Sink>(
+    job: &Job<'_, '_, '_, A>,
     indexer: &K,
-    specs: &[Spec<&'m Scarce<Global>>],
+    specs: &[Spec<A>],
     devices: &mut Devices<I, O, R, E>,
 ) -> Result<Ran, Trouble>
 where
-    K: Indexer<&'m Scarce<Global>>,
+    K: Indexer<A>,
 {
     match client_of(job.memory, job.file) {
         Ok(mut repo) => fetch_into(job, &mut repo, indexer, specs, devices),
@@ -89,15 +91,15 @@ where
     }
 }
 
-fn fetch_into<'m, K, I: Source, O: Sink, R: Sink, E: Sink>(
-    job: &Job<'_, '_, 'm>,
-    repo: &mut Repo<&'m Scarce<Global>>,
+fn fetch_into<A: Allocator + Copy, K, I: Source, O: Sink, R: Sink, E: Sink>(
+    job: &Job<'_, '_, '_, A>,
+    repo: &mut Repo<A>,
     indexer: &K,
-    specs: &[Spec<&'m Scarce<Global>>],
+    specs: &[Spec<A>],
     devices: &mut Devices<I, O, R, E>,
 ) -> Result<Ran, Trouble>
 where
-    K: Indexer<&'m Scarce<Global>>,
+    K: Indexer<A>,
 {
     let fetched = converse(
         job,
@@ -119,13 +121,13 @@ where
 }
 
 // Fetches, from the first line of a connection on, where it has one.
-fn converse<'m, K: Indexer<&'m Scarce<Global>>, I: Source, O: Sink>(
-    job: &Job<'_, '_, 'm>,
-    repo: &mut Repo<&'m Scarce<Global>>,
+fn converse<A: Allocator + Copy, K: Indexer<A>, I: Source, O: Sink>(
+    job: &Job<'_, '_, '_, A>,
+    repo: &mut Repo<A>,
     indexer: &K,
-    specs: &[Spec<&'m Scarce<Global>>],
+    specs: &[Spec<A>],
     (input, output): (&mut I, &mut O),
-) -> Result<Fetched<&'m Scarce<Global>>, FetchFault<&'m Scarce<Global>>> {
+) -> Result<Fetched<A>, FetchFault<A>> {
     let limit = limit_of(job.command.limit);
     let ends = job.command.ends;
     if !job.command.has_hello() {
@@ -141,16 +143,20 @@ fn converse<'m, K: Indexer<&'m Scarce<Global>>, I: Source, O: Sink>(
     fetch_git(repo, input, output, indexer, &fetch)
 }
 
-fn failed<'m, E: Sink>(job: &Job<'_, '_, 'm>, fault: Failed<'m>, errors: &mut E) -> Ran {
+fn failed<A: Allocator + Copy, E: Sink>(
+    job: &Job<'_, '_, '_, A>,
+    fault: ProgramFault<A>,
+    errors: &mut E,
+) -> Ran {
     let status = cmd_failed(fault, errors);
     ran_without_file(job, status)
 }
 
 // Ends a fetch that met a fault. The file stays, and the repository is shown as it is.
-fn give_up<'m, E: Sink>(
-    job: &Job<'_, '_, 'm>,
-    repo: &Repo<&'m Scarce<Global>>,
-    fault: FetchFault<&'m Scarce<Global>>,
+fn give_up<A: Allocator + Copy, E: Sink>(
+    job: &Job<'_, '_, '_, A>,
+    repo: &Repo<A>,
+    fault: FetchFault<A>,
     errors: &mut E,
 ) -> Result<Ran, Trouble> {
     let mut ran = failed(job, ProgramFault::Fetch(fault), errors);
@@ -160,10 +166,10 @@ fn give_up<'m, E: Sink>(
 
 // Ends a fetch that settled the refs: makes the new text of the file, and reports. Where no memory is left for the text, the
 // refs here have moved, and the file stays.
-fn conclude<'m, R: Sink, E: Sink>(
-    job: &Job<'_, '_, 'm>,
-    repo: &Repo<&'m Scarce<Global>>,
-    fetched: &Fetched<&'m Scarce<Global>>,
+fn conclude<A: Allocator + Copy, R: Sink, E: Sink>(
+    job: &Job<'_, '_, '_, A>,
+    repo: &Repo<A>,
+    fetched: &Fetched<A>,
     report: &mut R,
     errors: &mut E,
 ) -> Result<Ran, Trouble> {
@@ -180,30 +186,27 @@ fn conclude<'m, R: Sink, E: Sink>(
 }
 
 // Reports, and answers the exit status.
-fn tell<'m, R: Sink, E: Sink>(
-    job: &Job<'_, '_, 'm>,
-    fetched: &Fetched<&'m Scarce<Global>>,
+fn tell<A: Allocator + Copy, R: Sink, E: Sink>(
+    job: &Job<'_, '_, '_, A>,
+    fetched: &Fetched<A>,
     report: &mut R,
     errors: &mut E,
 ) -> Result<u8, Trouble> {
     let text = report_of(job.alloc, fetched)?;
-    let outcome: Result<(), Failed<'m>> = send_text(text.as_slice(), report);
+    let outcome: Result<(), ProgramFault<A>> = send_text(text.as_slice(), report);
     Ok(finish(outcome, errors))
 }
 
-fn text_of<'m>(
-    memory: &'m Scarce<Global>,
-    repo: &Repo<&'m Scarce<Global>>,
-) -> Result<Vec<u8, &'m Scarce<Global>>, SaveFault> {
+fn text_of<A: Allocator + Copy>(memory: A, repo: &Repo<A>) -> Result<Vec<u8, A>, SaveFault> {
     save(memory, repo.graph(), repo.refs(), &Head::None)
 }
 
 // The text of the repository as it is, in memory that does not end. No allocation is refused from now on.
-fn state_of<'m>(
-    job: &Job<'_, '_, 'm>,
-    repo: &Repo<&'m Scarce<Global>>,
+fn state_of<A: Allocator + Copy>(
+    job: &Job<'_, '_, '_, A>,
+    repo: &Repo<A>,
 ) -> Result<Vec<u8>, Trouble> {
-    job.memory.refuse(0);
+    job.scarce.refuse(0);
     match text_of(job.memory, repo) {
         Ok(text) => Ok(Vec::from_slice(job.alloc, text.as_slice())?),
         Err(_) => Err(Trouble::Memory),

@@ -11,13 +11,15 @@ use gcmd::{
 use ggraph::PlainPack;
 use gpkt::{Sink, Source};
 use scarce::Scarce;
-use std::alloc::Global;
+use std::alloc::{Allocator, Global};
 
 /// What is run: a command, the text of its repository, what it reads, and the memory that it takes.
 #[derive(Clone, Copy)]
-pub struct Job<'b, 'i, 'm> {
+pub struct Job<'b, 'i, 'm, A: Allocator + Copy> {
     pub alloc: Global,
-    pub memory: &'m Scarce<Global>,
+    /// What the command takes its memory from, and what refuses an allocation of that.
+    pub memory: A,
+    pub scarce: &'m Scarce<Global>,
     pub watch: &'m Watch,
     pub command: Command<'b>,
     pub file: &'b [u8],
@@ -48,8 +50,8 @@ pub struct Devices<I, O, R, E> {
 }
 
 /// Runs a command that is no simulation.
-pub fn run<I: Source, O: Sink, R: Sink, E: Sink>(
-    job: &Job<'_, '_, '_>,
+pub fn run<A: Allocator + Copy, I: Source, O: Sink, R: Sink, E: Sink>(
+    job: &Job<'_, '_, '_, A>,
     devices: &mut Devices<I, O, R, E>,
 ) -> Result<Ran, Trouble> {
     match job.command.program {
@@ -59,21 +61,21 @@ pub fn run<I: Source, O: Sink, R: Sink, E: Sink>(
     }
 }
 
-fn list_prefixes<I: Source, O: Sink, R: Sink, E: Sink>(
-    job: &Job<'_, '_, '_>,
+fn list_prefixes<A: Allocator + Copy, I: Source, O: Sink, R: Sink, E: Sink>(
+    job: &Job<'_, '_, '_, A>,
     devices: &mut Devices<I, O, R, E>,
 ) -> Result<Ran, Trouble> {
     let words = words_of(job.memory, job.command.specs)?;
-    job.memory.refuse(job.refused);
+    job.scarce.refuse(job.refused);
     let status = list_refs(job, words.as_slice(), devices);
     Ok(ran_without_file(job, status))
 }
 
-fn run_without_words<I: Source, O: Sink, R: Sink, E: Sink>(
-    job: &Job<'_, '_, '_>,
+fn run_without_words<A: Allocator + Copy, I: Source, O: Sink, R: Sink, E: Sink>(
+    job: &Job<'_, '_, '_, A>,
     devices: &mut Devices<I, O, R, E>,
 ) -> Ran {
-    job.memory.refuse(job.refused);
+    job.scarce.refuse(job.refused);
     let status = match job.command.liar {
         Some(liar) => serve_with(job, liar, devices),
         None => run_plainly(job, devices),
@@ -82,18 +84,18 @@ fn run_without_words<I: Source, O: Sink, R: Sink, E: Sink>(
 }
 
 /// What a command left that has no file to be written.
-pub fn ran_without_file(job: &Job<'_, '_, '_>, status: u8) -> Ran {
+pub fn ran_without_file<A: Allocator + Copy>(job: &Job<'_, '_, '_, A>, status: u8) -> Ran {
     Ran {
         status,
         file: None,
         state: None,
-        was_refused: !job.memory.is_due(),
+        was_refused: !job.scarce.is_due(),
     }
 }
 
 // Runs a command that leaves its file as it is.
-fn run_plainly<I: Source, O: Sink, R: Sink, E: Sink>(
-    job: &Job<'_, '_, '_>,
+fn run_plainly<A: Allocator + Copy, I: Source, O: Sink, R: Sink, E: Sink>(
+    job: &Job<'_, '_, '_, A>,
     devices: &mut Devices<I, O, R, E>,
 ) -> u8 {
     match job.command.program {
@@ -105,8 +107,8 @@ fn run_plainly<I: Source, O: Sink, R: Sink, E: Sink>(
     }
 }
 
-fn list<I: Source, O: Sink, R: Sink, E: Sink>(
-    job: &Job<'_, '_, '_>,
+fn list<A: Allocator + Copy, I: Source, O: Sink, R: Sink, E: Sink>(
+    job: &Job<'_, '_, '_, A>,
     devices: &mut Devices<I, O, R, E>,
 ) -> u8 {
     cmd_ls(
@@ -118,8 +120,8 @@ fn list<I: Source, O: Sink, R: Sink, E: Sink>(
     )
 }
 
-fn upload<I: Source, O: Sink, R: Sink, E: Sink>(
-    job: &Job<'_, '_, '_>,
+fn upload<A: Allocator + Copy, I: Source, O: Sink, R: Sink, E: Sink>(
+    job: &Job<'_, '_, '_, A>,
     devices: &mut Devices<I, O, R, E>,
 ) -> u8 {
     cmd_upload(
@@ -132,8 +134,8 @@ fn upload<I: Source, O: Sink, R: Sink, E: Sink>(
     )
 }
 
-fn check<I: Source, O: Sink, R: Sink, E: Sink>(
-    job: &Job<'_, '_, '_>,
+fn check<A: Allocator + Copy, I: Source, O: Sink, R: Sink, E: Sink>(
+    job: &Job<'_, '_, '_, A>,
     devices: &mut Devices<I, O, R, E>,
 ) -> u8 {
     cmd_check(
@@ -144,8 +146,8 @@ fn check<I: Source, O: Sink, R: Sink, E: Sink>(
     )
 }
 
-fn show<I: Source, O: Sink, R: Sink, E: Sink>(
-    job: &Job<'_, '_, '_>,
+fn show<A: Allocator + Copy, I: Source, O: Sink, R: Sink, E: Sink>(
+    job: &Job<'_, '_, '_, A>,
     devices: &mut Devices<I, O, R, E>,
 ) -> u8 {
     cmd_lines(
@@ -156,21 +158,21 @@ fn show<I: Source, O: Sink, R: Sink, E: Sink>(
     )
 }
 
-fn fetch<I: Source, O: Sink, R: Sink, E: Sink>(
-    job: &Job<'_, '_, '_>,
+fn fetch<A: Allocator + Copy, I: Source, O: Sink, R: Sink, E: Sink>(
+    job: &Job<'_, '_, '_, A>,
     devices: &mut Devices<I, O, R, E>,
 ) -> Result<Ran, Trouble> {
     let words = words_of(job.memory, job.command.specs)?;
-    job.memory.refuse(job.refused);
+    job.scarce.refuse(job.refused);
     match specs_of(job.memory, words.as_slice()) {
         Ok(specs) => fetch_by(job, specs.as_slice(), devices),
         Err(fault) => Ok(ran_without_file(job, cmd_failed(fault, &mut devices.errors))),
     }
 }
 
-fn fetch_by<'m, I: Source, O: Sink, R: Sink, E: Sink>(
-    job: &Job<'_, '_, 'm>,
-    specs: &[Spec<&'m Scarce<Global>>],
+fn fetch_by<A: Allocator + Copy, I: Source, O: Sink, R: Sink, E: Sink>(
+    job: &Job<'_, '_, '_, A>,
+    specs: &[Spec<A>],
     devices: &mut Devices<I, O, R, E>,
 ) -> Result<Ran, Trouble> {
     match job.command.liar {
@@ -180,9 +182,9 @@ fn fetch_by<'m, I: Source, O: Sink, R: Sink, E: Sink>(
     }
 }
 
-fn fetch_plainly<'m, I: Source, O: Sink, R: Sink, E: Sink>(
-    job: &Job<'_, '_, 'm>,
-    specs: &[Spec<&'m Scarce<Global>>],
+fn fetch_plainly<A: Allocator + Copy, I: Source, O: Sink, R: Sink, E: Sink>(
+    job: &Job<'_, '_, '_, A>,
+    specs: &[Spec<A>],
     devices: &mut Devices<I, O, R, E>,
 ) -> Result<Ran, Trouble> {
     let run = fetch_file(job, specs, devices);
@@ -191,11 +193,11 @@ fn fetch_plainly<'m, I: Source, O: Sink, R: Sink, E: Sink>(
     Ok(ran)
 }
 
-fn fetch_file<'m, I: Source, O: Sink, R: Sink, E: Sink>(
-    job: &Job<'_, '_, 'm>,
-    specs: &[Spec<&'m Scarce<Global>>],
+fn fetch_file<A: Allocator + Copy, I: Source, O: Sink, R: Sink, E: Sink>(
+    job: &Job<'_, '_, '_, A>,
+    specs: &[Spec<A>],
     devices: &mut Devices<I, O, R, E>,
-) -> FetchRun<&'m Scarce<Global>> {
+) -> FetchRun<A> {
     cmd_fetch(
         job.memory,
         job.file,
@@ -218,9 +220,9 @@ pub fn limit_of(limit: usize) -> PackLimit {
 }
 
 // A text in memory that does not end.
-fn copied(
+fn copied<A: Allocator + Copy>(
     alloc: Global,
-    text: &Option<Vec<u8, &Scarce<Global>>>,
+    text: &Option<Vec<u8, A>>,
 ) -> Result<Option<Vec<u8>>, Trouble> {
     match text {
         Some(text) => Ok(Some(Vec::from_slice(alloc, text.as_slice())?)),

@@ -3,13 +3,12 @@
 use cases::Trouble;
 use gclient::{Fetched, RefUpdate};
 use gname::{MAX_ID_TEXT, Oid, RefName};
-use scarce::Scarce;
-use std::alloc::Global;
+use std::alloc::{Allocator, Global};
 
 /// A line for each ref that was asked for, of what became of it, and one of where an unborn HEAD of the server points.
-pub(crate) fn report_of(
+pub(crate) fn report_of<A: Allocator + Copy>(
     alloc: Global,
-    fetched: &Fetched<&Scarce<Global>>,
+    fetched: &Fetched<A>,
 ) -> Result<Vec<u8>, Trouble> {
     let mut text = Vec::new(alloc);
     let updates = fetched.settled.updates.as_slice();
@@ -24,10 +23,10 @@ pub(crate) fn report_of(
     Ok(text)
 }
 
-fn add_update(
+fn add_update<A: Allocator + Copy>(
     text: &mut Vec<u8>,
     update: RefUpdate,
-    name: &RefName<&Scarce<Global>>,
+    name: &RefName<A>,
     id: Oid,
 ) -> Result<(), Trouble> {
     let mut digits = [b' '; MAX_ID_TEXT];
@@ -40,10 +39,10 @@ fn add_update(
 }
 
 // A line of a word, a name and perhaps an id.
-fn add_line(
+fn add_line<A: Allocator + Copy>(
     text: &mut Vec<u8>,
     word: &[u8],
-    name: &RefName<&Scarce<Global>>,
+    name: &RefName<A>,
     id: &[u8],
 ) -> Result<(), Trouble> {
     text.extend_from_slice(word)?;
