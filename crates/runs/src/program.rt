@@ -211,7 +211,7 @@ fn fetch_file<A: Allocator + Copy, I: Source, O: Sink, R: Sink, E: Sink>(
     )
 }
 
-/// The limit of a pack, which is the greatest where this one is too large.
+/// The limit of a pack, or that of a fetch that asks for none where this one is too large.
 pub fn limit_of(limit: usize) -> PackLimit {
     match PackLimit::new(limit) {
         Some(limit) => limit,
