@@ -74,8 +74,8 @@ impl<'a> Case<'a> {
         match word {
             "run" => self.runs.push(rest)?,
             "file" => self.file = Some(rest),
-            "packer" => self.liar = Liar::packer(rest),
-            "indexer" => self.liar = Liar::indexer(rest),
+            "packer" => self.liar = Some(Liar::packer(rest).ok_or(Trouble::NoLiar)?),
+            "indexer" => self.liar = Some(Liar::indexer(rest).ok_or(Trouble::NoLiar)?),
             "long" => self.is_long = true,
             "deep" => self.is_deep = true,
             "plain" => self.is_plain = true,

@@ -18,6 +18,8 @@ pub enum Trouble {
     UnknownLine,
     /// No program has this name.
     UnknownProgram,
+    /// No packer or indexer has this name.
+    NoLiar,
     /// A limit is no number.
     BadLimit,
     /// The text that a fact names is no repository.
@@ -42,6 +44,7 @@ impl Trouble {
             Trouble::NoRow => "there is no row yet",
             Trouble::UnknownLine => "no line begins so",
             Trouble::UnknownProgram => "no program has this name",
+            Trouble::NoLiar => "no packer or indexer has this name",
             Trouble::BadLimit => "the limit is no number",
             Trouble::NoGraph => "the graph is no repository",
             Trouble::NoId => "a word is no id",

@@ -5,7 +5,7 @@ use Rattle.std.proofs.Common.{length, Option, Some, None, arith}
 use Rattle.gpkt.specs.Packets.{Packet, Data, Flush, SpellsAll}
 use Rattle.gname.specs.declared.formats.Format.{Format}
 use Rattle.gname.specs.declared.formats.Format.TheVariants.{Sha1, Sha256}
-use Rattle.ggrammar.specs.Grammar.{Judge, Verdict, Open, Whole, Refused}
+use Rattle.ggrammar.specs.Grammar.{Judge, Open, Whole, Refused}
 use Rattle.ggrammar.specs.PeerErrors.{after_word}
 use Rattle.ggrammar.specs.declared.fault.Why.TheVariants.{Format as WrongFormat}
 use Rattle.grequest.specs.Arguments.{command_form}

@@ -15,8 +15,8 @@ use Rattle.gname.specs.declared.formats.Format.TheVariants.{Sha1, Sha256}
 use Rattle.ggrammar.specs.Ids.{id_of_text}
 use Rattle.grequest.specs.declared.command.Command.{Command}
 use Rattle.grequest.specs.declared.command.Command.TheVariants.{LsRefs, Fetch}
-use Rattle.grequest.specs.Arguments.{command_name, CapabilityForm, Agent, ObjectFormat, UnknownCapability}
-use Rattle.grequest.specs.Arguments.{BadCapability, capability_form, LsArgument, RefPrefix, UnknownLsArgument}
+use Rattle.grequest.specs.Arguments.{command_name, CapabilityForm, Agent, ObjectFormat}
+use Rattle.grequest.specs.Arguments.{capability_form, LsArgument, RefPrefix, UnknownLsArgument}
 use Rattle.grequest.specs.Arguments.{ls_argument, FetchArgument, Want, Have, UnknownFetchArgument, fetch_argument}
 use Rattle.grequest.specs.Asked.{Asked, Empty, max_prefixes, max_wants, max_haves, max_arguments}
 use Rattle.grequest.specs.RequestLines.{agents, formats, prefixes, wants, haves, asked_by_command}

@@ -309,12 +309,8 @@ impl<A: Allocator + Copy> FetchRequest<A> {
             }) result }
     {
         let has_room = self.wants.len() < MAX_WANTS;
-        match keep_id(self.format, &mut self.wants, has_room, id) {
-            Ok(()) => Ok(()),
-            Err(NotKept::WrongForm) => Err(MessageFault::of_value(Why::BadText)),
-            Err(NotKept::NoRoom) => Err(MessageFault::of_value(Why::Limit)),
-            Err(NotKept::NoMemory) => Err(MessageFault::of_value(Why::Memory)),
-        }
+        keep_id(self.format, &mut self.wants, has_room, id)?;
+        Ok(())
     }
 
     /// Adds a have after the others.
@@ -330,12 +326,8 @@ impl<A: Allocator + Copy> FetchRequest<A> {
             }) result }
     {
         let has_room = self.haves.len() < MAX_HAVES;
-        match keep_id(self.format, &mut self.haves, has_room, id) {
-            Ok(()) => Ok(()),
-            Err(NotKept::WrongForm) => Err(MessageFault::of_value(Why::BadText)),
-            Err(NotKept::NoRoom) => Err(MessageFault::of_value(Why::Limit)),
-            Err(NotKept::NoMemory) => Err(MessageFault::of_value(Why::Memory)),
-        }
+        keep_id(self.format, &mut self.haves, has_room, id)?;
+        Ok(())
     }
 
     // Keeps the client's name for itself.
@@ -385,15 +377,10 @@ impl<A: Allocator + Copy> FetchRequest<A> {
         ensures format { self.new.format ≡ self.old.format }
     {
         let has_room = arguments < MAX_ARGUMENTS && self.wants.len() < MAX_WANTS;
-        match id_in(self.format, text) {
-            None => Err(Why::BadId),
-            Some(id) => match keep_id(self.format, &mut self.wants, has_room, id) {
-                Ok(()) => Ok(()),
-                Err(NotKept::WrongForm) => Err(Why::BadId),
-                Err(NotKept::NoRoom) => Err(Why::Limit),
-                Err(NotKept::NoMemory) => Err(Why::Memory),
-            },
-        }
+        let Some(id) = id_in(self.format, text) else {
+            return Err(Why::BadId);
+        };
+        keep_id(self.format, &mut self.wants, has_room, id).map_err(|reason| reason.why(Why::BadId))
     }
 
     fn take_have(&mut self, arguments: u32, text: &[u8]) -> Result<(), Why>
@@ -407,15 +394,10 @@ impl<A: Allocator + Copy> FetchRequest<A> {
         ensures format { self.new.format ≡ self.old.format }
     {
         let has_room = arguments < MAX_ARGUMENTS && self.haves.len() < MAX_HAVES;
-        match id_in(self.format, text) {
-            None => Err(Why::BadId),
-            Some(id) => match keep_id(self.format, &mut self.haves, has_room, id) {
-                Ok(()) => Ok(()),
-                Err(NotKept::WrongForm) => Err(Why::BadId),
-                Err(NotKept::NoRoom) => Err(Why::Limit),
-                Err(NotKept::NoMemory) => Err(Why::Memory),
-            },
-        }
+        let Some(id) = id_in(self.format, text) else {
+            return Err(Why::BadId);
+        };
+        keep_id(self.format, &mut self.haves, has_room, id).map_err(|reason| reason.why(Why::BadId))
     }
 }
 

@@ -1,9 +1,36 @@
 //! What is not added to a request, and why.
 
+ghost use Rattle.std.specs.Prelude.{◌≡◌};
+ghost use Rattle.grequest.specs.steps.Building.{build_fault, why_not_kept};
+
+use ggrammar::{MessageFault, Why};
+
 /// Why something is not added to a request: the first of these reasons.
 #[derive(Clone, Copy, Debug, PartialEq, Eq)]
 pub(crate) enum NotKept {
     WrongForm,
     NoRoom,
     NoMemory,
+}
+
+impl NotKept {
+    /// The reason as the grammar has it, which has its own for each wrong form.
+    pub(crate) fn why(self, wrong_form: Why) -> Why
+        ensures { result ≡ why_not_kept wrong_form self }
+    {
+        match self {
+            NotKept::WrongForm => wrong_form,
+            NotKept::NoRoom => Why::Limit,
+            NotKept::NoMemory => Why::Memory,
+        }
+    }
+}
+
+impl From<NotKept> for MessageFault {
+    ghost from_gives = { λ reason fault. fault ≡ build_fault reason };
+
+    /// The fault of a call that builds a request.
+    fn from(reason: NotKept) -> MessageFault {
+        MessageFault::of_value(reason.why(Why::BadText))
+    }
 }

@@ -217,12 +217,8 @@ impl<A: Allocator + Copy> LsRefsRequest<A> {
             result }
     {
         let has_room = self.prefixes.len() < MAX_PREFIXES;
-        match self.keep_prefix(has_room, prefix) {
-            Ok(()) => Ok(()),
-            Err(NotKept::WrongForm) => Err(MessageFault::of_value(Why::BadText)),
-            Err(NotKept::NoRoom) => Err(MessageFault::of_value(Why::Limit)),
-            Err(NotKept::NoMemory) => Err(MessageFault::of_value(Why::Memory)),
-        }
+        self.keep_prefix(has_room, prefix)?;
+        Ok(())
     }
 
     // Keeps the client's name for itself.
@@ -281,11 +277,7 @@ impl<A: Allocator + Copy> LsRefsRequest<A> {
         ensures room { OnOk result (arguments < max_arguments) }
     {
         let has_room = arguments < MAX_ARGUMENTS && self.prefixes.len() < MAX_PREFIXES;
-        match self.keep_prefix(has_room, prefix) {
-            Ok(()) => Ok(()),
-            Err(NotKept::WrongForm) => Err(Why::BadName),
-            Err(NotKept::NoRoom) => Err(Why::Limit),
-            Err(NotKept::NoMemory) => Err(Why::Memory),
-        }
+        self.keep_prefix(has_room, prefix)
+            .map_err(|reason| reason.why(Why::BadName))
     }
 }

@@ -1,6 +1,9 @@
 -- The steps of building a request, and of comparing two: what is kept of something that is added, and which parts are
 -- the same.
 use Rattle.std.specs.Prelude.{◌≡◌, Bool, true, false, Result, Ok, Err}
+use Rattle.ggrammar.specs.declared.fault.MessageFault.{MessageFault}
+use Rattle.ggrammar.specs.declared.fault.Why.{Why}
+use Rattle.ggrammar.specs.declared.fault.Why.TheVariants as why
 use Rattle.grequest.specs.declared.kept.NotKept.{NotKept}
 use Rattle.grequest.specs.declared.kept.NotKept.TheVariants as not_kept
 use Rattle.grequest.specs.Asked.{FetchAsked}
@@ -17,3 +20,13 @@ KeepsAs well_formed has_room old new built (Err not_kept.NoRoom) =
     (well_formed ≡ true) × (has_room ≡ false) × (new ≡ old)
 KeepsAs well_formed has_room old new built (Err not_kept.NoMemory) =
     (well_formed ≡ true) × (has_room ≡ true) × (new ≡ old)
+
+-- the reason as the grammar has it, with its own for the wrong form
+abbrev pub why_not_kept : Why → NotKept → Why
+why_not_kept wrong_form not_kept.WrongForm = wrong_form
+why_not_kept wrong_form not_kept.NoRoom = why.Limit
+why_not_kept wrong_form not_kept.NoMemory = why.Memory
+
+-- the fault of a call that builds a request
+abbrev pub build_fault : NotKept → MessageFault
+build_fault reason = record { frame = 0; why = why_not_kept why.BadText reason }

@@ -1,14 +1,14 @@
--- The steps of reading a request: what a packet that is taken adds to what the packets before it come to, where a request
--- stands that has one of its sections open, what is kept of the packets so far, and what is answered.
+-- The steps of reading a request: what a packet that is taken adds to what the packets before it come to, where a
+-- request stands that has one of its sections open, what is kept of the packets so far, and what is answered.
 use Rattle.std.specs.Prelude.{◌+◌, true, [], ◌∷◌, ◌++◌, Some, ◌≡◌, ℕ, Bool, false, List}
 use Rattle.std.specs.Option.{option_to_list}
-use Rattle.gpkt.specs.Packets.{Bytes, Packet, Data, Flush, Delim, ResponseEnd, text}
+use Rattle.gpkt.specs.Packets.{Bytes, Packet, Data, Delim, text}
 use Rattle.gname.specs.declared.formats.Format.{Format}
 use Rattle.ggrammar.specs.Ids.{id_of_text}
 use Rattle.grequest.specs.declared.command.CommandForm.{CommandForm}
-use Rattle.grequest.specs.declared.command.CommandForm.TheVariants.{Known, Unknown as UnknownCommand, Bad as BadCommand}
-use Rattle.grequest.specs.Arguments.{command_form, CapabilityForm, Agent, ObjectFormat, UnknownCapability}
-use Rattle.grequest.specs.Arguments.{BadCapability, capability_form, LsArgument, KnownLsFlag, RefPrefix}
+use Rattle.grequest.specs.declared.command.CommandForm.TheVariants.{Known}
+use Rattle.grequest.specs.Arguments.{command_form, CapabilityForm, Agent, ObjectFormat}
+use Rattle.grequest.specs.Arguments.{capability_form, LsArgument, KnownLsFlag, RefPrefix}
 use Rattle.grequest.specs.Arguments.{UnknownLsArgument, ls_argument, FetchArgument, KnownFetchFlag, Want, Have}
 use Rattle.grequest.specs.Arguments.{UnknownFetchArgument, fetch_argument}
 use Rattle.grequest.specs.Asked.{LsRefsAsked, FetchAsked, Asked, Empty, Ls, Fetches, ls_with, fetch_with}
