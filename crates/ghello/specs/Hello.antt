@@ -10,7 +10,7 @@ use Rattle.std.specs.Prelude.{◌≡◌, ℕ, Bool, true, false, ◌&&◌, IsTru
 use Rattle.std.specs.Prelude.{nat_le, if◌then◌else◌, Option, Some, None, is_some, Result, Ok, Err}
 use Rattle.std.specs.List.{list_all, slice_split, starts_with}
 use Rattle.std.specs.Str.{bytes_eq}
-use Rattle.gpkt.specs.Packets.{Bytes, Packet, Data, Flush, Delim, ResponseEnd}
+use Rattle.gpkt.specs.Packets.{Bytes, Packet, Data}
 use Rattle.ggrammar.specs.Grammar.{Verdict, Whole, Refused}
 use Rattle.ggrammar.specs.Capabilities.{is_graphic, is_printable}
 use Rattle.ggrammar.specs.PeerErrors.{after_word}
