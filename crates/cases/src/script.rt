@@ -110,7 +110,7 @@ impl<'a> Script<'a> {
             self.take_line(alloc, line)?;
         }
         self.open = Open::Nothing;
-        Ok(())
+        self.end_case()
     }
 
     /// The text of this name; none has the empty name.
@@ -261,7 +261,16 @@ impl<'a> Script<'a> {
         times
     }
 
+    // Each case names a program that it is run through.
+    fn end_case(&self) -> Result<(), Trouble> {
+        match self.cases.last() {
+            Some(case) if case.runs.is_empty() => Err(Trouble::NoRun),
+            _ => Ok(()),
+        }
+    }
+
     fn begin_case(&mut self, alloc: Global, name: &'a str) -> Result<(), Trouble> {
+        self.end_case()?;
         self.times = 1;
         self.is_skipped = self.is_for_others();
         if self.is_skipped {

@@ -14,6 +14,8 @@ pub enum Trouble {
     NoName,
     /// A line of a row stands before the first row.
     NoRow,
+    /// A row is run through no program.
+    NoRun,
     /// No line begins so.
     UnknownLine,
     /// No program has this name.
@@ -42,6 +44,7 @@ impl Trouble {
             Trouble::OpenBrace => "a brace is not closed",
             Trouble::NoName => "no text or talk has this name",
             Trouble::NoRow => "there is no row yet",
+            Trouble::NoRun => "the row before names no program",
             Trouble::UnknownLine => "no line begins so",
             Trouble::UnknownProgram => "no program has this name",
             Trouble::NoLiar => "no packer or indexer has this name",
