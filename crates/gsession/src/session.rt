@@ -55,43 +55,17 @@ pub struct Session<A: Allocator + Copy = Global> {
 }
 
 impl<A: Allocator + Copy> Model for Session<A> {
-    ghost use Rattle.std.specs.Prelude.{IfSome, option_map};
-    ghost use Rattle.grequest.specs.RequestValues.{IsOfFormat, asked_by_request};
+    ghost use Rattle.std.specs.Prelude.{IfSome};
+    ghost use Rattle.grequest.specs.RequestValues.{IsOfFormat};
     ghost use Rattle.gsession.specs.Sessions.{SessionState, IsSession};
 
     ghost Value = { SessionState A };
 
-    ghost view = { λ it. record {
-      format = it.format;
-      refspecs = it.refspecs.items;
-      limit = it.limit;
-      ends = it.ends;
-      tips = it.tips.items;
-      offers_unborn = it.offers_unborn;
-      stage = it.stage;
-      pending = option_map asked_by_request it.pending;
-      asks = it.asks;
-      wants = it.wants.items;
-      commons = it.commons.items;
-      sent = it.sent.items;
-      rounds = it.rounds;
-    } };
+    ghost use Rattle.gsession.specs.steps.Fields.{session_of};
 
-    ghost invariant = { λ it. (IsSession (record {
-      format = it.format;
-      refspecs = it.refspecs.items;
-      limit = it.limit;
-      ends = it.ends;
-      tips = it.tips.items;
-      offers_unborn = it.offers_unborn;
-      stage = it.stage;
-      pending = option_map asked_by_request it.pending;
-      asks = it.asks;
-      wants = it.wants.items;
-      commons = it.commons.items;
-      sent = it.sent.items;
-      rounds = it.rounds;
-    })) × IfSome it.pending (IsOfFormat it.format) };
+    ghost view = { session_of };
+
+    ghost invariant = { λ it. IsSession (session_of it) × IfSome it.pending (IsOfFormat it.format) };
 }
 
 impl<A: Allocator + Copy> Session<A> {
