@@ -145,10 +145,10 @@ fn play_over_std<A: Allocator + Copy>(
     job: &Job<'_, '_, '_, A>,
     trial: Trial,
 ) -> Result<Played, Trouble> {
-    let mut input = AsStd::new(Reader::new(job.input, trial.read, job.watch));
-    let mut output = AsStd::new(Writer::new(job.alloc, trial.write));
-    let mut report = AsStd::new(Writer::new(job.alloc, trial.report));
-    let mut errors = AsStd::new(Writer::new(job.alloc, trial.errors));
+    let mut input = AsStd::new(Reader::new(job.input, trial.read, job.watch), trial.read);
+    let mut output = AsStd::new(Writer::new(job.alloc, trial.write), trial.write);
+    let mut report = AsStd::new(Writer::new(job.alloc, trial.report), trial.report);
+    let mut errors = AsStd::new(Writer::new(job.alloc, trial.errors), trial.errors);
     let mut devices = Devices {
         input: FromRead::new(&mut input),
         output: ToWrite::new(&mut output),

@@ -43,7 +43,7 @@ struct Turns {
     hindrance: Hindrance,
     calls: usize,
     down: bool,
-    // Whether there was a call after the one that failed.
+    // Whether there was a call after the one that failed, or a read of no bytes.
     again: bool,
 }
 
@@ -96,7 +96,7 @@ impl<'a, 'w> Reader<'a, 'w> {
         self.turns.down
     }
 
-    /// Whether it was called after it had failed.
+    /// Whether it was called after it had failed, or for no bytes.
     pub fn was_called_again(&self) -> bool {
         self.turns.again
     }
@@ -110,6 +110,7 @@ impl Source for Reader<'_, '_> {
     ghost loans = { λ _. [] };
 
     fn read(&mut self, buf: &mut [u8]) -> Result<usize, Down> {
+        self.turns.again = self.turns.again || buf.is_empty();
         self.turns.take()?;
         let count = self
             .rest
@@ -191,50 +192,82 @@ impl Sink for Writer {
     }
 }
 
-/// One of std's readers or writers, which does what a device does. A failure is an interrupted call.
+// How one of std's readers or writers fails.
+#[derive(Clone, Copy)]
+enum Failure {
+    // Errors after which others try again, or which they take for the end.
+    Interrupted,
+    WouldBlock,
+    UnexpectedEof,
+    // A write takes none of the bytes.
+    TakesNone,
+}
+
+impl Failure {
+    // The failure of the call that fails so: they take turns.
+    fn of(hindrance: Hindrance) -> Failure {
+        match hindrance.fails_at % 4 {
+            0 => Failure::TakesNone,
+            1 => Failure::Interrupted,
+            2 => Failure::WouldBlock,
+            _ => Failure::UnexpectedEof,
+        }
+    }
+
+    fn error(self) -> io::Error {
+        match self {
+            Failure::Interrupted | Failure::TakesNone => io::Error::from(ErrorKind::Interrupted),
+            Failure::WouldBlock => io::Error::from(ErrorKind::WouldBlock),
+            Failure::UnexpectedEof => io::Error::from(ErrorKind::UnexpectedEof),
+        }
+    }
+}
+
+/// One of std's readers or writers, which does what a device does, and fails as those may.
 #[derive(Drop)]
 pub struct AsStd<D> {
     device: D,
+    failure: Failure,
 }
 
 impl<D> AsStd<D> {
-    /// Over this device.
-    pub fn new(device: D) -> AsStd<D> {
-        AsStd { device }
+    /// Over this device, which is hindered so.
+    pub fn new(device: D, hindrance: Hindrance) -> AsStd<D> {
+        AsStd {
+            device,
+            failure: Failure::of(hindrance),
+        }
     }
 
     /// The device, as the calls left it.
     pub fn into_inner(self) -> D {
-        let AsStd { device } = self;
+        let AsStd { device, failure: _ } = self;
         device
     }
-}
-
-fn interrupted() -> io::Error {
-    io::Error::from(ErrorKind::Interrupted)
 }
 
 impl<D: Source> Read for AsStd<D> {
     fn read(&mut self, buf: &mut [u8]) -> io::Result<usize> {
         match self.device.read(buf) {
             Ok(count) => Ok(count),
-            Err(_) => Err(interrupted()),
+            Err(_) => Err(self.failure.error()),
         }
     }
 }
 
 impl<D: Sink> Write for AsStd<D> {
     fn write(&mut self, buf: &[u8]) -> io::Result<usize> {
-        match self.device.write(buf) {
-            Ok(count) => Ok(count),
-            Err(_) => Err(interrupted()),
+        match (self.device.write(buf), self.failure) {
+            (Ok(count), _) => Ok(count),
+            (Err(_), Failure::TakesNone) => Ok(0),
+            (Err(_), failure) => Err(failure.error()),
         }
     }
 
     fn flush(&mut self) -> io::Result<()> {
         match self.device.flush() {
             Ok(()) => Ok(()),
-            Err(_) => Err(interrupted()),
+            Err(_) => Err(self.failure.error()),
         }
     }
 }
