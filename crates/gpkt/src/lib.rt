@@ -36,12 +36,12 @@
 //!
 //! - A device over std's readers and writers goes down only where these failed, or where a write took none
 //!   of some bytes; its flush is one flush of the writer.
-//! - Its call is made once and not tried again, of whatever kind its error is; a packet is read in
-//!   no more calls than it has bytes, and nothing is flushed before a push.
+//! - A call that failed is not tried again, of whatever kind its error is, and none asks for no bytes.
 //!
 //! # What the contracts do not rule out
 //!
-//! - A device that is always down; a source that gives a byte a call, and a sink that takes one.
+//! - A device that is always down; a source that gives a byte a call, and a sink that takes one; a device over std's
+//!   writers that flushes before it is asked to.
 //! - A buffer that is never made, and a constructor that reads before it fails.
 //! - A [`memory::Limited`] that hinders otherwise than it was asked, and a [`memory::VecSink`] that
 //!   counts no flush.
@@ -78,6 +78,3 @@ pub use crate::reading::LineReader;
 pub use crate::standard::{FromRead, ToWrite};
 pub use crate::text::text_of;
 pub use crate::writing::LineWriter;
-
-#[cfg(test)]
-mod tests;
