@@ -107,16 +107,27 @@ impl Forger {
     }
 
     fn add_pack(&mut self, bytes: &mut Vec<u8>) -> Result<(), Trouble> {
-        let mut pack = String::from_str(self.alloc, "GPK1\n")?;
         let count = self.dice.roll(5);
-        for _ in 0..count {
-            pack.push_str(self.entry()?.as_str())?;
-            pack.push('\n')?;
-        }
-        let end = format!(in self.alloc; "end {count}\n")?;
-        pack.push_str(end.as_str())?;
+        let entries = self.entries(count)?;
+        let entries = entries.as_str();
+        let pack = format!(in self.alloc; "GPK1\n{entries}end {count}\n")?;
         self.add_line("packfile", bytes)?;
-        let line = packet(self.alloc, b"\x01", pack.as_bytes(), b"")?;
+        self.add_piece(pack.as_bytes(), bytes)
+    }
+
+    // The lines of so many objects.
+    fn entries(&mut self, count: usize) -> Result<String, Trouble> {
+        let mut entries = String::new(self.alloc);
+        for _ in 0..count {
+            entries.push_str(self.entry()?.as_str())?;
+            entries.push('\n')?;
+        }
+        Ok(entries)
+    }
+
+    // A piece of a pack, in its channel.
+    fn add_piece(&self, pack: &[u8], bytes: &mut Vec<u8>) -> Result<(), Trouble> {
+        let line = packet(self.alloc, b"\x01", pack, b"")?;
         bytes.extend_from_slice(line.as_slice())?;
         Ok(())
     }

@@ -5,7 +5,7 @@
 
 use crate::chance::Chance;
 use crate::tools::Tools;
-use crate::world::{Files, events_of, is_whole, run, text_of, world_of};
+use crate::world::{Files, Refusal, events_of, is_whole, run, text_of, world_of};
 use cases::{Fact, Liar, Trouble, number_of};
 use gname::Format;
 use gworld::{Event, Outcome, World};
@@ -135,8 +135,10 @@ fn happen_in<A: Allocator + Copy>(
     scarce: &Scarce<Global>,
     setting: Setting<'_>,
 ) -> Result<Option<String>, Trouble> {
-    let mut world = world_of(memory, setting.files)?;
-    happen_to(alloc, memory, scarce, setting, &mut world)
+    match world_of(memory, setting.files) {
+        Ok(mut world) => happen_to(alloc, memory, scarce, setting, &mut world),
+        Err(trouble) => Err(trouble),
+    }
 }
 
 fn happen_to<A: Allocator + Copy>(
@@ -174,13 +176,6 @@ fn refused_number(chance: &mut Chance, is_scarce: bool) -> u64 {
     }
 }
 
-// Which allocation is refused; none where the number is 0.
-#[derive(Clone, Copy)]
-struct Refusal<'m> {
-    scarce: &'m Scarce<Global>,
-    number: u64,
-}
-
 // Does the event of a line; with memory, where it did not begin without.
 fn step<A: Allocator + Copy>(
     memory: A,
@@ -190,9 +185,9 @@ fn step<A: Allocator + Copy>(
     outcomes: &mut Vec<Outcome>,
 ) -> Result<(), Trouble> {
     let events = events_of(memory, line.as_bytes())?;
-    refusal.scarce.refuse(refusal.number);
+    refusal.begin();
     let is_done = run(world, events.as_slice(), outcomes)?;
-    refusal.scarce.refuse(0);
+    refusal.end();
     if !is_done {
         run(world, events.as_slice(), outcomes)?;
     }
@@ -233,9 +228,22 @@ fn run_whole<A: Allocator + Copy>(
     files: Files<'_>,
     log: &str,
 ) -> Result<String, Trouble> {
-    let events = events_of(memory, log.as_bytes())?;
-    let mut world = world_of(memory, files)?;
-    text_after(alloc, &mut world, events.as_slice())
+    match events_of(memory, log.as_bytes()) {
+        Ok(events) => text_in_world(alloc, memory, files, events.as_slice()),
+        Err(trouble) => Err(trouble),
+    }
+}
+
+fn text_in_world<A: Allocator + Copy>(
+    alloc: Global,
+    memory: A,
+    files: Files<'_>,
+    events: &[Event<A>],
+) -> Result<String, Trouble> {
+    match world_of(memory, files) {
+        Ok(mut world) => text_after(alloc, &mut world, events),
+        Err(trouble) => Err(trouble),
+    }
 }
 
 fn text_after<A: Allocator + Copy>(
@@ -254,18 +262,30 @@ fn never_came(
     outcomes: &[Outcome],
     has_rounds: bool,
 ) -> Result<Option<String>, Trouble> {
+    match first_missing(came_of(outcomes), has_rounds) {
+        Some(name) => Ok(Some(format!(in alloc; "never {name}")?)),
+        None => Ok(None),
+    }
+}
+
+// Which kinds of outcomes came.
+fn came_of(outcomes: &[Outcome]) -> [bool; 8] {
     let mut came = [false; 8];
     for outcome in outcomes {
         if let Some(mark) = came.get_mut(kind_of(*outcome)) {
             *mark = true;
         }
     }
+    came
+}
+
+fn first_missing(came: [bool; 8], has_rounds: bool) -> Option<&'static str> {
     for (mark, name) in came.iter().zip(KINDS) {
         if !*mark && (has_rounds || name != ROUND) {
-            return Ok(Some(format!(in alloc; "never {name}")?));
+            return Some(name);
         }
     }
-    Ok(None)
+    None
 }
 
 const KINDS: [&str; 8] = [

@@ -2,7 +2,9 @@
 //! time.
 
 use crate::tools::Tools;
-use crate::world::{Files, ends_of, events_of, is_out_of_memory, is_whole, run, text_of, world_of};
+use crate::world::{
+    Files, Refusal, ends_of, events_of, is_out_of_memory, is_whole, run, text_of, world_of,
+};
 use cases::Trouble;
 use gcmd::{ProgramFault, cmd_failed, send_text};
 use gpkt::Sink;
@@ -22,49 +24,67 @@ pub fn simulate_with<A: Allocator + Copy, O: Sink, E: Sink>(
     output: &mut O,
     errors: &mut E,
 ) -> Result<u8, Trouble> {
-    let mut world = match ends_of(memory, files) {
-        Ok(world) => world,
-        Err(fault) => return Ok(cmd_failed(fault, errors)),
-    };
-    match events_of(memory, files.scenario) {
-        Ok(events) => happen_to(alloc, &mut world, events.as_slice(), output, errors),
-        Err(_) => Ok(failed(errors)),
+    match ends_of(memory, files) {
+        Ok(mut world) => {
+            let text = text_in(alloc, memory, &mut world, files.scenario);
+            tell::<A, O, E>(text, output, errors)
+        }
+        Err(fault) => Ok(cmd_failed(fault, errors)),
     }
 }
 
-// The events happen to a world, and what came of them is shown.
-fn happen_to<A: Allocator + Copy, O: Sink, E: Sink>(
+// What comes of a scenario in a world; nothing where memory ends.
+fn text_in<A: Allocator + Copy>(
+    alloc: Global,
+    memory: A,
+    world: &mut World<Tools, A>,
+    scenario: &[u8],
+) -> Result<Option<String>, Trouble> {
+    match events_of(memory, scenario) {
+        Ok(events) => text_after(alloc, world, events.as_slice()),
+        Err(_) => Ok(None),
+    }
+}
+
+// What comes of events in a world; nothing where memory ends.
+fn text_after<A: Allocator + Copy>(
     alloc: Global,
     world: &mut World<Tools, A>,
     events: &[Event<A>],
+) -> Result<Option<String>, Trouble> {
+    let mut outcomes = Vec::new(alloc);
+    if !run(world, events, &mut outcomes)? {
+        return Ok(None);
+    }
+    Ok(Some(text_of(alloc, outcomes.as_slice(), &*world)?))
+}
+
+// Writes what came of a simulation, or that memory ended, and answers the exit status.
+fn tell<A: Allocator + Copy, O: Sink, E: Sink>(
+    text: Result<Option<String>, Trouble>,
     output: &mut O,
     errors: &mut E,
 ) -> Result<u8, Trouble> {
-    let mut outcomes = Vec::new(alloc);
-    if !run(world, events, &mut outcomes)? {
-        return Ok(failed(errors));
+    match text? {
+        Some(text) => Ok(shown::<A, O, E>(text.as_bytes(), output, errors)),
+        None => Ok(failed::<A, E>(NO_MEMORY, errors)),
     }
-    let text = text_of(alloc, outcomes.as_slice(), &*world)?;
-    Ok(shown(text.as_bytes(), output, errors))
 }
 
-fn failed<E: Sink>(errors: &mut E) -> u8 {
-    let _ = send(NO_MEMORY, errors);
+fn shown<A: Allocator + Copy, O: Sink, E: Sink>(text: &[u8], output: &mut O, errors: &mut E) -> u8 {
+    match send::<A, O>(text, output) {
+        Ok(()) => 0,
+        Err(_) => failed::<A, E>(WRITE_FAILED, errors),
+    }
+}
+
+fn failed<A: Allocator + Copy, E: Sink>(text: &[u8], errors: &mut E) -> u8 {
+    let _ = send::<A, E>(text, errors);
     1
 }
 
-fn shown<O: Sink, E: Sink>(text: &[u8], output: &mut O, errors: &mut E) -> u8 {
-    match send(text, output) {
-        Ok(()) => 0,
-        Err(_) => {
-            let _ = send(WRITE_FAILED, errors);
-            1
-        }
-    }
-}
-
 // Writes a text, and passes it on.
-fn send<O: Sink>(text: &[u8], output: &mut O) -> Result<(), ProgramFault> {
+fn send<A: Allocator + Copy, O: Sink>(text: &[u8], output: &mut O) -> Result<(), ProgramFault<A>> {
     send_text(text, output)
 }
 
@@ -104,34 +124,50 @@ fn agree(outcomes: &[Outcome], others: &[Outcome]) -> bool {
 /// done are run with memory in the same world.
 pub fn run_scarcely(alloc: Global, files: Files<'_>, refused: u64) -> Result<Happened, Trouble> {
     let memory = Scarce::new(alloc);
-    happen_scarcely(alloc, &memory, &memory, files, refused)
+    let refusal = Refusal {
+        scarce: &memory,
+        number: refused,
+    };
+    happen_scarcely(alloc, &memory, refusal, files)
 }
 
 fn happen_scarcely<A: Allocator + Copy>(
     alloc: Global,
     memory: A,
-    scarce: &Scarce<Global>,
+    refusal: Refusal<'_>,
     files: Files<'_>,
-    refused: u64,
 ) -> Result<Happened, Trouble> {
-    let events = events_of(memory, files.scenario)?;
-    let mut world = world_of(memory, files)?;
-    run_with_refusal(alloc, scarce, refused, &mut world, events.as_slice())
+    match events_of(memory, files.scenario) {
+        Ok(events) => happen_in_world(alloc, memory, refusal, files, events.as_slice()),
+        Err(trouble) => Err(trouble),
+    }
+}
+
+fn happen_in_world<A: Allocator + Copy>(
+    alloc: Global,
+    memory: A,
+    refusal: Refusal<'_>,
+    files: Files<'_>,
+    events: &[Event<A>],
+) -> Result<Happened, Trouble> {
+    match world_of(memory, files) {
+        Ok(mut world) => run_with_refusal(alloc, refusal, &mut world, events),
+        Err(trouble) => Err(trouble),
+    }
 }
 
 // The events happen to a world, the allocation of this number being refused.
 fn run_with_refusal<A: Allocator + Copy>(
     alloc: Global,
-    scarce: &Scarce<Global>,
-    refused: u64,
+    refusal: Refusal<'_>,
     world: &mut World<Tools, A>,
     events: &[Event<A>],
 ) -> Result<Happened, Trouble> {
     let mut outcomes = Vec::new(alloc);
-    scarce.refuse(refused);
+    refusal.begin();
     let is_done = run(world, events, &mut outcomes)?;
-    let was_refused = !scarce.is_due();
-    scarce.refuse(0);
+    let was_refused = !refusal.scarce.is_due();
+    refusal.end();
     let was_whole = is_whole(alloc, &*world)?;
     if !is_done {
         finish(world, events, &mut outcomes)?;
@@ -170,9 +206,22 @@ fn happen_one_by_one<A: Allocator + Copy>(
     memory: A,
     files: Files<'_>,
 ) -> Result<Happened, Trouble> {
-    let events = events_of(memory, files.scenario)?;
-    let mut world = world_of(memory, files)?;
-    run_in_steps(alloc, &mut world, events.as_slice())
+    match events_of(memory, files.scenario) {
+        Ok(events) => happen_in_steps(alloc, memory, files, events.as_slice()),
+        Err(trouble) => Err(trouble),
+    }
+}
+
+fn happen_in_steps<A: Allocator + Copy>(
+    alloc: Global,
+    memory: A,
+    files: Files<'_>,
+    events: &[Event<A>],
+) -> Result<Happened, Trouble> {
+    match world_of(memory, files) {
+        Ok(mut world) => run_in_steps(alloc, &mut world, events),
+        Err(trouble) => Err(trouble),
+    }
 }
 
 fn run_in_steps<A: Allocator + Copy>(

@@ -7,6 +7,7 @@ use gcmd::{ProgramFault, load_server, open_client};
 use ggraph::missing;
 use gname::Oid;
 use gworld::{Event, Outcome, RunFault, Scenario, ScenarioFault, World, WorldFault};
+use scarce::Scarce;
 use std::alloc::{Allocator, Global};
 
 /// The texts of the repositories of a world, and of the events that happen to it; its packer and indexer.
@@ -30,6 +31,25 @@ impl<'b> Files<'b> {
                 format: command.format,
             },
         }
+    }
+}
+
+/// Which allocation is refused; none where the number is 0.
+#[derive(Clone, Copy)]
+pub(crate) struct Refusal<'m> {
+    pub(crate) scarce: &'m Scarce<Global>,
+    pub(crate) number: u64,
+}
+
+impl Refusal<'_> {
+    /// From here on allocations are counted.
+    pub(crate) fn begin(&self) {
+        self.scarce.refuse(self.number);
+    }
+
+    /// From here on none is refused.
+    pub(crate) fn end(&self) {
+        self.scarce.refuse(0);
     }
 }
 
