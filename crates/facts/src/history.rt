@@ -6,8 +6,8 @@ use crate::text::loaded;
 use crate::told::told;
 use cases::{Fact, Trouble, id_text, number_of};
 use ggraph::{
-    Count, Entry, Graph, GraphFault, Order, Refs, common_ids, haves, missing, missing_counted,
-    reaches, ready, send_list, send_list_tags,
+    Count, Entry, Graph, GraphFault, Order, Refs, Repository, common_ids, haves, missing,
+    missing_counted, reaches, ready, send_list, send_list_tags,
 };
 use gname::{Format, Oid};
 use std::alloc::{Allocator, Global};
@@ -39,9 +39,18 @@ pub(crate) fn answer<A: Allocator + Copy>(
     file: &[u8],
     refusal: Refusal<'_>,
 ) -> Result<String, Trouble> {
-    let Ok(repository) = loaded(memory, file, Order::Any) else {
-        return Err(Trouble::NoGraph);
-    };
+    match loaded(memory, file, Order::Any) {
+        Ok(repository) => found_in(alloc, fact, &repository, refusal),
+        Err(_) => Err(Trouble::NoGraph),
+    }
+}
+
+fn found_in<A: Allocator + Copy>(
+    alloc: Global,
+    fact: &Fact<'_>,
+    repository: &Repository<A>,
+    refusal: Refusal<'_>,
+) -> Result<String, Trouble> {
     let asked = asked_of(alloc, fact.text.as_slice())?;
     refusal.begin();
     match look(&repository.graph, &repository.refs, fact.word, &asked) {

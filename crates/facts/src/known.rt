@@ -20,16 +20,24 @@ pub(crate) fn answer<A: Allocator + Copy>(
     file: &[u8],
     refusal: Refusal<'_>,
 ) -> Result<String, Trouble> {
-    let Ok(repository) = loaded(memory, file, Order::Any) else {
-        return Err(Trouble::NoGraph);
-    };
+    match loaded(memory, file, Order::Any) {
+        Ok(repository) => known_of(alloc, memory, fact, repository.graph, refusal),
+        Err(_) => Err(Trouble::NoGraph),
+    }
+}
+
+fn known_of<A: Allocator + Copy>(
+    alloc: Global,
+    memory: A,
+    fact: &Fact<'_>,
+    graph: Graph<A>,
+    refusal: Refusal<'_>,
+) -> Result<String, Trouble> {
     let asked = asked_of(alloc, fact.text.as_slice())?;
     let refs = refs_at(alloc, memory, tips_of(&asked, fact.word))?;
     refusal.begin();
-    match opened(repository.graph, refs) {
-        Ok(repo) => look(alloc, &repo, fact.word, asked.first.as_slice()),
-        Err(fault) => told(alloc, fault.code(), fault.name()),
-    }
+    let repo = opened(graph, refs);
+    look_in(alloc, &repo, fact.word, asked.first.as_slice())
 }
 
 fn opened<A: Allocator + Copy>(graph: Graph<A>, refs: Refs<A>) -> Result<Repo<A>, RepoFault<A>> {
@@ -63,6 +71,18 @@ fn refs_at<A: Allocator + Copy>(
         }
     }
     Ok(refs)
+}
+
+fn look_in<A: Allocator + Copy>(
+    alloc: Global,
+    repo: &Result<Repo<A>, RepoFault<A>>,
+    word: &str,
+    ids: &[Oid],
+) -> Result<String, Trouble> {
+    match repo {
+        Ok(repo) => look(alloc, repo, word, ids),
+        Err(fault) => told(alloc, fault.code(), fault.name()),
+    }
 }
 
 fn look<A: Allocator + Copy>(
