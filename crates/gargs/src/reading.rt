@@ -15,6 +15,14 @@ pub fn read_command(alloc: Global, words: &[String]) -> Option<Command> {
         return None;
     }
     let matches = parse(alloc, words)?;
+    command_of(alloc, &matches)
+}
+
+fn parse<'a>(alloc: Global, words: &'a [String]) -> Option<ArgMatches<'a>> {
+    program(alloc).ok()?.try_get_matches_from(words).ok()
+}
+
+fn command_of(alloc: Global, matches: &ArgMatches<'_>) -> Option<Command> {
     match matches.subcommand()? {
         ("check", check) => check_command(alloc, check),
         ("fetch", fetch) => fetch_command(alloc, fetch),
@@ -26,10 +34,6 @@ pub fn read_command(alloc: Global, words: &[String]) -> Option<Command> {
         ("upload", upload) => upload_command(alloc, upload),
         _ => None,
     }
-}
-
-fn parse<'a>(alloc: Global, words: &'a [String]) -> Option<ArgMatches<'a>> {
-    program(alloc).ok()?.try_get_matches_from(words).ok()
 }
 
 fn file_in(alloc: Global, matches: &ArgMatches<'_>) -> Option<String> {
@@ -46,17 +50,26 @@ fn check_command(alloc: Global, matches: &ArgMatches<'_>) -> Option<Command> {
 }
 
 fn fetch_command(alloc: Global, matches: &ArgMatches<'_>) -> Option<Command> {
-    let place = match way_of(matches, "stdio")? {
-        Way::Stdio => None,
-        Way::Tcp => Some(place_in(alloc, matches, "tcp")?),
-    };
+    let limit = limit_in(matches)?;
+    let ends = ends_in(matches);
+    let place = source_in(alloc, matches)?;
+    let file = file_in(alloc, matches)?;
+    let specs = words_in(alloc, matches, "spec").ok()?;
     Some(Command::Fetch(Fetch {
         place,
-        limit: limit_in(matches)?,
-        ends: ends_in(matches),
-        file: file_in(alloc, matches)?,
-        specs: words_in(alloc, matches, "spec").ok()?,
+        limit,
+        ends,
+        file,
+        specs,
     }))
+}
+
+// Where a fetch is from: a place, or `Some(None)` for standard input and standard output.
+fn source_in(alloc: Global, matches: &ArgMatches<'_>) -> Option<Option<Place>> {
+    match way_of(matches, "stdio")? {
+        Way::Stdio => Some(None),
+        Way::Tcp => Some(Some(place_in(alloc, matches, "tcp")?)),
+    }
 }
 
 // How a server is reached.
@@ -142,10 +155,10 @@ fn pair_command(alloc: Global, matches: &ArgMatches<'_>) -> Option<Command> {
 }
 
 fn serve_command(alloc: Global, matches: &ArgMatches<'_>) -> Option<Command> {
-    let place = place_in(alloc, matches, "listen")?;
     let connections = connections_of(matches.get_str("connections")?)?;
-    let file = file_in(alloc, matches)?;
     let ends = ends_in(matches);
+    let place = place_in(alloc, matches, "listen")?;
+    let file = file_in(alloc, matches)?;
     Some(Command::Serve(Serve {
         place,
         connections,

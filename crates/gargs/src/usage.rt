@@ -3,91 +3,96 @@
 use clap::{Arg, ArgAction, Command};
 use std::alloc::{AllocError, Global};
 
+// A word of a command, or several of them, under the name by which it is looked up once read.
+#[derive(Clone, Copy)]
+enum Word {
+    // `--NAME`
+    Flag(&'static str),
+    // `--NAME VALUE`
+    Valued(&'static str),
+    // A word that must be there.
+    One(&'static str),
+    // At least one word.
+    Many(&'static str),
+    // Any number of words.
+    Any(&'static str),
+}
+
+const FILE: Word = Word::One("file");
+
+const PATH: Word = Word::Valued("path");
+
+const RESPONSE_END: Word = Word::Flag("response-end");
+
+const SPECS: Word = Word::Many("spec");
+
+const TCP: Word = Word::Valued("tcp");
+
+// The commands, each with its words.
+const COMMANDS: &[(&str, &[Word])] = &[
+    ("check", &[FILE]),
+    ("lines", &[]),
+    (
+        "simulate",
+        &[FILE, Word::One("client"), Word::One("scenario")],
+    ),
+    ("upload", &[RESPONSE_END, FILE]),
+    (
+        "fetch",
+        &[
+            Word::Flag("stdio"),
+            TCP,
+            PATH,
+            Word::Valued("limit"),
+            RESPONSE_END,
+            FILE,
+            SPECS,
+        ],
+    ),
+    (
+        "ls",
+        &[Word::Flag("stdio-server"), TCP, PATH, Word::Any("word")],
+    ),
+    ("pair", &[FILE, Word::One("client"), SPECS]),
+    (
+        "serve",
+        &[
+            Word::Valued("listen"),
+            PATH,
+            Word::Valued("connections"),
+            RESPONSE_END,
+            FILE,
+        ],
+    ),
+];
+
 /// The program, with all of its commands.
 pub(crate) fn program<'a>(alloc: Global) -> Result<Command<'a>, AllocError> {
-    program_of_files(alloc)?
-        .subcommand(fetch_words(alloc)?)?
-        .subcommand(ls_words(alloc)?)?
-        .subcommand(pair_words(alloc)?)?
-        .subcommand(serve_words(alloc)?)
+    let mut program = Command::new(alloc, "gitv2");
+    for &(name, words) in COMMANDS {
+        program = program.subcommand(command(alloc, name, words)?)?;
+    }
+    Ok(program)
 }
 
-// The commands that open no connection.
-fn program_of_files<'a>(alloc: Global) -> Result<Command<'a>, AllocError> {
-    let check = Command::new(alloc, "check").arg(file(alloc))?;
-    let lines = Command::new(alloc, "lines");
-    Command::new(alloc, "gitv2")
-        .subcommand(check)?
-        .subcommand(lines)?
-        .subcommand(simulate_words(alloc)?)?
-        .subcommand(upload_words(alloc)?)
+fn command<'a>(
+    alloc: Global,
+    name: &'static str,
+    words: &[Word],
+) -> Result<Command<'a>, AllocError> {
+    let mut command = Command::new(alloc, name);
+    for &word in words {
+        command = command.arg(arg(alloc, word))?;
+    }
+    Ok(command)
 }
 
-fn fetch_words<'a>(alloc: Global) -> Result<Command<'a>, AllocError> {
-    Command::new(alloc, "fetch")
-        .arg(flag(alloc, "stdio"))?
-        .arg(valued(alloc, "tcp"))?
-        .arg(valued(alloc, "path"))?
-        .arg(valued(alloc, "limit"))?
-        .arg(flag(alloc, "response-end"))?
-        .arg(file(alloc))?
-        .arg(specs(alloc))
-}
-
-fn ls_words<'a>(alloc: Global) -> Result<Command<'a>, AllocError> {
-    Command::new(alloc, "ls")
-        .arg(flag(alloc, "stdio-server"))?
-        .arg(valued(alloc, "tcp"))?
-        .arg(valued(alloc, "path"))?
-        .arg(Arg::new(alloc, "word").num_args(0..))
-}
-
-fn pair_words<'a>(alloc: Global) -> Result<Command<'a>, AllocError> {
-    Command::new(alloc, "pair")
-        .arg(file(alloc))?
-        .arg(named(alloc, "client"))?
-        .arg(specs(alloc))
-}
-
-fn serve_words<'a>(alloc: Global) -> Result<Command<'a>, AllocError> {
-    Command::new(alloc, "serve")
-        .arg(valued(alloc, "listen"))?
-        .arg(valued(alloc, "path"))?
-        .arg(valued(alloc, "connections"))?
-        .arg(flag(alloc, "response-end"))?
-        .arg(file(alloc))
-}
-
-fn simulate_words<'a>(alloc: Global) -> Result<Command<'a>, AllocError> {
-    Command::new(alloc, "simulate")
-        .arg(file(alloc))?
-        .arg(named(alloc, "client"))?
-        .arg(named(alloc, "scenario"))
-}
-
-fn upload_words<'a>(alloc: Global) -> Result<Command<'a>, AllocError> {
-    Command::new(alloc, "upload")
-        .arg(flag(alloc, "response-end"))?
-        .arg(file(alloc))
-}
-
-fn flag<'a>(alloc: Global, name: &'static str) -> Arg<'a> {
-    Arg::new(alloc, name).long(name).action(ArgAction::SetTrue)
-}
-
-fn valued<'a>(alloc: Global, name: &'static str) -> Arg<'a> {
-    Arg::new(alloc, name).long(name)
-}
-
-fn file<'a>(alloc: Global) -> Arg<'a> {
-    named(alloc, "file")
-}
-
-// A word that must be there.
-fn named<'a>(alloc: Global, name: &'static str) -> Arg<'a> {
-    Arg::new(alloc, name).required(true)
-}
-
-fn specs<'a>(alloc: Global) -> Arg<'a> {
-    Arg::new(alloc, "spec").required(true).num_args(1..)
+fn arg<'a>(alloc: Global, word: Word) -> Arg<'a> {
+    match word {
+        Word::Flag(name) => Arg::new(alloc, name).long(name).action(ArgAction::SetTrue),
+        Word::Valued(name) => Arg::new(alloc, name).long(name),
+        Word::One(name) => Arg::new(alloc, name).required(true),
+        Word::Many(name) => Arg::new(alloc, name).required(true).num_args(1..),
+        Word::Any(name) => Arg::new(alloc, name).num_args(0..),
+    }
 }
