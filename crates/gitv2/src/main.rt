@@ -47,7 +47,7 @@ fn main(rt: HostRuntime) -> ExitCode {
         return ExitCode::from(2);
     };
     let mut errors = ToWrite::new(&mut stderr);
-    ExitCode::from(run(&rt, command, &mut errors))
+    ExitCode::from(run(&rt, &command, &mut errors))
 }
 
 // The command that the words name.
@@ -56,22 +56,20 @@ fn read_words<R: Env + AllocGlobal>(rt: &R) -> Option<Command> {
     read_command(rt.alloc(), words.as_slice())
 }
 
-fn run<R, E>(rt: &R, command: Command, errors: &mut E) -> u8
+fn run<R, E>(rt: &R, command: &Command, errors: &mut E) -> u8
 where
     R: Files + Input + Print + AllocGlobal + Net<Stream = TcpStream, Listener = TcpListener>,
     E: Sink,
 {
     match command {
         Command::Check { file } => check(rt, file.as_str(), errors),
-        Command::Fetch(asked) => fetch(rt, &asked, errors),
+        Command::Fetch(asked) => fetch(rt, asked, errors),
         Command::Lines => show_lines(rt, errors),
         Command::LsStdioServer { file } => serve(rt, Served::Request, file.as_str(), errors),
         Command::Upload { ends, file } => {
-            serve(rt, Served::Connection(ends), file.as_str(), errors)
+            serve(rt, Served::Connection(*ends), file.as_str(), errors)
         }
-        Command::LsTcp { place, prefixes } => {
-            list_remote(rt, &place, prefixes.as_slice(), errors)
-        }
+        Command::LsTcp { place, prefixes } => list_remote(rt, place, prefixes.as_slice(), errors),
         Command::Pair {
             server,
             client,
@@ -83,8 +81,8 @@ where
             specs.as_slice(),
             errors,
         ),
-        Command::Serve(asked) => listen(rt, &asked, errors),
-        Command::Simulate(asked) => simulate(rt, &asked, errors),
+        Command::Serve(asked) => listen(rt, asked, errors),
+        Command::Simulate(asked) => simulate(rt, asked, errors),
     }
 }
 
@@ -143,7 +141,7 @@ where
 const REPLY_BUFFER: usize = 65_536;
 
 // What is served on standard input and standard output.
-#[derive(Drop)]
+#[derive(Clone, Copy)]
 enum Served {
     // One request, with no advertisement before it.
     Request,
@@ -157,10 +155,19 @@ where
     R: Files + Input + Print + AllocGlobal,
     E: Sink,
 {
+    match fs::read(rt, file) {
+        Ok(text) => serve_stdio(rt, served, text.as_slice(), errors),
+        Err(_) => fail(ProgramFault::File, errors),
+    }
+}
+
+// Serves the repository of a text.
+fn serve_stdio<R, E>(rt: &R, served: Served, text: &[u8], errors: &mut E) -> u8
+where
+    R: Input + Print + AllocGlobal,
+    E: Sink,
+{
     let alloc = rt.alloc();
-    let Ok(text) = fs::read(rt, file) else {
-        return fail(ProgramFault::File, errors);
-    };
     let Ok(mut stdin) = BufReader::new(alloc, rt.reader()) else {
         return fail(ProgramFault::Memory, errors);
     };
@@ -169,7 +176,6 @@ where
     };
     let mut input = FromRead::new(&mut stdin);
     let mut output = ToWrite::new(&mut stdout);
-    let text = text.as_slice();
     match served {
         Served::Request => cmd_ls(alloc, text, &mut input, &mut output, errors),
         Served::Connection(ends) => {
@@ -228,17 +234,25 @@ where
         Ok(specs) => specs,
         Err(fault) => return fail(fault, errors),
     };
-    let server = match open_server(rt, server) {
-        Ok(server) => server,
-        Err(fault) => return fail(fault, errors),
-    };
+    match open_server(rt, server) {
+        Ok(server) => pair_with(rt, &server, client, specs.as_slice(), errors),
+        Err(fault) => fail(fault, errors),
+    }
+}
+
+// Fetches from the server into the repository of a file.
+fn pair_with<R, E>(rt: &R, server: &Server, client: &str, specs: &[Spec], errors: &mut E) -> u8
+where
+    R: Files + Print + AllocGlobal + Net<Stream = TcpStream, Listener = TcpListener>,
+    E: Sink,
+{
     let Ok(client) = fs::read(rt, client) else {
         return fail(ProgramFault::File, errors);
     };
     let pair = Pair {
-        server: &server,
+        server,
         client: client.as_slice(),
-        specs: specs.as_slice(),
+        specs,
     };
     let mut stdout = io::writer(rt);
     let mut output = ToWrite::new(&mut stdout);
@@ -322,9 +336,18 @@ where
     if let Err(status) = keep(rt, file, &run, errors) {
         return status;
     }
+    print_report(rt, report.written(), errors)
+}
+
+// Shows the report on standard output.
+fn print_report<R, E>(rt: &R, report: &[u8], errors: &mut E) -> u8
+where
+    R: Print,
+    E: Sink,
+{
     let mut stdout = io::writer(rt);
     let mut output = ToWrite::new(&mut stdout);
-    match show(report.written(), &mut output) {
+    match show(report, &mut output) {
         Ok(()) => 0,
         Err(_) => fail(ProgramFault::WriteFailed, errors),
     }
@@ -357,10 +380,20 @@ where
         &mut report,
         errors,
     );
-    if let Err(status) = keep(rt, asked.file.as_str(), &run, errors) {
+    let file = asked.file.as_str();
+    keep_and_report(rt, file, &run, report.written(), errors)
+}
+
+// Writes the file anew, then shows the report on standard error, as standard output leads to the server.
+fn keep_and_report<R, E>(rt: &R, file: &str, run: &FetchRun, report: &[u8], errors: &mut E) -> u8
+where
+    R: Files,
+    E: Sink,
+{
+    if let Err(status) = keep(rt, file, run, errors) {
         return status;
     }
-    match show(report.written(), errors) {
+    match show(report, errors) {
         Ok(()) => 0,
         Err(_) => 1,
     }
