@@ -4,12 +4,12 @@ use Rattle.gpkt.specs.Sending.{Output, IsUnwritten}
 use Rattle.grefs.specs.RefLists.{RefList}
 use Rattle.gscenario.specs.declared.event.Event.{Event}
 use Rattle.gworld.specs.Promises.{Promises}
-use Rattle.gworld.specs.Runs.{RunWith, RunsFront}
+use Rattle.gworld.specs.Runs.{RunWith}
 use Rattle.gworld.specs.Worlds.{WorldOf, WorldState, new_world}
 use Rattle.gworld.specs.declared.outcome.Outcome.{Outcome}
 use Rattle.gsimulate.specs.Lines.{simulated_text}
 use Rattle.gsimulate.specs.steps.Simulating.{BeginsWith}
-use Rattle.gsimulate.specs.Simulating.{CannotBegin, Ending, Shows, Simulates, StopsBefore, plain_tools}
+use Rattle.gsimulate.specs.Simulating.{CannotBegin, Ending, IsStopped, Shows, Simulates, StopsBefore, plain_tools}
 use Rattle.gsimulate.specs.declared.fault.SimulationFault.{SimulationFault}
 use Rattle.gsimulate.specs.declared.fault.SimulationFault.TheVariants as faults
 use Rattle.gsimulate.specs.declared.simulate.Simulation.{Simulation}
@@ -24,11 +24,6 @@ shows_same outcomes shown refs at output ending same stand h =
 -- of equal worlds
 pub same_world : {A K : Type 0} (made other : WorldOf A K) → made ≡ other → made.world ≡ other.world
 same_world {A} {K} made other same = ap (λ (it : WorldOf A K). it.world) same
-
--- the fault is this cause
-pub cannot_begin : {A : Type 0} (files : Simulation) (cause fault : SimulationFault A) → CannotBegin files cause → fault ≡ cause
-    → CannotBegin files fault
-cannot_begin files cause fault cannot same = subst (CannotBegin files) (sym same) cannot
 
 stops_before : {A : Type 0} (files : Simulation) (fault : SimulationFault A) → CannotBegin files fault → StopsBefore files fault
 stops_before files (faults.Program fault) h = h
@@ -47,13 +42,37 @@ module _ {A : Type 0} (files : Simulation) (output : Output) where
     unwritten = unwritten;
   })
 
-  module _ {K : Type 0} (begun : WorldOf A K) (events : List (Event A)) (begins : BeginsWith files begun events)
-      (outcomes : List Outcome) (new : WorldState A)
-    where
-      -- all happened
-      pub is_simulated : (ending : Ending A) → RunWith (Promises (plain_tools A)) begun.world events outcomes new
-          → Shows (simulated_text outcomes new.repo.refs) output ending → Simulates files output ending
-      is_simulated ending run shows = inl (record {
+  module _ {K : Type 0} (begun : WorldOf A K) (events : List (Event A)) (begins : BeginsWith files begun events) where
+    -- all happened
+    pub is_simulated : (outcomes : List Outcome) (new : WorldState A) (ending : Ending A)
+        → RunWith (Promises (plain_tools A)) begun.world events outcomes new
+        → Shows (simulated_text outcomes new.repo.refs) output ending → Simulates files output ending
+    is_simulated outcomes new ending run shows = inl (record {
+      server = begins.server;
+      repo = begins.repo;
+      events = begins.events;
+      names = begins.names;
+      opens = begins.opens;
+      reads = begins.reads;
+      so = (
+        begins.so.0,
+        record {
+          outcomes = outcomes;
+          new = new;
+          run =
+              subst (λ (happening : List (Event A)). RunWith (Promises (plain_tools A)) (new_world begins.server begins.repo) happening outcomes new) begins.so.1.1
+              (subst (λ (world : WorldState A). RunWith (Promises (plain_tools A)) world events outcomes new) begins.so.1.0 run);
+          shows = shows;
+        },
+      );
+    })
+
+    -- the run stopped
+    pub is_stopped : IsStopped begun.world events → IsUnwritten output
+        → Simulates {A = A} files output (Err faults.Memory)
+    is_stopped stopped unwritten = inr (record {
+      fault = faults.Memory;
+      stops = record {
         server = begins.server;
         repo = begins.repo;
         events = begins.events;
@@ -62,40 +81,10 @@ module _ {A : Type 0} (files : Simulation) (output : Output) where
         reads = begins.reads;
         so = (
           begins.so.0,
-          record {
-            outcomes = outcomes;
-            new = new;
-            run =
-                subst (λ (happening : List (Event A)). RunWith (Promises (plain_tools A)) (new_world begins.server begins.repo) happening outcomes new) begins.so.1.1
-                (subst (λ (world : WorldState A). RunWith (Promises (plain_tools A)) world events outcomes new) begins.so.1.0 run);
-            shows = shows;
-          },
+          subst (IsStopped (new_world begins.server begins.repo)) begins.so.1.1
+              (subst (λ (world : WorldState A). IsStopped world events) begins.so.1.0 stopped),
         );
-      })
-
-      -- the run stopped
-      pub is_stopped : (fault : SimulationFault A) → RunsFront (Promises (plain_tools A)) begun.world events outcomes new
-          → fault ≡ faults.Memory → IsUnwritten output → Simulates files output (Err fault)
-      is_stopped fault front same unwritten = inr (record {
-        fault = faults.Memory;
-        stops = record {
-          server = begins.server;
-          repo = begins.repo;
-          events = begins.events;
-          names = begins.names;
-          opens = begins.opens;
-          reads = begins.reads;
-          so = (
-            begins.so.0,
-            record {
-              outcomes = outcomes;
-              new = new;
-              front =
-                  subst (λ (happening : List (Event A)). RunsFront (Promises (plain_tools A)) (new_world begins.server begins.repo) happening outcomes new) begins.so.1.1
-                  (subst (λ (world : WorldState A). RunsFront (Promises (plain_tools A)) world events outcomes new) begins.so.1.0 front);
-            },
-          );
-        };
-        met = ap Err same;
-        unwritten = unwritten;
-      })
+      };
+      met = refl;
+      unwritten = unwritten;
+    })

@@ -5,12 +5,14 @@ ghost use Rattle.gpkt.specs.Sending.{output_of};
 ghost use Rattle.gworld.specs.Worlds.{WorldOf};
 ghost use Rattle.gsimulate.specs.declared.simulate.Simulation as files_of;
 ghost use Rattle.gsimulate.specs.Lines.{simulated_text};
-ghost use Rattle.gsimulate.specs.steps.Simulating.{BeginsWith};
+ghost use Rattle.gsimulate.specs.steps.Simulating.{AreEnds, AreRead, BeginsWith};
 ghost use Rattle.gsimulate.specs.Simulating.{CannotBegin, Runs, Shows, Simulates};
 
 use crate::fault::SimulationFault;
 use crate::lines::text_of;
 use crate::print::finish;
+use ganswer::Server;
+use gclientrepo::Repo;
 use gcmd::{ProgramFault, load_server, open_client, send_text};
 use ggraph::{PlainPack, Refs};
 use gpkt::Sink;
@@ -60,7 +62,7 @@ fn simulate<A: Allocator + Copy, W: Sink>(
     ensures loans { W.loans output.new ≡ W.loans output.old }
 {
     match begin(alloc, files) {
-        Ok(begun) => happen(alloc, begun.0, begun.1.as_slice(), output),
+        Ok((mut world, events)) => happen(alloc, &mut world, events.as_slice(), output),
         Err(fault) => Err(fault),
     }
 }
@@ -73,28 +75,70 @@ fn begin<A: Allocator + Copy>(
     ensures { MatchResult result (λ pair. BeginsWith files.now pair.0 pair.1.items)
         (CannotBegin files.now) }
 {
+    let (server, repo) = load_ends(alloc, files)?;
+    begin_between(alloc, server, repo, files)
+}
+
+// The server, and the client's repository.
+fn load_ends<A: Allocator + Copy>(
+    alloc: A,
+    files: &Simulation<'_>,
+) -> Result<(Server<A>, Repo<A>), SimulationFault<A>>
+    ensures { MatchResult result (λ ends. AreEnds files.now ends.0 ends.1) (CannotBegin files.now) }
+{
     let server = load_server(alloc, files.server)?;
     let repo = open_client(alloc, files.client)?;
-    let events = Scenario::read(alloc, files.scenario)?;
-    let world = World::new(server, repo, PlainPack)?;
-    Ok((world, events))
+    Ok((server, repo))
+}
+
+// The scenario is read before the world begins, so that its fault is the one that is met.
+fn begin_between<A: Allocator + Copy>(
+    alloc: A,
+    server: Server<A>,
+    repo: Repo<A>,
+    files: &Simulation<'_>,
+) -> Result<(World<PlainPack, A>, Vec<Event<A>, A>), SimulationFault<A>>
+    requires ends { AreEnds files.now server repo }
+    ensures { MatchResult result (λ pair. BeginsWith files.now pair.0 pair.1.items)
+        (CannotBegin files.now) }
+{
+    match Scenario::read(alloc, files.scenario) {
+        Ok(events) => begin_world(server, repo, events),
+        Err(fault) => Err(SimulationFault::Scenario(fault)),
+    }
+}
+
+// The world between the two, and the events that are to happen in it.
+fn begin_world<A: Allocator + Copy>(
+    server: Server<A>,
+    repo: Repo<A>,
+    events: Vec<Event<A>, A>,
+) -> Result<(World<PlainPack, A>, Vec<Event<A>, A>), SimulationFault<A>>
+    ensures { (files : files_of.Simulation) → AreRead files server repo events.items
+        → MatchResult result (λ pair. BeginsWith files pair.0 pair.1.items) (CannotBegin files) }
+{
+    match World::new(server, repo, PlainPack) {
+        Ok(world) => Ok((world, events)),
+        Err(fault) => Err(SimulationFault::World(fault)),
+    }
 }
 
 // Runs the events in the world, and shows what came of them.
 fn happen<A: Allocator + Copy, W: Sink>(
     alloc: A,
-    world: World<PlainPack, A>,
+    running: &mut World<PlainPack, A>,
     events: &[Event<A>],
     output: &mut W,
 ) -> Result<(), SimulationFault<A>>
-    ensures simulates { (files : files_of.Simulation) → BeginsWith files world events.now
+    ensures simulates { (files : files_of.Simulation) → BeginsWith files running.old events.now
         → Simulates {A = A} files (output_of W.contents W.passed_on W.is_down output.old
         output.new) result }
     ensures loans { W.loans output.new ≡ W.loans output.old }
 {
-    let mut running = world;
-    let outcomes = running.run(events)?;
-    show(alloc, outcomes.as_slice(), running.client().refs(), output)
+    match running.run(events) {
+        Ok(outcomes) => show(alloc, outcomes.as_slice(), running.client().refs(), output),
+        Err(_) => Err(SimulationFault::Memory),
+    }
 }
 
 // Shows what came of the events, and the refs.

@@ -1,9 +1,22 @@
 -- The steps of a simulation.
 use Rattle.std.specs.Prelude.{◌≡◌, List}
+use Rattle.ganswer.specs.Servers.{Server}
+use Rattle.gclientrepo.specs.Repos.{RepoState}
+use Rattle.gcmd.specs.Fetching.{NamesClient}
+use Rattle.gcmd.specs.Serving.{NamesServer}
+use Rattle.gscenario.specs.ScenarioText.{IsScenario}
 use Rattle.gscenario.specs.declared.event.Event.{Event}
 use Rattle.gworld.specs.Worlds.{WorldOf}
 use Rattle.gsimulate.specs.declared.simulate.Simulation.{Simulation}
 use Rattle.gsimulate.specs.Simulating.{HasWorld}
+
+-- these are the server and the client's repository that the files name
+abbrev pub AreEnds : {A : Type 0} → Simulation → Server A → RepoState A → Type 0
+AreEnds files server repo = NamesServer files.server.now server × NamesClient files.client.now repo
+
+-- and these are the events of the scenario
+abbrev pub AreRead : {A : Type 0} → Simulation → Server A → RepoState A → List (Event A) → Type 0
+AreRead files server repo events = AreEnds files server repo × IsScenario files.scenario.now events
 
 -- this is the world as it begins, and these are the events
 abbrev pub BeginsWith : {A K : Type 0} → Simulation → WorldOf A K → List (Event A) → Type 0

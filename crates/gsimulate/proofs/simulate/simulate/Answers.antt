@@ -7,7 +7,7 @@ use Rattle.gsimulate.proofs.simulate.simulate.Goals as goal
 pub returns-in-Ok-clause-simulates : goal.returns-in-Ok-clause-simulates
 returns-in-Ok-clause-simulates g c =
     c.happen.ensures.simulates c.args.files.now
-    (subst (λ (events : List (Event g.row.A.Denot)). BeginsWith c.args.files.now c.in-Ok.begun.0 events)
+    (subst (λ (events : List (Event g.row.A.Denot)). BeginsWith c.args.files.now c.in-Ok.world events)
     (sym c.as_slice.ensures.value) c.in-Ok.ensures)
 
 pub returns-in-Err-clause-simulates : goal.returns-in-Err-clause-simulates
