@@ -222,27 +222,44 @@ fn fetch_between<A: Allocator + Copy>(
         fetched.settled.asks fetched.settled.updates.items repo.new.refs) }
     ensures grows { Grows repo.old.graph.entries repo.new.graph.entries }
 {
-    let alloc = repo.graph().allocator();
     if set_up(near).is_err() || set_up(far).is_err() {
         return Err(ProgramFault::Socket);
     }
-    let Ok(mut near_reader) = BufReader::new(alloc, near) else {
-        return Err(ProgramFault::Memory);
-    };
-    let Ok(mut far_reader) = BufReader::new(alloc, far) else {
-        return Err(ProgramFault::Memory);
-    };
-    let mut near_writer = near;
-    let mut far_writer = far;
-    let near_end = (
-        FromRead::new(&mut near_reader),
-        ToWrite::new(&mut near_writer),
-    );
-    let far_end = (
-        FromRead::new(&mut far_reader),
-        ToWrite::new(&mut far_writer),
-    );
-    converse(server, repo, specs, near_end, far_end)
+    match BufReader::new(repo.graph().allocator(), near) {
+        Ok(mut reader) => {
+            let mut writer = near;
+            let near_end = (FromRead::new(&mut reader), ToWrite::new(&mut writer));
+            fetch_from_far(server, repo, specs, near_end, far)
+        }
+        Err(_) => Err(ProgramFault::Memory),
+    }
+}
+
+// Fetches so over these devices of the client's end.
+fn fetch_from_far<A, N, V>(
+    server: &Server<A>,
+    repo: &mut Repo<A>,
+    specs: &[Spec<A>],
+    near_end: (N, V),
+    far: &TcpStream,
+) -> Result<Fetched<A>, ProgramFault<A>>
+where
+    A: Allocator + Copy,
+    N: Source + Drop,
+    V: Sink + Drop,
+    ensures fetches { FetchesInPair repo.old specs.now repo.new result }
+    ensures settled { IfOk result (λ fetched. Settles repo.new.graph.entries repo.old.refs
+        fetched.settled.asks fetched.settled.updates.items repo.new.refs) }
+    ensures grows { Grows repo.old.graph.entries repo.new.graph.entries }
+{
+    match BufReader::new(repo.graph().allocator(), far) {
+        Ok(mut reader) => {
+            let mut writer = far;
+            let far_end = (FromRead::new(&mut reader), ToWrite::new(&mut writer));
+            converse(server, repo, specs, near_end, far_end)
+        }
+        Err(_) => Err(ProgramFault::Memory),
+    }
 }
 
 // Fetches so over these devices of both ends.
@@ -268,12 +285,33 @@ where
     let (near, near_sink) = near_end;
     let mut answers = Answers::new(server, near, far_end);
     let mut requests = MessageSink::new(alloc, near_sink);
-    match fetch_as_client(repo, specs, &mut answers, &mut requests) {
+    exchange(repo, specs, &mut answers, &mut requests)
+}
+
+// Fetches so by these requests. The client ends with a flush, and the server has a last turn to hear it.
+fn exchange<A, N, V, F, W>(
+    repo: &mut Repo<A>,
+    specs: &[Spec<A>],
+    answers: &mut Answers<'_, N, F, W, A>,
+    requests: &mut MessageSink<V, A>,
+) -> Result<Fetched<A>, ProgramFault<A>>
+where
+    A: Allocator + Copy,
+    N: Source,
+    V: Sink,
+    F: Source,
+    W: Sink,
+    ensures fetches { FetchesInPair repo.old specs.now repo.new result }
+    ensures settled { IfOk result (λ fetched. Settles repo.new.graph.entries repo.old.refs
+        fetched.settled.asks fetched.settled.updates.items repo.new.refs) }
+    ensures grows { Grows repo.old.graph.entries repo.new.graph.entries }
+{
+    match fetch_as_client(repo, specs, answers, requests) {
         Ok(fetched) => {
             let _closed = answers.answer_one();
             Ok(fetched)
         }
-        Err(fault) => Err(fault_of(fault, &requests, &answers.far_sink)),
+        Err(fault) => Err(fault_of(fault, requests, &answers.far_sink)),
     }
 }
 

@@ -7,6 +7,7 @@ ghost use Rattle.gpkt.specs.Sending.{output_of};
 ghost use Rattle.gclientrepo.specs.Settling.{Settles};
 ghost use Rattle.gcmd.specs.Fetching.{NamesClient};
 ghost use Rattle.gcmd.specs.Programs.{Runs};
+ghost use Rattle.gcmd.specs.Serving.{NamesServer};
 ghost use Rattle.gcmd.specs.declared.fault.ProgramFault.TheVariants.{Socket};
 ghost use Rattle.gtcp.specs.Remote.{Announces, AsksRemote, FetchesAt, FetchesRemote, ListsRemote, Meets, RunsServing, ServesRemote, ShowsReply};
 
@@ -68,7 +69,7 @@ where
     finish(outcome, errors)
 }
 
-// Serves so many connections, and prints their faults alone.
+// Loads the server, and lends it to those who connect.
 fn serve_all<A: Allocator + Copy, N, W: Sink, E: Sink>(
     net: &N,
     alloc: A,
@@ -85,22 +86,52 @@ where
     ensures output_loans { W.loans output.new ≡ W.loans output.old }
     ensures errors_loans { E.loans errors.new ≡ E.loans errors.old }
 {
-    let server = load_server(alloc, service.file)?;
-    let Ok(listener) = TcpListener::bind(net, service.place.address()) else {
-        return Err(ProgramFault::Socket);
-    };
-    announce(alloc, &listener, output)?;
-    let path = service.place.hello().path();
-    let (connections, ends) = (service.connections, service.ends);
+    match load_server(alloc, service.file) {
+        Ok(server) => serve_at(net, &server, service, output, errors),
+        Err(fault) => Err(fault),
+    }
+}
+
+// Serves so many connections at the place, and prints their faults alone.
+fn serve_at<A: Allocator + Copy, N, W: Sink, E: Sink>(
+    net: &N,
+    server: &Server<A>,
+    service: &Service<'_, A>,
+    output: &mut W,
+    errors: &mut E,
+) -> Result<(), ProgramFault<A>>
+where
+    N: Net<Stream = TcpStream, Listener = TcpListener>,
+    ensures serves { (file : Bytes) → NamesServer file server.now
+        → ServesRemote file service.now.place.now.hello.path service.now.ends
+        service.now.connections (output_of W.contents W.passed_on W.is_down output.old output.new)
+        (output_of E.contents E.passed_on E.is_down errors.old errors.new) result }
+    ensures output_loans { W.loans output.new ≡ W.loans output.old }
+    ensures errors_loans { E.loans errors.new ≡ E.loans errors.old }
+{
+    let listener = listen(net, service.place)?;
+    announce(server.graph().allocator(), &listener, output)?;
     serve_listener(
-        &server,
+        server,
         &PlainPack,
         listener,
-        path,
-        connections,
-        ends,
+        service.place.hello().path(),
+        service.connections,
+        service.ends,
         errors,
     )
+}
+
+// Listens at a place.
+fn listen<A: Allocator + Copy, N>(net: &N, place: &Place<A>) -> Result<TcpListener, ProgramFault<A>>
+where
+    N: Net<Stream = TcpStream, Listener = TcpListener>,
+    ensures { IfErr result (λ fault. fault ≡ Socket) }
+{
+    match TcpListener::bind(net, place.address()) {
+        Ok(listener) => Ok(listener),
+        Err(_) => Err(ProgramFault::Socket),
+    }
 }
 
 // Shows the port that is listened at.

@@ -1,32 +1,4 @@
-use Rattle.std.proofs.Common.{ℕ, List, inl, inr, refl, ap, subst, ◌∙◌}
-use Rattle.gpkt.specs.Sending.{output_of}
-use Rattle.ghello.specs.Hello.{Hello}
-use Rattle.gclient.proofs.StepLemmas.{err_of}
-use Rattle.gcmd.specs.Serving.{plain_pack_fails, plain_packs}
-use Rattle.gtcp.specs.Sockets.{ServesEach}
 use Rattle.gtcp.proofs.remote.serve_all.Goals as goal
 
-pub returns-in_err-announce-clause-serves : goal.returns-in_err-announce-clause-serves
-returns-in_err-announce-clause-serves g c =
-    let fault = c.in_err-announce.field-0.0 in
-    let residual = c.from_residual-in_err-announce in
-    inr (
-      fault,
-      inr (c.in_ok-server.server, c.in_ok-server.ensures, c.in_err-announce.ensures.announces),
-      err_of fault residual.result residual.ensures.1,
-      record { written = refl; passed_on = refl; down = refl },
-    )
-
-pub returns-clause-serves : goal.returns-clause-serves
-returns-clause-serves g c =
-    let service = c.args.service.now in
-    let errors = output_of g.E.Sink.contents g.E.Sink.passed_on g.E.Sink.is_down c.args.errors.now c.serve_listener.new.errors in
-    inl (record {
-      server = c.in_ok-server.server;
-      names = c.in_ok-server.ensures;
-      announces = c.in_ok-announce.ensures.announces;
-      serves =
-          subst (λ (path : List ℕ). ServesEach c.in_ok-server.server plain_packs plain_pack_fails path service.ends errors
-          service.connections c.serve_listener.result)
-          (c.path-path.ensures.path ∙ ap (λ (hello : Hello). hello.path) c.hello.ensures) c.serve_listener.ensures.serves;
-    })
+pub returns-in-Ok-clause-serves : goal.returns-in-Ok-clause-serves
+returns-in-Ok-clause-serves g c = c.serve_at.ensures.serves c.args.service.now.file.now c.in-Ok.ensures

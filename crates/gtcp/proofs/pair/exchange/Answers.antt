@@ -1,9 +1,9 @@
 use Rattle.std.specs.Prelude.{◌||◌}
 use Rattle.gtcp.proofs.PairLemmas.{pair_fails}
-use Rattle.gtcp.proofs.pair.converse.Goals as goal
+use Rattle.gtcp.proofs.pair.exchange.Goals as goal
 
-pub returns-clause-fetches : goal.returns-clause-fetches
-returns-clause-fetches g c =
+pub returns-in-Err-clause-fetches : goal.returns-in-Err-clause-fetches
+returns-in-Err-clause-fetches g c =
     let requests = c.fetch_as_client.new.requests in
     let replies = c.fetch_as_client.new.answers.far_sink in
     pair_fails c.args.repo.now c.args.specs.now c.fetch_as_client.new.repo c.in-Err.fault
