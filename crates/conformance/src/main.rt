@@ -63,13 +63,20 @@ where
     let words: Vec<String> = env::args(rt)?.skip(1).collect(rt.alloc())?;
     let (depth, names) = depth_of(words.as_slice());
     let files = read_files(rt, names)?;
-    let mut tally = Tally::new(depth);
+    try_all(rt, (names, files.as_slice()), &mut Tally::new(depth))
+}
+
+// Tries the cases with ids of each format.
+fn try_all<R>(rt: &R, files: (&[String], &[String]), tally: &mut Tally) -> io::Result<bool>
+where
+    R: Print + AllocGlobal + Net<Stream = TcpStream, Listener = TcpListener>,
+{
     for format in [Format::Sha1, Format::Sha256] {
-        if !try_files(rt, format, (names, files.as_slice()), &mut tally)? {
+        if !try_files(rt, format, files, tally)? {
             return Ok(false);
         }
     }
-    show(rt, &tally)?;
+    show(rt, tally)?;
     Ok(tally.wrong == 0)
 }
 

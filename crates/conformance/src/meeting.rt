@@ -1,7 +1,7 @@
 //! Both ends of a fetch in one process, as `gitv2 pair` has them: over a connection of this process, so as they stand alone.
 
 use cases::{Case, Script, Trouble, Who, first_of, words_of};
-use gcmd::cmd_failed;
+use gcmd::{Spec, cmd_failed};
 use gtcp::{Pair, cmd_pair};
 use runs::{Hindrance, Writer, server_of, specs_of};
 use std::alloc::Global;
@@ -22,6 +22,22 @@ struct Meeting<'b> {
     specs: &'b str,
 }
 
+// What both ends print.
+#[derive(Drop)]
+struct Printed {
+    output: Writer,
+    errors: Writer,
+}
+
+impl Printed {
+    fn new(alloc: Global) -> Printed {
+        Printed {
+            output: Writer::new(alloc, Hindrance::NONE),
+            errors: Writer::new(alloc, Hindrance::NONE),
+        }
+    }
+}
+
 /// Whether both ends come out as the case says, and what was printed on standard error.
 pub fn is_as_due<N>(
     net: &N,
@@ -34,15 +50,25 @@ where
     N: Net<Stream = TcpStream, Listener = TcpListener>,
 {
     let meeting = meeting_of(script, words)?;
-    let mut output = Writer::new(alloc, Hindrance::NONE);
-    let mut errors = Writer::new(alloc, Hindrance::NONE);
-    let status = meet(net, alloc, meeting, &mut output, &mut errors)?;
-    let report = said_by(alloc, case, Who::Report)?;
-    let faults = said_by(alloc, case, Who::Errors)?;
-    let is_right = (status == 1) != faults.is_empty()
-        && has_written(&output, report.as_slice())
-        && has_written(&errors, faults.as_slice());
-    Ok((is_right, Vec::from_slice(alloc, errors.written())?))
+    let mut printed = Printed::new(alloc);
+    let status = meet(net, alloc, meeting, &mut printed)?;
+    let is_right = is_right(alloc, case, status, &printed)?;
+    Ok((is_right, Vec::from_slice(alloc, printed.errors.written())?))
+}
+
+// Whether both ends ended with the status, and printed what the case says.
+fn is_right(
+    alloc: Global,
+    case: &Case<'_>,
+    status: u8,
+    printed: &Printed,
+) -> Result<bool, Trouble> {
+    let is_well = printed.errors.written().is_empty();
+    Ok(
+        (status == 0) == is_well
+            && has_said(alloc, case, Who::Report, &printed.output)?
+            && has_said(alloc, case, Who::Errors, &printed.errors)?,
+    )
 }
 
 // The two whose texts the words name.
@@ -61,46 +87,55 @@ fn meet<N>(
     net: &N,
     alloc: Global,
     meeting: Meeting<'_>,
-    output: &mut Writer,
-    errors: &mut Writer,
+    printed: &mut Printed,
 ) -> Result<u8, Trouble>
 where
     N: Net<Stream = TcpStream, Listener = TcpListener>,
 {
     let words = words_of(alloc, meeting.specs)?;
-    let specs = match specs_of(alloc, words.as_slice()) {
-        Ok(specs) => specs,
-        Err(fault) => return Ok(cmd_failed(fault, errors)),
-    };
-    let server = match server_of(alloc, meeting.server) {
-        Ok(server) => server,
-        Err(fault) => return Ok(cmd_failed(fault, errors)),
-    };
-    let pair = Pair {
-        server: &server,
-        client: meeting.client,
-        specs: specs.as_slice(),
-    };
-    Ok(run_pair(net, &pair, output, errors))
+    match specs_of(alloc, words.as_slice()) {
+        Ok(specs) => Ok(meet_for(net, alloc, meeting, specs.as_slice(), printed)),
+        Err(fault) => Ok(cmd_failed(fault, &mut printed.errors)),
+    }
 }
 
-fn run_pair<N>(net: &N, pair: &Pair<'_, Global>, output: &mut Writer, errors: &mut Writer) -> u8
+fn meet_for<N>(
+    net: &N,
+    alloc: Global,
+    meeting: Meeting<'_>,
+    specs: &[Spec],
+    printed: &mut Printed,
+) -> u8
 where
     N: Net<Stream = TcpStream, Listener = TcpListener>,
 {
-    cmd_pair(net, pair, output, errors)
+    match server_of(alloc, meeting.server) {
+        Ok(server) => {
+            let pair = Pair {
+                server: &server,
+                client: meeting.client,
+                specs,
+            };
+            run_pair(net, &pair, printed)
+        }
+        Err(fault) => cmd_failed(fault, &mut printed.errors),
+    }
 }
 
-fn said_by(alloc: Global, case: &Case<'_>, who: Who) -> Result<Vec<u8>, Trouble> {
-    let mut bytes = Vec::new(alloc);
+fn run_pair<N>(net: &N, pair: &Pair<'_, Global>, printed: &mut Printed) -> u8
+where
+    N: Net<Stream = TcpStream, Listener = TcpListener>,
+{
+    cmd_pair(net, pair, &mut printed.output, &mut printed.errors)
+}
+
+// Whether what one says in the case was written, and all of it passed on.
+fn has_said(alloc: Global, case: &Case<'_>, who: Who, output: &Writer) -> Result<bool, Trouble> {
+    let mut due = Vec::new(alloc);
     for said in case.said.as_slice() {
         if said.who == who {
-            bytes.extend_from_slice(said.bytes.as_slice())?;
+            due.extend_from_slice(said.bytes.as_slice())?;
         }
     }
-    Ok(bytes)
-}
-
-fn has_written(output: &Writer, due: &[u8]) -> bool {
-    output.is_passed_on() && output.written() == due
+    Ok(output.is_passed_on() && output.written() == due.as_slice())
 }

@@ -103,6 +103,17 @@ fn row_of<'b>(
     script: &'b Script<'b>,
     run: Attempt<'b>,
 ) -> Result<Option<Row<'b>>, Trouble> {
+    match command_in(script, run)? {
+        Some(command) => Ok(Some(row_for(alloc, script, run, command)?)),
+        None => Ok(None),
+    }
+}
+
+// The command of a run; none where its replies may not have ends of their own.
+fn command_in<'b>(
+    script: &'b Script<'b>,
+    run: Attempt<'b>,
+) -> Result<Option<Command<'b>>, Trouble> {
     let case = run.case;
     let mut command = command_of(run.words, script.format)?;
     command.liar = case.liar;
@@ -112,14 +123,21 @@ fn row_of<'b>(
         }
         command.ends = Ends::Response;
     }
-    let talk = Talk::of(alloc, &command, case, run.adds_ends)?;
     add_texts(script, &mut command)?;
+    Ok(Some(command))
+}
+
+fn row_for<'b>(
+    alloc: Global,
+    script: &'b Script<'b>,
+    run: Attempt<'b>,
+    command: Command<'b>,
+) -> Result<Row<'b>, Trouble> {
+    let case = run.case;
     let file = script.text(command.repository)?;
-    let new_file = match case.file {
-        Some(name) if command.program == Program::Fetch => Some(script.text(name)?),
-        _ => None,
-    };
-    Ok(Some(Row {
+    let new_file = new_file_of(script, case, command)?;
+    let talk = Talk::of(alloc, &command, case, run.adds_ends)?;
+    Ok(Row {
         command,
         file,
         new_file,
@@ -129,7 +147,19 @@ fn row_of<'b>(
         table: case.table.as_slice(),
         reach: reach_of(case, run.adds_ends),
         is_long: case.is_long,
-    }))
+    })
+}
+
+// What the client's file is to hold after a fetch, where it changes.
+fn new_file_of<'b>(
+    script: &'b Script<'b>,
+    case: &Case<'b>,
+    command: Command<'_>,
+) -> Result<Option<&'b [u8]>, Trouble> {
+    match case.file {
+        Some(name) if command.program == Program::Fetch => Ok(Some(script.text(name)?)),
+        _ => Ok(None),
+    }
 }
 
 // Gives a simulation the texts of its client and of its scenario.

@@ -33,15 +33,14 @@ where
     let listener = TcpListener::bind(net, "127.0.0.1:0")?;
     let mut other = TcpStream::connect(net, listener.local_addr()?)?;
     say(&mut other, row.talk.input.as_slice(), is_slow)?;
-    let is_right = is_answered(alloc, row, listener)?;
-    let read = read_all(alloc, &mut other)?;
-    Ok(is_right && read.as_slice() == row.talk.output.as_slice())
+    Ok(is_answered(alloc, row, listener)? && has_read(alloc, &mut other, row)?)
 }
 
-fn read_all(alloc: Global, other: &mut TcpStream) -> Result<Vec<u8>, Trouble> {
+// Whether the other end reads what the row says.
+fn has_read(alloc: Global, other: &mut TcpStream, row: &Row<'_>) -> Result<bool, Trouble> {
     let mut bytes = Vec::new(alloc);
     other.read_to_end(&mut bytes)?;
-    Ok(bytes)
+    Ok(bytes.as_slice() == row.talk.output.as_slice())
 }
 
 // Writes what the other end says, and then no more.
@@ -68,13 +67,17 @@ fn is_answered(alloc: Global, row: &Row<'_>, listener: TcpListener) -> Result<bo
 
 // Whether one connection is served, and its fault is printed.
 fn is_served(alloc: Global, row: &Row<'_>, listener: TcpListener) -> Result<bool, Trouble> {
-    let Ok(server) = server_of(alloc, row.file) else {
-        return Err(Trouble::NoGraph);
-    };
+    match server_of(alloc, row.file) {
+        Ok(server) => Ok(is_served_by(alloc, &server, row, listener)),
+        Err(_) => Err(Trouble::NoGraph),
+    }
+}
+
+fn is_served_by(alloc: Global, server: &Server, row: &Row<'_>, listener: TcpListener) -> bool {
     let mut errors = Writer::new(alloc, Hindrance::NONE);
-    let is_served = serve(&server, row.command, listener, &mut errors).is_ok();
+    let is_served = serve(server, row.command, listener, &mut errors).is_ok();
     let is_printed = errors.written() == row.talk.errors.as_slice();
-    Ok(is_served && is_printed && errors.is_passed_on())
+    is_served && is_printed && errors.is_passed_on()
 }
 
 fn serve(
@@ -89,11 +92,20 @@ fn serve(
 
 fn is_fetched(alloc: Global, row: &Row<'_>, listener: &TcpListener) -> Result<bool, Trouble> {
     let specs = refspecs_of(alloc, row.command)?;
-    let Ok(mut repo) = client_of(alloc, row.file) else {
-        return Err(Trouble::NoGraph);
-    };
+    match client_of(alloc, row.file) {
+        Ok(mut repo) => is_fetched_into(&mut repo, row.command, specs.as_slice(), listener),
+        Err(_) => Err(Trouble::NoGraph),
+    }
+}
+
+fn is_fetched_into(
+    repo: &mut Repo,
+    command: Command<'_>,
+    specs: &[Spec],
+    listener: &TcpListener,
+) -> Result<bool, Trouble> {
     let (stream, _) = listener.accept()?;
-    Ok(fetch(stream, row.command, &mut repo, specs.as_slice()).is_ok())
+    Ok(fetch(stream, command, repo, specs).is_ok())
 }
 
 fn refspecs_of(alloc: Global, command: Command<'_>) -> Result<Vec<Spec>, Trouble> {
