@@ -19,4 +19,5 @@ session_of it = record {
   wants = it.wants.items;
   commons = it.commons.items;
   sent = it.sent.items;
-  rounds = it.rounds }
+  rounds = it.rounds;
+}
