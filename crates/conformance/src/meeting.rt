@@ -63,9 +63,9 @@ fn is_right(
     status: u8,
     printed: &Printed,
 ) -> Result<bool, Trouble> {
-    let is_well = printed.errors.written().is_empty();
+    let has_failed = !printed.errors.written().is_empty();
     Ok(
-        (status == 0) == is_well
+        (status == 1) == has_failed
             && has_said(alloc, case, Who::Report, &printed.output)?
             && has_said(alloc, case, Who::Errors, &printed.errors)?,
     )
