@@ -35,13 +35,13 @@
 //! # Only tested
 //!
 //! - A device over std's readers and writers goes down only where these failed, or where a write took none
-//!   of some bytes; its flush is one flush of the writer.
+//!   of some bytes; its flush is a flush of the writer.
 //! - A call that failed is not tried again, of whatever kind its error is, and none asks for no bytes.
 //!
 //! # What the contracts do not rule out
 //!
 //! - A device that is always down; a source that gives a byte a call, and a sink that takes one; a device over std's
-//!   writers that flushes before it is asked to.
+//!   writers that flushes before it is asked to, or twice.
 //! - A buffer that is never made, and a constructor that reads before it fails.
 //! - A [`memory::Limited`] that hinders otherwise than it was asked, and a [`memory::VecSink`] that
 //!   counts no flush.

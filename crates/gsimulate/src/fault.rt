@@ -5,7 +5,7 @@ ghost use Rattle.gsimulate.specs.Faults.{simulation_fault_row, simulation_fault_
 ghost use Rattle.gsimulate.specs.declared.fault.SimulationFault.TheVariants as faults;
 
 use gcmd::ProgramFault;
-use gworld::{RunFault, ScenarioFault, WorldFault};
+use gworld::{ScenarioFault, WorldFault};
 use std::alloc::{Allocator, Global};
 use std::error::Error;
 use std::fmt;
@@ -70,29 +70,5 @@ impl<A: Allocator + Copy> From<ProgramFault<A>> for SimulationFault<A> {
 
     fn from(cause: ProgramFault<A>) -> SimulationFault<A> {
         SimulationFault::Program(cause)
-    }
-}
-
-impl<A: Allocator + Copy> From<ScenarioFault> for SimulationFault<A> {
-    ghost from_gives = { λ cause fault. fault ≡ faults.Scenario cause };
-
-    fn from(cause: ScenarioFault) -> SimulationFault<A> {
-        SimulationFault::Scenario(cause)
-    }
-}
-
-impl<A: Allocator + Copy> From<WorldFault> for SimulationFault<A> {
-    ghost from_gives = { λ cause fault. fault ≡ faults.World cause };
-
-    fn from(cause: WorldFault) -> SimulationFault<A> {
-        SimulationFault::World(cause)
-    }
-}
-
-impl<A: Allocator + Copy> From<RunFault<A>> for SimulationFault<A> {
-    ghost from_gives = { λ _ fault. fault ≡ faults.Memory };
-
-    fn from(_stopped: RunFault<A>) -> SimulationFault<A> {
-        SimulationFault::Memory
     }
 }
