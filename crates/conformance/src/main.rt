@@ -20,26 +20,21 @@
 //!
 //! # Stands on
 //!
-//! `cases` for what the files say; `facts`, `runs` and `worlds` for facts, for runs over devices, and for events; `gsimulate` for
-//! the program of simulations, `gtcp` for sockets, `gargs` for the words of a command line, `gcmd` for what programs share;
+//! `cases` for what the files say; `tries` for how a row is tried; `facts`, `runs` and `worlds` for facts, for runs over devices,
+//! and for events; `gtcp` for sockets, `gargs` for the words of a command line, `gcmd` for what programs share;
 //! `gclient`, `glsreply`, `ggraph`, `ggrammar`, `gpkt` and `gname` for the types of these; `scarce` for memory that ends.
 #![tactic(auto)]
 
 mod asked;
-mod judge;
 mod looks;
 mod meeting;
-mod play;
 mod rows;
 mod socket;
 mod tally;
-mod vary;
-mod ways;
 
 use crate::looks::try_fact;
 use crate::rows::try_case;
 use crate::tally::{Depth, Tally, tell_trouble};
-use crate::ways::Way;
 use cases::{Script, Trouble};
 use gname::Format;
 use std::alloc::Global;
@@ -47,6 +42,7 @@ use std::net::{Net, TcpListener, TcpStream};
 use std::process::ExitCode;
 use std::rt::{Env, Files};
 use std::{env, fs, io};
+use tries::Way;
 
 fn main(rt: HostRuntime) -> ExitCode {
     match run(&rt) {

@@ -1,10 +1,7 @@
 //! Cases, tried by each of their programs in each way.
 
-use crate::judge::{Reach, Row};
-use crate::meeting;
 use crate::tally::{Tally, tell_trouble};
-use crate::vary::Bench;
-use crate::ways::Way;
+use crate::{meeting, socket};
 use cases::{
     Case, Command, Program, Script, Talk, Trouble, command_of, first_of, has_open_replies,
 };
@@ -12,6 +9,7 @@ use ggrammar::Ends;
 use std::alloc::Global;
 use std::io;
 use std::net::{Net, TcpListener, TcpStream};
+use tries::{Bench, Reach, Row, Way};
 
 // A case and one of its command lines, and whether its replies are to have ends of their own.
 #[derive(Clone, Copy)]
@@ -203,7 +201,7 @@ where
             continue;
         }
         let mut bench = Bench::new(rt.alloc(), row);
-        let found = match bench.try_way(rt, way) {
+        let found = match try_way(rt, &mut bench, row, way) {
             Ok(found) => found,
             Err(trouble) => {
                 return tell_trouble(rt, run.case.source, run.case.line, trouble, tally);
@@ -215,6 +213,22 @@ where
         }
     }
     Ok(())
+}
+
+// Tries a row in a way, and answers the first try that went wrong.
+fn try_way<R>(
+    rt: &R,
+    bench: &mut Bench<'_, '_>,
+    row: &Row<'_>,
+    way: Way,
+) -> Result<Option<usize>, Trouble>
+where
+    R: AllocGlobal + Net<Stream = TcpStream, Listener = TcpListener>,
+{
+    match way {
+        Way::OverSocket => socket::first_wrong(rt, rt.alloc(), row, &mut bench.runs),
+        _ => bench.try_way(way),
+    }
 }
 
 fn tell_wrong<R: Print>(

@@ -1,32 +1,55 @@
 //! Connections over a socket of this process: `gtcp` is at one end, and at the other what a case says of it is written and read.
 
-use crate::judge::Row;
 use cases::{Command, Program, Trouble, words_of};
 use gclient::{FetchFault, Fetched, Repo};
-use gcmd::{ProgramFault, Spec};
+use gcmd::{ProgramFault, Spec, read_prefixes};
 use ggraph::PlainPack;
 use glsreply::LsReply;
 use gname::Prefix;
-use gtcp::{Server, fetch_on, ls_on, read_prefixes, serve_listener};
+use gtcp::{Server, fetch_on, ls_on, serve_listener};
 use runs::{Hindrance, Writer, client_of, limit_of, server_of, specs_of};
 use std::alloc::Global;
 use std::io::{Read, Write};
 use std::net::{Net, Shutdown, TcpListener, TcpStream};
+use tries::Row;
 
 /// So many bytes fit into a socket that nobody reads meanwhile.
 const MOST_BYTES: usize = 16_384;
 
-/// Whether a row is tried so: a connection from its first line on, of few bytes, with plain packers and indexers. Of clients
-/// those that come to the end of their conversation: what one leaves unread resets the connection.
-pub fn is_tried(row: &Row<'_>) -> bool {
+/// Tries a row over a socket, to which the other end writes all at once, or a byte at a time. It counts its runs, and answers
+/// the first that went wrong.
+pub fn first_wrong<N>(
+    net: &N,
+    alloc: Global,
+    row: &Row<'_>,
+    runs: &mut u64,
+) -> Result<Option<usize>, Trouble>
+where
+    N: Net<Stream = TcpStream, Listener = TcpListener>,
+{
+    if !is_tried(row) {
+        return Ok(None);
+    }
+    for is_slow in [false, true] {
+        *runs = runs.saturating_add(1);
+        if !is_as_due(net, alloc, row, is_slow)? {
+            return Ok(Some(is_slow as usize));
+        }
+    }
+    Ok(None)
+}
+
+// Whether a row is tried so: a connection from its first line on, of few bytes, with plain packers and indexers. Of clients
+// those that come to the end of their conversation: what one leaves unread resets the connection.
+fn is_tried(row: &Row<'_>) -> bool {
     let command = row.command;
     let fits = row.talk.input.len() <= MOST_BYTES && row.talk.output.len() <= MOST_BYTES;
     let ends_well = command.program == Program::Serve || row.talk.errors.is_empty();
     command.has_hello() && command.liar.is_none() && fits && ends_well
 }
 
-/// Whether the connection comes out as the row says, where the other end writes a byte at a time, or all at once.
-pub fn is_as_due<N>(net: &N, alloc: Global, row: &Row<'_>, is_slow: bool) -> Result<bool, Trouble>
+// Whether the connection comes out as the row says, where the other end writes a byte at a time, or all at once.
+fn is_as_due<N>(net: &N, alloc: Global, row: &Row<'_>, is_slow: bool) -> Result<bool, Trouble>
 where
     N: Net<Stream = TcpStream, Listener = TcpListener>,
 {

@@ -1,8 +1,8 @@
 //! How much is tried, how often each way was, and what went wrong.
 
-use crate::ways::Way;
 use cases::Trouble;
 use std::io;
+use tries::Way;
 
 /// How much is tried.
 #[derive(Clone, Copy, PartialEq, Eq)]

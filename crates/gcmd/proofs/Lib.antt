@@ -5,3 +5,4 @@ pub mod OutputLemmas
 pub mod LinesLemmas
 pub mod ReportLemmas
 pub mod FetchLemmas
+mod PrefixLemmas

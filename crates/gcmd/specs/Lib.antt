@@ -7,6 +7,7 @@ pub mod Checking
 pub mod Lines
 pub mod Reporting
 pub mod Fetching
+pub mod Prefixes
 pub mod steps
 pub use Rattle.gname.specs.Names
 pub use Rattle.gpkt.specs.Packets

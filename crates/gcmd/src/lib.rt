@@ -24,7 +24,8 @@
 //!   move did; and the report (`specs/Reporting.antt`) is written and passed on, or a beginning of it stands where
 //!   its sink fails. At every other fault there is no new file, and no report, save a new file without its report
 //!   where it is out of memory for that. [`read_specs`] reads words as refspecs, or answers the fault of the first
-//!   that is none.
+//!   that is none. [`read_prefixes`] reads words as prefixes of names, each as it stands, or fails likewise
+//!   (`specs/Prefixes.antt`).
 //! - [`cmd_check`] writes its one line, with the counts, and whether the graph is closed and the repository is
 //!   connected, and passes it on; where the sink fails, a beginning of it stands. Of a file that is no repository
 //!   nothing is written.
@@ -60,6 +61,7 @@ mod fault;
 mod fetch;
 mod lines;
 mod ls;
+mod prefixes;
 mod print;
 mod program;
 mod report;
@@ -73,6 +75,7 @@ pub use crate::fault::ProgramFault;
 pub use crate::fetch::{FetchRun, cmd_fetch, conclude, send_report, send_text};
 pub use crate::lines::cmd_lines;
 pub use crate::ls::cmd_ls;
+pub use crate::prefixes::read_prefixes;
 pub use crate::program::{cmd_failed, finish, print_fault};
 pub use crate::repository::load_server;
 pub use crate::upload::cmd_upload;

@@ -24,14 +24,14 @@
 use gargs::{Command, Fetch, Serve, Simulate, read_command};
 use gcmd::{
     Ends, FetchRun, ProgramFault, Spec, cmd_check, cmd_failed, cmd_fetch, cmd_lines, cmd_ls,
-    cmd_upload, load_server, open_client, read_specs,
+    cmd_upload, load_server, open_client, read_prefixes, read_specs,
 };
 use gpkt::memory::VecSink;
 use gpkt::{Down, FromRead, Sink, ToWrite, write_all};
 use gsimulate::{Simulation, cmd_simulate};
 use gtcp::{
     Listing, Pair, Place, RemoteFetch, Server, Service, cmd_fetch_remote, cmd_ls_remote, cmd_pair,
-    cmd_serve, read_prefixes,
+    cmd_serve,
 };
 use std::alloc::Global;
 use std::io::{BufReader, BufWriter, Write};

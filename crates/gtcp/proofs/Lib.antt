@@ -1,6 +1,5 @@
 mod TellingLemmas
 mod ListingLemmas
-mod PrefixLemmas
 mod ServingLemmas
 mod PlaceLemmas
 mod PairLemmas

@@ -4,5 +4,4 @@ pub mod Messages
 pub mod Remote
 pub mod Sockets
 pub mod Places
-pub mod Prefixes
 pub mod steps

@@ -19,8 +19,6 @@
 //! - [`cmd_ls_remote`] writes the lines of the reply to such a listing and passes them on; or nothing, save where its
 //!   output fails (`specs/Listing.antt`, `Remote.antt`). More than 64 prefixes are refused as such, or out
 //!   of memory, and not for want of a socket.
-//! - [`read_prefixes`] reads words as prefixes, each as it stands; or it fails at the first that is none, with its fault,
-//!   or at one that can't be kept, out of memory (`specs/Prefixes.antt`).
 //! - [`cmd_fetch_remote`] has a new file only where the refs were settled: then it is the text of the repository as the
 //!   fetch left it, objects only came, and the report says what became of each ask. [`cmd_pair`] reports of such a
 //!   fetch (`specs/Remote.antt`).
@@ -71,7 +69,6 @@ mod listing;
 mod message;
 mod pair;
 mod place;
-mod prefixes;
 mod remote;
 mod serving;
 mod stream;
@@ -79,7 +76,6 @@ mod stream;
 pub use crate::fetching::{fetch_on, ls_on};
 pub use crate::message::{MAX_MESSAGE, MessageSink};
 pub use crate::place::Place;
-pub use crate::prefixes::read_prefixes;
 pub use crate::remote::{
     Listing, Pair, RemoteFetch, Service, cmd_fetch_remote, cmd_ls_remote, cmd_pair, cmd_serve,
 };

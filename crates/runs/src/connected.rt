@@ -4,7 +4,7 @@
 use crate::files::server_of;
 use crate::program::{Devices, Job};
 use gclient::FetchFault;
-use gcmd::{ProgramFault, finish, send_text};
+use gcmd::{ProgramFault, finish, read_prefixes, send_text};
 use gconnect::{Export, GitEnd, list_git, serve_git};
 use ggrammar::MessageFault;
 use ggraph::Packer;
@@ -14,7 +14,6 @@ use gname::{Prefix, RefName};
 use gpkt::{Sink, Source};
 use grequest::LsRefsRequest;
 use gserve::{End, Served};
-use gtcp::read_prefixes;
 use std::alloc::{AllocError, Allocator};
 
 /// Serves a connection from its first line on. It answers 1 where the connection had a fault, which is printed.

@@ -16,7 +16,7 @@
 //! # Stands on
 //!
 //! `cases` for commands, packers and indexers; `gcmd` for the programs; `gconnect` for connections, `gserve` and `gclient` for the
-//! calls below the programs, `gtcp` for prefixes; `gpkt` for devices, `ggraph` for packs and repositories' texts, `ghello`,
+//! calls below the programs; `gpkt` for devices, `ggraph` for packs and repositories' texts, `ghello`,
 //! `grequest`, `glsreply` and `gname` for what is said on a connection; `scarce` for memory that ends.
 #![tactic(auto)]
 

@@ -10,18 +10,18 @@ use worlds::{Files, simulate_with};
 
 /// How a run is hindered: its devices, and which allocation is refused, if one is.
 #[derive(Clone, Copy)]
-pub struct Trial {
-    pub read: Hindrance,
-    pub write: Hindrance,
-    pub report: Hindrance,
-    pub errors: Hindrance,
-    pub refused: u64,
+pub(crate) struct Trial {
+    pub(crate) read: Hindrance,
+    pub(crate) write: Hindrance,
+    pub(crate) report: Hindrance,
+    pub(crate) errors: Hindrance,
+    pub(crate) refused: u64,
     /// Whether the devices are std's.
-    pub is_std: bool,
+    pub(crate) is_std: bool,
 }
 
 impl Trial {
-    pub const FREE: Trial = Trial {
+    pub(crate) const FREE: Trial = Trial {
         read: Hindrance::NONE,
         write: Hindrance::NONE,
         report: Hindrance::NONE,
@@ -31,7 +31,7 @@ impl Trial {
     };
 
     /// With an input of so many bytes a call, and an output of one.
-    pub fn in_pieces(most: usize) -> Trial {
+    pub(crate) fn in_pieces(most: usize) -> Trial {
         let mut trial = Trial::FREE;
         trial.read = Hindrance::pieces(most);
         trial.write = Hindrance::pieces(1);
@@ -39,7 +39,7 @@ impl Trial {
     }
 
     /// With a device that fails at this call.
-    pub fn failing(device: Device, call: usize) -> Trial {
+    pub(crate) fn failing(device: Device, call: usize) -> Trial {
         let mut trial = Trial::FREE;
         let hindrance = Hindrance::failing(call);
         match device {
@@ -52,7 +52,7 @@ impl Trial {
     }
 
     /// With the allocation of this number refused.
-    pub fn refusing(number: usize) -> Trial {
+    pub(crate) fn refusing(number: usize) -> Trial {
         let mut trial = Trial::FREE;
         trial.refused = number as u64;
         trial
@@ -61,7 +61,7 @@ impl Trial {
 
 /// A device of a run.
 #[derive(Clone, Copy)]
-pub enum Device {
+pub(crate) enum Device {
     Input,
     Output,
     Report,
@@ -70,27 +70,27 @@ pub enum Device {
 
 /// What a run did.
 #[derive(Drop)]
-pub struct Played {
-    pub status: u8,
+pub(crate) struct Played {
+    pub(crate) status: u8,
     /// The new text of the client's file.
-    pub file: Option<Vec<u8>>,
+    pub(crate) file: Option<Vec<u8>>,
     /// The client's repository at the end, where it is known.
-    pub state: Option<Vec<u8>>,
-    pub output: Writer,
-    pub report: Writer,
-    pub errors: Writer,
+    pub(crate) state: Option<Vec<u8>>,
+    pub(crate) output: Writer,
+    pub(crate) report: Writer,
+    pub(crate) errors: Writer,
     /// The bytes that were not read.
-    pub left: usize,
-    pub read_failed: bool,
+    pub(crate) left: usize,
+    pub(crate) read_failed: bool,
     /// Whether a device was called after it had failed, or an indexer not fed as it is to be.
-    pub was_misused: bool,
+    pub(crate) was_misused: bool,
     /// Whether there was an allocation to be refused.
-    pub was_refused: bool,
+    pub(crate) was_refused: bool,
 }
 
 impl Played {
     /// Whether the device failed.
-    pub fn has_failed(&self, device: Device) -> bool {
+    pub(crate) fn has_failed(&self, device: Device) -> bool {
         match device {
             Device::Input => self.read_failed,
             Device::Output => self.output.has_failed(),
@@ -101,7 +101,7 @@ impl Played {
 }
 
 /// Runs a command over a repository's text and an input.
-pub fn play(
+pub(crate) fn play(
     alloc: Global,
     command: Command<'_>,
     file: &[u8],

@@ -5,11 +5,9 @@ use crate::judge::{
     is_scarce, is_sound, is_stopped, is_unserved, is_write_failed,
 };
 use crate::play::{Device, Played, Trial, play};
-use crate::socket;
 use crate::ways::Way;
 use cases::{Change, Liar, Program, Trouble, fault_text};
 use std::alloc::Global;
-use std::net::{Net, TcpListener, TcpStream};
 use worlds::{Files, Happened, run_one_by_one, run_scarcely};
 
 /// More calls of a device, and more allocations, than any row has.
@@ -74,16 +72,13 @@ impl<'a, 'b> Bench<'a, 'b> {
         }
     }
 
-    /// Tries the row in this way, and answers the first try that went wrong.
-    pub fn try_way<N>(&mut self, net: &N, way: Way) -> Result<Option<usize>, Trouble>
-    where
-        N: Net<Stream = TcpStream, Listener = TcpListener>,
-    {
+    /// Tries the row in this way, and answers the first try that went wrong. Over a socket nothing is tried.
+    pub fn try_way(&mut self, way: Way) -> Result<Option<usize>, Trouble> {
         match way {
             Way::Whole => self.whole(),
             Way::Pieces => self.in_pieces(),
             Way::OverStd => self.over_std(),
-            Way::OverSocket => self.over_socket(net),
+            Way::OverSocket => Ok(None),
             Way::Watched => self.watched(),
             Way::FailingReads => self.failing(Device::Input),
             Way::FailingWrites => self.failing(Device::Output),
@@ -160,23 +155,6 @@ impl<'a, 'b> Bench<'a, 'b> {
         self.runs = self.runs.saturating_add(1);
         let happened = run_one_by_one(self.alloc, Files::of(row.command, row.file))?;
         Ok(happened.is_whole && happened.text.as_bytes() == row.talk.output.as_slice())
-    }
-
-    // Over a socket, to which the other end writes all at once, or a byte at a time.
-    fn over_socket<N>(&mut self, net: &N) -> Result<Option<usize>, Trouble>
-    where
-        N: Net<Stream = TcpStream, Listener = TcpListener>,
-    {
-        if !socket::is_tried(self.row) {
-            return Ok(None);
-        }
-        for is_slow in [false, true] {
-            self.runs = self.runs.saturating_add(1);
-            if !socket::is_as_due(net, self.alloc, self.row, is_slow)? {
-                return Ok(Some(is_slow as usize));
-            }
-        }
-        Ok(None)
     }
 
     // Over std's readers and writers: as it stands, and, where the row is not long, in pieces; where each of its bytes is

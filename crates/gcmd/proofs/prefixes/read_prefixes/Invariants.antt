@@ -1,7 +1,7 @@
 use Rattle.std.proofs.Common.{◌≡◌, take, map}
 use Rattle.std.specs.Prelude.{string_bytes, All}
 use Rattle.gname.specs.Names.{IsPrefix}
-use Rattle.gtcp.proofs.prefixes.read_prefixes.Given as goal
+use Rattle.gcmd.proofs.prefixes.read_prefixes.Given as goal
 
 abbrev pub invariant-loop-word : goal.invariant-loop-word
 invariant-loop-word g l = record {

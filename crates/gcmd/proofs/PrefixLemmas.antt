@@ -7,7 +7,7 @@ use Rattle.gname.specs.Names.{IsPrefix, Owns, prefix_fault}
 use Rattle.gname.specs.declared.faults.NameFault.{NameFault}
 use Rattle.gcmd.specs.declared.fault.ProgramFault.{ProgramFault}
 use Rattle.gcmd.specs.declared.fault.ProgramFault.TheVariants as program
-use Rattle.gtcp.specs.Prefixes.{ReadsPrefixes, RefusesPrefix}
+use Rattle.gcmd.specs.Prefixes.{ReadsPrefixes, RefusesPrefix}
 
 module _ {Z : Type 0} (words : List (String Z)) (place : ℕ) (word : String Z) (inside : place < length words)
     (is : word ≡ get_or words place word)

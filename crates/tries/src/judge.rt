@@ -62,7 +62,7 @@ pub enum Reach {
 
 /// How the input stops.
 #[derive(Clone, Copy, PartialEq, Eq)]
-pub enum Stop {
+pub(crate) enum Stop {
     /// It ends.
     Ended,
     /// A read fails.
@@ -70,7 +70,7 @@ pub enum Stop {
 }
 
 /// Whether the run answered as the row says, and passed all on.
-pub fn is_as_due(row: &Row<'_>, played: &Played) -> bool {
+pub(crate) fn is_as_due(row: &Row<'_>, played: &Played) -> bool {
     (played.status == 1) != row.talk.errors.is_empty()
         && has_written(&played.output, row.talk.output.as_slice(), NOTHING)
         && has_reported(row, played)
@@ -89,7 +89,7 @@ fn has_reported(row: &Row<'_>, played: &Played) -> bool {
 }
 
 /// Whether the run stopped as it is to where the input stops after so many bytes.
-pub fn is_stopped(
+pub(crate) fn is_stopped(
     alloc: Global,
     row: &Row<'_>,
     played: &Played,
@@ -156,7 +156,7 @@ fn fault_line(
 }
 
 /// Whether the run stopped at a failed write.
-pub fn is_write_failed(row: &Row<'_>, played: &Played) -> bool {
+pub(crate) fn is_write_failed(row: &Row<'_>, played: &Played) -> bool {
     played.status == 1
         && row.talk.output.starts_with(played.output.written())
         && played.errors.written() == WRITE_FAILED
@@ -164,7 +164,7 @@ pub fn is_write_failed(row: &Row<'_>, played: &Played) -> bool {
 }
 
 /// Whether all was done but the report, of which a beginning stands.
-pub fn is_report_failed(row: &Row<'_>, played: &Played) -> bool {
+pub(crate) fn is_report_failed(row: &Row<'_>, played: &Played) -> bool {
     played.status == 1
         && has_written(&played.output, row.talk.output.as_slice(), NOTHING)
         && row.talk.report.starts_with(played.report.written())
@@ -173,7 +173,7 @@ pub fn is_report_failed(row: &Row<'_>, played: &Played) -> bool {
 }
 
 /// Whether all was done, and of the line of the fault a beginning stands.
-pub fn is_errors_failed(row: &Row<'_>, played: &Played) -> bool {
+pub(crate) fn is_errors_failed(row: &Row<'_>, played: &Played) -> bool {
     played.status == 1
         && has_written(&played.output, row.talk.output.as_slice(), NOTHING)
         && has_reported(row, played)
@@ -183,7 +183,7 @@ pub fn is_errors_failed(row: &Row<'_>, played: &Played) -> bool {
 
 /// Whether the run went well, or ended as it is to where an allocation is refused: it reports it, after a beginning of the
 /// output up to the end of a message. A server that serves says it to the client, too.
-pub fn is_scarce(row: &Row<'_>, played: &Played) -> bool {
+pub(crate) fn is_scarce(row: &Row<'_>, played: &Played) -> bool {
     is_as_due(row, played)
         || is_unserved(row, played)
         || has_event_without_memory(row, played)
@@ -213,7 +213,7 @@ fn is_refusal_of_memory(line: &[u8]) -> bool {
 }
 
 /// Whether the run was out of memory before anything was written: there was none for the repository itself.
-pub fn is_unserved(row: &Row<'_>, played: &Played) -> bool {
+pub(crate) fn is_unserved(row: &Row<'_>, played: &Played) -> bool {
     row.command.program.serves()
         && is_out_of_memory(played)
         && played.output.written().is_empty()
@@ -259,7 +259,7 @@ fn refusal_of(fault: usize) -> &'static [u8] {
 }
 
 /// Whether the run did what the row's table says of the changed input.
-pub fn is_in_table(
+pub(crate) fn is_in_table(
     alloc: Global,
     row: &Row<'_>,
     played: &Played,
@@ -324,7 +324,7 @@ fn fault_of(errors: &[u8]) -> usize {
 
 /// Whether the run of a changed input ended within bounds: with one line of a fault or none, and by a server with its
 /// advertisement first.
-pub fn is_sound(row: &Row<'_>, played: &Played) -> bool {
+pub(crate) fn is_sound(row: &Row<'_>, played: &Played) -> bool {
     let is_told = (played.status == 1) == played.errors.written().starts_with(b"gitv2: fault ");
     is_told && advertises(row, played)
 }
@@ -352,7 +352,7 @@ fn has_advert(row: &Row<'_>, played: &Played) -> bool {
 
 /// Whether the client's repository is safe after the run, and no object is lost: the new text of its file, and what it was
 /// at the end, which differs from the file only where there is no new text, and then in new objects alone.
-pub fn is_kept(alloc: Global, row: &Row<'_>, played: &Played) -> bool {
+pub(crate) fn is_kept(alloc: Global, row: &Row<'_>, played: &Played) -> bool {
     match (&played.state, &played.file) {
         (Some(state), Some(text)) => {
             state.as_slice() == text.as_slice() && is_grown(alloc, row, text.as_slice())

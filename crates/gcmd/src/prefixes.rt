@@ -2,9 +2,9 @@
 
 ghost use Rattle.std.specs.Prelude.{◌≡◌, ◌++◌, ◌∷◌, [], Err, IfErr, MatchResult, Ok, OnOk, map, string_bytes};
 ghost use Rattle.gname.specs.declared.faults.NameFault.TheVariants.{Memory};
-ghost use Rattle.gtcp.specs.Prefixes.{ReadsPrefixes};
+ghost use Rattle.gcmd.specs.Prefixes.{ReadsPrefixes};
 
-use gcmd::ProgramFault;
+use crate::fault::ProgramFault;
 use gname::{NameFault, Prefix};
 use std::alloc::Allocator;
 

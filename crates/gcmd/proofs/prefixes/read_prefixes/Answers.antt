@@ -1,8 +1,8 @@
 use Rattle.std.proofs.Common.{◌<◌, ℕ, List, length, Err, inr, subst, ◌∙◌, arith}
 use Rattle.std.proofs.lemmas.Result.{err_from_is_err_and}
 use Rattle.gname.specs.Names.{IsPrefix, Owns, prefix_fault}
-use Rattle.gtcp.proofs.PrefixLemmas.{prefixes_more, refuses_prefix, refuses_prefixes, words_more}
-use Rattle.gtcp.proofs.prefixes.read_prefixes.Goals as goal
+use Rattle.gcmd.proofs.PrefixLemmas.{prefixes_more, refuses_prefix, refuses_prefixes, words_more}
+use Rattle.gcmd.proofs.prefixes.read_prefixes.Goals as goal
 
 pub loop-word-preserved : goal.loop-word-preserved
 loop-word-preserved g c =
