@@ -1,5 +1,6 @@
 //! A client's repository.
 
+ghost use Rattle.std.specs.Map.{values_of};
 ghost use Rattle.std.specs.Prelude.{◌≡◌, ◌⊎◌, [], ◌∷◌, All, Contains, IfErr, IfOk, MatchResult, OnOk};
 ghost use Rattle.gname.specs.Ids.{Id};
 ghost use Rattle.gdag.specs.declared.fault.GraphFault.TheVariants.{Memory};
@@ -8,6 +9,7 @@ ghost use Rattle.gdag.specs.Insert.{Adds, AddsOnly, AddsOnlyParents};
 ghost use Rattle.gdag.specs.Reach.{Grows, IsFull, Keeps};
 ghost use Rattle.gdag.specs.Walks.{Misses};
 ghost use Rattle.grefs.specs.RefLists.{IsRefs};
+ghost use Rattle.gwalk.specs.Marks.{MarksReached};
 ghost use Rattle.gclientrepo.specs.Changes.{AddsLocal, Marks, Opens, SetsLocal, SettlesAsks};
 ghost use Rattle.gclientrepo.specs.steps.Repos.{ComeFrom};
 ghost use Rattle.gclientrepo.specs.Repos.{IsWhole};
@@ -52,16 +54,10 @@ impl<A: Allocator + Copy> Repo<A> {
         ensures opens { Opens graph refs result }
         ensures whole { IfOk result IsWhole }
     {
-        let alloc = graph.allocator();
-        let targets = refs.ids(alloc)?;
-        let ids = targets.as_slice();
-        if missing(&graph, ids)?.is_some() {
-            let name = first_unsafe(&graph, &refs, ids)?;
-            return Err(RepoFault::UnsafeRef { name });
+        match marks_of(&graph, &refs) {
+            Ok(known) => Ok(Repo { graph, refs, known }),
+            Err(fault) => Err(fault),
         }
-        let mut known = FullMarks::new(alloc);
-        mark_full(&graph, ids, &mut known)?;
-        Ok(Repo { graph, refs, known })
     }
 
     /// The objects.
@@ -220,4 +216,27 @@ impl<A: Allocator + Copy> Repo<A> {
         self.refs = refs;
         Ok(())
     }
+}
+
+// Marks of what the refs reach; each of them has to be connected.
+fn marks_of<A: Allocator + Copy>(
+    graph: &Graph<A>,
+    refs: &Refs<A>,
+) -> Result<FullMarks<A>, RepoFault<A>>
+    ensures marks { MatchResult result
+        (MarksReached graph.now.entries (values_of refs.now) [])
+        (λ fault. Opens graph.now refs.now (Err fault)) }
+    ensures whole { IfOk result (λ known. IsWhole
+        (record { graph = graph.now; refs = refs.now; known = known })) }
+{
+    let alloc = graph.allocator();
+    let targets = refs.ids(alloc)?;
+    let ids = targets.as_slice();
+    if missing(graph, ids)?.is_some() {
+        let name = first_unsafe(graph, refs, ids)?;
+        return Err(RepoFault::UnsafeRef { name });
+    }
+    let mut known = FullMarks::new(alloc);
+    mark_full(graph, ids, &mut known)?;
+    Ok(known)
 }

@@ -1,7 +1,15 @@
-use Rattle.std.proofs.Common.{◌≡◌, ℕ, List, sym, ap, ◌∙◌}
+use Rattle.std.proofs.Common.{◌≡◌, ℕ, List, length, sym, ap, ◌∙◌, arith}
+use Rattle.std.proofs.lemmas.List.{length-map}
 use Rattle.gclientrepo.specs.steps.Repos.{IsFirstLost}
 use Rattle.gclientrepo.proofs.RepoLemmas.{unsafe_at}
 use Rattle.gclientrepo.proofs.opening.first_unsafe.Goals as goal
+
+pub bounds-as_slice-place : goal.bounds-as_slice-place
+bounds-as_slice-place g c =
+    let refs = c.args.refs.now in
+    let ids : length c.args.ids.now ≡ length refs = ap (λ (l : List (List ℕ)). length l) c.requires.ids ∙ length-map refs (λ (r : List ℕ × List ℕ). r.1) in
+    let items : length c.as_slice.result.now ≡ length refs = ap (λ (l : List (List ℕ × List ℕ)). length l) c.as_slice.ensures.refs in
+    omega (arith, c.in_ok-place.ensures.place.inside, ids, items)
 
 pub returns-clause-name : goal.returns-clause-name
 returns-clause-name g c =
