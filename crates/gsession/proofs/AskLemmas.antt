@@ -1,6 +1,6 @@
 -- What is asked for, refspec by refspec and line by line, and which asks are the first for their refs.
 use Rattle.std.proofs.Common.{◌≡◌, ◌≢◌, ℕ, ◌+◌, ◌<◌, true, false, if◌then◌else◌, inl, inr, List, [], ◌∷◌, ◌++◌, length}
-use Rattle.std.proofs.Common.{get_or, map, filter, take, drop, All, Contains, Err, refl, sym, ap, subst, append_assoc}
+use Rattle.std.proofs.Common.{get_or, map, filter, take, drop, All, Contains, Ok, Err, refl, sym, ap, subst, append_assoc}
 use Rattle.std.proofs.Common.{arith, ◌∙◌}
 use Rattle.std.specs.Str.{bytes_eq}
 use Rattle.std.proofs.lemmas.Grind.{flat_map-append}
@@ -84,6 +84,23 @@ module _ {A : Type 0} where
   -- these asks were added to the old ones, and each is for a ref name
   abbrev pub HasAdded : List (Ask A) → List (Ask A) → List (Ask A) → Type 0
   HasAdded old more new = (new ≡ with_asks old more) × AreNamed more
+
+  -- a line that the refspec does not match adds nothing
+  pub adds_none : (spec : Refspec) (line : RefLine) (old new : List (Ask A)) → matches spec line.name ≡ false
+      → new ≡ old → HasAdded old (asks_by spec (line ∷ [])) new
+  adds_none spec line old new e same = rw e (same, All-nil (λ (ask : Ask A). IsRefName ask.name))
+
+  -- and any other the ask for its destination, which is a ref name
+  pub adds_one : (spec : Refspec) (line : RefLine) (name : List ℕ) (old new : List (Ask A))
+      → matches spec line.name ≡ true → Owns name_fault (destination_of spec line.name) (Ok name)
+      → new ≡ with_ask old (record { name = name; id = line.id; forced = spec.forced })
+      → HasAdded old (asks_by spec (line ∷ [])) new
+  adds_one spec line name old new e owns adds =
+      let P : Ask A → Type 0 = λ ask. IsRefName ask.name in
+      rw e (
+        adds ∙ ap (λ (n : List ℕ). with_ask old (record { name = n; id = line.id; forced = spec.forced })) owns.0,
+        All-cons P (ask_of spec line) [] owns.1 (All-nil P),
+      )
 
   -- a fault of some asks is one of all, where those before them are named
   fails_among : (before more rest : List (Ask A)) (fault : NameFault) → AreNamed before → IsAskFault more fault

@@ -13,11 +13,13 @@ use Rattle.gdag.proofs.IdLists.{new_ids-append}
 use Rattle.grefspec.specs.Refspecs.{Refspec}
 use Rattle.gobject.specs.declared.node.Entry.{Entry}
 use Rattle.gname.specs.Ids.{has_format}
+use Rattle.grequest.specs.Asked.{Asked, Fetches}
 use Rattle.grequest.specs.RequestValues.{asked_by_request}
 use Rattle.grequest.specs.declared.request.Request.{Request}
-use Rattle.gsession.specs.Requesting.{MakesNext, Requests, is_due}
+use Rattle.gsession.specs.Requesting.{IsBatch, IsNext, MakesNext, Requests, fetch_request, is_due, waiting_for}
 use Rattle.gsession.specs.Sessions.{SessionState, after_fault, no_memory}
 use Rattle.gsession.specs.declared.fault.ClientFault.{ClientFault}
+use Rattle.gsession.specs.declared.stage.Stage.TheVariants.{Fetching}
 use Rattle.gsession.specs.steps.Calls.{with_prefix}
 
 -- each of the ids has the format
@@ -70,6 +72,13 @@ module _ {A : Type 0} where
   pub none_waits : (p : Option (Request A)) → is_some p ≡ false → option_map asked_by_request p ≡ None
   none_waits None none = refl
   none_waits (Some request) none = absurd (false≢true (sym none))
+
+  -- a request for objects is the next one while objects are fetched
+  pub fetches_next : (s new : SessionState A) (g : List (Entry A)) (asked : Asked) (batch : List (List ℕ))
+      → s.stage ≡ Fetching → IsBatch s g batch → asked ≡ Fetches (fetch_request s.wants s.commons batch)
+      → new ≡ waiting_for s asked batch → MakesNext s g new asked
+  fetches_next s new g asked batch stage batched is after =
+      (batch, subst (λ (a : Asked). IsNext s g a batch) (sym is) (stage, refl, batched), after)
 
   -- the request that was made is the one that was due; or out of memory
   pub made_next : (old new : SessionState A) (g : List (Entry A)) (result : Result (Request A) (ClientFault A))

@@ -1,11 +1,14 @@
 -- Taking a reply, step by step.
-use Rattle.std.proofs.Common.{◌≡◌, ◌≤◌, ℕ, Bool, List, ◌++◌, length, All, Contains, None, Result, Ok, Err, inr}
-use Rattle.std.proofs.Common.{MatchResult, refl, sym, ap, subst, arith, ◌∙◌}
+use Rattle.std.proofs.Common.{◌≡◌, ◌≤◌, ℕ, Bool, List, ◌++◌, length, All, Contains, Option, None, Result, Ok, Err, inr}
+use Rattle.std.proofs.Common.{MatchResult, refl, sym, ap, subst, true≢false, arith, ◌∙◌}
+use Rattle.std.specs.Option.{option_map}
 use Rattle.std.proofs.lemmas.Cmp.{nat_list_eq_equiv}
 use Rattle.std.proofs.lemmas.List.Elements.{All-append, All-contains}
 use Rattle.std.proofs.lemmas.Map.Made.{length-le_from_is_member}
 use Rattle.gname.specs.Ids.{IsIdOf}
 use Rattle.gpkt.specs.Change.{Change}
+use Rattle.gpkt.specs.LineReading.{Reader}
+use Rattle.ggrammar.specs.MessageReading.{LeavesReader}
 use Rattle.glsreply.specs.LsReplies.{LsReply}
 use Rattle.gobject.specs.declared.node.Entry.{Entry}
 use Rattle.gdag.proofs.IdLists.{any_from_contains, contains_from_any}
@@ -24,13 +27,15 @@ use Rattle.grefs.specs.RefLists.{RefList}
 use Rattle.gclientrepo.specs.declared.fault.RepoFault.TheVariants as repo
 use Rattle.gclientrepo.specs.Repos.{RepoState}
 use Rattle.grequest.specs.Asked.{FetchAsked}
-use Rattle.gsession.specs.Sessions.{SessionState, AreCommons, IsOpenFetch}
+use Rattle.grequest.specs.RequestValues.{asked_by_request}
+use Rattle.grequest.specs.declared.request.Request.{Request}
+use Rattle.gsession.specs.Sessions.{SessionState, AreCommons, IsOpenFetch, LeavesReplies}
 use Rattle.gsession.specs.steps.Calls.{AnswersLs, AnswersRead, AnswersRefs, AnswersReply, IsAcksFault}
 use Rattle.gsession.specs.TakingRefs.{AwaitsRefs, IsLsFault, IsRefsFault, ReadsRefs}
 use Rattle.gsession.specs.TakingReplies.{Awaits, HasPack, IsFirstStrange, IsReplyFault, IsTakeFault, ReadsFetch}
 use Rattle.gsession.specs.TakingReplies.{RefusesPack, TakesHead, after_acks, reading_for}
 use Rattle.gsession.specs.declared.fault.ClientFault.{ClientFault}
-use Rattle.gsession.specs.declared.fault.ClientFault.TheVariants.{Index, Message, Repo, StrangeAck, TooManyWants}
+use Rattle.gsession.specs.declared.fault.ClientFault.TheVariants.{Index, Message, NoOpenRequest, Repo, StrangeAck, TooManyWants}
 use Rattle.gsession.specs.declared.stage.Stage.{Stage}
 use Rattle.gsession.specs.declared.stage.Stage.TheVariants.{Fetching}
 use Rattle.gsession.specs.declared.taken.LsTaken.{LsTaken}
@@ -84,14 +89,29 @@ module _ {A : Type 0} where
   refs_answer old g change reply new (Err fault) waits reads answers =
       (refs_fault old g change reply fault waits reads answers.0, answers.1)
 
+  -- how it leaves the reader
+  pub refs_leaves : {S : Type 0} (is_down : S → Bool) (was now : Reader S) (old : SessionState A)
+      (g : List (Entry A)) (reply : LsReply) (new : SessionState A) (result : Result (LsTaken A) (ClientFault A))
+      → LeavesReader {M = Unit {0}} is_down was now (Ok tt) → AnswersRefs old g reply new result
+      → LeavesReplies is_down was now result
+  refs_leaves is_down was now old g reply new (Ok taken) leaves answers = leaves
+  refs_leaves is_down was now old g reply new (Err NoOpenRequest) leaves answers = absurd answers.0
+  refs_leaves is_down was now old g reply new (Err (Message fault)) leaves answers =
+      rw answers.0.why
+      ((leaves.0, leaves.2), leaves.1, λ failed. absurd (true≢false (sym failed ∙ leaves.0)))
+  refs_leaves is_down was now old g reply new (Err _) leaves answers = leaves
+
   -- ---- a reply to fetch
 
-  -- the session with those common ids, made of what it was before
-  pub acked : (stage : Stage) (was s : SessionState A) (acks list : List (List ℕ)) → was ≡ s
-      → list ≡ distinct_of (s.commons ++ acks)
-      → record was { stage = stage; pending = None; commons = list } ≡ after_acks s stage acks
-  acked stage was s acks list same is =
-      ap (λ (o : SessionState A). record o { stage = stage; pending = None; commons = list }) same
+  -- the session with those common ids, made of what it was before, where no request waits any more
+  pub acked : (stage : Stage) (now : Option (Request A)) (was s : SessionState A) (acks list : List (List ℕ))
+      → now ≡ None → was ≡ s → list ≡ distinct_of (s.commons ++ acks)
+      → record was { stage = stage; pending = option_map asked_by_request now; commons = list }
+      ≡ after_acks s stage acks
+  acked stage now was s acks list none same is =
+      ap (λ (p : Option (Request A)).
+      record was { stage = stage; pending = option_map asked_by_request p; commons = list }) none
+      ∙ ap (λ (o : SessionState A). record o { stage = stage; pending = None; commons = list }) same
       ∙ ap (λ (l : List (List ℕ)). record s { stage = stage; pending = None; commons = l }) is
 
   -- ---- the repository
@@ -180,3 +200,17 @@ module _ {A : Type 0} where
         (asked, waits, (reply, reads, answers))
     read_answer old repo_old change asked reply new repo_new (Err fault) waits reads answers =
         (read_fault old repo_old change asked reply fault waits reads answers.0, answers.1, answers.2)
+
+    -- how it leaves the reader
+    pub read_leaves : {S : Type 0} (is_down : S → Bool) (was now : Reader S) (haves : List (List ℕ))
+        (old : SessionState A) (repo_old : RepoState A) (reply : FetchReply) (new : SessionState A)
+        (repo_new : RepoState A) (result : Result Taken (ClientFault A))
+        → LeavesReader {M = Unit {0}} is_down was now (Ok tt)
+        → AnswersRead indexes index_fails haves old repo_old reply new repo_new result
+        → LeavesReplies is_down was now result
+    read_leaves is_down was now haves old repo_old reply new repo_new (Ok taken) leaves answers = leaves
+    read_leaves is_down was now haves old repo_old reply new repo_new (Err NoOpenRequest) leaves answers =
+        absurd answers.0
+    read_leaves is_down was now haves old repo_old reply new repo_new (Err (Message fault)) leaves answers =
+        absurd answers.0
+    read_leaves is_down was now haves old repo_old reply new repo_new (Err _) leaves answers = leaves

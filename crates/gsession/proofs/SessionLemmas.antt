@@ -2,11 +2,14 @@
 use Rattle.std.proofs.Common.{◌≡◌, ◌≢◌, ℕ, ◌+◌, ◌≤◌, ◌==◌, false, List, [], ◌∷◌, ◌++◌, length}
 use Rattle.std.proofs.Common.{All, Option, Some, None, refl, sym, ap, subst, arith, length-append, ◌∙◌}
 use Rattle.std.specs.List.{IsDistinct}
+use Rattle.std.specs.Option.{IfSome, option_map}
 use Rattle.std.proofs.lemmas.List.Elements.{All-append, All-nil, Contains-append_left, Contains-get_or}
 use Rattle.std.proofs.lemmas.Bool.{ne_eqb}
 use Rattle.gname.specs.Ids.{IsIdOf}
 use Rattle.gclientrepo.specs.declared.ask.Ask.{Ask}
 use Rattle.grequest.specs.Asked.{Asked, Ls, Fetches, FetchAsked, LsRefsAsked, is_direct, max_wants}
+use Rattle.grequest.specs.RequestValues.{IsOfFormat, asked_by_request}
+use Rattle.grequest.specs.declared.request.Request.{Request}
 use Rattle.gsession.specs.Requesting.{fetch_request}
 use Rattle.gsession.specs.Sessions.{SessionState, AreCommons, FitsStage, IsOpenFetch, IsSession, max_specs}
 use Rattle.gsession.specs.steps.Calls.{FitsBatch}
@@ -56,6 +59,14 @@ begun s few ids wants commons sent stage pending rounds = record {
   rounds = omega (arith, rounds);
   stage = rw (stage, pending) rounds;
 }
+
+-- ---- the request that waits
+
+-- another one, or none, in its place
+pub waits : {A : Type 0} (s : SessionState A) (now next : Option (Request A)) → now ≡ next
+    → IsSession (record s { pending = option_map asked_by_request next }) → IfSome next (IsOfFormat s.format)
+    → IsSession (record s { pending = option_map asked_by_request now }) × IfSome now (IsOfFormat s.format)
+waits s now next same is format = rw same (is, format)
 
 -- ---- requests
 
@@ -143,4 +154,18 @@ acks_taken s asked commons is waits direct are = record {
   rounds = is.rounds;
   some = λ _. is.some (fetch_waits s s.stage asked (subst (FitsStage s s.stage) waits is.stage)).0;
   stage = (open_fetch s asked is waits).goes_on direct;
+}
+
+pub pack_taken : {A : Type 0} (s : SessionState A) (commons : List (List ℕ)) → IsSession s
+    → AreCommons s.format commons → IsSession (record s { stage = Settling; pending = None; commons = commons })
+pack_taken s commons is are = record {
+  few_specs = is.few_specs;
+  tips = is.tips;
+  wants = is.wants;
+  few_wants = is.few_wants;
+  commons = are;
+  sent = is.sent;
+  rounds = is.rounds;
+  some = λ fetching. absurd (settling_fetches fetching);
+  stage = tt;
 }

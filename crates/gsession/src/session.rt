@@ -32,7 +32,7 @@ pub const MAX_SPECS: usize = 16;
 /// A client's conversation with one server: it asks for refs, then for the objects that are wanted, round by round
 /// until a pack comes, and at last moves refs here. Who has the connection sends each request, and hands the
 /// reader of the replies to the session.
-#[derive(Debug, Drop)]
+#[derive(Drop)]
 pub struct Session<A: Allocator + Copy = Global> {
     format: Format,
     refspecs: Vec<Spec<A>, A>,
@@ -200,7 +200,7 @@ impl<A: Allocator + Copy> Session<A> {
         ensures { self.new ≡ over self.old }
     {
         self.stage = Stage::Over;
-        self.pending = None;
+        set_pending(&mut self.pending, None);
     }
 
     /// Moves the refs here: each that is new, or is moved by force or by a fast-forward, comes to stand at
@@ -244,6 +244,13 @@ impl<A: Allocator + Copy> Session<A> {
         let none = Asks::new(self.allocator());
         mem::replace(&mut self.asks, none)
     }
+}
+
+// Has another request wait for its reply, or none.
+fn set_pending<A: Allocator + Copy>(pending: &mut Option<Request<A>>, next: Option<Request<A>>)
+    ensures { pending.new ≡ next }
+{
+    *pending = next;
 }
 
 // Copies of refspecs.

@@ -1,7 +1,7 @@
 //! How far a session is.
 
 /// What a session waits for, or asks for next.
-#[derive(Clone, Copy, Debug, PartialEq, Eq, Drop)]
+#[derive(Clone, Copy, Drop)]
 pub enum Stage {
     /// The refs of the server.
     Listing,

@@ -1,16 +1,17 @@
 //! The requests of a session.
 
 ghost use Rattle.std.specs.Prelude.{◌≡◌, List, None, MatchResult, Ok, Err, IfOk};
+ghost use Rattle.gdag.specs.declared.fault.GraphFault.TheVariants.{Memory};
 ghost use Rattle.gobject.specs.declared.node.Entry.{Entry};
 ghost use Rattle.grequest.specs.Asked.{Fetches};
 
 use crate::fault::ClientFault;
 use crate::requests::{batch_size, objects_request, refs_request};
-use crate::session::Session;
+use crate::session::{Session, set_pending};
 use crate::stage::Stage;
 use gclientrepo::Repo;
 use ggraph::graph_laws::{offers_are_exact, places_are_nodes};
-use ggraph::haves;
+use ggraph::{GraphFault, haves};
 use gname::Oid;
 use gname::laws::ids_have_one_format;
 use grequest::{MAX_HAVES, Request};
@@ -73,7 +74,7 @@ impl<A: Allocator + Copy> Session<A> {
         let alloc = self.allocator();
         let request = refs_request(alloc, self.refspecs.as_slice(), self.offers_unborn)?;
         let copy = request.copy_in(alloc)?;
-        self.pending = Some(request);
+        set_pending(&mut self.pending, Some(request));
         Ok(copy)
     }
 
@@ -86,25 +87,40 @@ impl<A: Allocator + Copy> Session<A> {
             (asked_by_request request)) (λ fault. (self.new ≡ self.old) × (fault ≡ no_memory)) }
         ensures format { IfOk result (IsOfFormat self.old.format) }
     {
-        let alloc = self.allocator();
         let batch = self.batch(repo)?;
+        Ok(self.ask_with(batch.as_slice())?)
+    }
+
+    // Asks for objects, and offers a batch.
+    fn ask_with(&mut self, batch: &[Oid]) -> Result<Request<A>, AllocError>
+        requires stage { self.old.stage ≡ Stage.Fetching }
+        requires pending { self.old.pending ≡ None }
+        requires fits { FitsBatch self.old batch.now }
+        ensures made { MatchResult result
+            (λ request. (asked_by_request request
+            ≡ Fetches (fetch_request self.old.wants self.old.commons batch.now))
+            × (self.new ≡ waiting_for self.old (asked_by_request request) batch.now))
+            (λ _. self.new ≡ self.old) }
+        ensures format { IfOk result (IsOfFormat self.old.format) }
+    {
+        let alloc = self.allocator();
         let request = objects_request(
             alloc,
             self.format,
             self.wants.as_slice(),
             self.commons.as_slice(),
-            batch.as_slice(),
+            batch,
         )?;
         let copy = request.copy_in(alloc)?;
-        self.keep_request(request, batch.as_slice())?;
+        self.keep_request(request, batch)?;
         Ok(copy)
     }
 
     // The ids that the next request offers. It did not offer them before, and has room for them beside the common ids.
-    fn batch(&self, repo: &Repo<A>) -> Result<Vec<Oid, A>, ClientFault<A>>
+    fn batch(&self, repo: &Repo<A>) -> Result<Vec<Oid, A>, GraphFault>
         ensures batch { MatchResult result
             (λ batch. IsBatch self.now repo.now.graph.entries batch.items)
-            (λ fault. fault ≡ no_memory) }
+            (λ fault. fault ≡ Memory) }
         ensures fits { IfOk result (λ batch. FitsBatch self.now batch.items) }
     {
         // Laws.
@@ -119,7 +135,7 @@ impl<A: Allocator + Copy> Session<A> {
             self.sent.as_slice(),
             batch_size(self.rounds),
         )?;
-        if offer.len() <= MAX_HAVES && self.commons.len() <= MAX_HAVES - offer.len() {
+        if offer.len() <= MAX_HAVES - self.commons.len() {
             Ok(offer)
         } else {
             Ok(Vec::new(self.allocator()))
@@ -140,7 +156,7 @@ impl<A: Allocator + Copy> Session<A> {
     {
         self.sent.extend_from_slice(batch)?;
         self.rounds += 1;
-        self.pending = Some(request);
+        set_pending(&mut self.pending, Some(request));
         Ok(())
     }
 }

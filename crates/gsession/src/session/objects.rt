@@ -6,7 +6,7 @@ ghost use Rattle.gpkt.specs.Change.{change_of};
 use crate::acks::{first_strange, with_acks};
 use crate::fault::ClientFault;
 use crate::feed::PackFeed;
-use crate::session::Session;
+use crate::session::{Session, set_pending};
 use crate::stage::Stage;
 use crate::taken::Taken;
 use gclientrepo::Repo;
@@ -134,7 +134,7 @@ impl<A: Allocator + Copy> Session<A> {
         let common = joined.len();
         self.commons = joined;
         self.stage = Stage::Fetching;
-        self.pending = None;
+        set_pending(&mut self.pending, None);
         Ok(Taken::Round { common })
     }
 
@@ -159,7 +159,7 @@ impl<A: Allocator + Copy> Session<A> {
         let added = repo.insert_all(entries.as_slice())?;
         self.commons = commons;
         self.stage = Stage::Settling;
-        self.pending = None;
+        set_pending(&mut self.pending, None);
         Ok(Taken::PackTaken { added })
     }
 

@@ -1,13 +1,13 @@
 //! How a session takes the reply to ls-refs.
 
-ghost use Rattle.std.specs.Prelude.{◌≡◌, ◌≤◌, List, All, MatchBool, None, Err, length};
+ghost use Rattle.std.specs.Prelude.{◌≡◌, ◌≤◌, List, All, MatchBool, MatchResult, IfOk, None, Ok, Err, length};
 ghost use Rattle.gobject.specs.declared.node.Entry.{Entry};
 ghost use Rattle.gpkt.specs.Change.{change_of};
 ghost use Rattle.gsession.specs.TakingRefs.{stage_for};
 
 use crate::asks::{asked_of, unborn_of, wants_of};
 use crate::fault::ClientFault;
-use crate::session::Session;
+use crate::session::{Session, set_pending};
 use crate::stage::Stage;
 use crate::taken::LsTaken;
 use gclientrepo::{Asks, Repo};
@@ -24,7 +24,7 @@ impl<A: Allocator + Copy> Session<A> {
     ghost use Rattle.grequest.specs.Asked.{max_wants};
     ghost use Rattle.gsession.specs.Sessions.{LeavesReplies};
     ghost use Rattle.gsession.specs.steps.Calls.{AnswersLs, AnswersRefs, FindsAsks};
-    ghost use Rattle.gsession.specs.TakingRefs.{AwaitsRefs, IsRefsFault, TakesLs};
+    ghost use Rattle.gsession.specs.TakingRefs.{AwaitsRefs, IsRefsFault, TakesLines, TakesLs, with_refs};
 
     /// Takes the reply to ls-refs, and nothing after it: what is asked for, which of its objects are wanted, and the
     /// target of an unborn `HEAD`. An ask is for the ref to which a refspec takes a name; of several asks for one ref
@@ -89,22 +89,59 @@ impl<A: Allocator + Copy> Session<A> {
         requires formed { IsLsReplyIn self.old.format reply.now }
         ensures { AnswersRefs self.old repo.now.graph.entries reply.now self.new result }
     {
-        let alloc = self.allocator();
-        let asks = match asked_of(alloc, self.refspecs.as_slice(), reply) {
-            Ok(asks) => asks,
-            Err(fault) => return Err(self.unnamed(reply, fault)),
-        };
-        let wants = wants_of(repo, &asks)?;
+        match asked_of(self.allocator(), self.refspecs.as_slice(), reply) {
+            Ok(asks) => self.take_asked(repo, reply, asks),
+            Err(fault) => Err(self.unnamed(reply, fault)),
+        }
+    }
+
+    // Takes what is asked for of the refs of a reply.
+    fn take_asked(
+        &mut self,
+        repo: &Repo<A>,
+        reply: &LsReply<A>,
+        asks: Asks<A>,
+    ) -> Result<LsTaken<A>, ClientFault<A>>
+        requires waits { AwaitsRefs self.old }
+        requires asked { FindsAsks self.old.refspecs reply.now.lines (Ok asks) }
+        requires ids { All (λ ask. IsIdOf self.old.format ask.id) asks }
+        ensures { AnswersRefs self.old repo.now.graph.entries reply.now self.new result }
+    {
+        match self.wanted(repo, reply, &asks) {
+            Ok((wants, taken)) => {
+                self.keep_wants(asks, wants);
+                Ok(taken)
+            }
+            Err(fault) => Err(fault),
+        }
+    }
+
+    // What is wanted for the asks, and what comes of the reply.
+    fn wanted(
+        &self,
+        repo: &Repo<A>,
+        reply: &LsReply<A>,
+        asks: &Asks<A>,
+    ) -> Result<(Vec<Oid, A>, LsTaken<A>), ClientFault<A>>
+        requires asked { FindsAsks self.now.refspecs reply.now.lines (Ok asks.now) }
+        requires ids { All (λ ask. IsIdOf self.now.format ask.id) asks.now }
+        ensures wanted { MatchResult result
+            (λ pair. TakesLines self.now repo.now.graph.entries reply.now
+            (with_refs self.now reply.now pair.0.items) pair.1)
+            (IsRefsFault self.now repo.now.graph.entries reply.now) }
+        ensures ids { IfOk result (λ pair. All (IsIdOf self.now.format) pair.0.items) }
+        ensures few { IfOk result (λ pair. length pair.0.items ≤ max_wants) }
+    {
+        let wants = wants_of(repo, asks)?;
         if wants.len() > MAX_WANTS {
             return Err(ClientFault::TooManyWants);
         }
         let taken = LsTaken {
             asks: asks.len(),
             wants: wants.len(),
-            unborn: unborn_of(alloc, self.refspecs.as_slice(), reply)?,
+            unborn: unborn_of(self.allocator(), self.refspecs.as_slice(), reply)?,
         };
-        self.keep_wants(asks, wants);
-        Ok(taken)
+        Ok((wants, taken))
     }
 
     // Keeps what is asked for and what is wanted.
@@ -120,7 +157,7 @@ impl<A: Allocator + Copy> Session<A> {
         } }
     {
         self.stage = stage_for(wants.as_slice());
-        self.pending = None;
+        set_pending(&mut self.pending, None);
         self.asks = asks;
         self.wants = wants;
     }

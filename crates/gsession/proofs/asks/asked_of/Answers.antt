@@ -22,6 +22,12 @@ loop-spec-preserved g c =
     c.spec-item.result c.loop-spec-test.true c.spec-item.is one (append-nil one) [] c.loop-spec.asks c.add_asks.new.asks
     c.loop-spec.invariant c.in_ok-add_asks.ensures
 
+pub returns-clause-asks : goal.returns-clause-asks
+returns-clause-asks g c =
+    let specs = c.args.specs.now in
+    let past : length specs ≤ c.loop-spec.spec-index = omega (arith, c.loop-spec-test.false) in
+    rw (take_all c.loop-spec.spec-index specs past) at c.loop-spec.invariant
+
 pub returns-clause-ids : goal.returns-clause-ids
 returns-clause-ids g c =
     let specs = c.args.specs.now in

@@ -1,7 +1,7 @@
 use Rattle.std.proofs.Common.{◌≡◌, None, sym, ap, ap₂, ◌∙◌}
 use Rattle.gsession.specs.Requesting.{is_due}
 use Rattle.gsession.specs.Sessions.{SessionState}
-use Rattle.gsession.specs.declared.stage.Stage.TheVariants.{Listing}
+use Rattle.gsession.specs.declared.stage.Stage.TheVariants.{Listing, Fetching}
 use Rattle.gsession.proofs.BuildLemmas.{made_next, none_waits}
 use Rattle.gsession.proofs.session.Session.make_request.Goals as goal
 
@@ -14,3 +14,13 @@ returns-in-Listing-clause-requests g c =
     sym (ap (λ (s : SessionState g.row.A.Denot). s.stage) c.self.view_is) ∙ c.in-Listing.is in
     made_next s c.ask_for_refs.new.self c.args.repo.now.graph.entries c.ask_for_refs.result (ap₂ is_due listing none)
     (c.ask_for_refs.ensures.made c.args.repo.now.graph.entries)
+
+pub returns-in-Fetching-clause-requests : goal.returns-in-Fetching-clause-requests
+returns-in-Fetching-clause-requests g c =
+    let s = c.args.self.now in
+    let none : s.pending ≡ None = sym (ap (λ (s : SessionState g.row.A.Denot). s.pending) c.self.view_is)
+    ∙ none_waits c.self.inside.pending (sym c.is_some.ensures ∙ c.if-is_some.false) in
+    let fetching : s.stage ≡ Fetching =
+    sym (ap (λ (s : SessionState g.row.A.Denot). s.stage) c.self.view_is) ∙ c.in-Fetching.is in
+    made_next s c.ask_for_objects.new.self c.args.repo.now.graph.entries c.ask_for_objects.result
+    (ap₂ is_due fetching none) c.ask_for_objects.ensures.made

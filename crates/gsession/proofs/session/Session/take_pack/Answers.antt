@@ -1,9 +1,12 @@
-use Rattle.std.proofs.Common.{ℕ, List, ◌++◌, All, Contains, refl, sym, ap, subst, ◌∙◌}
+use Rattle.std.proofs.Common.{ℕ, List, ◌++◌, All, Contains, None, refl, sym, ap, subst, ◌∙◌}
 use Rattle.std.proofs.lemmas.Result.{err_from_is_err_and}
 use Rattle.gdag.specs.Levels.{distinct_of}
 use Rattle.gfetchreply.specs.FetchHeads.{pack_of}
+use Rattle.gsession.specs.Sessions.{AreCommons, SessionState}
+use Rattle.gsession.specs.steps.Fields.{session_of}
 use Rattle.gsession.specs.declared.stage.Stage.TheVariants.{Settling}
 use Rattle.gsession.proofs.ReplyLemmas.{acked, acks_fault, graph_fault, same_repo}
+use Rattle.gsession.proofs.SessionLemmas.{pack_taken, waits}
 use Rattle.gsession.proofs.session.Session.take_pack.Goals as goal
 
 pub returns-in_err-commons : goal.returns-in_err-commons
@@ -46,7 +49,8 @@ returns g c = λ asked reply waits same has fed.
       named,
       (
         has,
-        acked Settling _ s _ c.in_ok-commons.commons.items c.self.view_is commons,
+        acked Settling c.set_pending.new.pending _ s _ c.in_ok-commons.commons.items c.set_pending.ensures c.self.view_is
+            commons,
         (
           c.in_ok-entries.entries.items,
           c.in_ok-entries.ensures (pack_of reply) fed,
@@ -59,3 +63,12 @@ returns g c = λ asked reply waits same has fed.
         ),
       ),
     )
+
+pub invariant_of-self : goal.invariant_of-self
+invariant_of-self g c =
+    let commons = c.in_ok-commons.commons.items in
+    waits (record (session_of c.self.inside) { stage = Settling; commons = commons })
+    c.set_pending.new.pending None c.set_pending.ensures
+    (pack_taken _ commons c.self.invariant.0
+    (subst (λ (s : SessionState g.row.A.Denot). AreCommons s.format commons) (sym c.self.view_is)
+    c.in_ok-commons.ensures.commons)) tt
