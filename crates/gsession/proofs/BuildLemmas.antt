@@ -19,7 +19,8 @@ use Rattle.grequest.specs.declared.request.Request.{Request}
 use Rattle.gsession.specs.Requesting.{IsBatch, IsNext, MakesNext, Requests, fetch_request, is_due, waiting_for}
 use Rattle.gsession.specs.Sessions.{SessionState, after_fault, no_memory}
 use Rattle.gsession.specs.declared.fault.ClientFault.{ClientFault}
-use Rattle.gsession.specs.declared.stage.Stage.TheVariants.{Fetching}
+use Rattle.gsession.specs.declared.stage.Stage.{Stage}
+use Rattle.gsession.specs.declared.stage.Stage.TheVariants.{Listing, Fetching, Settling, Over}
 use Rattle.gsession.specs.steps.Calls.{with_prefix}
 
 -- each of the ids has the format
@@ -72,6 +73,15 @@ module _ {A : Type 0} where
   pub none_waits : (p : Option (Request A)) → is_some p ≡ false → option_map asked_by_request p ≡ None
   none_waits None none = refl
   none_waits (Some request) none = absurd (false≢true (sym none))
+
+  -- none is due while one waits
+  pub one_waits : (stage : Stage) (p : Option (Request A)) → is_some p ≡ true
+      → is_due stage (option_map asked_by_request p) ≡ false
+  one_waits stage None some = absurd (false≢true some)
+  one_waits Listing (Some request) some = refl
+  one_waits Fetching (Some request) some = refl
+  one_waits Settling (Some request) some = refl
+  one_waits Over (Some request) some = refl
 
   -- a request for objects is the next one while objects are fetched
   pub fetches_next : (s new : SessionState A) (g : List (Entry A)) (asked : Asked) (batch : List (List ℕ))

@@ -246,7 +246,7 @@ impl<A: Allocator + Copy> Session<A> {
     }
 }
 
-// Has another request wait for its reply, or none.
+// Has another request wait for its reply, or none. Here alone one that waited is dropped.
 fn set_pending<A: Allocator + Copy>(pending: &mut Option<Request<A>>, next: Option<Request<A>>)
     ensures { pending.new ≡ next }
 {

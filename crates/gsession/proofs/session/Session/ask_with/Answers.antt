@@ -1,4 +1,5 @@
-use Rattle.std.proofs.Common.{◌∙◌, List, All, ap, ap₂, subst, sym}
+use Rattle.std.proofs.Common.{◌∙◌, List, All, ap, ap₂, subst, sym, refl}
+use Rattle.std.proofs.lemmas.Result.{err_from_is_err_and}
 use Rattle.gname.specs.Ids.{Id, IsIdOf}
 use Rattle.grequest.specs.Asked.{Asked, Fetches}
 use Rattle.gsession.specs.Requesting.{fetch_request, waiting_for}
@@ -45,3 +46,22 @@ pub returns-clause-format : goal.returns-clause-format
 returns-clause-format g c =
     rw (c.in_ok-copy.ensures.format, c.in_ok-request.ensures.format)
     (ap (λ (s : SessionState g.row.A.Denot). s.format) c.self.view_is)
+
+pub objects_request-requires-clause-batch : goal.objects_request-requires-clause-batch
+objects_request-requires-clause-batch g c =
+    subst (λ (s : SessionState g.row.A.Denot). All (IsIdOf s.format) c.args.batch.now) (sym c.self.view_is)
+    c.requires.fits.ids
+
+pub objects_request-requires-clause-few_wants : goal.objects_request-requires-clause-few_wants
+objects_request-requires-clause-few_wants g c = rw c.as_slice.ensures.value c.self.invariant.0.few_wants
+
+pub returns-in_err-keep_request-clause-made : goal.returns-in_err-keep_request-clause-made
+returns-in_err-keep_request-clause-made g c =
+    let p =
+    err_from_is_err_and c.from_residual-in_err-keep_request.result c.from_residual-in_err-keep_request.ensures.1 in
+    rw p.1 c.in_err-keep_request.ensures
+
+pub returns-in_err-copy-clause-made : goal.returns-in_err-copy-clause-made
+returns-in_err-copy-clause-made g c =
+    let p = err_from_is_err_and c.from_residual-in_err-copy.result c.from_residual-in_err-copy.ensures.1 in
+    rw p.1 refl

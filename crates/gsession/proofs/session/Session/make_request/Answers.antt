@@ -1,8 +1,8 @@
-use Rattle.std.proofs.Common.{◌≡◌, None, sym, ap, ap₂, ◌∙◌}
+use Rattle.std.proofs.Common.{◌≡◌, false, None, refl, sym, ap, ap₂, subst, ◌∙◌}
 use Rattle.gsession.specs.Requesting.{is_due}
 use Rattle.gsession.specs.Sessions.{SessionState}
 use Rattle.gsession.specs.declared.stage.Stage.TheVariants.{Listing, Fetching}
-use Rattle.gsession.proofs.BuildLemmas.{made_next, none_waits}
+use Rattle.gsession.proofs.BuildLemmas.{made_next, none_waits, one_waits}
 use Rattle.gsession.proofs.session.Session.make_request.Goals as goal
 
 pub returns-in-Listing-clause-requests : goal.returns-in-Listing-clause-requests
@@ -24,3 +24,24 @@ returns-in-Fetching-clause-requests g c =
     sym (ap (λ (s : SessionState g.row.A.Denot). s.stage) c.self.view_is) ∙ c.in-Fetching.is in
     made_next s c.ask_for_objects.new.self c.args.repo.now.graph.entries c.ask_for_objects.result
     (ap₂ is_due fetching none) c.ask_for_objects.ensures.made
+
+pub returns-then-is_some-clause-requests : goal.returns-then-is_some-clause-requests
+returns-then-is_some-clause-requests g c =
+    let it = c.self.inside in (
+      (
+        subst (λ (s : SessionState g.row.A.Denot). is_due s.stage s.pending ≡ false) c.self.view_is
+            (one_waits it.stage it.pending (sym c.is_some.ensures ∙ c.if-is_some.true)),
+        refl,
+      ),
+      refl,
+    )
+
+pub ask_for_refs-requires-clause-pending : goal.ask_for_refs-requires-clause-pending
+ask_for_refs-requires-clause-pending g c =
+    sym (ap (λ (s : SessionState g.row.A.Denot). s.pending) c.self.view_is)
+    ∙ none_waits c.self.inside.pending (sym c.is_some.ensures ∙ c.if-is_some.false)
+
+pub ask_for_objects-requires-clause-pending : goal.ask_for_objects-requires-clause-pending
+ask_for_objects-requires-clause-pending g c =
+    sym (ap (λ (s : SessionState g.row.A.Denot). s.pending) c.self.view_is)
+    ∙ none_waits c.self.inside.pending (sym c.is_some.ensures ∙ c.if-is_some.false)
