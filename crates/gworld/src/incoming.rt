@@ -2,7 +2,8 @@
 
 ghost use Rattle.std.specs.Prelude.{◌≡◌, MatchResult, take, Some};
 ghost use Rattle.gworld.specs.steps.Bringing.{IsAwaited, TakesIfOpen, refs_outcome};
-ghost use Rattle.gworld.specs.Taking.{TakesObjects, TakesRefs};
+ghost use Rattle.gworld.specs.Taking.{TakesObjects, TakesRefs, code_of};
+ghost use Rattle.gworld.specs.declared.outcome.Outcome.TheVariants as outcome;
 
 use crate::outcome::Outcome;
 use gclientrepo::Repo;
@@ -85,8 +86,15 @@ fn refs_outcome<A: Allocator + Copy>(taking: Result<LsTaken<A>, ClientFault<A>>)
             asks: taken.asks,
             wants: taken.wants,
         },
-        Err(fault) => Outcome::Fault { code: fault.code() },
+        Err(fault) => refused(fault),
     }
+}
+
+/// The outcome of a fault.
+pub(crate) fn refused<A: Allocator + Copy>(fault: ClientFault<A>) -> Outcome
+    ensures { result ≡ outcome.Fault (code_of fault) }
+{
+    Outcome::Fault { code: fault.code() }
 }
 
 // Bytes come as the reply to fetch.

@@ -57,7 +57,7 @@ impl<A: Allocator + Copy> Parts<A> {
         let copy = name.copy_in(self.repo.graph().allocator())?;
         match self.server.set_ref(copy, id) {
             Ok(()) => Ok(Outcome::Done),
-            Err(fault) => Ok(Outcome::Fault { code: fault.code() }),
+            Err(fault) => Ok(refuse_build(fault)),
         }
     }
 
@@ -100,7 +100,7 @@ impl<A: Allocator + Copy> Parts<A> {
         let copy = name.copy_in(self.repo.graph().allocator())?;
         match self.repo.set_local_ref(copy, id) {
             Ok(()) => Ok(Outcome::Done),
-            Err(fault) => Ok(Outcome::Fault { code: fault.code() }),
+            Err(fault) => Ok(refuse_local(fault)),
         }
     }
 }

@@ -1,17 +1,20 @@
 //! The server at work.
 
 ghost use Rattle.std.specs.Prelude.{◌≡◌, ◌≢◌, ◌∷◌, ◌++◌, [], IfOk, MatchResult, length, slice_get};
+ghost use Rattle.ganswer.specs.Answers.{reply_of};
 ghost use Rattle.ganswer.specs.Faults.{serve_fault_row};
+ghost use Rattle.grequest.specs.RequestValues.{asked_by_request};
 ghost use Rattle.gworld.specs.Events.{HearsStranger, ServesRequest, TalksTo, stranger_outcome};
 ghost use Rattle.gworld.specs.declared.outcome.Outcome.TheVariants as outcome;
 
 use super::{KeptReply, Parts, sent_at};
 use crate::fault::NO_SUCH;
 use crate::outcome::Outcome;
-use ganswer::{ServeFault, Server};
+use ganswer::{Reply, ServeFault, Server};
 use ggrammar::Ends;
 use ggraph::Packer;
 use gpkt::memory::{SliceSource, VecSink};
+use grequest::Request;
 use gserve::laws::serving_is_talking;
 use gserve::{End, serve};
 use std::alloc::{AllocError, Allocator};
@@ -45,28 +48,29 @@ impl<A: Allocator + Copy> Parts<A> {
         match sent_at(&self.sent, number) {
             None => Ok(Outcome::Fault { code: NO_SUCH }),
             Some(sent) => match self.server.answer(&sent.request, packer) {
-                Ok(reply) => {
-                    let request = sent.request.copy_in(alloc)?;
-                    keep(&mut self.kept, KeptReply { request, reply })
-                }
+                Ok(reply) => keep(alloc, &mut self.kept, &sent.request, reply),
                 Err(fault) => Ok(refuse_request(fault)),
             },
         }
     }
 }
 
-// Keeps a reply.
+// Keeps a reply, with a copy of the request that it answers.
 fn keep<A: Allocator + Copy>(
+    alloc: A,
     kept: &mut Vec<KeptReply<A>, A>,
-    reply: KeptReply<A>,
+    request: &Request<A>,
+    reply: Reply<A>,
 ) -> Result<Outcome, AllocError>
     ensures { MatchResult result
         (λ told. (told ≡ outcome.Served (length kept.old.items))
-        × (kept.new.items ≡ kept.old.items ++ reply ∷ []))
+        × (kept.new.items ≡ kept.old.items
+        ++ (record { asked = asked_by_request request.now; reply = reply_of reply }) ∷ []))
         (λ _. kept.new.items ≡ kept.old.items) }
 {
     let number = kept.len();
-    kept.push(reply)?;
+    let request = request.copy_in(alloc)?;
+    kept.push(KeptReply { request, reply })?;
     Ok(Outcome::Served { reply: number })
 }
 

@@ -2,13 +2,17 @@
 
 ghost use Rattle.std.specs.Prelude.{◌≡◌, MatchResult, Ok, Err};
 ghost use Rattle.gfetchreply.specs.Values.{default_limit};
+ghost use Rattle.gdag.specs.declared.fault.GraphFault.TheVariants as graph;
+ghost use Rattle.gclientrepo.specs.declared.fault.RepoFault.TheVariants as repo;
 ghost use Rattle.ggrammar.specs.declared.ends.Ends.TheVariants.{Plain};
 ghost use Rattle.ganswer.specs.Adverts.{advertised};
-ghost use Rattle.gsession.specs.Sessions.{Begins, Hears, SessionState};
+ghost use Rattle.gsession.specs.Sessions.{Begins, Hears, IsBegun, SessionState};
+ghost use Rattle.gsession.specs.declared.fault.ClientFault.TheVariants as client;
 ghost use Rattle.gworld.specs.Events.{AsksNext, BeginsSession, Restarts, SettlesRefs, settled_outcome, is_moved, is_same, is_not_forward};
 
 use super::{Parts, Sent, refuse};
 use crate::fault::NO_OPEN_REQUEST;
+use crate::incoming::refused;
 use crate::outcome::Outcome;
 use gclientrepo::RefUpdate;
 use gfetchreply::PackLimit;
@@ -28,7 +32,7 @@ impl<A: Allocator + Copy> Parts<A> {
                 self.answered = false;
                 Outcome::Done
             }
-            Err(fault) => Outcome::Fault { code: fault.code() },
+            Err(fault) => refused(fault),
         }
     }
 
@@ -48,12 +52,23 @@ impl<A: Allocator + Copy> Parts<A> {
             PackLimit::default(),
             Ends::Plain,
         )?;
-        let advert = match self.server.advert() {
-            Ok(advert) => advert,
-            Err(_) => return Err(ClientFault::from(AllocError)),
-        };
-        session.hear(&advert)?;
-        Ok(session)
+        match self.introduce(&mut session) {
+            Ok(()) => Ok(session),
+            Err(fault) => Err(fault),
+        }
+    }
+
+    // A session that has just begun hears the server.
+    fn introduce(&self, session: &mut Session<A>) -> Result<(), ClientFault<A>>
+        requires { IsBegun session.old }
+        ensures { MatchResult result
+            (λ _. Hears session.old (advertised self.now.server.graph.format) session.new (Ok tt))
+            (λ fault. fault ≡ client.Repo (repo.Graph graph.Memory)) }
+    {
+        match self.server.advert() {
+            Ok(advert) => session.hear(&advert),
+            Err(_) => Err(ClientFault::from(AllocError)),
+        }
     }
 
     /// Makes the session's next request, and keeps it as sent.
@@ -89,7 +104,7 @@ impl<A: Allocator + Copy> Parts<A> {
             Some(session) => match session.settle(&mut self.repo) {
                 Ok(settled) => {
                     self.answered = false;
-                    settled_outcome(&settled)
+                    settled_outcome(settled)
                 }
                 Err(fault) => refuse(fault, &mut self.answered),
             },
@@ -106,8 +121,15 @@ impl<A: Allocator + Copy> Parts<A> {
     }
 }
 
+// The outcome where refs were settled.
+fn settled_outcome<A: Allocator + Copy>(settled: Settled<A>) -> Outcome
+    ensures { result ≡ settled_outcome settled.updates.items }
+{
+    count_updates(&settled)
+}
+
 // How many refs moved, stood at their ids already, and stayed because the move would have been no fast-forward.
-fn settled_outcome<A: Allocator + Copy>(settled: &Settled<A>) -> Outcome
+fn count_updates<A: Allocator + Copy>(settled: &Settled<A>) -> Outcome
     ensures { result ≡ settled_outcome settled.now.updates.items }
 {
     let mut moved = 0;

@@ -23,11 +23,18 @@ impl<A: Allocator + Copy> Parts<A> {
             (λ parts. (parts ≡ new_world server repo) × CanStart server repo)
             (λ fault. CannotStart server repo fault) }
     {
-        if let Some(fault) = why_not(&server, &repo) {
-            return Err(fault);
+        match why_not(&server, &repo) {
+            Some(fault) => Err(fault),
+            None => Ok(Parts::between(server, repo)),
         }
+    }
+
+    // A world that has just begun.
+    fn between(server: Server<A>, repo: Repo<A>) -> Parts<A>
+        ensures { result ≡ new_world server repo }
+    {
         let alloc = repo.graph().allocator();
-        Ok(Parts {
+        Parts {
             server,
             repo,
             session: None,
@@ -35,7 +42,7 @@ impl<A: Allocator + Copy> Parts<A> {
             kept: Vec::new(alloc),
             forged: false,
             answered: false,
-        })
+        }
     }
 
     /// The client's repository.

@@ -1,6 +1,6 @@
 use Rattle.std.proofs.Common.{◌≡◌, ◌+◌, take, count_by}
 use Rattle.gworld.specs.Events.{is_moved, is_same, is_not_forward}
-use Rattle.gworld.proofs.parts.session.settled_outcome.Given as goal
+use Rattle.gworld.proofs.parts.session.count_updates.Given as goal
 
 abbrev pub invariant-loop-update : goal.invariant-loop-update
 invariant-loop-update g l =
