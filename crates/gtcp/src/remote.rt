@@ -1,6 +1,6 @@
 //! The programs that open sockets, as functions over the network, bytes and sinks.
 
-ghost use Rattle.std.specs.Prelude.{◌≡◌, IfErr, IfOk, option_map};
+ghost use Rattle.std.specs.Prelude.{◌≡◌, IfOk, option_map};
 ghost use Rattle.gpkt.specs.Packets.{Bytes};
 ghost use Rattle.gdag.specs.Reach.{Grows};
 ghost use Rattle.gpkt.specs.Sending.{output_of};
@@ -8,7 +8,6 @@ ghost use Rattle.gclientrepo.specs.Settling.{Settles};
 ghost use Rattle.gcmd.specs.Fetching.{NamesClient};
 ghost use Rattle.gcmd.specs.Programs.{Runs};
 ghost use Rattle.gcmd.specs.Serving.{NamesServer};
-ghost use Rattle.gcmd.specs.declared.fault.ProgramFault.TheVariants.{Socket};
 ghost use Rattle.gtcp.specs.Remote.{Announces, AsksRemote, FetchesAt, FetchesRemote, ListsRemote, Meets, RunsServing, ServesRemote, ShowsReply};
 
 use crate::fetching::{fetch_from, ls_from, request_for};
@@ -34,7 +33,7 @@ use std::net::{Net, TcpListener, TcpStream};
 // ---- serving
 
 /// What is served: at which address and path, to how many connections, how replies end, and the text of the repository.
-#[derive(Clone, Copy)]
+#[derive(Drop)]
 pub struct Service<'a, A: Allocator + Copy> {
     pub place: &'a Place<A>,
     pub connections: u32,
@@ -109,28 +108,20 @@ where
     ensures output_loans { W.loans output.new ≡ W.loans output.old }
     ensures errors_loans { E.loans errors.new ≡ E.loans errors.old }
 {
-    let listener = listen(net, service.place)?;
-    announce(server.graph().allocator(), &listener, output)?;
-    serve_listener(
-        server,
-        &PlainPack,
-        listener,
-        service.place.hello().path(),
-        service.connections,
-        service.ends,
-        errors,
-    )
-}
-
-// Listens at a place.
-fn listen<A: Allocator + Copy, N>(net: &N, place: &Place<A>) -> Result<TcpListener, ProgramFault<A>>
-where
-    N: Net<Stream = TcpStream, Listener = TcpListener>,
-    ensures { IfErr result (λ fault. fault ≡ Socket) }
-{
-    match TcpListener::bind(net, place.address()) {
-        Ok(listener) => Ok(listener),
-        Err(_) => Err(ProgramFault::Socket),
+    let Ok(listener) = TcpListener::bind(net, service.place.address()) else {
+        return Err(ProgramFault::Socket);
+    };
+    match announce(server.graph().allocator(), &listener, output) {
+        Ok(()) => serve_listener(
+            server,
+            &PlainPack,
+            listener,
+            service.place.hello().path(),
+            service.connections,
+            service.ends,
+            errors,
+        ),
+        Err(fault) => Err(fault),
     }
 }
 
@@ -165,22 +156,10 @@ fn show_port<A: Allocator + Copy, W: Sink>(
     }
 }
 
-// Connects to a server.
-fn connect<A: Allocator + Copy, N>(net: &N, place: &Place<A>) -> Result<TcpStream, ProgramFault<A>>
-where
-    N: Net<Stream = TcpStream, Listener = TcpListener>,
-    ensures { IfErr result (λ fault. fault ≡ Socket) }
-{
-    match TcpStream::connect(net, place.address()) {
-        Ok(stream) => Ok(stream),
-        Err(_) => Err(ProgramFault::Socket),
-    }
-}
-
 // ---- listing
 
 /// What is listed: of the server at which place, and the refs with which prefixes, or all where there is none.
-#[derive(Clone, Copy)]
+#[derive(Drop)]
 pub struct Listing<'a, A: Allocator + Copy> {
     pub place: &'a Place<A>,
     pub prefixes: &'a [Prefix<A>],
@@ -241,7 +220,9 @@ where
         Ok(asked) => asked,
         Err(fault) => return Err(ProgramFault::Fetch(FetchFault::from(fault))),
     };
-    let stream = connect(net, listing.place)?;
+    let Ok(stream) = TcpStream::connect(net, listing.place.address()) else {
+        return Err(ProgramFault::Socket);
+    };
     match ls_from(alloc, &stream, listing.place.hello(), asked) {
         Ok(reply) => Ok(reply),
         Err(fault) => Err(ProgramFault::Fetch(fault)),
@@ -267,7 +248,7 @@ fn show_reply<A: Allocator + Copy, W: Sink>(
 
 /// What is fetched: from the server at which place, by which refspecs, how many bytes a pack may have, how replies end,
 /// and the text of the repository that is fetched into.
-#[derive(Clone, Copy)]
+#[derive(Drop)]
 pub struct RemoteFetch<'a, A: Allocator + Copy> {
     pub place: &'a Place<A>,
     pub specs: &'a [Spec<A>],
@@ -363,9 +344,8 @@ where
         fetched.settled.asks fetched.settled.updates.items repo.new.refs) }
     ensures grows { Grows repo.old.graph.entries repo.new.graph.entries }
 {
-    let stream = match connect(net, fetch.place) {
-        Ok(stream) => stream,
-        Err(fault) => return Err(fault),
+    let Ok(stream) = TcpStream::connect(net, fetch.place.address()) else {
+        return Err(ProgramFault::Socket);
     };
     let git_fetch = GitFetch {
         hello: fetch.place.hello(),
@@ -382,7 +362,7 @@ where
 // ---- both ends
 
 /// Both ends of a fetch: the server, the text of the repository that is fetched into, and the refspecs.
-#[derive(Clone, Copy)]
+#[derive(Drop)]
 pub struct Pair<'a, A: Allocator + Copy> {
     pub server: &'a Server<A>,
     pub client: &'a [u8],

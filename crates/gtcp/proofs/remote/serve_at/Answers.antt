@@ -1,30 +1,27 @@
 use Rattle.std.proofs.Common.{ℕ, List, inl, inr, refl, ap, subst, ◌∙◌}
 use Rattle.gpkt.specs.Sending.{output_of}
 use Rattle.ghello.specs.Hello.{Hello}
-use Rattle.gclient.proofs.StepLemmas.{err_of}
 use Rattle.gcmd.specs.Serving.{plain_pack_fails, plain_packs}
 use Rattle.gtcp.specs.Sockets.{ServesEach}
 use Rattle.gtcp.proofs.remote.serve_at.Goals as goal
 
-pub returns-in_err-announce-clause-serves : goal.returns-in_err-announce-clause-serves
-returns-in_err-announce-clause-serves g c = λ file names.
-    let fault = c.in_err-announce.field-0.0 in
-    let residual = c.from_residual-in_err-announce in
+pub returns-in-Err-clause-serves : goal.returns-in-Err-clause-serves
+returns-in-Err-clause-serves g c = λ file names.
     inr (
-      fault,
-      inr (c.args.server.now, names, c.in_err-announce.ensures.announces),
-      err_of fault residual.result residual.ensures.1,
+      c.in-Err.fault,
+      inr (c.args.server.now, names, c.in-Err.ensures.announces),
+      refl,
       record { written = refl; passed_on = refl; down = refl },
     )
 
-pub returns-clause-serves : goal.returns-clause-serves
-returns-clause-serves g c =
+pub returns-in-Ok-announce-clause-serves : goal.returns-in-Ok-announce-clause-serves
+returns-in-Ok-announce-clause-serves g c =
     let service = c.args.service.now in
     let errors = output_of g.E.Sink.contents g.E.Sink.passed_on g.E.Sink.is_down c.args.errors.now c.serve_listener.new.errors in
     λ file names. inl (record {
       server = c.args.server.now;
       names = names;
-      announces = c.in_ok-announce.ensures.announces;
+      announces = c.in-Ok-announce.ensures.announces;
       serves =
           subst (λ (path : List ℕ). ServesEach c.args.server.now plain_packs plain_pack_fails path service.ends errors
           service.connections c.serve_listener.result)
