@@ -10,6 +10,7 @@ ghost use Rattle.gdag.specs.Reach.{Grows, IsFull, Keeps};
 ghost use Rattle.gdag.specs.Walks.{Misses};
 ghost use Rattle.grefs.specs.RefLists.{IsRefs};
 ghost use Rattle.gwalk.specs.Marks.{MarksReached};
+ghost use Rattle.gclientrepo.specs.Asks.{asked_ids};
 ghost use Rattle.gclientrepo.specs.Changes.{AddsLocal, Marks, Opens, SetsLocal, SettlesAsks};
 ghost use Rattle.gclientrepo.specs.steps.Repos.{ComeFrom};
 ghost use Rattle.gclientrepo.specs.Repos.{IsWhole};
@@ -190,10 +191,20 @@ impl<A: Allocator + Copy> Repo<A> {
             (λ fault. SettlesAsks self.old asks.now self.new (Err fault)) }
         ensures whole { IsWhole self.new }
     {
+        let targets = asks.ids(self.graph.allocator())?;
+        self.settle_at(asks, targets.as_slice())
+    }
+
+    // Settles asks, whose ids are these.
+    fn settle_at(&mut self, asks: &Asks<A>, ids: &[Oid]) -> Result<Vec<RefUpdate, A>, RepoFault<A>>
+        requires { ids.now ≡ asked_ids asks.now }
+        ensures settles { MatchResult result
+            (λ updates. SettlesAsks self.old asks.now self.new (Ok updates.items))
+            (λ fault. SettlesAsks self.old asks.now self.new (Err fault)) }
+        ensures whole { IsWhole self.new }
+    {
         // Laws.
         refs_come_in_order();
-        let targets = asks.ids(self.graph.allocator())?;
-        let ids = targets.as_slice();
         if let Some(missing) = self.missing(ids)? {
             return Err(RepoFault::NotConnected { missing });
         }

@@ -35,14 +35,31 @@ pub(crate) fn settled<A: Allocator + Copy>(
     }
     let alloc = graph.allocator();
     let mut new = RefMap::copy_of(alloc, refs)?;
-    let mut updates = Vec::new(alloc);
-    for place in 0..asks.len() {
-        let (name, aim) = asks.aim(place);
-        let update = take_ask(graph, refs, name, aim, &mut new)?;
-        updates.push(update)?;
-    }
+    let updates = take_asks(graph, refs, asks, &mut new)?;
     let new = new.into_refs(alloc)?;
     Ok((new, updates))
+}
+
+// Moves the refs that are asked for, where they may move, and answers what becomes of each ask.
+fn take_asks<A: Allocator + Copy>(
+    graph: &Graph<A>,
+    old: &Refs<A>,
+    asks: &Asks<A>,
+    refs: &mut RefMap<A>,
+) -> Result<Vec<RefUpdate, A>, RepoFault<A>>
+    requires can { ¬ (CannotSettle old.now asks.now) }
+    requires copy { refs.old ≡ old.now }
+    ensures { MatchResult result
+        (λ updates. HasSettled graph.now.entries old.now asks.now updates.items refs.new)
+        (IsRefusal old.now asks.now) }
+{
+    let mut updates = Vec::new(graph.allocator());
+    for place in 0..asks.len() {
+        let (name, aim) = asks.aim(place);
+        let update = take_ask(graph, old, name, aim, refs)?;
+        updates.push(update)?;
+    }
+    Ok(updates)
 }
 
 // Whether the refs can't be set: an ask is for HEAD, or there would be too many.

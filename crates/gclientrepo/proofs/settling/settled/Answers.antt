@@ -1,38 +1,10 @@
-use Rattle.std.proofs.Common.{◌≡◌, ℕ, ◌<◌, length, subst, ◌+◌, ◌++◌, ◌∷◌, [], take, ap, ◌∙◌}
-use Rattle.std.proofs.lemmas.List.{take_more}
-use Rattle.std.proofs.lemmas.Option.{get_or_from_slice_get}
 use Rattle.std.proofs.lemmas.Result.{err_from_is_err_and}
-use Rattle.gclientrepo.specs.Asks.{aimed}
-use Rattle.gclientrepo.specs.declared.ask.Ask.{Ask}
-use Rattle.gclientrepo.proofs.SettlingLemmas.{settles_none, settles_more, differ_before, cannot_settle, refuses_ask}
 use Rattle.gclientrepo.proofs.settling.settled.Goals as goal
 
-pub loop-place-init : goal.loop-place-init
-loop-place-init g c = rw (c.new-updates.ensures.items, c.in_ok-new.ensures) (settles_none c.args.graph.now.entries c.args.refs.now)
+pub take_asks-requires-clause-can : goal.take_asks-requires-clause-can
+take_asks-requires-clause-can g c = λ cannot. (let is = c.cannot_settle.ensures.1 cannot in let not = c.if-cannot_settle.false in cc)
 
-pub loop-place-preserved : goal.loop-place-preserved
-loop-place-preserved g c =
-    let asks = c.args.asks.now in
-    let place = c.loop-place.place in
-    let ask : Ask g.row.A.Denot = aimed (c.aim.result.0.now, c.aim.result.1.now) in
-    let inside : place < length asks = subst (λ (n : ℕ). place < n) c.len-place-end.ensures.count c.loop-place-test.true in
-    let is = get_or_from_slice_get asks place ask ask c.aim.ensures in
-    let next : take (place + 1) asks ≡ take place asks ++ ask ∷ [] =
-    take_more asks place ask inside ∙ ap (λ (a : Ask g.row.A.Denot). take place asks ++ a ∷ []) is in
-    rw (next, c.in_ok-push.ensures.items)
-    (settles_more c.args.graph.now.entries c.args.refs.now (take place asks) c.loop-place.updates.items c.loop-place.new c.take_ask.new.refs ask c.in_ok-update.update
-    c.loop-place.invariant (differ_before asks place ask c.len-place-end.ensures.differ inside is) c.in_ok-update.ensures.0 c.in_ok-update.ensures.1)
-
-pub returns-in_err-update-clause-settles : goal.returns-in_err-update-clause-settles
-returns-in_err-update-clause-settles g c =
-    let p = err_from_is_err_and c.from_residual-in_err-update.result c.from_residual-in_err-update.ensures.1 in
-    let asks = c.args.asks.now in
-    let place = c.loop-place.place in
-    let ask : Ask g.row.A.Denot = aimed (c.aim.result.0.now, c.aim.result.1.now) in
-    let inside : place < length asks = subst (λ (n : ℕ). place < n) c.len-place-end.ensures.count c.loop-place-test.true in
-    let is = get_or_from_slice_get asks place ask ask c.aim.ensures in
-    rw (p.1, p.2)
-    (refuses_ask c.args.graph.now.entries c.args.refs.now asks ask c.loop-place.new c.take_ask.new.refs _
-    (λ cannot. (let is = c.cannot_settle.ensures.1 cannot in let not = c.if-cannot_settle.false in cc))
-    (cannot_settle c.args.graph.now.entries c.args.refs.now asks place c.loop-place.updates.items c.loop-place.new ask c.len-place-end.ensures.differ inside is c.loop-place.invariant)
-    c.in_err-update.ensures)
+pub returns-in_err-updates-clause-settles : goal.returns-in_err-updates-clause-settles
+returns-in_err-updates-clause-settles g c =
+    let p = err_from_is_err_and c.from_residual-in_err-updates.result c.from_residual-in_err-updates.ensures.1 in
+    rw (p.1, p.2) c.in_err-updates.ensures

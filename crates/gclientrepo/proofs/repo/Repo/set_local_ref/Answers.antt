@@ -16,5 +16,8 @@ returns-in_err-set-clause-sets g c =
     (λ is. rw refs at (c.in_err-set.ensures.refused.0 (ap Err is)))
     (λ cannot. (let same = c.in_err-set.ensures.refused.1 (subst (λ (r : RefList). CannotSet r c.args.name) (sym refs) cannot) in cc)))
 
+pub install-requires-clause-full : goal.install-requires-clause-full
+install-requires-clause-full g c = rw c.in_default.is at c.in_ok-missing.ensures.answer
+
 pub install-requires-clause-from : goal.install-requires-clause-from
 install-requires-clause-from g c = set_from c.args.self.now.refs c.in_ok-refs.refs c.set.new.self c.args.name c.args.id (c.in_ok-refs.ensures ∙ ap (λ (s : RepoState g.row.A.Denot). s.refs) c.self.view_is) c.in_ok-set.ensures.ok
