@@ -18,8 +18,11 @@ use Rattle.ggrammar.specs.MessageReading.{IsReadFailure}
 use Rattle.gobject.specs.Packs.{Indexes, IndexFails, Packs, PackFails}
 use Rattle.gpkt.specs.LineReading.{Reader}
 use Rattle.gsession.specs.TakingRefs.{TakesLs}
+use Rattle.gsession.specs.TakingReplies.{TakesReply}
 use Rattle.gsession.specs.declared.fault.ClientFault.TheVariants as client
 use Rattle.gsession.specs.declared.taken.LsTaken.{LsTaken}
+use Rattle.gsession.specs.declared.taken.Taken.{Taken}
+use Rattle.gsession.specs.declared.taken.Taken.TheVariants.{Round, PackTaken}
 use Rattle.ganswer.specs.Changes.{Adds}
 use Rattle.ganswer.specs.Servers.{Server}
 use Rattle.ganswer.specs.declared.fault.BuildFault.{BuildFault}
@@ -29,10 +32,10 @@ use Rattle.gclientrepo.specs.Changes.{AddsLocal}
 use Rattle.gclientrepo.specs.Faults.{repo_fault_row}
 use Rattle.gclientrepo.specs.Laws.{RefusalsChangeNothing}
 use Rattle.gclientrepo.specs.declared.fault.RepoFault.{RepoFault}
-use Rattle.gworld.specs.steps.Bringing.{BringsTo, TakesIfOpen, refs_outcome}
+use Rattle.gworld.specs.steps.Bringing.{BringsTo, TakesIfOpen, objects_outcome, refs_outcome}
 use Rattle.gworld.specs.Events.{AddsAtClient, AddsAtServer, AsksNext, Delivers, Forges, ServesRequest, SettlesRefs}
 use Rattle.gworld.specs.Events.{mark_after, settled_outcome, waiting, waits_for}
-use Rattle.gworld.specs.Taking.{TakesRefs, code_of}
+use Rattle.gworld.specs.Taking.{TakesObjects, TakesRefs, code_of}
 use Rattle.gworld.specs.Worlds.{Kept, WorldState}
 use Rattle.gworld.specs.declared.outcome.Outcome.{Outcome}
 use Rattle.gworld.specs.declared.outcome.Outcome.TheVariants.{Done, Asked as Asks, Served, Fault}
@@ -200,3 +203,20 @@ took_refs is_down old new s after repo bytes left (Err (client.Message fault)) w
     (left, client.Message fault, takes, subst (λ (b : Bool). IsReadFailure false b fault.why) up at, refl, refl)
 took_refs is_down old new s after repo bytes left (Err fault) well up takes leaves =
     (left, fault, takes, tt, refl, refl)
+
+-- what a reply to fetch comes to
+pub took_objects : {A S : Type 0} (indexes : Indexes A) (index_fails : IndexFails) (is_down : S → Bool)
+    (old new : Reader S) (s after : SessionState A) (repo moved : RepoState A) (bytes left : List ℕ)
+    (result : Result Taken (ClientFault A)) → old.failed ≡ false → is_down new.source ≡ false
+    → TakesReply indexes index_fails s repo (known bytes left) after moved result
+    → LeavesReplies is_down old new result
+    → TakesObjects indexes index_fails s repo bytes (objects_outcome result) after moved
+took_objects indexes index_fails is_down old new s after repo moved bytes left (Ok (Round common)) well up takes leaves =
+    (left, takes)
+took_objects indexes index_fails is_down old new s after repo moved bytes left (Ok (PackTaken added)) well up takes leaves =
+    (left, takes)
+took_objects indexes index_fails is_down old new s after repo moved bytes left (Err (client.Message fault)) well up takes leaves =
+    let at = subst (λ (b : Bool). IsReadFailure b (is_down new.source) fault.why) well leaves.0 in
+    (left, client.Message fault, takes, subst (λ (b : Bool). IsReadFailure false b fault.why) up at, refl)
+took_objects indexes index_fails is_down old new s after repo moved bytes left (Err fault) well up takes leaves =
+    (left, fault, takes, tt, refl)

@@ -13,7 +13,6 @@ use Rattle.gdag.specs.Insert.{ComesIn}
 use Rattle.gdag.specs.Laws.{AgreesWith}
 use Rattle.gdag.specs.Reach.{Agree}
 use Rattle.gclientrepo.specs.Repos.{RepoState}
-use Rattle.gclientrepo.specs.declared.ask.Ask.{Ask}
 use Rattle.grequest.specs.Asked.{Asked, Empty, Ls, Fetches}
 use Rattle.gsession.specs.Requesting.{Requests, is_due}
 use Rattle.gsession.specs.Sessions.{IsSession, SessionState, after_fault, ends_session, over}

@@ -1,7 +1,7 @@
 //! Bytes come as the reply to the request that waits.
 
 ghost use Rattle.std.specs.Prelude.{◌≡◌, MatchResult, take, Some};
-ghost use Rattle.gworld.specs.steps.Bringing.{IsAwaited, TakesIfOpen, refs_outcome};
+ghost use Rattle.gworld.specs.steps.Bringing.{IsAwaited, TakesIfOpen, objects_outcome, refs_outcome};
 ghost use Rattle.gworld.specs.Taking.{TakesObjects, TakesRefs, code_of};
 ghost use Rattle.gworld.specs.declared.outcome.Outcome.TheVariants as outcome;
 
@@ -111,10 +111,18 @@ fn take_objects<A: Allocator + Copy, K: Indexer<A>>(
 {
     let buffer = line_buffer(repo.graph().allocator())?;
     let mut reader = LineReader::with_buffer(buffer, SliceSource::new(bytes));
-    match session.take_reply(repo, &mut reader, indexer) {
-        Ok(Taken::Round { common }) => Ok(Outcome::Round { common }),
-        Ok(Taken::PackTaken { added }) => Ok(Outcome::PackTaken { added }),
-        Err(fault) => Ok(Outcome::Fault { code: fault.code() }),
+    let result = session.take_reply(repo, &mut reader, indexer);
+    Ok(objects_outcome(result))
+}
+
+// The outcome of a reply to fetch.
+fn objects_outcome<A: Allocator + Copy>(taking: Result<Taken, ClientFault<A>>) -> Outcome
+    ensures { result ≡ objects_outcome taking }
+{
+    match taking {
+        Ok(Taken::Round { common }) => Outcome::Round { common },
+        Ok(Taken::PackTaken { added }) => Outcome::PackTaken { added },
+        Err(fault) => refused(fault),
     }
 }
 

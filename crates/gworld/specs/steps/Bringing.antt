@@ -10,6 +10,8 @@ use Rattle.grequest.specs.Asked.{Asked, Ls, Fetches}
 use Rattle.gsession.specs.Sessions.{SessionState}
 use Rattle.gsession.specs.declared.fault.ClientFault.{ClientFault}
 use Rattle.gsession.specs.declared.taken.LsTaken.{LsTaken}
+use Rattle.gsession.specs.declared.taken.Taken.{Taken}
+use Rattle.gsession.specs.declared.taken.Taken.TheVariants.{Round, PackTaken}
 use Rattle.gworld.specs.Faults.{out_of_turn}
 use Rattle.gworld.specs.Promises.{Promises}
 use Rattle.gworld.specs.Runs.{RunWith}
@@ -34,6 +36,12 @@ IsAwaited _ _ = ⊥
 abbrev pub refs_outcome : {A : Type 0} → Result (LsTaken A) (ClientFault A) → Outcome
 refs_outcome (Ok taken) = outcomes.LsTaken taken.asks taken.wants
 refs_outcome (Err fault) = outcomes.Fault (code_of fault)
+
+-- the outcome of a reply to fetch
+abbrev pub objects_outcome : {A : Type 0} → Result Taken (ClientFault A) → Outcome
+objects_outcome (Ok (Round common)) = outcomes.Round common
+objects_outcome (Ok (PackTaken added)) = outcomes.PackTaken added
+objects_outcome (Err fault) = outcomes.Fault (code_of fault)
 
 module _ {A : Type 0} (indexes : Indexes A) (index_fails : IndexFails) where
   -- the bytes come to the request that waits, if one does
