@@ -168,9 +168,25 @@ where
     N: Net<Stream = TcpStream, Listener = TcpListener>,
 {
     let listener = TcpListener::bind(net, MEETING).ok()?;
-    let near = TcpStream::connect(net, listener.local_addr().ok()?).ok()?;
-    let far = accept_from(&listener, near.local_addr().ok()?)?;
+    join(net, &listener)
+}
+
+// Connects to the listener, and accepts that connection.
+fn join<N>(net: &N, listener: &TcpListener) -> Option<Joined>
+where
+    N: Net<Stream = TcpStream, Listener = TcpListener>,
+{
+    let near = connect_to(net, listener)?;
+    let far = accept_from(listener, near.local_addr().ok()?)?;
     Some(Joined { near, far })
+}
+
+fn connect_to<N>(net: &N, listener: &TcpListener) -> Option<TcpStream>
+where
+    N: Net<Stream = TcpStream, Listener = TcpListener>,
+{
+    let address = listener.local_addr().ok()?;
+    TcpStream::connect(net, address).ok()
 }
 
 // Accepts the connection of this peer.

@@ -1,9 +1,12 @@
-use Rattle.std.proofs.Common.{Ok, subst}
+use Rattle.std.proofs.Common.{Ok, Err, refl, subst}
 use Rattle.ghello.specs.Hello.{Hello}
 use Rattle.gclient.specs.Conversations.{start_of}
 use Rattle.gcmd.specs.Fetching.{plain_index_fails, plain_indexes}
 use Rattle.gtcp.specs.Sockets.{FetchesFrom}
 use Rattle.gtcp.proofs.remote.fetch_at.Goals as goal
+
+pub returns-in_default-clause-fetches : goal.returns-in_default-clause-fetches
+returns-in_default-clause-fetches g c = refl
 
 pub returns-in-Ok-fetch_from-clause-fetches : goal.returns-in-Ok-fetch_from-clause-fetches
 returns-in-Ok-fetch_from-clause-fetches g c =
@@ -11,3 +14,10 @@ returns-in-Ok-fetch_from-clause-fetches g c =
     subst (λ (hello : Hello). FetchesFrom plain_indexes (plain_index_fails g.row.A.Denot)
     (start_of c.args.repo.now fetch.specs.now fetch.limit fetch.ends) hello c.fetch_from.new.repo (Ok c.in-Ok-fetch_from.fetched))
     c.hello.ensures c.in-Ok-fetch_from.ensures.fetches
+
+pub returns-clause-fetches : goal.returns-clause-fetches
+returns-clause-fetches g c =
+    let fetch = c.args.fetch.now in
+    subst (λ (hello : Hello). FetchesFrom plain_indexes (plain_index_fails g.row.A.Denot)
+    (start_of c.args.repo.now fetch.specs.now fetch.limit fetch.ends) hello c.fetch_from.new.repo (Err c.in-Err.fault))
+    c.hello.ensures c.in-Err.ensures.fetches
