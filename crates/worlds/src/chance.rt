@@ -2,15 +2,14 @@
 //! messages that are late, repeated, cut or forged, and changes and restarts of both ends.
 
 use crate::dice::Dice;
-use crate::forgery::{Forger, hex_of};
+use crate::forgery::Forger;
 use crate::world::Files;
-use cases::{Trouble, add_number};
-use gname::Format;
 use gworld::Outcome;
-use std::alloc::Global;
+use std::alloc::{AllocError, Global};
+use std::ops::Range;
 
-// How many ids are not those of the repositories.
-const NEW_IDS: usize = 24;
+// The numbers of the ids that are not those of the repositories.
+const NEW_IDS: Range<usize> = 900..924;
 
 const NAMES: [&str; 5] = [
     "refs/heads/main",
@@ -29,13 +28,15 @@ const SPECS: [&str; 6] = [
     "refs/heads/x:refs/heads/x +refs/heads/main:refs/heads/y",
 ];
 
-// The next step of an honest session.
+// A step of a session.
 #[derive(Clone, Copy)]
 enum Step {
     Begin,
     Ask,
     Serve(usize),
     Deliver(usize),
+    // So many bytes of a reply.
+    DeliverPart(usize, usize),
     Settle,
 }
 
@@ -54,18 +55,14 @@ pub(crate) struct Chance {
 
 impl Chance {
     /// Of a world of these two repositories.
-    pub(crate) fn new(alloc: Global, seed: usize, files: Files<'_>) -> Result<Chance, Trouble> {
-        let format = files.tools.format;
-        let mut ids = Vec::new(alloc);
-        add_ids(alloc, files.server, &mut ids)?;
-        add_ids(alloc, files.client, &mut ids)?;
-        add_new_ids(alloc, format, &mut ids)?;
+    pub(crate) fn new(alloc: Global, seed: usize, files: Files<'_>) -> Result<Chance, AllocError> {
+        let ids = ids_of(alloc, files)?;
         Ok(Chance {
             alloc,
             dice: Dice::new(seed),
             forger: Forger {
                 alloc,
-                format,
+                format: files.tools.format,
                 dice: Dice::new(seed.wrapping_add(1)),
                 ids,
                 awaits_objects: false,
@@ -82,94 +79,94 @@ impl Chance {
         self.dice.roll(sides)
     }
 
-    /// The line of the next event.
-    pub(crate) fn next_line(&mut self) -> Result<String, Trouble> {
+    /// Adds the line of the next event.
+    pub(crate) fn add_line(&mut self, line: &mut String) -> Result<(), AllocError> {
         let roll = self.dice.roll(100);
         self.was_step = roll < 60;
         match roll {
-            0..=59 => self.next_step(),
-            60..=77 => self.message(roll),
-            78..=89 => self.strange(roll),
-            _ => self.change(roll),
+            0..=59 => self.add_next(line),
+            60..=77 => self.add_other(roll, line),
+            78..=85 => self.add_forged(line),
+            86..=89 => self.add_stranger(line),
+            _ => self.add_change(roll, line),
         }
     }
 
-    fn next_step(&mut self) -> Result<String, Trouble> {
+    // The next step of an honest session.
+    fn add_next(&mut self, line: &mut String) -> Result<(), AllocError> {
         match self.step {
-            Step::Begin => self.begin(),
-            Step::Ask => self.fixed("ask\n"),
-            Step::Serve(_) if self.dice.is_one_of(3) => self.forged(),
-            Step::Serve(request) => Ok(format!(in self.alloc; "serve {request}\n")?),
-            Step::Deliver(reply) => Ok(format!(in self.alloc; "deliver {reply} all\n")?),
-            Step::Settle => self.fixed("settle\n"),
+            Step::Serve(_) if self.dice.is_one_of(3) => self.add_forged(line),
+            step => self.add_step(step, line),
         }
-    }
-
-    fn fixed(&self, line: &str) -> Result<String, Trouble> {
-        Ok(String::from_str(self.alloc, line)?)
-    }
-
-    fn begin(&mut self) -> Result<String, Trouble> {
-        let specs = picked(&SPECS, &mut self.dice);
-        Ok(format!(in self.alloc; "begin {specs}\n")?)
     }
 
     // A step out of its order.
-    fn message(&mut self, roll: usize) -> Result<String, Trouble> {
+    fn add_other(&mut self, roll: usize, line: &mut String) -> Result<(), AllocError> {
         let request = self.dice.roll(self.sent.saturating_add(1));
         let reply = self.dice.roll(self.kept.saturating_add(1));
-        match roll {
-            60..=62 => self.begin(),
-            63..=65 => self.fixed("ask\n"),
-            66..=69 => Ok(format!(in self.alloc; "serve {request}\n")?),
-            70..=73 => Ok(format!(in self.alloc; "deliver {reply} all\n")?),
-            74..=75 => self.fixed("settle\n"),
-            _ => {
-                let count = self.dice.roll(300);
-                Ok(format!(in self.alloc; "deliver {reply} {count}\n")?)
-            }
+        let step = match roll {
+            60..=62 => Step::Begin,
+            63..=65 => Step::Ask,
+            66..=69 => Step::Serve(request),
+            70..=73 => Step::Deliver(reply),
+            74..=75 => Step::Settle,
+            _ => Step::DeliverPart(reply, self.dice.roll(300)),
+        };
+        self.add_step(step, line)
+    }
+
+    fn add_step(&mut self, step: Step, line: &mut String) -> Result<(), AllocError> {
+        match step {
+            Step::Begin => self.add_begin(line),
+            Step::Ask => line.push_str("ask\n"),
+            Step::Serve(request) => write!(line, "serve {request}\n"),
+            Step::Deliver(reply) => write!(line, "deliver {reply} all\n"),
+            Step::DeliverPart(reply, count) => write!(line, "deliver {reply} {count}\n"),
+            Step::Settle => line.push_str("settle\n"),
         }
     }
 
-    // A forged reply, or a stranger's request.
-    fn strange(&mut self, roll: usize) -> Result<String, Trouble> {
-        if roll < 86 {
-            return self.forged();
-        }
-        let bytes = self.forger.request()?;
-        let digits = hex_of(self.alloc, bytes.as_slice())?;
-        Ok(format!(in self.alloc; "stranger {digits}\n")?)
+    fn add_begin(&mut self, line: &mut String) -> Result<(), AllocError> {
+        let specs = picked(&SPECS, &mut self.dice);
+        write!(line, "begin {specs}\n")
     }
 
-    fn forged(&mut self) -> Result<String, Trouble> {
-        let bytes = self.forger.reply()?;
-        let digits = hex_of(self.alloc, bytes.as_slice())?;
-        Ok(format!(in self.alloc; "forge {digits}\n")?)
+    fn add_forged(&mut self, line: &mut String) -> Result<(), AllocError> {
+        let mut bytes = Vec::new(self.alloc);
+        self.forger.add_reply(&mut bytes)?;
+        add_bytes("forge ", bytes.as_slice(), line)
+    }
+
+    // A stranger's request.
+    fn add_stranger(&mut self, line: &mut String) -> Result<(), AllocError> {
+        let mut bytes = Vec::new(self.alloc);
+        self.forger.add_request(&mut bytes)?;
+        add_bytes("stranger ", bytes.as_slice(), line)
     }
 
     // A change of one of the ends.
-    fn change(&mut self, roll: usize) -> Result<String, Trouble> {
+    fn add_change(&mut self, roll: usize, line: &mut String) -> Result<(), AllocError> {
         match roll {
-            90 => self.fixed("restart-client\n"),
-            91 => self.fixed("restart-server\n"),
-            92..=94 => self.addition("server-add"),
-            95..=96 => self.addition("client-add"),
-            97 => self.setting("server-ref"),
-            _ => self.setting("client-ref"),
+            90 => line.push_str("restart-client\n"),
+            91 => line.push_str("restart-server\n"),
+            92..=94 => self.add_object("server-add ", line),
+            95..=96 => self.add_object("client-add ", line),
+            97 => self.add_ref("server-ref ", line),
+            _ => self.add_ref("client-ref ", line),
         }
     }
 
-    fn addition(&mut self, word: &str) -> Result<String, Trouble> {
-        let entry = self.forger.entry()?;
-        let entry = entry.as_str();
-        Ok(format!(in self.alloc; "{word} {entry}\n")?)
+    fn add_object(&mut self, word: &str, line: &mut String) -> Result<(), AllocError> {
+        line.push_str(word)?;
+        self.forger.add_entry(line)?;
+        line.push('\n')
     }
 
-    fn setting(&mut self, word: &str) -> Result<String, Trouble> {
+    fn add_ref(&mut self, word: &str, line: &mut String) -> Result<(), AllocError> {
         let name = picked(&NAMES, &mut self.dice);
-        let id = self.forger.id()?;
-        let id = id.as_str();
-        Ok(format!(in self.alloc; "{word} {id} {name}\n")?)
+        line.push_str(word)?;
+        self.forger.add_id(line)?;
+        write!(line, " {name}\n")
     }
 
     /// Takes what came of the line.
@@ -220,8 +217,29 @@ fn picked(words: &[&'static str], dice: &mut Dice) -> &'static str {
     }
 }
 
+// Adds a word, the hexadecimal digits of bytes, `-` for none, and the end of the line.
+fn add_bytes(word: &str, bytes: &[u8], line: &mut String) -> Result<(), AllocError> {
+    line.push_str(word)?;
+    if bytes.is_empty() {
+        line.push('-')?;
+    }
+    for byte in bytes {
+        write!(line, "{byte:02x}")?;
+    }
+    line.push('\n')
+}
+
+// The ids of the objects of both repositories, and new ones.
+fn ids_of(alloc: Global, files: Files<'_>) -> Result<Vec<String>, AllocError> {
+    let mut ids = Vec::new(alloc);
+    add_ids(alloc, files.server, &mut ids)?;
+    add_ids(alloc, files.client, &mut ids)?;
+    add_new_ids(alloc, files.tools.format.id_text_length(), &mut ids)?;
+    Ok(ids)
+}
+
 // Adds the ids of the objects of a repository's text.
-fn add_ids(alloc: Global, text: &[u8], ids: &mut Vec<String>) -> Result<(), Trouble> {
+fn add_ids(alloc: Global, text: &[u8], ids: &mut Vec<String>) -> Result<(), AllocError> {
     for line in text.split(|byte| *byte == b'\n') {
         if let Some(id) = id_of(line) {
             ids.push(String::from_str(alloc, id)?)?;
@@ -240,18 +258,9 @@ fn id_of(line: &[u8]) -> Option<&str> {
     }
 }
 
-fn add_new_ids(alloc: Global, format: Format, ids: &mut Vec<String>) -> Result<(), Trouble> {
-    for number in 0..NEW_IDS {
-        let mut digits = Vec::new(alloc);
-        add_number(
-            alloc,
-            format.id_text_length(),
-            number.saturating_add(900),
-            &mut digits,
-        )?;
-        if let Ok(id) = std::str::from_utf8(digits.as_slice()) {
-            ids.push(String::from_str(alloc, id)?)?;
-        }
+fn add_new_ids(alloc: Global, width: usize, ids: &mut Vec<String>) -> Result<(), AllocError> {
+    for number in NEW_IDS {
+        ids.push(format!(in alloc; "{number:0width$}")?)?;
     }
     Ok(())
 }

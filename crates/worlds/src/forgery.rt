@@ -1,9 +1,9 @@
 //! Replies that no server sent, requests of strangers, and objects, by chance.
 
 use crate::dice::Dice;
-use cases::{Trouble, packet, text_line};
+use cases::{packet, text_line};
 use gname::Format;
-use std::alloc::Global;
+use std::alloc::{AllocError, Global};
 
 /// Makes them of some ids.
 #[derive(Drop)]
@@ -18,177 +18,163 @@ pub(crate) struct Forger {
 }
 
 impl Forger {
-    /// One of the ids.
-    pub(crate) fn id(&mut self) -> Result<String, Trouble> {
+    /// Adds one of the ids.
+    pub(crate) fn add_id(&mut self, text: &mut String) -> Result<(), AllocError> {
         let place = self.dice.roll(self.ids.len());
         match self.ids.get(place) {
-            Some(id) => Ok(String::from_str(self.alloc, id.as_str())?),
-            None => Err(Trouble::NoId),
+            Some(id) => text.push_str(id.as_str()),
+            None => Ok(()),
         }
     }
 
-    /// An object, as a line of a pack has it.
-    pub(crate) fn entry(&mut self) -> Result<String, Trouble> {
+    /// Adds an object, as a line of a pack has it.
+    pub(crate) fn add_entry(&mut self, text: &mut String) -> Result<(), AllocError> {
         let is_tag = self.dice.is_one_of(5);
         let count = if is_tag { 1 } else { self.dice.roll(3) };
-        let id = self.id()?;
-        let id = id.as_str();
-        let letter = if is_tag { "t" } else { "c" };
-        let mut entry = format!(in self.alloc; "{letter} {id}")?;
-        for _ in 0..count {
-            entry.push(' ')?;
-            entry.push_str(self.id()?.as_str())?;
+        text.push(if is_tag { 't' } else { 'c' })?;
+        for _ in 0..=count {
+            text.push(' ')?;
+            self.add_id(text)?;
         }
-        Ok(entry)
-    }
-
-    /// What may come as a reply: mostly of the form that is due.
-    pub(crate) fn reply(&mut self) -> Result<Vec<u8>, Trouble> {
-        let mut bytes = if self.dice.is_one_of(8) {
-            self.noise()?
-        } else if self.awaits_objects {
-            self.reply_of_objects()?
-        } else {
-            self.reply_of_refs()?
-        };
-        self.spoil(&mut bytes);
-        Ok(bytes)
-    }
-
-    fn reply_of_refs(&mut self) -> Result<Vec<u8>, Trouble> {
-        let id = self.id()?;
-        let id = id.as_str();
-        let line = if self.dice.is_one_of(3) {
-            format!(in self.alloc; "{id} refs/heads/x")?
-        } else {
-            format!(in self.alloc; "{id} refs/heads/main")?
-        };
-        let mut bytes = text_line(self.alloc, line.as_bytes())?;
-        bytes.extend_from_slice(b"0000")?;
-        Ok(bytes)
-    }
-
-    fn reply_of_objects(&mut self) -> Result<Vec<u8>, Trouble> {
-        let mut bytes = Vec::new(self.alloc);
-        let form = self.dice.roll(4);
-        if form > 0 {
-            self.add_line("acknowledgments", &mut bytes)?;
-        }
-        match form {
-            1 => self.add_answer(&mut bytes)?,
-            2 | 3 => {
-                self.add_line("ready", &mut bytes)?;
-                bytes.extend_from_slice(b"0001")?;
-            }
-            _ => {}
-        }
-        if form != 1 {
-            self.add_pack(&mut bytes)?;
-        }
-        bytes.extend_from_slice(b"0000")?;
-        Ok(bytes)
-    }
-
-    fn add_line(&self, text: &str, bytes: &mut Vec<u8>) -> Result<(), Trouble> {
-        let line = text_line(self.alloc, text.as_bytes())?;
-        bytes.extend_from_slice(line.as_slice())?;
         Ok(())
+    }
+
+    /// Adds what may come as a reply: mostly of the form that is due.
+    pub(crate) fn add_reply(&mut self, bytes: &mut Vec<u8>) -> Result<(), AllocError> {
+        if self.dice.is_one_of(8) {
+            self.add_noise(bytes)?;
+        } else if self.awaits_objects {
+            self.add_reply_of_objects(bytes)?;
+        } else {
+            self.add_reply_of_refs(bytes)?;
+        }
+        self.spoil(bytes);
+        Ok(())
+    }
+
+    fn add_reply_of_refs(&mut self, bytes: &mut Vec<u8>) -> Result<(), AllocError> {
+        let mut line = String::new(self.alloc);
+        self.add_ref(&mut line)?;
+        self.add_lines(&[line.as_str(), "0000"], bytes)
+    }
+
+    // An id, and the name of a ref.
+    fn add_ref(&mut self, line: &mut String) -> Result<(), AllocError> {
+        self.add_id(line)?;
+        let name = if self.dice.is_one_of(3) {
+            " refs/heads/x"
+        } else {
+            " refs/heads/main"
+        };
+        line.push_str(name)
+    }
+
+    fn add_reply_of_objects(&mut self, bytes: &mut Vec<u8>) -> Result<(), AllocError> {
+        match self.dice.roll(4) {
+            0 => self.add_pack(bytes)?,
+            1 => self.add_answer(bytes)?,
+            _ => {
+                self.add_lines(&["acknowledgments", "ready", "0001"], bytes)?;
+                self.add_pack(bytes)?;
+            }
+        }
+        self.add_lines(&["0000"], bytes)
     }
 
     // An acknowledgment, or that there is none.
-    fn add_answer(&mut self, bytes: &mut Vec<u8>) -> Result<(), Trouble> {
+    fn add_answer(&mut self, bytes: &mut Vec<u8>) -> Result<(), AllocError> {
+        self.add_lines(&["acknowledgments"], bytes)?;
         if self.dice.is_one_of(2) {
-            return self.add_line("NAK", bytes);
+            self.add_lines(&["NAK"], bytes)
+        } else {
+            self.add_named("ACK ", bytes)
         }
-        let id = self.id()?;
-        let id = id.as_str();
-        let line = format!(in self.alloc; "ACK {id}")?;
-        self.add_line(line.as_str(), bytes)
     }
 
-    fn add_pack(&mut self, bytes: &mut Vec<u8>) -> Result<(), Trouble> {
+    // A pack, in its channel.
+    fn add_pack(&mut self, bytes: &mut Vec<u8>) -> Result<(), AllocError> {
+        let mut pack = String::new(self.alloc);
+        self.add_objects(&mut pack)?;
+        self.add_lines(&["packfile"], bytes)?;
+        match packet(self.alloc, b"\x01", pack.as_bytes(), b"") {
+            Ok(piece) => bytes.extend_from_slice(piece.as_slice()),
+            Err(_) => Err(AllocError),
+        }
+    }
+
+    // The text of a pack.
+    fn add_objects(&mut self, pack: &mut String) -> Result<(), AllocError> {
         let count = self.dice.roll(5);
-        let entries = self.entries(count)?;
-        let entries = entries.as_str();
-        let pack = format!(in self.alloc; "GPK1\n{entries}end {count}\n")?;
-        self.add_line("packfile", bytes)?;
-        self.add_piece(pack.as_bytes(), bytes)
-    }
-
-    // The lines of so many objects.
-    fn entries(&mut self, count: usize) -> Result<String, Trouble> {
-        let mut entries = String::new(self.alloc);
+        pack.push_str("GPK1\n")?;
         for _ in 0..count {
-            entries.push_str(self.entry()?.as_str())?;
-            entries.push('\n')?;
+            self.add_entry(pack)?;
+            pack.push('\n')?;
         }
-        Ok(entries)
+        write!(pack, "end {count}\n")
     }
 
-    // A piece of a pack, in its channel.
-    fn add_piece(&self, pack: &[u8], bytes: &mut Vec<u8>) -> Result<(), Trouble> {
-        let line = packet(self.alloc, b"\x01", pack, b"")?;
-        bytes.extend_from_slice(line.as_slice())?;
+    /// Adds what a stranger may send.
+    pub(crate) fn add_request(&mut self, bytes: &mut Vec<u8>) -> Result<(), AllocError> {
+        match self.dice.roll(3) {
+            0 => self.add_noise(bytes)?,
+            1 => self.add_request_of_refs(bytes)?,
+            _ => self.add_request_of_objects(bytes)?,
+        }
+        self.spoil(bytes);
         Ok(())
     }
 
-    /// What a stranger may send.
-    pub(crate) fn request(&mut self) -> Result<Vec<u8>, Trouble> {
-        let mut bytes = match self.dice.roll(3) {
-            0 => self.noise()?,
-            1 => self.request_of_refs()?,
-            _ => self.request_of_objects()?,
-        };
-        self.spoil(&mut bytes);
-        Ok(bytes)
+    fn add_request_of_refs(&mut self, bytes: &mut Vec<u8>) -> Result<(), AllocError> {
+        self.add_command("command=ls-refs", bytes)?;
+        self.add_lines(&["peel", "symrefs", "0000", "0000"], bytes)
     }
 
-    fn request_of_refs(&mut self) -> Result<Vec<u8>, Trouble> {
-        let mut bytes = Vec::new(self.alloc);
-        self.add_command("command=ls-refs", &mut bytes)?;
-        self.add_line("peel", &mut bytes)?;
-        self.add_line("symrefs", &mut bytes)?;
-        bytes.extend_from_slice(b"00000000")?;
-        Ok(bytes)
-    }
-
-    fn request_of_objects(&mut self) -> Result<Vec<u8>, Trouble> {
-        let mut bytes = Vec::new(self.alloc);
-        self.add_command("command=fetch", &mut bytes)?;
-        self.add_named("want", &mut bytes)?;
+    fn add_request_of_objects(&mut self, bytes: &mut Vec<u8>) -> Result<(), AllocError> {
+        self.add_command("command=fetch", bytes)?;
+        self.add_named("want ", bytes)?;
         if self.dice.is_one_of(2) {
-            self.add_named("have", &mut bytes)?;
+            self.add_named("have ", bytes)?;
         }
         if self.dice.is_one_of(2) {
-            self.add_line("done", &mut bytes)?;
+            self.add_lines(&["done"], bytes)?;
         }
-        bytes.extend_from_slice(b"00000000")?;
-        Ok(bytes)
+        self.add_lines(&["0000", "0000"], bytes)
     }
 
-    fn add_command(&self, command: &str, bytes: &mut Vec<u8>) -> Result<(), Trouble> {
-        self.add_line(command, bytes)?;
-        if self.format == Format::Sha256 {
-            self.add_line("object-format=sha256", bytes)?;
+    fn add_command(&self, command: &str, bytes: &mut Vec<u8>) -> Result<(), AllocError> {
+        match self.format {
+            Format::Sha1 => self.add_lines(&[command, "0001"], bytes),
+            Format::Sha256 => self.add_lines(&[command, "object-format=sha256", "0001"], bytes),
         }
-        bytes.extend_from_slice(b"0001")?;
-        Ok(())
     }
 
     // A word and an id.
-    fn add_named(&mut self, word: &str, bytes: &mut Vec<u8>) -> Result<(), Trouble> {
-        let id = self.id()?;
-        let id = id.as_str();
-        let line = format!(in self.alloc; "{word} {id}")?;
-        self.add_line(line.as_str(), bytes)
+    fn add_named(&mut self, word: &str, bytes: &mut Vec<u8>) -> Result<(), AllocError> {
+        let mut line = String::from_str(self.alloc, word)?;
+        self.add_id(&mut line)?;
+        self.add_lines(&[line.as_str()], bytes)
     }
 
-    fn noise(&mut self) -> Result<Vec<u8>, Trouble> {
-        let mut bytes = Vec::new(self.alloc);
+    // Packets of lines, and marks.
+    fn add_lines(&self, lines: &[&str], bytes: &mut Vec<u8>) -> Result<(), AllocError> {
+        for line in lines {
+            self.add_line(line, bytes)?;
+        }
+        Ok(())
+    }
+
+    fn add_line(&self, line: &str, bytes: &mut Vec<u8>) -> Result<(), AllocError> {
+        match text_line(self.alloc, line.as_bytes()) {
+            Ok(line) => bytes.extend_from_slice(line.as_slice()),
+            Err(_) => Err(AllocError),
+        }
+    }
+
+    fn add_noise(&mut self, bytes: &mut Vec<u8>) -> Result<(), AllocError> {
         for _ in 0..self.dice.roll(40) {
             bytes.push(self.byte())?;
         }
-        Ok(bytes)
+        Ok(())
     }
 
     fn byte(&mut self) -> u8 {
@@ -215,39 +201,5 @@ impl Forger {
             }
             _ => {}
         }
-    }
-}
-
-/// The hexadecimal digits of bytes; `-` for none.
-pub(crate) fn hex_of(alloc: Global, bytes: &[u8]) -> Result<String, Trouble> {
-    if bytes.is_empty() {
-        return Ok(String::from_str(alloc, "-")?);
-    }
-    let mut digits = String::new(alloc);
-    for byte in bytes {
-        digits.push(digit_of(byte >> 4))?;
-        digits.push(digit_of(byte & 15))?;
-    }
-    Ok(digits)
-}
-
-fn digit_of(value: u8) -> char {
-    match value {
-        0 => '0',
-        1 => '1',
-        2 => '2',
-        3 => '3',
-        4 => '4',
-        5 => '5',
-        6 => '6',
-        7 => '7',
-        8 => '8',
-        9 => '9',
-        10 => 'a',
-        11 => 'b',
-        12 => 'c',
-        13 => 'd',
-        14 => 'e',
-        _ => 'f',
     }
 }

@@ -4,8 +4,9 @@
 //! outcomes each kind is to come with plain packs; rounds of acknowledgments where `rounds` stands after the count.
 
 use crate::chance::Chance;
+use crate::simulated::run_scarcely;
 use crate::tools::Tools;
-use crate::world::{Files, Refusal, events_of, is_whole, run, text_of, world_of};
+use crate::world::{Files, Play, Refusal, events_of, is_whole, play_in_world, run, text_of};
 use cases::{Fact, Liar, Trouble, number_of};
 use gname::Format;
 use gworld::{Event, Outcome, World};
@@ -49,16 +50,58 @@ struct Setting<'b> {
 /// What is found where events happen by chance to the server of a repository's text.
 pub fn answer_by_chance(alloc: Global, fact: &Fact<'_>, server: &[u8]) -> Result<String, Trouble> {
     let setting = setting_of(fact.text.as_slice(), server, fact.format);
-    let mut found = happen(alloc, setting)?;
-    if found.is_none() {
-        found = happen_scarcely(alloc, setting)?;
-    }
-    if found.is_none() {
-        found = happen_with_liars(alloc, setting)?;
-    }
-    match found {
+    match found_in(alloc, setting)? {
         Some(found) => Ok(found),
         None => Ok(String::from_str(alloc, "whole")?),
+    }
+}
+
+fn found_in(alloc: Global, setting: Setting<'_>) -> Result<Option<String>, Trouble> {
+    match happen(alloc, setting)? {
+        Some(found) => Ok(Some(found)),
+        None => found_scarcely(alloc, setting),
+    }
+}
+
+fn found_scarcely(alloc: Global, setting: Setting<'_>) -> Result<Option<String>, Trouble> {
+    let mut scarce = setting;
+    scarce.is_scarce = true;
+    scarce.seed = setting.seed.wrapping_add(1);
+    match happen(alloc, scarce)? {
+        Some(found) => Ok(Some(found)),
+        None => found_with_liars(alloc, setting),
+    }
+}
+
+// With each packer and indexer that lies.
+fn found_with_liars(alloc: Global, setting: Setting<'_>) -> Result<Option<String>, Trouble> {
+    let mut seed = setting.seed;
+    for liar in LIARS {
+        seed = seed.wrapping_add(1);
+        if let Some(found) = happen(alloc, setting_with(setting, liar, seed))? {
+            return Ok(Some(found));
+        }
+    }
+    Ok(None)
+}
+
+// A fourth of the events, with a packer or an indexer that lies.
+fn setting_with(setting: Setting<'_>, liar: Liar, seed: usize) -> Setting<'_> {
+    let tools = Tools {
+        liar: Some(liar),
+        format: setting.files.tools.format,
+    };
+    Setting {
+        files: Files {
+            server: setting.files.server,
+            client: setting.files.client,
+            scenario: setting.files.scenario,
+            tools,
+        },
+        seed,
+        count: setting.count / 4,
+        is_scarce: setting.is_scarce,
+        has_rounds: setting.has_rounds,
     }
 }
 
@@ -83,88 +126,152 @@ fn setting_of<'b>(text: &'b [u8], server: &'b [u8], format: Format) -> Setting<'
     }
 }
 
-fn happen_scarcely(alloc: Global, setting: Setting<'_>) -> Result<Option<String>, Trouble> {
-    let mut scarce = setting;
-    scarce.is_scarce = true;
-    scarce.seed = setting.seed.wrapping_add(1);
-    happen(alloc, scarce)
-}
-
-// With each packer and indexer that lies.
-fn happen_with_liars(alloc: Global, setting: Setting<'_>) -> Result<Option<String>, Trouble> {
-    let mut seed = setting.seed;
-    for liar in LIARS {
-        seed = seed.wrapping_add(1);
-        let found = happen(alloc, setting_with(setting, liar, seed))?;
-        if found.is_some() {
-            return Ok(found);
-        }
-    }
-    Ok(None)
-}
-
-// A fourth of the events, with a packer or an indexer that lies.
-fn setting_with(setting: Setting<'_>, liar: Liar, seed: usize) -> Setting<'_> {
-    let files = Files {
-        server: setting.files.server,
-        client: setting.files.client,
-        scenario: setting.files.scenario,
-        tools: Tools {
-            liar: Some(liar),
-            format: setting.files.tools.format,
-        },
-    };
-    Setting {
-        files,
-        seed,
-        count: setting.count / 4,
-        is_scarce: setting.is_scarce,
-        has_rounds: setting.has_rounds,
-    }
-}
-
 // What is wrong where the events happen one after the other.
 fn happen(alloc: Global, setting: Setting<'_>) -> Result<Option<String>, Trouble> {
-    let memory = Scarce::new(alloc);
-    happen_in(alloc, &memory, &memory, setting)
+    let scarce = Scarce::new(alloc);
+    let events = ByChance {
+        alloc,
+        memory: &scarce,
+        scarce: &scarce,
+        setting,
+    };
+    play_in_world(&scarce, setting.files, &events)
 }
 
-fn happen_in<A: Allocator + Copy>(
+// Events by chance.
+#[derive(Drop)]
+struct ByChance<'s, A: Allocator + Copy> {
     alloc: Global,
     memory: A,
-    scarce: &Scarce<Global>,
-    setting: Setting<'_>,
-) -> Result<Option<String>, Trouble> {
-    match world_of(memory, setting.files) {
-        Ok(mut world) => happen_to(alloc, memory, scarce, setting, &mut world),
-        Err(trouble) => Err(trouble),
+    scarce: &'s Scarce<Global>,
+    setting: Setting<'s>,
+}
+
+impl<A: Allocator + Copy> Play<A> for ByChance<'_, A> {
+    type Came = Option<String>;
+
+    fn play(&self, world: &mut World<Tools, A>) -> Result<Option<String>, Trouble> {
+        match Chance::new(self.alloc, self.setting.seed, self.setting.files) {
+            Ok(mut chance) => self.happen(&mut chance, world),
+            Err(_) => Err(Trouble::Memory),
+        }
     }
 }
 
-fn happen_to<A: Allocator + Copy>(
-    alloc: Global,
-    memory: A,
-    scarce: &Scarce<Global>,
-    setting: Setting<'_>,
-    world: &mut World<Tools, A>,
-) -> Result<Option<String>, Trouble> {
-    let mut chance = Chance::new(alloc, setting.seed, setting.files)?;
-    let mut log = String::new(alloc);
-    let mut outcomes = Vec::new(alloc);
-    for _ in 0..setting.count {
-        let line = chance.next_line()?;
-        let number = refused_number(&mut chance, setting.is_scarce);
-        let refusal = Refusal { scarce, number };
-        step(memory, refusal, world, line.as_str(), &mut outcomes)?;
-        log.push_str(line.as_str())?;
-        if !is_whole(alloc, &*world)? {
-            return Ok(Some(log));
+impl<A: Allocator + Copy> ByChance<'_, A> {
+    fn happen(
+        &self,
+        chance: &mut Chance,
+        world: &mut World<Tools, A>,
+    ) -> Result<Option<String>, Trouble> {
+        let mut log = String::new(self.alloc);
+        let mut outcomes = Vec::new(self.alloc);
+        if self.stays_whole(chance, world, &mut log, &mut outcomes)? {
+            self.conclude(log.as_str(), outcomes.as_slice(), &*world)
+        } else {
+            Ok(Some(log))
         }
+    }
+
+    // Does the events, up to one after which the client's refs are not connected.
+    fn stays_whole(
+        &self,
+        chance: &mut Chance,
+        world: &mut World<Tools, A>,
+        log: &mut String,
+        outcomes: &mut Vec<Outcome>,
+    ) -> Result<bool, Trouble> {
+        for _ in 0..self.setting.count {
+            let start = log.len();
+            chance.add_line(log)?;
+            let line = log.get(start..).unwrap_or("");
+            if !self.step(chance, world, line, outcomes)? {
+                return Ok(false);
+            }
+        }
+        Ok(true)
+    }
+
+    // Does the event of a line, and answers whether the client's refs are connected after it.
+    fn step(
+        &self,
+        chance: &mut Chance,
+        world: &mut World<Tools, A>,
+        line: &str,
+        outcomes: &mut Vec<Outcome>,
+    ) -> Result<bool, Trouble> {
+        let refusal = Refusal {
+            scarce: self.scarce,
+            number: refused_number(chance, self.setting.is_scarce),
+        };
+        self.do_line(&refusal, world, line, outcomes)?;
         if let Some(outcome) = outcomes.last() {
-            chance.learn(line.as_str(), *outcome);
+            chance.learn(line, *outcome);
+        }
+        is_whole(self.alloc, &*world)
+    }
+
+    fn do_line(
+        &self,
+        refusal: &Refusal<'_>,
+        world: &mut World<Tools, A>,
+        line: &str,
+        outcomes: &mut Vec<Outcome>,
+    ) -> Result<(), Trouble> {
+        match events_of(self.memory, line.as_bytes()) {
+            Ok(events) => do_events(refusal, world, events.as_slice(), outcomes),
+            Err(trouble) => Err(trouble),
         }
     }
-    conclude(alloc, setting, log.as_str(), outcomes.as_slice(), &*world)
+
+    // What is wrong in the end: that one run of all events does not do the same, or that some outcome never came.
+    fn conclude(
+        &self,
+        log: &str,
+        outcomes: &[Outcome],
+        world: &World<Tools, A>,
+    ) -> Result<Option<String>, Trouble> {
+        if self.setting.is_scarce {
+            return Ok(None);
+        }
+        let text = text_of(self.alloc, outcomes, world)?;
+        match self.other_text(text.as_str(), log)? {
+            Some(other) => Ok(Some(other)),
+            None => self.never_came(outcomes),
+        }
+    }
+
+    // What comes of all events in one run, where it is not this.
+    fn other_text(&self, text: &str, log: &str) -> Result<Option<String>, Trouble> {
+        let files = Files {
+            server: self.setting.files.server,
+            client: self.setting.files.client,
+            scenario: log.as_bytes(),
+            tools: self.setting.files.tools,
+        };
+        let again = run_scarcely(self.alloc, files, 0)?.text;
+        if again.as_str() == text {
+            Ok(None)
+        } else {
+            Ok(Some(again))
+        }
+    }
+
+    // The first kind of outcome that never came, as text.
+    fn never_came(&self, outcomes: &[Outcome]) -> Result<Option<String>, Trouble> {
+        match self.missing_kind(outcomes) {
+            Some(kind) => Ok(Some(format!(in self.alloc; "never {kind}")?)),
+            None => Ok(None),
+        }
+    }
+
+    // With plain packs each kind is to come.
+    fn missing_kind(&self, outcomes: &[Outcome]) -> Option<&'static str> {
+        match self.setting.files.tools.liar {
+            Some(_) => None,
+            None => first_missing(outcomes, self.setting.has_rounds),
+        }
+    }
 }
 
 // The number of the allocation that is refused; 0 where none is.
@@ -176,116 +283,35 @@ fn refused_number(chance: &mut Chance, is_scarce: bool) -> u64 {
     }
 }
 
-// Does the event of a line; with memory, where it did not begin without.
-fn step<A: Allocator + Copy>(
-    memory: A,
-    refusal: Refusal<'_>,
+// Does events; with memory, where that did not begin without.
+fn do_events<A: Allocator + Copy>(
+    refusal: &Refusal<'_>,
     world: &mut World<Tools, A>,
-    line: &str,
+    events: &[Event<A>],
     outcomes: &mut Vec<Outcome>,
 ) -> Result<(), Trouble> {
-    let events = events_of(memory, line.as_bytes())?;
     refusal.begin();
-    let is_done = run(world, events.as_slice(), outcomes)?;
+    let is_done = run(world, events, outcomes)?;
     refusal.end();
     if !is_done {
-        run(world, events.as_slice(), outcomes)?;
+        run(world, events, outcomes)?;
     }
     Ok(())
 }
 
-// What is wrong in the end: that one run of all events does not do the same, or that some outcome never came.
-fn conclude<A: Allocator + Copy>(
-    alloc: Global,
-    setting: Setting<'_>,
-    log: &str,
-    outcomes: &[Outcome],
-    world: &World<Tools, A>,
-) -> Result<Option<String>, Trouble> {
-    if setting.is_scarce {
-        return Ok(None);
-    }
-    let text = text_of(alloc, outcomes, world)?;
-    let again = run_again(alloc, setting.files, log)?;
-    if text.as_bytes() != again.as_bytes() {
-        return Ok(Some(again));
-    }
-    if setting.files.tools.liar.is_none() {
-        return never_came(alloc, outcomes, setting.has_rounds);
-    }
-    Ok(None)
-}
-
-// What comes of all events in one run.
-fn run_again(alloc: Global, files: Files<'_>, log: &str) -> Result<String, Trouble> {
-    let memory = Scarce::new(alloc);
-    run_whole(alloc, &memory, files, log)
-}
-
-fn run_whole<A: Allocator + Copy>(
-    alloc: Global,
-    memory: A,
-    files: Files<'_>,
-    log: &str,
-) -> Result<String, Trouble> {
-    match events_of(memory, log.as_bytes()) {
-        Ok(events) => text_in_world(alloc, memory, files, events.as_slice()),
-        Err(trouble) => Err(trouble),
-    }
-}
-
-fn text_in_world<A: Allocator + Copy>(
-    alloc: Global,
-    memory: A,
-    files: Files<'_>,
-    events: &[Event<A>],
-) -> Result<String, Trouble> {
-    match world_of(memory, files) {
-        Ok(mut world) => text_after(alloc, &mut world, events),
-        Err(trouble) => Err(trouble),
-    }
-}
-
-fn text_after<A: Allocator + Copy>(
-    alloc: Global,
-    world: &mut World<Tools, A>,
-    events: &[Event<A>],
-) -> Result<String, Trouble> {
-    let mut outcomes = Vec::new(alloc);
-    run(world, events, &mut outcomes)?;
-    text_of(alloc, outcomes.as_slice(), &*world)
-}
-
-// The first kind of outcome that never came.
-fn never_came(
-    alloc: Global,
-    outcomes: &[Outcome],
-    has_rounds: bool,
-) -> Result<Option<String>, Trouble> {
-    match first_missing(came_of(outcomes), has_rounds) {
-        Some(name) => Ok(Some(format!(in alloc; "never {name}")?)),
-        None => Ok(None),
-    }
-}
-
-// Which kinds of outcomes came.
-fn came_of(outcomes: &[Outcome]) -> [bool; 8] {
-    let mut came = [false; 8];
-    for outcome in outcomes {
-        if let Some(mark) = came.get_mut(kind_of(*outcome)) {
-            *mark = true;
-        }
-    }
-    came
-}
-
-fn first_missing(came: [bool; 8], has_rounds: bool) -> Option<&'static str> {
-    for (mark, name) in came.iter().zip(KINDS) {
-        if !*mark && (has_rounds || name != ROUND) {
-            return Some(name);
+// The first kind that no outcome is of; rounds only where they are to come.
+fn first_missing(outcomes: &[Outcome], has_rounds: bool) -> Option<&'static str> {
+    for kind in KINDS {
+        let is_due = has_rounds || kind != ROUND;
+        if is_due && !has_come(outcomes, kind) {
+            return Some(kind);
         }
     }
     None
+}
+
+fn has_come(outcomes: &[Outcome], kind: &str) -> bool {
+    outcomes.iter().any(|outcome| kind_of(*outcome) == kind)
 }
 
 const KINDS: [&str; 8] = [
@@ -294,17 +320,17 @@ const KINDS: [&str; 8] = [
 
 const ROUND: &str = "round";
 
-// The position of the kind of an outcome in the list; one past its end for others.
-fn kind_of(outcome: Outcome) -> usize {
+// The kind of an outcome in the list; nothing for others.
+fn kind_of(outcome: Outcome) -> &'static str {
     match outcome {
-        Outcome::Asked { .. } => 0,
-        Outcome::Served { .. } => 1,
-        Outcome::StrangerServed { .. } => 2,
-        Outcome::LsTaken { .. } => 3,
-        Outcome::Round { .. } => 4,
-        Outcome::PackTaken { .. } => 5,
-        Outcome::Settled { moved: 1.., .. } => 6,
-        Outcome::Fault { .. } => 7,
-        Outcome::Done | Outcome::Settled { .. } => KINDS.len(),
+        Outcome::Asked { .. } => "asked",
+        Outcome::Served { .. } => "served",
+        Outcome::StrangerServed { .. } => "stranger",
+        Outcome::LsTaken { .. } => "ls",
+        Outcome::Round { .. } => ROUND,
+        Outcome::PackTaken { .. } => "pack",
+        Outcome::Settled { moved: 1.., .. } => "moved",
+        Outcome::Fault { .. } => "fault",
+        Outcome::Done | Outcome::Settled { .. } => "",
     }
 }

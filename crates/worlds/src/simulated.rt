@@ -3,10 +3,11 @@
 
 use crate::tools::Tools;
 use crate::world::{
-    Files, Refusal, ends_of, events_of, is_out_of_memory, is_whole, run, text_of, world_of,
+    Files, Play, Refusal, add_text, events_of, is_out_of_memory, is_whole, play_in_world,
+    play_or_fault, run, text_of,
 };
 use cases::Trouble;
-use gcmd::{ProgramFault, cmd_failed, send_text};
+use gcmd::{cmd_failed, send_text};
 use gpkt::Sink;
 use gworld::{Event, Outcome, World};
 use scarce::Scarce;
@@ -24,25 +25,33 @@ pub fn simulate_with<A: Allocator + Copy, O: Sink, E: Sink>(
     output: &mut O,
     errors: &mut E,
 ) -> Result<u8, Trouble> {
-    match ends_of(memory, files) {
-        Ok(mut world) => {
-            let text = text_in(alloc, memory, &mut world, files.scenario);
-            tell::<A, O, E>(text, output, errors)
-        }
+    let simulation = Simulation {
+        alloc,
+        memory,
+        scenario: files.scenario,
+    };
+    match play_or_fault(memory, files, &simulation) {
+        Ok(text) => tell(text, output, errors),
         Err(fault) => Ok(cmd_failed(fault, errors)),
     }
 }
 
-// What comes of a scenario in a world; nothing where memory ends.
-fn text_in<A: Allocator + Copy>(
+// A scenario, of which comes a text; nothing where memory ends.
+#[derive(Drop)]
+struct Simulation<'b, A: Allocator + Copy> {
     alloc: Global,
     memory: A,
-    world: &mut World<Tools, A>,
-    scenario: &[u8],
-) -> Result<Option<String>, Trouble> {
-    match events_of(memory, scenario) {
-        Ok(events) => text_after(alloc, world, events.as_slice()),
-        Err(_) => Ok(None),
+    scenario: &'b [u8],
+}
+
+impl<A: Allocator + Copy> Play<A> for Simulation<'_, A> {
+    type Came = Option<String>;
+
+    fn play(&self, world: &mut World<Tools, A>) -> Result<Option<String>, Trouble> {
+        match events_of(self.memory, self.scenario) {
+            Ok(events) => text_after(self.alloc, world, events.as_slice()),
+            Err(_) => Ok(None),
+        }
     }
 }
 
@@ -53,39 +62,44 @@ fn text_after<A: Allocator + Copy>(
     events: &[Event<A>],
 ) -> Result<Option<String>, Trouble> {
     let mut outcomes = Vec::new(alloc);
-    if !run(world, events, &mut outcomes)? {
-        return Ok(None);
+    if run(world, events, &mut outcomes)? {
+        Ok(Some(text_of(alloc, outcomes.as_slice(), &*world)?))
+    } else {
+        Ok(None)
     }
-    Ok(Some(text_of(alloc, outcomes.as_slice(), &*world)?))
 }
 
 // Writes what came of a simulation, or that memory ended, and answers the exit status.
-fn tell<A: Allocator + Copy, O: Sink, E: Sink>(
+fn tell<O: Sink, E: Sink>(
     text: Result<Option<String>, Trouble>,
     output: &mut O,
     errors: &mut E,
 ) -> Result<u8, Trouble> {
     match text? {
-        Some(text) => Ok(shown::<A, O, E>(text.as_bytes(), output, errors)),
-        None => Ok(failed::<A, E>(NO_MEMORY, errors)),
+        Some(text) => Ok(shown(text.as_bytes(), output, errors)),
+        None => Ok(failed(NO_MEMORY, errors)),
     }
 }
 
-fn shown<A: Allocator + Copy, O: Sink, E: Sink>(text: &[u8], output: &mut O, errors: &mut E) -> u8 {
-    match send::<A, O>(text, output) {
-        Ok(()) => 0,
-        Err(_) => failed::<A, E>(WRITE_FAILED, errors),
+fn shown<O: Sink, E: Sink>(text: &[u8], output: &mut O, errors: &mut E) -> u8 {
+    if is_sent(text, output) {
+        0
+    } else {
+        failed(WRITE_FAILED, errors)
     }
 }
 
-fn failed<A: Allocator + Copy, E: Sink>(text: &[u8], errors: &mut E) -> u8 {
-    let _ = send::<A, E>(text, errors);
+fn failed<E: Sink>(text: &[u8], errors: &mut E) -> u8 {
+    let _ = is_sent(text, errors);
     1
 }
 
-// Writes a text, and passes it on.
-fn send<A: Allocator + Copy, O: Sink>(text: &[u8], output: &mut O) -> Result<(), ProgramFault<A>> {
-    send_text(text, output)
+// Writes a text, and passes it on, if the output does not fail.
+fn is_sent<O: Sink>(text: &[u8], output: &mut O) -> bool {
+    match send_text::<Global, O>(text, output) {
+        Ok(()) => true,
+        Err(_) => false,
+    }
 }
 
 /// What came of the events of a simulation.
@@ -128,130 +142,116 @@ pub fn run_scarcely(alloc: Global, files: Files<'_>, refused: u64) -> Result<Hap
         scarce: &memory,
         number: refused,
     };
-    happen_scarcely(alloc, &memory, refusal, files)
-}
-
-fn happen_scarcely<A: Allocator + Copy>(
-    alloc: Global,
-    memory: A,
-    refusal: Refusal<'_>,
-    files: Files<'_>,
-) -> Result<Happened, Trouble> {
-    match events_of(memory, files.scenario) {
-        Ok(events) => happen_in_world(alloc, memory, refusal, files, events.as_slice()),
-        Err(trouble) => Err(trouble),
-    }
-}
-
-fn happen_in_world<A: Allocator + Copy>(
-    alloc: Global,
-    memory: A,
-    refusal: Refusal<'_>,
-    files: Files<'_>,
-    events: &[Event<A>],
-) -> Result<Happened, Trouble> {
-    match world_of(memory, files) {
-        Ok(mut world) => run_with_refusal(alloc, refusal, &mut world, events),
-        Err(trouble) => Err(trouble),
-    }
-}
-
-// The events happen to a world, the allocation of this number being refused.
-fn run_with_refusal<A: Allocator + Copy>(
-    alloc: Global,
-    refusal: Refusal<'_>,
-    world: &mut World<Tools, A>,
-    events: &[Event<A>],
-) -> Result<Happened, Trouble> {
-    let mut outcomes = Vec::new(alloc);
-    refusal.begin();
-    let is_done = run(world, events, &mut outcomes)?;
-    let was_refused = !refusal.scarce.is_due();
-    refusal.end();
-    let was_whole = is_whole(alloc, &*world)?;
-    if !is_done {
-        finish(world, events, &mut outcomes)?;
-    }
-    let text = text_of(alloc, outcomes.as_slice(), &*world)?;
-    let is_whole = was_whole && is_whole(alloc, &*world)?;
-    Ok(Happened {
-        outcomes,
-        text,
-        is_whole,
-        was_refused,
-    })
-}
-
-// Runs the events that were not done.
-fn finish<A: Allocator + Copy>(
-    world: &mut World<Tools, A>,
-    events: &[Event<A>],
-    outcomes: &mut Vec<Outcome>,
-) -> Result<(), Trouble> {
-    let Some(rest) = events.get(outcomes.len()..) else {
-        return Err(Trouble::NoScenario);
-    };
-    run(world, rest, outcomes)?;
-    Ok(())
+    happen(alloc, &memory, files, Way::Scarcely(refusal))
 }
 
 /// Runs the events one by one in a world, and looks at the client's refs after each.
 pub fn run_one_by_one(alloc: Global, files: Files<'_>) -> Result<Happened, Trouble> {
     let memory = Scarce::new(alloc);
-    happen_one_by_one(alloc, &memory, files)
+    happen(alloc, &memory, files, Way::OneByOne)
 }
 
-fn happen_one_by_one<A: Allocator + Copy>(
+// The events happen in this way.
+fn happen<A: Allocator + Copy>(
     alloc: Global,
     memory: A,
     files: Files<'_>,
+    way: Way<'_>,
 ) -> Result<Happened, Trouble> {
     match events_of(memory, files.scenario) {
-        Ok(events) => happen_in_steps(alloc, memory, files, events.as_slice()),
+        Ok(events) => {
+            let events = events.as_slice();
+            play_in_world(memory, files, &Happening { alloc, events, way })
+        }
         Err(trouble) => Err(trouble),
     }
 }
 
-fn happen_in_steps<A: Allocator + Copy>(
+// How events happen.
+#[derive(Drop)]
+enum Way<'m> {
+    Scarcely(Refusal<'m>),
+    OneByOne,
+}
+
+// Events, and how they happen.
+#[derive(Drop)]
+struct Happening<'e, A: Allocator + Copy> {
     alloc: Global,
-    memory: A,
-    files: Files<'_>,
-    events: &[Event<A>],
-) -> Result<Happened, Trouble> {
-    match world_of(memory, files) {
-        Ok(mut world) => run_in_steps(alloc, &mut world, events),
-        Err(trouble) => Err(trouble),
+    events: &'e [Event<A>],
+    way: Way<'e>,
+}
+
+impl<A: Allocator + Copy> Play<A> for Happening<'_, A> {
+    type Came = Happened;
+
+    fn play(&self, world: &mut World<Tools, A>) -> Result<Happened, Trouble> {
+        let mut happened = Happened {
+            outcomes: Vec::new(self.alloc),
+            text: String::new(self.alloc),
+            is_whole: true,
+            was_refused: false,
+        };
+        self.run(world, &mut happened)?;
+        Ok(happened)
     }
 }
 
-fn run_in_steps<A: Allocator + Copy>(
-    alloc: Global,
-    world: &mut World<Tools, A>,
-    events: &[Event<A>],
-) -> Result<Happened, Trouble> {
-    let mut outcomes = Vec::new(alloc);
-    let is_whole = step_through(alloc, world, events, &mut outcomes)?;
-    let text = text_of(alloc, outcomes.as_slice(), &*world)?;
-    Ok(Happened {
-        outcomes,
-        text,
-        is_whole,
-        was_refused: false,
-    })
-}
-
-// Whether the refs were connected after each event.
-fn step_through<A: Allocator + Copy>(
-    alloc: Global,
-    world: &mut World<Tools, A>,
-    events: &[Event<A>],
-    outcomes: &mut Vec<Outcome>,
-) -> Result<bool, Trouble> {
-    let mut has_stayed = true;
-    for event in events.chunks(1) {
-        run(world, event, outcomes)?;
-        let is_whole = is_whole(alloc, &*world)?;
-        has_stayed = has_stayed && is_whole;
+impl<A: Allocator + Copy> Happening<'_, A> {
+    fn run(&self, world: &mut World<Tools, A>, happened: &mut Happened) -> Result<(), Trouble> {
+        match &self.way {
+            Way::Scarcely(refusal) => self.run_scarcely(refusal, world, happened)?,
+            Way::OneByOne => self.run_one_by_one(world, happened)?,
+        }
+        add_text(
+            self.alloc,
+            happened.outcomes.as_slice(),
+            &*world,
+            &mut happened.text,
+        )
     }
-    Ok(has_stayed)
+
+    fn run_scarcely(
+        &self,
+        refusal: &Refusal<'_>,
+        world: &mut World<Tools, A>,
+        happened: &mut Happened,
+    ) -> Result<(), Trouble> {
+        refusal.begin();
+        let is_done = run(world, self.events, &mut happened.outcomes)?;
+        happened.was_refused = !refusal.scarce.is_due();
+        refusal.end();
+        let was_whole = is_whole(self.alloc, &*world)?;
+        if !is_done {
+            self.finish(world, &mut happened.outcomes)?;
+        }
+        happened.is_whole = was_whole && is_whole(self.alloc, &*world)?;
+        Ok(())
+    }
+
+    // Runs the events that were not done.
+    fn finish(
+        &self,
+        world: &mut World<Tools, A>,
+        outcomes: &mut Vec<Outcome>,
+    ) -> Result<(), Trouble> {
+        match self.events.get(outcomes.len()..) {
+            Some(rest) => run(world, rest, outcomes)?,
+            None => return Err(Trouble::NoScenario),
+        };
+        Ok(())
+    }
+
+    fn run_one_by_one(
+        &self,
+        world: &mut World<Tools, A>,
+        happened: &mut Happened,
+    ) -> Result<(), Trouble> {
+        for event in self.events.chunks(1) {
+            run(world, event, &mut happened.outcomes)?;
+            let is_whole = is_whole(self.alloc, &*world)?;
+            happened.is_whole = happened.is_whole && is_whole;
+        }
+        Ok(())
+    }
 }

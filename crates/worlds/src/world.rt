@@ -4,11 +4,11 @@ use crate::tools::Tools;
 use cases::{Command, Trouble, id_text};
 use ganswer::Server;
 use gcmd::{ProgramFault, load_server, open_client};
-use ggraph::missing;
+use ggraph::{Graph, Refs, missing};
 use gname::Oid;
 use gworld::{Event, Outcome, RunFault, Scenario, ScenarioFault, World, WorldFault};
 use scarce::Scarce;
-use std::alloc::{Allocator, Global};
+use std::alloc::{AllocError, Allocator, Global};
 
 /// The texts of the repositories of a world, and of the events that happen to it; its packer and indexer.
 #[derive(Clone, Copy)]
@@ -35,7 +35,7 @@ impl<'b> Files<'b> {
 }
 
 /// Which allocation is refused; none where the number is 0.
-#[derive(Clone, Copy)]
+#[derive(Drop)]
 pub(crate) struct Refusal<'m> {
     pub(crate) scarce: &'m Scarce<Global>,
     pub(crate) number: u64,
@@ -53,24 +53,47 @@ impl Refusal<'_> {
     }
 }
 
-/// The world of two repositories.
-pub(crate) fn world_of<A: Allocator + Copy>(
+/// What is done in a world that is lent. Its drop is much to prove, so one function owns it.
+pub(crate) trait Play<A: Allocator + Copy> {
+    /// What comes of it.
+    type Came;
+
+    /// Does it.
+    fn play(&self, world: &mut World<Tools, A>) -> Result<Self::Came, Trouble>;
+}
+
+/// Does it in the world of two repositories.
+pub(crate) fn play_in_world<A: Allocator + Copy, P: Play<A>>(
     memory: A,
     files: Files<'_>,
-) -> Result<World<Tools, A>, Trouble> {
-    match ends_of(memory, files) {
-        Ok(world) => Ok(world),
+    play: &P,
+) -> Result<P::Came, Trouble> {
+    match play_or_fault(memory, files, play) {
+        Ok(came) => came,
         Err(_) => Err(Trouble::NoWorld),
     }
 }
 
 /// The same, or why one of the ends can't be made. Where they fit no world it is as if it were out of memory.
-pub(crate) fn ends_of<A: Allocator + Copy>(
+pub(crate) fn play_or_fault<A: Allocator + Copy, P: Play<A>>(
+    memory: A,
+    files: Files<'_>,
+    play: &P,
+) -> Result<Result<P::Came, Trouble>, ProgramFault<A>> {
+    match world_of(memory, files) {
+        Ok(mut world) => Ok(play.play(&mut world)),
+        Err(fault) => Err(fault),
+    }
+}
+
+fn world_of<A: Allocator + Copy>(
     memory: A,
     files: Files<'_>,
 ) -> Result<World<Tools, A>, ProgramFault<A>> {
-    let server = load_server(memory, files.server)?;
-    meet(memory, server, files)
+    match load_server(memory, files.server) {
+        Ok(server) => meet(memory, server, files),
+        Err(fault) => Err(fault),
+    }
 }
 
 // The server's world with the client.
@@ -79,8 +102,10 @@ fn meet<A: Allocator + Copy>(
     server: Server<A>,
     files: Files<'_>,
 ) -> Result<World<Tools, A>, ProgramFault<A>> {
-    let repo = open_client(memory, files.client)?;
-    or_fault(World::new(server, repo, files.tools))
+    match open_client(memory, files.client) {
+        Ok(repo) => or_fault(World::new(server, repo, files.tools)),
+        Err(fault) => Err(fault),
+    }
 }
 
 fn or_fault<A: Allocator + Copy>(
@@ -135,12 +160,22 @@ pub(crate) fn is_whole<A: Allocator + Copy>(
     alloc: Global,
     world: &World<Tools, A>,
 ) -> Result<bool, Trouble> {
-    let repo = world.client();
-    let mut ids: Vec<Oid> = Vec::new(alloc);
-    for reference in repo.refs().as_slice() {
-        ids.push(reference.1)?;
+    match ids_of(alloc, world.client().refs()) {
+        Ok(ids) => has_all(world.client().graph(), ids.as_slice()),
+        Err(_) => Err(Trouble::Memory),
     }
-    match missing(repo.graph(), ids.as_slice()) {
+}
+
+fn ids_of<A: Allocator + Copy>(alloc: Global, refs: &Refs<A>) -> Result<Vec<Oid>, AllocError> {
+    refs.as_slice()
+        .iter()
+        .map(|reference| reference.1)
+        .collect(alloc)
+}
+
+// Whether the graph has all that these ids reach.
+fn has_all<A: Allocator + Copy>(graph: &Graph<A>, ids: &[Oid]) -> Result<bool, Trouble> {
+    match missing(graph, ids) {
         Ok(lost) => Ok(lost.is_none()),
         Err(_) => Err(Trouble::Memory),
     }
@@ -161,15 +196,24 @@ pub(crate) fn text_of<A: Allocator + Copy>(
     world: &World<Tools, A>,
 ) -> Result<String, Trouble> {
     let mut text = String::new(alloc);
-    add_outcomes(alloc, outcomes, &mut text)?;
-    add_refs(alloc, world, &mut text)?;
+    add_text(alloc, outcomes, world, &mut text)?;
     Ok(text)
 }
 
-fn add_outcomes(alloc: Global, outcomes: &[Outcome], text: &mut String) -> Result<(), Trouble> {
+/// Adds these lines.
+pub(crate) fn add_text<A: Allocator + Copy>(
+    alloc: Global,
+    outcomes: &[Outcome],
+    world: &World<Tools, A>,
+    text: &mut String,
+) -> Result<(), Trouble> {
+    add_outcomes(outcomes, text)?;
+    add_refs(alloc, world, text)
+}
+
+fn add_outcomes(outcomes: &[Outcome], text: &mut String) -> Result<(), AllocError> {
     for outcome in outcomes {
-        text.push_str(line_of(alloc, *outcome)?.as_str())?;
-        text.push('\n')?;
+        add_outcome(*outcome, text)?;
     }
     Ok(())
 }
@@ -181,47 +225,45 @@ fn add_refs<A: Allocator + Copy>(
 ) -> Result<(), Trouble> {
     for reference in world.client().refs().as_slice() {
         let id = id_text(alloc, &reference.1)?;
-        let Ok(name) = std::str::from_utf8(reference.0.as_bytes()) else {
-            return Err(Trouble::NoName);
-        };
-        add_ref(text, id.as_str(), name)?;
+        add_ref(id.as_str(), reference.0.as_bytes(), text)?;
     }
     Ok(())
 }
 
-fn add_ref(text: &mut String, id: &str, name: &str) -> Result<(), Trouble> {
-    text.push_str("ref ")?;
-    text.push_str(id)?;
-    text.push(' ')?;
-    text.push_str(name)?;
-    text.push('\n')?;
-    Ok(())
+fn add_ref(id: &str, name: &[u8], text: &mut String) -> Result<(), Trouble> {
+    match std::str::from_utf8(name) {
+        Ok(name) => Ok(write!(text, "ref {id} {name}\n")?),
+        Err(_) => Err(Trouble::NoName),
+    }
 }
 
 // What came of an event, as a line.
-fn line_of(alloc: Global, outcome: Outcome) -> Result<String, Trouble> {
+fn add_outcome(outcome: Outcome, text: &mut String) -> Result<(), AllocError> {
     match outcome {
-        Outcome::Done => Ok(String::from_str(alloc, "done")?),
-        Outcome::Asked { request } => Ok(format!(in alloc; "asked {request}")?),
-        Outcome::Served { reply } => Ok(format!(in alloc; "served {reply}")?),
-        Outcome::StrangerServed { written } => Ok(format!(in alloc; "stranger {written}")?),
-        Outcome::LsTaken { asks, wants } => Ok(format!(in alloc; "ls asks={asks} wants={wants}")?),
-        Outcome::Round { common } => Ok(format!(in alloc; "round common={common}")?),
-        Outcome::PackTaken { added } => Ok(format!(in alloc; "pack added={added}")?),
+        Outcome::Done => text.push_str("done\n"),
+        Outcome::Asked { request } => write!(text, "asked {request}\n"),
+        Outcome::Served { reply } => write!(text, "served {reply}\n"),
+        Outcome::StrangerServed { written } => write!(text, "stranger {written}\n"),
+        Outcome::LsTaken { asks, wants } => write!(text, "ls asks={asks} wants={wants}\n"),
+        Outcome::Round { common } => write!(text, "round common={common}\n"),
+        Outcome::PackTaken { added } => write!(text, "pack added={added}\n"),
         Outcome::Settled {
             moved,
             same,
             not_forward,
-        } => settled_line(alloc, moved, same, not_forward),
-        Outcome::Fault { code } => Ok(format!(in alloc; "fault {code}")?),
+        } => add_settled(moved, same, not_forward, text),
+        Outcome::Fault { code } => write!(text, "fault {code}\n"),
     }
 }
 
-fn settled_line(
-    alloc: Global,
+fn add_settled(
     moved: usize,
     same: usize,
     not_forward: usize,
-) -> Result<String, Trouble> {
-    Ok(format!(in alloc; "settled moved={moved} same={same} notforward={not_forward}")?)
+    text: &mut String,
+) -> Result<(), AllocError> {
+    write!(
+        text,
+        "settled moved={moved} same={same} notforward={not_forward}\n"
+    )
 }
