@@ -53,7 +53,7 @@ impl Refusal<'_> {
     }
 }
 
-/// What is done in a world that is lent. Its drop is much to prove, so one function owns it.
+/// What is done in a world.
 pub(crate) trait Play<A: Allocator + Copy> {
     /// What comes of it.
     type Came;
@@ -81,9 +81,18 @@ pub(crate) fn play_or_fault<A: Allocator + Copy, P: Play<A>>(
     play: &P,
 ) -> Result<Result<P::Came, Trouble>, ProgramFault<A>> {
     match world_of(memory, files) {
-        Ok(mut world) => Ok(play.play(&mut world)),
+        Ok(world) => Ok(lend(world, play)),
         Err(fault) => Err(fault),
     }
+}
+
+// To drop a world is much to prove, so this alone does it.
+fn lend<A: Allocator + Copy, P: Play<A>>(
+    world: World<Tools, A>,
+    play: &P,
+) -> Result<P::Came, Trouble> {
+    let mut world = world;
+    play.play(&mut world)
 }
 
 fn world_of<A: Allocator + Copy>(
