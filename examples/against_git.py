@@ -420,12 +420,17 @@ def compare(name, talk, repository, is_connection):
         yield name, *parted(due, answered)
 
 
+def is_served(run):
+    """Whether a run is of a server alone. A listing (`ls --host`) and a fetch have our client at the other end."""
+    return run[0] == "upload" or run[0] == "ls" and "--host" not in run
+
+
 def replay(cases, folder):
     """The rows of the table, by what differs; and how many cases were replayed, are alike, and were left out."""
-    repositories, table, alike, replayed, packers, broken = {}, {}, 0, 0, 0, 0
+    repositories, table = {}, {}
+    alike = refused = replayed = packers = broken = 0
     for row in cases.rows:
-        # A conversation with a client of ours at the other end says nothing more of the server.
-        if not {run[0] for run in row.runs} <= {"upload", "ls"}:
+        if not row.runs or not all(is_served(run) for run in row.runs):
             continue
         run = row.runs[0]
         name = run[-1]
@@ -442,7 +447,9 @@ def replay(cases, folder):
             table |= found
             replayed += 1
             alike += row.name not in found
-    return table, {"replayed": replayed, "alike": alike, "packers": packers, "broken": broken}
+            refused += row.name in found and reason_of(*found[row.name]) == "error line"
+    counts = {"replayed": replayed, "alike": alike, "refused": refused, "packers": packers, "broken": broken}
+    return table, counts
 
 
 def name_rows(names):
@@ -481,9 +488,9 @@ The ids of the cases are made up, so git has a repository with the same graph, a
 Packs are compared by the commits and tags in them: their order, their format, and git's trees are its own. Where a case
 stops at the packet that is refused here, a flush is added, so that git has a complete request. Progress is left out.
 
-{replayed} cases were replayed, and {alike} of them are answered alike. Left out are {packers} cases with a packer
-that fails or lies, {broken} with a file of which something is missing, which git can't have, and those with our client
-at the other end. [PROTOCOL.md](PROTOCOL.md) marks each difference **own**.
+{replayed} cases were replayed. {alike} of them are answered alike, and {refused} more are refused by both, though git sends
+no `ERR` line. Left out are {packers} cases with a packer that fails or lies, {broken} with an incomplete file, which git
+can't have, and those with our client at the other end. [PROTOCOL.md](PROTOCOL.md) marks each difference **own**.
 """
 
 NAMES = """

@@ -2,6 +2,7 @@
 
 import os
 import random
+import select
 import shutil
 import socket
 import struct
@@ -9,6 +10,7 @@ import subprocess
 import sys
 import tempfile
 import time
+from concurrent import futures
 
 PROGRAM = os.path.abspath(sys.argv[1])
 HERE = os.path.dirname(os.path.abspath(__file__))
@@ -387,25 +389,109 @@ def endurance(connections=10_000):
     print(f"{connections} connections: {rests[0]} KiB after a tenth of them, {rests[1]} KiB at the end; {len(lines)} faults")
 
 
-# ---- silent peers
+# ---- peers that are silent or slow
 
 
-def silence(folder):
-    """A peer that says nothing, and one that takes nothing, at two servers at once."""
-    name, _last = chain(folder, 100_000)
-    quiet, full = Listening(SERVER, 2), Listening(name, 2)
+def drip(stream, piece, seconds):
+    """Sends a byte now and then, until the other end says something. Answers what it says."""
+    for byte in piece:
+        if select.select([stream], [], [], seconds)[0]:
+            break
+        stream.sendall(bytes([byte]))
+    return read_all(stream)
+
+
+def after_two_silent_ones(folder):
+    listening = Listening(SERVER, 3)
     began = time.time()
-    mute, deaf = quiet.connect(), full.connect()
-    deaf.sendall(hello() + packet(b"command=fetch\n") + b"0001" + packet(f"want {99_999:040d}\n".encode()) + b"0009done\n0000")
-    check("after a silent one", quiet.talk(hello(), FLUSH), ADVERT)
-    check("a silent one waits", 59 <= time.time() - began <= 75, True)
-    check("a silent one: answer", read_all(mute), refused(b"read failed"))
-    check("a silent one: end", quiet.end(), (0, "gitv2: fault 24 Io frame 0\n"))
-    check("after one that takes nothing", full.talk(hello(), FLUSH), ADVERT)
-    check("one that takes nothing waits", time.time() - began >= 59, True)
-    check("one that takes nothing: end", full.end(), (0, "gitv2: fault 27 Io\n"))
-    deaf.close()
-    print(f"silent peers: {time.time() - began:.0f} s")
+    mute = [listening.connect(), listening.connect()]
+    check("after two silent ones", listening.talk(hello(), FLUSH), ADVERT)
+    check("after two silent ones: in time", 19 <= time.time() - began <= 25, True)
+    for stream in mute:
+        check("a silent one: answer", read_all(stream), refused(b"read failed"))
+    check("silent ones: end", listening.end(), (0, "gitv2: fault 24 Io frame 0\n" * 2))
+
+
+def slow_first_line(folder):
+    listening = Listening(SERVER, 2)
+    began = time.time()
+    with listening.connect() as slow:
+        check("a slow first line", drip(slow, hello(b"/" + b"x" * 900), 0.5), refused(b"read failed"))
+        check("a slow first line: in time", 9 <= time.time() - began <= 14, True)
+    check("after a slow first line", listening.talk(hello(), FLUSH), ADVERT)
+    check("a slow first line: end", listening.end(), (0, "gitv2: fault 24 Io frame 0\n"))
+
+
+def slow_request(folder):
+    listening = Listening(SERVER, 2)
+    began = time.time()
+    with listening.connect() as slow:
+        slow.sendall(hello())
+        check("the advertisement of a slow one", slow.recv(len(ADVERT), socket.MSG_WAITALL), ADVERT)
+        check("a slow request", drip(slow, packet(b"command=ls-refs") + b"0001", 5), refused(b"read failed"))
+        check("a slow request: in time", 59 <= time.time() - began <= 75, True)
+    check("after a slow request", listening.talk(hello(), FLUSH), ADVERT)
+    check("a slow request: end", listening.end(), (0, "gitv2: fault 24 Io frame 0\n"))
+
+
+def one_that_takes_nothing(folder):
+    """The reply is longer than what finds room in the connection."""
+    name, last = chain(folder, 60_000)
+    listening = Listening(name, 2)
+    began = time.time()
+    with listening.connect() as deaf:
+        deaf.setsockopt(socket.SOL_SOCKET, socket.SO_RCVBUF, 4096)
+        want = packet(f"want {last}\n".encode())
+        deaf.sendall(hello() + packet(b"command=fetch\n") + b"0001" + want + b"0009done\n0000")
+        check("after one that takes nothing", listening.talk(hello(), FLUSH), ADVERT)
+        # The last write that is taken in part waits for as long as the one after it.
+        check("one that takes nothing: in time", 59 <= time.time() - began <= 75, True)
+    check("one that takes nothing: end", listening.end(), (0, "gitv2: fault 27 Io\n"))
+
+
+def silent_server(folder):
+    """A server that accepts and says nothing, to both commands that connect."""
+    with socket.create_server(("127.0.0.1", 0)) as mute:
+        place = ["--tcp", f"127.0.0.1:{mute.getsockname()[1]}", "--path", "/p"]
+        mine = shutil.copy(CLIENT, os.path.join(folder, "silent.repo"))
+        runs = [["ls", *place], ["fetch", *place, mine, MAIN]]
+        began = time.time()
+        with futures.ThreadPoolExecutor() as threads:
+            for words, got in zip(runs, threads.map(lambda words: run(*words), runs)):
+                check(f"{words[0]} from a silent server", got, (1, "", "gitv2: fault 24 Io frame 0\n"))
+        check("a silent server: in time", 59 <= time.time() - began <= 75, True)
+        with open(mine) as file, open(CLIENT) as before:
+            check("a silent server: the file", file.read(), before.read())
+        check("a silent server: the lock", os.path.exists(mine + ".lock"), False)
+
+
+def no_answer(folder):
+    """A socket whose queue is full, so that nobody answers to a connection."""
+    with socket.create_server(("127.0.0.1", 0), backlog=0) as full:
+        waiting = [socket.socket() for _ in range(4)]
+        for stream in waiting:
+            stream.setblocking(False)
+            stream.connect_ex(full.getsockname())
+        began = time.time()
+        place = ["--tcp", f"127.0.0.1:{full.getsockname()[1]}", "--path", "/p"]
+        check("nobody answers", run("ls", *place), (1, "", "gitv2: fault 96 Socket\n"))
+        check("nobody answers: in time", 59 <= time.time() - began <= 75, True)
+        for stream in waiting:
+            stream.close()
+
+
+PATIENCE = [
+    after_two_silent_ones, slow_first_line, slow_request, one_that_takes_nothing, silent_server, no_answer,
+]
+
+
+def deadlines(folder):
+    """All at once, since each waits."""
+    began = time.time()
+    with futures.ThreadPoolExecutor(len(PATIENCE)) as threads:
+        for done in [threads.submit(wait, folder) for wait in PATIENCE]:
+            done.result()
+    print(f"silent and slow peers: {time.time() - began:.0f} s")
 
 
 def main():
@@ -414,7 +500,7 @@ def main():
     pairs()
     with tempfile.TemporaryDirectory() as folder:
         with_git(folder)
-        silence(folder)
+        deadlines(folder)
     endurance()
     print(f"{tried} tried, {len(failed)} wrong")
     return 1 if failed else 0

@@ -1,6 +1,7 @@
 //! What a file of cases holds: cases, and facts.
 
 use crate::kind::Kind;
+use crate::launch::Launch;
 use crate::liars::Liar;
 use crate::table::Outcome;
 use crate::trouble::Trouble;
@@ -20,6 +21,16 @@ pub enum Who {
     Report,
 }
 
+impl Who {
+    /// Whether it is one of the ends of a connection.
+    pub fn is_peer(self) -> bool {
+        match self {
+            Who::Client | Who::Server => true,
+            Who::Output | Who::Errors | Who::Report => false,
+        }
+    }
+}
+
 /// What is said at one place.
 #[derive(Drop)]
 pub struct Said {
@@ -34,6 +45,8 @@ pub struct Case<'a> {
     pub line: usize,
     pub name: &'a str,
     pub runs: Vec<&'a str>,
+    /// How it runs the program itself, where it does.
+    pub launch: Option<Launch<'a>>,
     pub said: Vec<Said>,
     pub file: Option<&'a str>,
     /// The packer or the indexer, where it is not the plain one.
@@ -46,6 +59,7 @@ pub struct Case<'a> {
     pub table: Vec<Outcome<'a>>,
     pub is_long: bool,
     pub is_deep: bool,
+    pub is_late: bool,
     pub is_plain: bool,
 }
 
@@ -57,6 +71,7 @@ impl<'a> Case<'a> {
             line,
             name,
             runs: Vec::new(alloc),
+            launch: None,
             said: Vec::new(alloc),
             file: None,
             liar: None,
@@ -65,23 +80,40 @@ impl<'a> Case<'a> {
             table: Vec::new(alloc),
             is_long: false,
             is_deep: false,
+            is_late: false,
             is_plain: false,
         }
     }
 
     /// Takes a line that says something of the case, and answers whether it was one.
-    pub(crate) fn take_word(&mut self, word: &str, rest: &'a str) -> Result<bool, Trouble> {
+    pub(crate) fn take_word(
+        &mut self,
+        alloc: Global,
+        word: &str,
+        rest: &'a str,
+    ) -> Result<bool, Trouble> {
         match word {
             "run" => self.runs.push(rest)?,
+            "words" => self.launch = Some(Launch::new(alloc, rest)),
             "file" => self.file = Some(rest),
             "packer" => self.liar = Some(Liar::packer(rest).ok_or(Trouble::NoLiar)?),
             "indexer" => self.liar = Some(Liar::indexer(rest).ok_or(Trouble::NoLiar)?),
             "long" => self.is_long = true,
             "deep" => self.is_deep = true,
+            "late" => self.is_late = true,
             "plain" => self.is_plain = true,
-            _ => return Ok(false),
+            _ => return self.take_launch_word(word, rest),
         }
         Ok(true)
+    }
+
+    // Takes a line of how the program itself is run.
+    fn take_launch_word(&mut self, word: &str, rest: &'a str) -> Result<bool, Trouble> {
+        let said = self.said.len();
+        match &mut self.launch {
+            Some(launch) => launch.take_word(word, rest, said),
+            None => Ok(false),
+        }
     }
 }
 

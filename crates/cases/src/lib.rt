@@ -2,7 +2,8 @@
 //! name.
 //!
 //! A [`Script`] reads files, one after the other, for ids of one format: its [`Case`]s are the rows, its [`Fact`]s the
-//! facts. A [`Command`] is the command line of a row, and a [`Talk`] what its program reads and is to write then. An
+//! facts. A [`Command`] is the command line of a row, and a [`Talk`] what its program reads and is to write then. A
+//! [`Launch`] is how a row runs the program itself. An
 //! [`Outcome`] is a line of a row's table, and a [`Liar`] a packer or an indexer that fails, or does not what it is to do.
 //!
 //! # Proved
@@ -21,6 +22,7 @@
 mod case;
 mod command;
 mod kind;
+mod launch;
 mod liars;
 mod long;
 mod packets;
@@ -34,6 +36,7 @@ mod trouble;
 pub use crate::case::{Case, Fact, Said, Who};
 pub use crate::command::{Command, Program, command_of, first_of, words_of};
 pub use crate::kind::Kind;
+pub use crate::launch::{Found, Launch, Left};
 pub use crate::liars::{Liar, Pieces};
 pub use crate::packets::{packet, text_line};
 pub use crate::script::Script;

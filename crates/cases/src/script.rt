@@ -24,6 +24,7 @@
 //! | `cut ..`, `change ..` | what is due where the request is cut or changed (`table.rt`) |
 //! | `long` | the case is tried whole and in pieces alone |
 //! | `deep` | each byte is changed to each other value |
+//! | `late` | the connection is tried with a peer that is late, and with allocations refused over a socket |
 //! | `plain` | its replies have no ends of their own, even where they may |
 //!
 //! Each case and each fact is tried with ids of SHA-1 and with ids of SHA-256, but for those between `single` and `both`,
@@ -264,7 +265,7 @@ impl<'a> Script<'a> {
     // Each case names a program that it is run through.
     fn end_case(&self) -> Result<(), Trouble> {
         match self.cases.last() {
-            Some(case) if case.runs.is_empty() => Err(Trouble::NoRun),
+            Some(case) if case.runs.is_empty() && case.launch.is_none() => Err(Trouble::NoRun),
             _ => Ok(()),
         }
     }
@@ -334,7 +335,7 @@ impl<'a> Script<'a> {
             "packets" => return self.add_packets(rest),
             "cut" | "change" => return self.add_outcome(alloc, word == "cut", rest),
             _ => {
-                if !self.take_word(word, rest)? {
+                if !self.take_word(alloc, word, rest)? {
                     return self.say_times(alloc, word, rest);
                 }
             }
@@ -342,9 +343,9 @@ impl<'a> Script<'a> {
         Ok(())
     }
 
-    fn take_word(&mut self, word: &str, rest: &'a str) -> Result<bool, Trouble> {
+    fn take_word(&mut self, alloc: Global, word: &str, rest: &'a str) -> Result<bool, Trouble> {
         match self.cases.last_mut() {
-            Some(case) => case.take_word(word, rest),
+            Some(case) => case.take_word(alloc, word, rest),
             None => Err(Trouble::NoRow),
         }
     }

@@ -104,6 +104,26 @@ impl Talk {
         found
     }
 
+    /// The message of the input, or its end, that begins after so many bytes; none within a message.
+    pub fn message_at(&self, len: usize) -> Option<Place> {
+        let place = self.place_at(len)?;
+        if place.start == len && place.frame == 0 {
+            Some(place)
+        } else {
+            None
+        }
+    }
+
+    /// Where the message ends that begins after so many bytes of the input.
+    pub fn message_end(&self, start: usize) -> usize {
+        for place in self.places.as_slice() {
+            if place.start > start && place.frame == 0 {
+                return place.start;
+            }
+        }
+        self.input.len()
+    }
+
     /// Whether a message of the output ends after so many bytes.
     pub fn is_end(&self, len: usize) -> bool {
         len == 0 || len == self.output.len() || self.ends.as_slice().contains(&len)

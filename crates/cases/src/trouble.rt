@@ -32,7 +32,7 @@ pub enum Trouble {
     NoWorld,
     /// A text is no scenario.
     NoScenario,
-    /// A socket of this process failed.
+    /// A socket or a file of the test itself failed.
     NoSocket,
 }
 
@@ -53,7 +53,7 @@ impl Trouble {
             Trouble::NoId => "a word is no id",
             Trouble::NoWorld => "there is no such world",
             Trouble::NoScenario => "the text is no scenario",
-            Trouble::NoSocket => "a socket failed",
+            Trouble::NoSocket => "a socket or a file of the test failed",
         }
     }
 }

@@ -8,6 +8,7 @@ use cases::Trouble;
 use gargs::{Command, Fetch, Serve, Simulate, read_command};
 use gcmd::Ends;
 use gtcp::Place;
+use launches::add_split;
 use std::alloc::Global;
 
 // The empty word, as it is written.
@@ -18,23 +19,12 @@ pub fn answer(alloc: Global, text: &[u8]) -> Result<String, Trouble> {
     let Ok(text) = std::str::from_utf8(text) else {
         return Ok(String::from_str(alloc, "no text")?);
     };
-    let words = words_of(alloc, text)?;
+    let mut words = Vec::new(alloc);
+    add_split(alloc, text, &mut words)?;
     match read_command(alloc, words.as_slice()) {
         Some(command) => command_shown(alloc, &command),
         None => Ok(String::from_str(alloc, "none")?),
     }
-}
-
-fn words_of(alloc: Global, text: &str) -> Result<Vec<String>, Trouble> {
-    let mut words = Vec::new(alloc);
-    for word in text.split(' ') {
-        match word {
-            "" => {}
-            EMPTY => words.push(String::new(alloc))?,
-            _ => words.push(String::from_str(alloc, word)?)?,
-        }
-    }
-    Ok(words)
 }
 
 fn command_shown(alloc: Global, command: &Command) -> Result<String, Trouble> {

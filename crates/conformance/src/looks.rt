@@ -1,15 +1,17 @@
 //! Facts, looked at whole, in pieces, and with each allocation refused.
 
 use crate::asked;
+use crate::launched::wrong_words;
 use crate::tally::{Depth, Tally, tell_trouble};
 use cases::{Fact, Kind, Script, Trouble};
 use facts::{Finding, Limits};
+use launches::System;
 use std::alloc::Global;
 use std::io;
 use worlds::answer_by_chance;
 
 /// Looks at a fact, and tells of what is not due.
-pub fn try_fact<R: Print + AllocGlobal>(
+pub fn try_fact<R: System>(
     rt: &R,
     script: &Script<'_>,
     fact: &Fact<'_>,
@@ -17,6 +19,22 @@ pub fn try_fact<R: Print + AllocGlobal>(
 ) -> io::Result<()> {
     tally.count_fact();
     match wrong_answer(rt.alloc(), script, fact, tally) {
+        Ok(None) if fact.kind == Kind::Asked => try_asked(rt, script, fact, tally),
+        Ok(None) => Ok(()),
+        Ok(Some(answer)) => tell_wrong_fact(rt, fact, answer.as_str(), tally),
+        Err(trouble) => tell_trouble(rt, fact.source, fact.line, trouble, tally),
+    }
+}
+
+// Runs the program with the words of a fact.
+fn try_asked<R: System>(
+    rt: &R,
+    script: &Script<'_>,
+    fact: &Fact<'_>,
+    tally: &mut Tally,
+) -> io::Result<()> {
+    tally.count_try();
+    match wrong_words(rt, script, fact) {
         Ok(None) => Ok(()),
         Ok(Some(answer)) => tell_wrong_fact(rt, fact, answer.as_str(), tally),
         Err(trouble) => tell_trouble(rt, fact.source, fact.line, trouble, tally),

@@ -1,14 +1,23 @@
 //! Cases of Git's fetch protocol, from files, tried on the programs of `gcmd` and on the calls below them; and words of the
 //! command line, with what they ask for.
 //!
-//! The words of the command line name files of cases, after `--quick` where no byte is to be changed, or `--once` where all
-//! is tried as it stands alone; `cases` says how one is written. Each case is run through its programs, with ids of both
-//! formats and with replies that have ends of their own, where it does not say otherwise: as it stands; in pieces; over std's
-//! devices; over a socket of this process, from the first line of a connection on; with an indexer that watches; with each
-//! call of each device failing in turn; cut after each byte; with each byte changed; by a table of what is due then, where it
-//! has one; and with each allocation refused in turn. What is made of a text is tried in pieces, too, and with each allocation
-//! refused. Simulations are tried in worlds of their own, too, and in others events happen by chance. Both ends of a pair are
-//! tried as they stand, over sockets. A try that goes wrong is a line on standard output, and the last lines count the tries.
+//! The words of the command line name files of cases; `cases` says how one is written. The first word may be `--quick`, to leave
+//! out changed bytes, `--once`, to try each case only as it stands, or `--edge`, for connections and stored files.
+//!
+//! Each case is run through its programs, with ids of both formats and with replies that have ends of their own, where it does
+//! not say otherwise:
+//!
+//! - as it stands; in pieces; over std's devices; with an indexer that watches;
+//! - by the program `gitv2` itself, over files, standard streams and sockets;
+//! - over a socket of this process, from the first line of a connection on, where both ends take turns;
+//! - with a peer that is late, by a clock of its own;
+//! - with each call of each device failing in turn, and with a stored file that fails at each of its calls;
+//! - cut after each byte; with each byte changed; by a table of what is due then, where it has one;
+//! - with each allocation refused in turn.
+//!
+//! What is made of a text is tried in pieces, too, and with each allocation refused. Simulations are tried in worlds of their
+//! own, too, and in others events happen by chance. Both ends of a pair, and cases of how the program runs, are tried by the
+//! program alone. A try that goes wrong is a line on standard output, and the last lines count the tries.
 //!
 //! # Proved
 //!
@@ -20,14 +29,18 @@
 //!
 //! # Stands on
 //!
-//! `cases` for what the files say; `tries` for how a row is tried; `facts`, `runs` and `worlds` for facts, for runs over devices,
+//! `cases` for what the files say; `tries` for how a row is tried; `launches` for runs of the program itself; `facts`, `runs` and `worlds` for facts, for runs over devices,
 //! and for events; `gtcp` for sockets, `gargs` for the words of a command line, `gcmd` for what programs share;
 //! `gclient`, `glsreply`, `ggraph`, `ggrammar`, `gpkt` and `gname` for the types of these; `scarce` for memory that ends.
 #![tactic(auto)]
 
 mod asked;
+mod connection;
+mod deadlines;
+mod late;
+mod launched;
 mod looks;
-mod meeting;
+mod peer;
 mod rows;
 mod socket;
 mod tally;
@@ -37,10 +50,10 @@ use crate::rows::try_case;
 use crate::tally::{Depth, Tally, tell_trouble};
 use cases::{Script, Trouble};
 use gname::Format;
+use launches::System;
 use std::alloc::Global;
-use std::net::{Net, TcpListener, TcpStream};
 use std::process::ExitCode;
-use std::rt::{Env, Files};
+use std::rt::Files;
 use std::{env, fs, io};
 use tries::Way;
 
@@ -52,10 +65,7 @@ fn main(rt: HostRuntime) -> ExitCode {
 }
 
 // Tries all cases of the files that the words name. It answers whether nothing went wrong.
-fn run<R>(rt: &R) -> io::Result<bool>
-where
-    R: Env + Files + Print + AllocGlobal + Net<Stream = TcpStream, Listener = TcpListener>,
-{
+fn run<R: System>(rt: &R) -> io::Result<bool> {
     let words: Vec<String> = env::args(rt)?.skip(1).collect(rt.alloc())?;
     let (depth, names) = depth_of(words.as_slice());
     let files = read_files(rt, names)?;
@@ -63,10 +73,11 @@ where
 }
 
 // Tries the cases with ids of each format.
-fn try_all<R>(rt: &R, files: (&[String], &[String]), tally: &mut Tally) -> io::Result<bool>
-where
-    R: Print + AllocGlobal + Net<Stream = TcpStream, Listener = TcpListener>,
-{
+fn try_all<R: System>(
+    rt: &R,
+    files: (&[String], &[String]),
+    tally: &mut Tally,
+) -> io::Result<bool> {
     for format in [Format::Sha1, Format::Sha256] {
         if !try_files(rt, format, files, tally)? {
             return Ok(false);
@@ -85,15 +96,12 @@ fn read_files<R: Files + AllocGlobal>(rt: &R, names: &[String]) -> io::Result<Ve
 }
 
 // Tries the cases of one format of ids. It answers whether they could be read.
-fn try_files<R>(
+fn try_files<R: System>(
     rt: &R,
     format: Format,
     (names, files): (&[String], &[String]),
     tally: &mut Tally,
-) -> io::Result<bool>
-where
-    R: Print + AllocGlobal + Net<Stream = TcpStream, Listener = TcpListener>,
-{
+) -> io::Result<bool> {
     let mut script = Script::new(rt.alloc(), format);
     match read_all(rt.alloc(), names, files, &mut script) {
         Ok(()) => {
@@ -131,20 +139,14 @@ fn depth_of(words: &[String]) -> (Depth, &[String]) {
 }
 
 // Tries the facts and the cases.
-fn try_script<R>(rt: &R, script: &Script<'_>, tally: &mut Tally) -> io::Result<()>
-where
-    R: Print + AllocGlobal + Net<Stream = TcpStream, Listener = TcpListener>,
-{
+fn try_script<R: System>(rt: &R, script: &Script<'_>, tally: &mut Tally) -> io::Result<()> {
     for fact in script.facts.as_slice() {
         try_fact(rt, script, fact, tally)?;
     }
     try_cases(rt, script, tally)
 }
 
-fn try_cases<R>(rt: &R, script: &Script<'_>, tally: &mut Tally) -> io::Result<()>
-where
-    R: Print + AllocGlobal + Net<Stream = TcpStream, Listener = TcpListener>,
-{
+fn try_cases<R: System>(rt: &R, script: &Script<'_>, tally: &mut Tally) -> io::Result<()> {
     for case in script.cases.as_slice() {
         try_case(rt, &*script, case, tally)?;
     }

@@ -1,94 +1,79 @@
 //! Cases, tried by each of their programs in each way.
 
 use crate::tally::{Tally, tell_trouble};
-use crate::{meeting, socket};
+use crate::{deadlines, launched, socket};
 use cases::{
     Case, Command, Program, Script, Talk, Trouble, command_of, first_of, has_open_replies,
 };
 use ggrammar::Ends;
+use launches::System;
 use std::alloc::Global;
 use std::io;
-use std::net::{Net, TcpListener, TcpStream};
 use tries::{Bench, Reach, Row, Way};
+
+// The first word of the command line for both ends in one process.
+const PAIR: &str = "pair ";
 
 // A case and one of its command lines, and whether its replies are to have ends of their own.
 #[derive(Clone, Copy)]
 struct Attempt<'b> {
+    script: &'b Script<'b>,
     case: &'b Case<'b>,
     words: &'b str,
     adds_ends: bool,
 }
 
 /// Tries a case by each of its programs, and again with replies that have ends of their own, where they may.
-pub fn try_case<'b, R>(
+pub fn try_case<'b, R: System>(
     rt: &R,
     script: &'b Script<'b>,
     case: &'b Case<'b>,
     tally: &mut Tally,
-) -> io::Result<()>
-where
-    R: Print + AllocGlobal + Net<Stream = TcpStream, Listener = TcpListener>,
-{
+) -> io::Result<()> {
+    let mut plain = Attempt {
+        script,
+        case,
+        words: "",
+        adds_ends: false,
+    };
+    if case.launch.is_some() {
+        try_launch(rt, plain, tally)?;
+    }
     for words in case.runs.as_slice() {
-        let plain = Attempt {
-            case,
-            words,
-            adds_ends: false,
-        };
-        try_words(rt, script, plain, tally)?;
+        plain.words = *words;
+        try_words(rt, plain, tally)?;
     }
     Ok(())
 }
 
 // Tries a command line of a case.
-fn try_words<'b, R>(
-    rt: &R,
-    script: &'b Script<'b>,
-    plain: Attempt<'b>,
-    tally: &mut Tally,
-) -> io::Result<()>
-where
-    R: Print + AllocGlobal + Net<Stream = TcpStream, Listener = TcpListener>,
-{
-    if let Some(words) = meeting::words_after(plain.words) {
-        return try_pair(rt, script, plain, words, tally);
+fn try_words<R: System>(rt: &R, plain: Attempt<'_>, tally: &mut Tally) -> io::Result<()> {
+    if plain.words.starts_with(PAIR) {
+        return try_launch(rt, plain, tally);
     }
     let mut ended = plain;
     ended.adds_ends = true;
-    try_run(rt, script, plain, tally)?;
-    try_run(rt, script, ended, tally)
+    try_run(rt, plain, tally)?;
+    try_run(rt, ended, tally)
 }
 
-// Tries both ends in one process.
-fn try_pair<R>(
-    rt: &R,
-    script: &Script<'_>,
-    run: Attempt<'_>,
-    words: &str,
-    tally: &mut Tally,
-) -> io::Result<()>
-where
-    R: Print + AllocGlobal + Net<Stream = TcpStream, Listener = TcpListener>,
-{
+// Tries a case that is run by the program alone: one that says how it is run, or both ends in one process.
+fn try_launch<R: System>(rt: &R, run: Attempt<'_>, tally: &mut Tally) -> io::Result<()> {
     tally.count_row();
-    tally.count_runs(Way::Whole, 1);
-    match meeting::is_as_due(rt, rt.alloc(), script, run.case, words) {
-        Ok((true, _)) => Ok(()),
-        Ok((false, printed)) => tell_wrong(rt, run, (Way::Whole, 0), printed.as_slice(), tally),
+    tally.count_runs(Way::ByProgram, 1);
+    let wrong = match run.words.strip_prefix(PAIR) {
+        Some(words) => launched::wrong_pair(rt, run.script, run.case, words),
+        None => launched::wrong_launch(rt, run.script, run.case),
+    };
+    match wrong {
+        Ok(None) => Ok(()),
+        Ok(Some(wrong)) => tell_wrong(rt, run, (Way::ByProgram, 0), wrong.as_bytes(), tally),
         Err(trouble) => tell_trouble(rt, run.case.source, run.case.line, trouble, tally),
     }
 }
 
-fn try_run<'b, R>(
-    rt: &R,
-    script: &'b Script<'b>,
-    run: Attempt<'b>,
-    tally: &mut Tally,
-) -> io::Result<()>
-where
-    R: Print + AllocGlobal + Net<Stream = TcpStream, Listener = TcpListener>,
-{
-    match row_of(rt.alloc(), script, run) {
+fn try_run<R: System>(rt: &R, run: Attempt<'_>, tally: &mut Tally) -> io::Result<()> {
+    match row_of(rt.alloc(), run.script, run) {
         Ok(Some(row)) => try_row(rt, run, &row, tally),
         Ok(None) => Ok(()),
         Err(trouble) => tell_trouble(rt, run.case.source, run.case.line, trouble, tally),
@@ -144,6 +129,7 @@ fn row_for<'b>(
         packets: case.packets.as_slice(),
         table: case.table.as_slice(),
         reach: reach_of(case, run.adds_ends),
+        is_late: case.is_late,
         is_long: case.is_long,
     })
 }
@@ -191,17 +177,19 @@ fn reach_of(case: &Case<'_>, adds_ends: bool) -> Reach {
 }
 
 // Tries a row in each way. Where it is wrong as it stands the other ways would say no more.
-fn try_row<R>(rt: &R, run: Attempt<'_>, row: &Row<'_>, tally: &mut Tally) -> io::Result<()>
-where
-    R: Print + AllocGlobal + Net<Stream = TcpStream, Listener = TcpListener>,
-{
+fn try_row<R: System>(
+    rt: &R,
+    run: Attempt<'_>,
+    row: &Row<'_>,
+    tally: &mut Tally,
+) -> io::Result<()> {
     tally.count_row();
     for way in Way::ALL {
         if (row.is_long && !way.is_short()) || !tally.depth.has(way) {
             continue;
         }
         let mut bench = Bench::new(rt.alloc(), row);
-        let found = match try_way(rt, &mut bench, row, way) {
+        let found = match try_way(rt, run, &mut bench, row, way) {
             Ok(found) => found,
             Err(trouble) => {
                 return tell_trouble(rt, run.case.source, run.case.line, trouble, tally);
@@ -216,17 +204,17 @@ where
 }
 
 // Tries a row in a way, and answers the first try that went wrong.
-fn try_way<R>(
+fn try_way<R: System>(
     rt: &R,
+    run: Attempt<'_>,
     bench: &mut Bench<'_, '_>,
     row: &Row<'_>,
     way: Way,
-) -> Result<Option<usize>, Trouble>
-where
-    R: AllocGlobal + Net<Stream = TcpStream, Listener = TcpListener>,
-{
+) -> Result<Option<usize>, Trouble> {
     match way {
         Way::OverSocket => socket::first_wrong(rt, rt.alloc(), row, &mut bench.runs),
+        Way::Late => deadlines::first_wrong(rt.alloc(), row, &mut bench.runs),
+        Way::ByProgram => launched::wrong_row(rt, run.script, run.case, row, bench),
         _ => bench.try_way(way),
     }
 }

@@ -1,185 +1,116 @@
-//! Connections over a socket of this process: `gtcp` is at one end, and at the other what a case says of it is written and read.
+//! Connections over a socket of this process: `gtcp` is at one end, and at the other a peer that says and hears what a case says.
 
-use cases::{Command, Program, Trouble, words_of};
-use gclient::{FetchFault, Fetched, Repo};
-use gcmd::{ProgramFault, Spec, read_prefixes};
-use ggraph::PlainPack;
-use glsreply::LsReply;
-use gname::Prefix;
-use gtcp::{Server, fetch_on, ls_on, serve_listener};
-use runs::{Hindrance, Writer, client_of, limit_of, server_of, specs_of};
+use crate::connection::{Door, hold_row};
+use crate::peer::{Pace, Peer, TurnedListener};
+use cases::{Program, Trouble};
+use runs::Writer;
 use std::alloc::Global;
-use std::io::{Read, Write};
-use std::net::{Net, Shutdown, TcpListener, TcpStream};
-use tries::Row;
+use std::net::{Net, TcpListener, TcpStream};
+use std::time::Clock;
+use tries::{Played, Row, is_as_due, is_kept, is_scarce};
 
 /// So many bytes fit into a socket that nobody reads meanwhile.
 const MOST_BYTES: usize = 16_384;
 
-/// Tries a row over a socket, to which the other end writes all at once, or a byte at a time. It counts its runs, and answers
-/// the first that went wrong.
-pub fn first_wrong<N>(
-    net: &N,
+/// More allocations than any row has.
+const MOST_TRIES: u64 = 1_000_000;
+
+// A run over a socket: how both ends take turns, and which allocation is refused.
+#[derive(Clone, Copy)]
+struct Trial {
+    pace: Pace,
+    refused: u64,
+}
+
+/// Tries a row over a socket: all that the peer says at once, turn by turn, and a byte at a time; where the row says so, with
+/// each allocation refused, too. It counts its runs, and answers the first that went wrong.
+pub fn first_wrong<R>(
+    rt: &R,
     alloc: Global,
     row: &Row<'_>,
     runs: &mut u64,
 ) -> Result<Option<usize>, Trouble>
 where
-    N: Net<Stream = TcpStream, Listener = TcpListener>,
+    R: Net<Stream = TcpStream, Listener = TcpListener> + Clock,
 {
-    if !is_tried(row) {
-        return Ok(None);
-    }
-    for is_slow in [false, true] {
+    for (number, pace) in Pace::ALL.iter().enumerate() {
+        if !is_tried(row, *pace) {
+            continue;
+        }
+        let trial = Trial {
+            pace: *pace,
+            refused: 0,
+        };
         *runs = runs.saturating_add(1);
-        if !is_as_due(net, alloc, row, is_slow)? {
-            return Ok(Some(is_slow as usize));
+        let played = play(rt, alloc, row, trial)?;
+        if !is_as_due(row, &played) || !is_kept(alloc, row, &played) {
+            return Ok(Some(number));
+        }
+    }
+    if row.is_late {
+        return wrong_without_memory(rt, alloc, row, runs);
+    }
+    Ok(None)
+}
+
+// Whether a row is tried so: a connection from its first line on, of few bytes, with plain packers and indexers. All at once
+// only where a client comes to the end of its conversation: what one leaves unread resets the connection.
+fn is_tried(row: &Row<'_>, pace: Pace) -> bool {
+    let command = row.command;
+    let fits = row.talk.input.len() <= MOST_BYTES && row.talk.output.len() <= MOST_BYTES;
+    let ends_well = command.program == Program::Serve || row.talk.errors.is_empty();
+    command.has_hello() && command.liar.is_none() && fits && (ends_well || pace != Pace::AtOnce)
+}
+
+// Turn by turn, with each allocation refused in turn.
+fn wrong_without_memory<R>(
+    rt: &R,
+    alloc: Global,
+    row: &Row<'_>,
+    runs: &mut u64,
+) -> Result<Option<usize>, Trouble>
+where
+    R: Net<Stream = TcpStream, Listener = TcpListener> + Clock,
+{
+    for refused in 1..MOST_TRIES {
+        let trial = Trial {
+            pace: Pace::Turns,
+            refused,
+        };
+        *runs = runs.saturating_add(1);
+        let played = play(rt, alloc, row, trial)?;
+        if !is_scarce(row, &played) || !is_kept(alloc, row, &played) {
+            return Ok(Some(refused as usize));
+        }
+        if !played.was_refused() {
+            break;
         }
     }
     Ok(None)
 }
 
-// Whether a row is tried so: a connection from its first line on, of few bytes, with plain packers and indexers. Of clients
-// those that come to the end of their conversation: what one leaves unread resets the connection.
-fn is_tried(row: &Row<'_>) -> bool {
-    let command = row.command;
-    let fits = row.talk.input.len() <= MOST_BYTES && row.talk.output.len() <= MOST_BYTES;
-    let ends_well = command.program == Program::Serve || row.talk.errors.is_empty();
-    command.has_hello() && command.liar.is_none() && fits && ends_well
-}
-
-// Whether the connection comes out as the row says, where the other end writes a byte at a time, or all at once.
-fn is_as_due<N>(net: &N, alloc: Global, row: &Row<'_>, is_slow: bool) -> Result<bool, Trouble>
+// Runs the row over a socket.
+fn play<R>(rt: &R, alloc: Global, row: &Row<'_>, trial: Trial) -> Result<Played, Trouble>
 where
-    N: Net<Stream = TcpStream, Listener = TcpListener>,
+    R: Net<Stream = TcpStream, Listener = TcpListener> + Clock,
 {
-    let listener = TcpListener::bind(net, "127.0.0.1:0")?;
-    let mut other = TcpStream::connect(net, listener.local_addr()?)?;
-    say(&mut other, row.talk.input.as_slice(), is_slow)?;
-    Ok(is_answered(alloc, row, listener)? && has_read(alloc, &mut other, row)?)
+    let listener = TcpListener::bind(rt, "127.0.0.1:0")?;
+    let peer = Peer::new(rt, alloc, &row.talk, trial.pace, &listener)?;
+    let door = Door {
+        clock: rt,
+        listener: TurnedListener::new(listener, &peer),
+        connections: 1,
+    };
+    let held = hold_row(alloc, row, trial.refused, door)?;
+    let output = heard(alloc, row, peer)?;
+    Ok(Played::on_connection(held.ran, output, held.report, held.errors))
 }
 
-// Whether the other end reads what the row says.
-fn has_read(alloc: Global, other: &mut TcpStream, row: &Row<'_>) -> Result<bool, Trouble> {
-    let mut bytes = Vec::new(alloc);
-    other.read_to_end(&mut bytes)?;
-    Ok(bytes.as_slice() == row.talk.output.as_slice())
-}
-
-// Writes what the other end says, and then no more.
-fn say(other: &mut TcpStream, bytes: &[u8], is_slow: bool) -> Result<(), Trouble> {
-    if is_slow {
-        for byte in bytes.chunks(1) {
-            other.write_all(byte)?;
-        }
-    } else {
-        other.write_all(bytes)?;
-    }
-    other.shutdown(Shutdown::Write)?;
-    Ok(())
-}
-
-// Whether the end that listens does what the row says.
-fn is_answered(alloc: Global, row: &Row<'_>, listener: TcpListener) -> Result<bool, Trouble> {
-    match row.command.program {
-        Program::Serve => is_served(alloc, row, listener),
-        Program::Fetch => is_fetched(alloc, row, &listener),
-        _ => is_listed(alloc, row, &listener),
-    }
-}
-
-// Whether one connection is served, and its fault is printed.
-fn is_served(alloc: Global, row: &Row<'_>, listener: TcpListener) -> Result<bool, Trouble> {
-    match server_of(alloc, row.file) {
-        Ok(server) => Ok(is_served_by(alloc, &server, row, listener)),
-        Err(_) => Err(Trouble::NoGraph),
-    }
-}
-
-fn is_served_by(alloc: Global, server: &Server, row: &Row<'_>, listener: TcpListener) -> bool {
-    let mut errors = Writer::new(alloc, Hindrance::NONE);
-    let is_served = serve(server, row.command, listener, &mut errors).is_ok();
-    let is_printed = errors.written() == row.talk.errors.as_slice();
-    is_served && is_printed && errors.is_passed_on()
-}
-
-fn serve(
-    server: &Server,
-    command: Command<'_>,
-    listener: TcpListener,
-    errors: &mut Writer,
-) -> Result<(), ProgramFault> {
-    let path = command.path.as_bytes();
-    serve_listener(server, &PlainPack, listener, path, 1, command.ends, errors)
-}
-
-fn is_fetched(alloc: Global, row: &Row<'_>, listener: &TcpListener) -> Result<bool, Trouble> {
-    let specs = refspecs_of(alloc, row.command)?;
-    match client_of(alloc, row.file) {
-        Ok(mut repo) => is_fetched_into(&mut repo, row.command, specs.as_slice(), listener),
-        Err(_) => Err(Trouble::NoGraph),
-    }
-}
-
-fn is_fetched_into(
-    repo: &mut Repo,
-    command: Command<'_>,
-    specs: &[Spec],
-    listener: &TcpListener,
-) -> Result<bool, Trouble> {
-    let (stream, _) = listener.accept()?;
-    Ok(fetch(stream, command, repo, specs).is_ok())
-}
-
-fn refspecs_of(alloc: Global, command: Command<'_>) -> Result<Vec<Spec>, Trouble> {
-    let words = words_of(alloc, command.specs)?;
-    match specs_of(alloc, words.as_slice()) {
-        Ok(specs) => Ok(specs),
-        Err(_) => Err(Trouble::NoGraph),
-    }
-}
-
-fn fetch(
-    stream: TcpStream,
-    command: Command<'_>,
-    repo: &mut Repo,
-    specs: &[Spec],
-) -> Result<Fetched, FetchFault> {
-    fetch_on(
-        stream,
-        command.host.as_bytes(),
-        command.path.as_bytes(),
-        repo,
-        &PlainPack,
-        specs,
-        limit_of(command.limit),
-        command.ends,
-    )
-}
-
-fn is_listed(alloc: Global, row: &Row<'_>, listener: &TcpListener) -> Result<bool, Trouble> {
-    let prefixes = prefixes_of(alloc, row.command)?;
-    let (stream, _) = listener.accept()?;
-    Ok(list(alloc, stream, row.command, prefixes.as_slice()).is_ok())
-}
-
-fn prefixes_of(alloc: Global, command: Command<'_>) -> Result<Vec<Prefix>, Trouble> {
-    if command.specs.is_empty() {
-        return Ok(Vec::new(alloc));
-    }
-    let words = words_of(alloc, command.specs)?;
-    match read_prefixes(alloc, words.as_slice()) {
-        Ok(prefixes) => Ok(prefixes),
-        Err(_) => Err(Trouble::NoId),
-    }
-}
-
-fn list(
-    alloc: Global,
-    stream: TcpStream,
-    command: Command<'_>,
-    prefixes: &[Prefix],
-) -> Result<LsReply<Global>, FetchFault> {
-    let host = command.host.as_bytes();
-    ls_on(alloc, stream, host, command.path.as_bytes(), prefixes)
+// What the peer heard. Where turns were not kept, or a server did not close the connection well, it counts as not passed on.
+fn heard(alloc: Global, row: &Row<'_>, peer: Peer<'_>) -> Result<Writer, Trouble> {
+    peer.hear()?;
+    let is_closed = row.command.program != Program::Serve || peer.is_closed();
+    let is_well = is_closed && peer.was_heard_in_turn();
+    let bytes = peer.into_heard();
+    Ok(Writer::holding(alloc, bytes.as_slice(), is_well)?)
 }

@@ -9,6 +9,8 @@ use tries::Way;
 pub enum Depth {
     /// Each case as it stands.
     Once,
+    /// As it stands, by the program, over sockets, with peers that are late, and with files that fail.
+    Edge,
     /// All but the changed bytes, which take most of the time.
     Quick,
     Full,
@@ -19,6 +21,7 @@ impl Depth {
     pub fn of(word: &str) -> Option<Depth> {
         match word {
             "--once" => Some(Depth::Once),
+            "--edge" => Some(Depth::Edge),
             "--quick" => Some(Depth::Quick),
             _ => None,
         }
@@ -27,7 +30,8 @@ impl Depth {
     /// Whether a case is tried in this way.
     pub fn has(self, way: Way) -> bool {
         match self {
-            Depth::Once => matches!(&way, Way::Whole),
+            Depth::Once => matches!(&way, Way::Whole | Way::ByProgram),
+            Depth::Edge => way.is_edge(),
             Depth::Quick => !way.is_long(),
             Depth::Full => true,
         }

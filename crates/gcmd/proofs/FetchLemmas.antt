@@ -1,5 +1,5 @@
 -- The client of a file, and what is saved of it.
-use Rattle.std.proofs.Common.{◌≡◌, ◌≢◌, ℕ, List, All, Result, Ok, Err, inl, inr, refl, sym, ap, subst, ◌∙◌}
+use Rattle.std.proofs.Common.{◌≡◌, ℕ, List, All, Ok, Err, refl, sym, ap, subst, ◌∙◌}
 use Rattle.std.proofs.lemmas.List.{append-nil}
 use Rattle.gdag.proofs.OrderLemmas.{all_at}
 use Rattle.gdag.proofs.Places.{held_id}

@@ -8,7 +8,9 @@ pub mod Lines
 pub mod Reporting
 pub mod Fetching
 pub mod Prefixes
+pub mod Stored
 pub mod steps
+pub use Rattle.glockfile.specs.Storing
 pub use Rattle.gname.specs.Names
 pub use Rattle.gpkt.specs.Packets
 pub use Rattle.gpkt.specs.LineReading

@@ -2,3 +2,4 @@
 pub mod Lines
 pub mod Outputs
 pub mod Printing
+pub mod Stored

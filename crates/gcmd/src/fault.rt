@@ -10,6 +10,7 @@ use crate::print::FaultLine;
 use ganswer::{BuildFault, ServeFault};
 use gclient::{ClientFault, FetchFault, RepoFault, SpecFault};
 use ggraph::LoadFault;
+use glockfile::StorageFault;
 use gname::{NameFault, OUT_OF_MEMORY_TEXT};
 use gpkt::LineFault;
 use std::alloc::{Allocator, Global};
@@ -130,5 +131,18 @@ impl<A: Allocator + Copy> From<NameFault> for ProgramFault<A> {
 
     fn from(cause: NameFault) -> ProgramFault<A> {
         ProgramFault::Name(cause)
+    }
+}
+
+impl<A: Allocator + Copy> From<StorageFault> for ProgramFault<A> {
+    ghost use Rattle.gcmd.specs.Stored.{storage_fault};
+
+    ghost from_gives = { λ cause fault. fault ≡ storage_fault cause };
+
+    fn from(cause: StorageFault) -> ProgramFault<A> {
+        match cause {
+            StorageFault::Memory => ProgramFault::Memory,
+            StorageFault::Failed => ProgramFault::File,
+        }
     }
 }

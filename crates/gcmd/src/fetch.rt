@@ -161,7 +161,10 @@ pub fn conclude<A: Allocator + Copy, R: Sink>(
 }
 
 // The text of a client's repository. It fails out of memory.
-fn text_of<A: Allocator + Copy>(alloc: A, repo: &Repo<A>) -> Result<Vec<u8, A>, SaveFault>
+pub(crate) fn text_of<A: Allocator + Copy>(
+    alloc: A,
+    repo: &Repo<A>,
+) -> Result<Vec<u8, A>, SaveFault>
     ensures { MatchResult result (λ text. NamesClient text.items repo.now)
         (λ fault. fault ≡ Memory) }
 {

@@ -26,6 +26,10 @@
 //!   where it is out of memory for that. [`read_specs`] reads words as refspecs, or answers the fault of the first
 //!   that is none. [`read_prefixes`] reads words as prefixes of names, each as it stands, or fails likewise
 //!   (`specs/Prefixes.antt`).
+//! - [`cmd_fetch_stored`] does the same to a stored file, which it locks and reads first (`specs/Stored.antt`). In every
+//!   state that the storage passes through, the file has the old text or the whole new one. The new one comes only
+//!   where the refs were settled, and the report only after it. At the end this run holds no lockfile.
+//!   [`open_stored`] and [`conclude_stored`] are its two ends, for those who hold another conversation.
 //! - [`cmd_check`] writes its one line, with the counts, and whether the graph is closed and the repository is
 //!   connected, and passes it on; where the sink fails, a beginning of it stands. Of a file that is no repository
 //!   nothing is written.
@@ -44,13 +48,14 @@
 //! A call that takes memory can answer that there is none, wherever the crates below may. Of an output whose
 //! bytes are not known no clause says what is written to it; but one body serves every output. How often a device is
 //! called is not said, nor how long anything takes. Formatting a fault may answer an error (`fmt::Error`) where the
-//! text would be right.
+//! text would be right. [`cmd_fetch_stored`] may say that a file can't be locked, read or replaced where it could be.
 //!
 //! # Stands on
 //!
 //! `gserve` for connections and `ganswer` for the server, `gclient` for the client, `gfetchreply` for the limit of a
-//! pack, `ggraph` for repositories' texts and plain packs, `ggrammar` for how replies end, `gpkt` for packets and
-//! devices, `gname` for ids, `arrayvec` for texts of bounded length, `hex` for digits, `itoa` for numbers.
+//! pack, `glockfile` for stored files, `ggraph` for repositories' texts and plain packs, `ggrammar` for how replies
+//! end, `gpkt` for packets and devices, `gname` for ids, `arrayvec` for texts of bounded length, `hex` for digits,
+//! `itoa` for numbers.
 #![tactic(auto)]
 
 mod check;
@@ -67,6 +72,7 @@ mod program;
 mod report;
 mod repository;
 mod send;
+mod stored;
 mod upload;
 
 pub use crate::check::cmd_check;
@@ -78,6 +84,7 @@ pub use crate::ls::cmd_ls;
 pub use crate::prefixes::read_prefixes;
 pub use crate::program::{cmd_failed, finish, print_fault};
 pub use crate::repository::load_server;
+pub use crate::stored::{FetchOptions, OpenedFile, cmd_fetch_stored, conclude_stored, open_stored};
 pub use crate::upload::cmd_upload;
 pub use gclient::Spec;
 pub use gfetchreply::PackLimit;

@@ -1,6 +1,6 @@
 -- The programs that open sockets (as git-daemon(1), git-ls-remote(1), git-fetch(1)): what each does and writes, and
 -- the new file.
-use Rattle.std.specs.Prelude.{◌≡◌, ◌⊎◌, ◌<◌, List, ℕ, ◌++◌, codes, Option, None, Result, Ok, Err}
+use Rattle.std.specs.Prelude.{◌≡◌, ◌⊎◌, ◌<◌, List, ℕ, ◌++◌, codes, Result, Ok, Err}
 use Rattle.std.specs.Fmt.{decimal}
 use Rattle.gpkt.specs.Sending.{Output, IsUnwritten, Sends}
 use Rattle.gpkt.specs.Packets.{Bytes}
@@ -18,13 +18,16 @@ use Rattle.gclient.specs.Conversations.{start_of}
 use Rattle.gclient.specs.declared.fault.FetchFault.{FetchFault}
 use Rattle.gclient.specs.declared.fault.FetchFault.TheVariants as fetch
 use Rattle.gclient.specs.declared.fetched.Fetched.{Fetched}
-use Rattle.gcmd.specs.Fetching.{Concludes, IsFetchedInto, NamesClient, RefusesClient, Reports, SendsReport}
+use Rattle.gcmd.specs.Fetching.{IsFetchedInto, NamesClient, RefusesClient, Reports, SendsReport}
 use Rattle.gcmd.specs.Fetching.{plain_index_fails, plain_indexes}
 use Rattle.gcmd.specs.Outputs.{BreaksOff}
 use Rattle.gcmd.specs.Programs.{ExitsWith, Outcome}
 use Rattle.gcmd.specs.Serving.{NamesServer, RefusesFile, plain_pack_fails, plain_packs}
+use Rattle.gcmd.specs.Stored.{ConcludesStored, IsKept, RefusesFile as RefusesStored, Stored}
 use Rattle.gcmd.specs.declared.fault.ProgramFault.{ProgramFault}
 use Rattle.gcmd.specs.declared.fault.ProgramFault.TheVariants as program
+use Rattle.glockfile.specs.Storing.{Holds}
+use Rattle.glockfile.specs.declared.storage.Lockfile.TheVariants.{Absent}
 use Rattle.gtcp.specs.Listing.{reply_lines}
 use Rattle.gtcp.specs.Sockets.{FetchesFrom, FetchesOn, FitPrefixes, ListsFrom, RefusesPrefixes, ServesEach, asked_for}
 
@@ -111,28 +114,40 @@ FetchesAt {A} old specs limit ends hello new (Err (program.Fetch fault)) =
     FetchesFrom plain_indexes (plain_index_fails A) (start_of old specs limit ends) hello new (Err fault)
 FetchesAt old specs limit ends hello new (Err _) = ⊥
 
-module _ {A : Type 0} (old : Bytes) (specs : List Refspec) (limit : ℕ) (ends : Ends) (hello : Hello) where
-  -- the repository that the file names was fetched into: objects only came, the refs are settled, there is a new file,
-  -- and that is reported
-  pub record IsFetchedRemote (report : Output) (file : Option Bytes) (outcome : Outcome A) : Type 0 where
-    pub repo : RepoState A
-    pub names : NamesClient old repo
-    pub new : RepoState A
-    pub fetched : Fetched A
-    pub fetches : FetchesAt repo specs limit ends hello new (Ok fetched)
-    pub concludes : Concludes repo new fetched report file outcome
+-- how it ends after that: the file is replaced whole by the text of the new repository, and only then that is reported;
+-- where nothing was fetched the file has the old text, and nothing is reported
+abbrev pub EndsRemote : {A : Type 0} → Bytes → RepoState A → RepoState A → Result (Fetched A) (ProgramFault A)
+    → Stored → Output → Outcome A → Type 0
+EndsRemote old repo new (Ok fetched) stored report outcome =
+    IsFetchedInto repo new fetched × ConcludesStored old new fetched stored report outcome
+EndsRemote old repo new (Err fault) stored report outcome =
+    IsKept stored × IsUnwritten report × (outcome ≡ Err fault)
 
-  -- why it is not: the file is no client's; or the fetch failed
-  abbrev pub CannotFetch : ProgramFault A → Type 0
-  CannotFetch fault =
-      RefusesClient old fault
-      ⊎ ((repo : RepoState A) × (new : RepoState A) × NamesClient old repo
-      × FetchesAt repo specs limit ends hello new (Err fault))
+module _ {A : Type 0} (specs : List Refspec) (limit : ℕ) (ends : Ends) (hello : Hello) (stored : Stored)
+    (report : Output)
+  where
+    -- the file is not opened: it stays, and nothing is reported
+    pub record IsNotOpened (outcome : Outcome A) : Type 0 where
+      pub fault : ProgramFault A
+      pub refused : RefusesStored stored.old fault
+      pub met : outcome ≡ Err fault
+      pub kept : IsKept stored
+      pub unreported : IsUnwritten report
 
-  -- what `fetch --tcp` does: that; or a fault was met, nothing is reported, and there is no new file
-  abbrev pub FetchesRemote : Output → Option Bytes → Outcome A → Type 0
-  FetchesRemote report file outcome =
-      IsFetchedRemote report file outcome ⊎ (StopsBefore CannotFetch report outcome × (file ≡ None))
+    -- the repository that the file's text names fetches over a socket
+    pub record IsFetchedRemote (outcome : Outcome A) : Type 0 where
+      pub old : Bytes
+      pub held : Holds stored.old old
+      pub repo : RepoState A
+      pub names : NamesClient old repo
+      pub new : RepoState A
+      pub result : Result (Fetched A) (ProgramFault A)
+      pub fetches : FetchesAt repo specs limit ends hello new result
+      pub ends_so : EndsRemote old repo new result stored report outcome
+
+    -- what `fetch --tcp` does to a stored file; at the end this run holds no lockfile
+    abbrev pub FetchesRemote : Outcome A → Type 0
+    FetchesRemote outcome = (stored.lockfile ≡ Absent) × (IsFetchedRemote outcome ⊎ IsNotOpened outcome)
 
 -- ---- both ends
 

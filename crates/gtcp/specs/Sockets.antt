@@ -106,10 +106,9 @@ module _ {A : Type 0} (server : Server A) (packs : Packs A) (fails : PackFails A
     pub output : Output
     pub serves : ServesGit server packs fails path ends input output ended
 
-  -- a connection is served, and comes out so; or its peer's silence can't be limited, and it is closed
+  -- a connection is served, and comes out so
   abbrev pub IsServed : Outcome A → Type 0
-  IsServed outcome =
-      ((ended : GitEnd) × HoldsServing ended × (outcome ≡ outcome_of ended)) ⊎ (outcome ≡ Err program.WriteFailed)
+  IsServed outcome = (ended : GitEnd) × HoldsServing ended × (outcome ≡ outcome_of ended)
 
   -- So many connections are served, one after the other, and the faults of all of them are printed, a line each, in
   -- their order. Or one of them can't be accepted, and those before it are.

@@ -1,4 +1,6 @@
 -- The steps: what only private functions and proofs speak of.
+pub mod Deadlines
 pub mod Messages
 pub mod Sockets
 pub mod Remote
+pub mod Turns

@@ -12,7 +12,8 @@ ghost use Rattle.gtcp.specs.steps.Sockets.{FetchesBetween, ListsBetween};
 ghost use Rattle.gtcp.specs.Sockets.{FetchesFrom, FetchesOn, ListsFrom, ListsOn};
 ghost use Rattle.gtcp.specs.steps.Remote.{MakesRequest};
 
-use crate::stream::{MESSAGE_BUFFER, send_at_once};
+use crate::stream::{MESSAGE_BUFFER, Peer};
+use crate::timer::Silence;
 use gclient::{FetchFault, Fetched, Repo, Spec};
 use gconnect::{GitFetch, fetch_git, list_git};
 use gfetchreply::PackLimit;
@@ -25,16 +26,17 @@ use gpkt::{FromRead, ToWrite};
 use grequest::LsRefsRequest;
 use std::alloc::Allocator;
 use std::io::{BufReader, BufWriter, Read, Write};
-use std::net::TcpStream;
+use std::net::OpenStream;
 
 /// Fetches by refspecs from the server at the other end of the stream: writes the first line of a `git://` connection
 /// (gitprotocol-pack(5), "Git Transport"), which names the host and the path, and then does as `gclient::fetch_over`.
 ///
 /// It fails with 42 at packet 0 where the host or the path is not well-formed, and, out of memory, with 53 for the first
-/// line and 28 for the stream's buffers; nothing is read or written then. Else as `fetch_over` fails: the refs are as
-/// before, and to the graph objects only came.
-pub fn fetch_on<A: Allocator + Copy, K: Indexer<A>>(
-    stream: TcpStream,
+/// line and 28 for the stream's buffers; nothing is read or written then. Otherwise it fails as `fetch_over`: the refs are
+/// as before, and objects only came to the graph. A read fails where the server gives no byte for
+/// [`MAX_SILENCE`](crate::MAX_SILENCE) seconds, and a write where it takes none.
+pub fn fetch_on<A, K, S>(
+    stream: S,
     host: &[u8],
     path: &[u8],
     repo: &mut Repo<A>,
@@ -43,6 +45,10 @@ pub fn fetch_on<A: Allocator + Copy, K: Indexer<A>>(
     limit: PackLimit,
     ends: Ends,
 ) -> Result<Fetched<A>, FetchFault<A>>
+where
+    A: Allocator + Copy,
+    K: Indexer<A>,
+    S: Read + Write + OpenStream + Drop,
     ensures fetches { FetchesOn (K.indexes indexer.now) (K.index_fails indexer.now)
         (start_of repo.old specs.now limit ends) (record { path = path.now; host = host.now })
         repo.new result }
@@ -67,16 +73,20 @@ pub fn fetch_on<A: Allocator + Copy, K: Indexer<A>>(
         limit,
         ends,
     };
-    fetch_from(&stream, repo, indexer, &fetch)
+    fetch_from(&Peer::new(stream, Silence), repo, indexer, &fetch)
 }
 
 /// Fetches as [`fetch_on`] does, with a first line that is made.
-pub(crate) fn fetch_from<A: Allocator + Copy, K: Indexer<A>>(
-    stream: &TcpStream,
+pub(crate) fn fetch_from<A, K, S>(
+    peer: &Peer<S, Silence>,
     repo: &mut Repo<A>,
     indexer: &K,
     fetch: &GitFetch<'_, A>,
 ) -> Result<Fetched<A>, FetchFault<A>>
+where
+    A: Allocator + Copy,
+    K: Indexer<A>,
+    S: Read + Write + OpenStream,
     ensures fetches { FetchesFrom (K.indexes indexer.now) (K.index_fails indexer.now)
         (start_of repo.old fetch.now.specs.now fetch.now.limit fetch.now.ends)
         fetch.now.hello.now repo.new result }
@@ -92,16 +102,15 @@ pub(crate) fn fetch_from<A: Allocator + Copy, K: Indexer<A>>(
     // Laws.
     repo.laws();
     let alloc = repo.graph().allocator();
-    send_at_once(stream);
-    let Ok(mut reader) = BufReader::new(alloc, stream) else {
+    let Ok(mut reader) = BufReader::new(alloc, peer) else {
         return Err(FetchFault::NoBuffer);
     };
-    let Ok(mut writer) = BufWriter::with_capacity(alloc, MESSAGE_BUFFER, stream) else {
+    let Ok(mut writer) = BufWriter::with_capacity(alloc, MESSAGE_BUFFER, peer) else {
         return Err(FetchFault::NoBuffer);
     };
     let fetched = fetch_between(&mut reader, &mut writer, repo, indexer, fetch);
     // What could not be written is not tried again.
-    let (_stream, _unwritten) = writer.into_parts();
+    let (_peer, _unwritten) = writer.into_parts();
     fetched
 }
 
@@ -138,14 +147,18 @@ fn fetch_between<A: Allocator + Copy, K: Indexer<A>, R: Read, W: Write>(
 ///
 /// It fails with 48 at packet 0 at a 65th prefix, with 42 at packet 0 where the host or the path is not well-formed, and,
 /// out of memory, with 53 for the request and the first line and 28 for the stream's buffers; nothing is read or written
-/// then. Else as `gconnect::list_git` fails.
-pub fn ls_on<A: Allocator + Copy>(
+/// then. Otherwise it fails as `gconnect::list_git`. A read fails where the server gives no byte for
+/// [`MAX_SILENCE`](crate::MAX_SILENCE) seconds, and a write where it takes none.
+pub fn ls_on<A, S>(
     alloc: A,
-    stream: TcpStream,
+    stream: S,
     host: &[u8],
     path: &[u8],
     prefixes: &[Prefix<A>],
 ) -> Result<LsReply<A>, FetchFault<A>>
+where
+    A: Allocator + Copy,
+    S: Read + Write + OpenStream + Drop,
     ensures { ListsOn prefixes.now (record { path = path.now; host = host.now }) result }
 {
     let asked = match request_for(alloc, prefixes) {
@@ -153,30 +166,32 @@ pub fn ls_on<A: Allocator + Copy>(
         Err(fault) => return Err(FetchFault::from(fault)),
     };
     match Hello::new(alloc, path, host) {
-        Ok(hello) => ls_from(alloc, &stream, &hello, asked),
+        Ok(hello) => ls_from(alloc, &Peer::new(stream, Silence), &hello, asked),
         Err(fault) => Err(FetchFault::from(fault)),
     }
 }
 
 /// Lists refs as [`ls_on`] does, with a first line and a request that are made.
-pub(crate) fn ls_from<A: Allocator + Copy>(
+pub(crate) fn ls_from<A, S>(
     alloc: A,
-    stream: &TcpStream,
+    peer: &Peer<S, Silence>,
     hello: &Hello<A>,
     asked: LsRefsRequest<A>,
 ) -> Result<LsReply<A>, FetchFault<A>>
+where
+    A: Allocator + Copy,
+    S: Read + Write + OpenStream,
     ensures { ListsFrom asked hello.now result }
 {
-    send_at_once(stream);
-    let Ok(mut reader) = BufReader::new(alloc, stream) else {
+    let Ok(mut reader) = BufReader::new(alloc, peer) else {
         return Err(FetchFault::NoBuffer);
     };
-    let Ok(mut writer) = BufWriter::with_capacity(alloc, MESSAGE_BUFFER, stream) else {
+    let Ok(mut writer) = BufWriter::with_capacity(alloc, MESSAGE_BUFFER, peer) else {
         return Err(FetchFault::NoBuffer);
     };
     let listed = list_between(alloc, &mut reader, &mut writer, hello, asked);
     // What could not be written is not tried again.
-    let (_stream, _unwritten) = writer.into_parts();
+    let (_peer, _unwritten) = writer.into_parts();
     listed
 }
 

@@ -8,7 +8,8 @@ ghost use Rattle.gtcp.specs.Remote.{FetchesAsClient, FetchesInPair, pair_hello};
 ghost use Rattle.gtcp.specs.steps.Remote.{IsPairFault};
 
 use crate::message::MessageSink;
-use crate::stream::set_up;
+use crate::stream::Peer;
+use crate::timer::Silence;
 use ganswer::Server;
 use gclient::{FetchFault, Fetched, Repo, Spec};
 use gcmd::ProgramFault;
@@ -21,8 +22,8 @@ use gpkt::memory::SliceSource;
 use gpkt::{Down, FromRead, LineWriter, Sink, Source, ToWrite};
 use gserve::{ExchangeEnd, MAX_ERR_TEXT, ServeFault, err_text, serve, serve_one};
 use std::alloc::Allocator;
-use std::io::BufReader;
-use std::net::{Net, SocketAddr, TcpListener, TcpStream};
+use std::io::{BufReader, Read, Write};
+use std::net::{Net, OpenListener, OpenStream, SocketAddr, TcpListener, TcpStream};
 
 // What the client reads. Where it has read all that the server passed on, it is the server's turn.
 #[derive(Drop)]
@@ -148,9 +149,9 @@ fn refuse<W: Sink>(fault: &ServeFault, sink: &mut W) {
 
 // Both ends of one connection of this process.
 #[derive(Drop)]
-struct Joined {
-    near: TcpStream,
-    far: TcpStream,
+struct Joined<S> {
+    near: S,
+    far: S,
 }
 
 // How many strangers may connect before the client's own connection is found.
@@ -163,34 +164,21 @@ const HOST: &[u8] = b"127.0.0.1";
 
 const PATH: &[u8] = b"/";
 
-fn connect<N>(net: &N) -> Option<Joined>
-where
-    N: Net<Stream = TcpStream, Listener = TcpListener>,
-{
+fn connect<N: Net>(net: &N) -> Option<Joined<N::Stream>> {
     let listener = TcpListener::bind(net, MEETING).ok()?;
     join(net, &listener)
 }
 
 // Connects to the listener, and accepts that connection.
-fn join<N>(net: &N, listener: &TcpListener) -> Option<Joined>
-where
-    N: Net<Stream = TcpStream, Listener = TcpListener>,
-{
-    let near = connect_to(net, listener)?;
+fn join<N: Net>(net: &N, listener: &N::Listener) -> Option<Joined<N::Stream>> {
+    let address = listener.local_addr().ok()?;
+    let near = TcpStream::connect(net, address).ok()?;
     let far = accept_from(listener, near.local_addr().ok()?)?;
     Some(Joined { near, far })
 }
 
-fn connect_to<N>(net: &N, listener: &TcpListener) -> Option<TcpStream>
-where
-    N: Net<Stream = TcpStream, Listener = TcpListener>,
-{
-    let address = listener.local_addr().ok()?;
-    TcpStream::connect(net, address).ok()
-}
-
 // Accepts the connection of this peer.
-fn accept_from(listener: &TcpListener, client: SocketAddr) -> Option<TcpStream> {
+fn accept_from<L: OpenListener>(listener: &L, client: SocketAddr) -> Option<L::Stream> {
     for _ in 0..MAX_STRANGERS {
         let (stream, peer) = listener.accept().ok()?;
         if peer == client {
@@ -203,9 +191,8 @@ fn accept_from(listener: &TcpListener, client: SocketAddr) -> Option<TcpStream> 
 /// Fetches by refspecs from the server into the repository, over a connection of this process, with plain packs.
 ///
 /// It fails with `PairLimit` where a message would have more than [`MAX_MESSAGE`](crate::MAX_MESSAGE) bytes: nothing of
-/// it is written, and both ends stop. It fails with `Socket` where there is no such connection, or its limits are
-/// refused, and with `Memory` where there is no memory for its buffers or to hold a message; else as
-/// `gclient::fetch_over` fails.
+/// it is written, and both ends stop. It fails with `Socket` where there is no such connection, and with `Memory` where
+/// there is no memory for its buffers or to hold a message. Otherwise it fails as `gclient::fetch_over`.
 pub(crate) fn fetch_in_pair<A: Allocator + Copy, N>(
     net: &N,
     server: &Server<A>,
@@ -213,34 +200,38 @@ pub(crate) fn fetch_in_pair<A: Allocator + Copy, N>(
     specs: &[Spec<A>],
 ) -> Result<Fetched<A>, ProgramFault<A>>
 where
-    N: Net<Stream = TcpStream, Listener = TcpListener>,
+    N: Net,
     ensures fetches { FetchesInPair repo.old specs.now repo.new result }
     ensures settled { IfOk result (λ fetched. Settles repo.new.graph.entries repo.old.refs
         fetched.settled.asks fetched.settled.updates.items repo.new.refs) }
     ensures grows { Grows repo.old.graph.entries repo.new.graph.entries }
 {
     match connect(net) {
-        Some(ends) => fetch_between(server, repo, specs, &ends.near, &ends.far),
+        Some(ends) => {
+            let near = Peer::new(ends.near, Silence);
+            let far = Peer::new(ends.far, Silence);
+            fetch_between(server, repo, specs, &near, &far)
+        }
         None => Err(ProgramFault::Socket),
     }
 }
 
 // Fetches so over a connection with these ends.
-fn fetch_between<A: Allocator + Copy>(
+fn fetch_between<A, S>(
     server: &Server<A>,
     repo: &mut Repo<A>,
     specs: &[Spec<A>],
-    near: &TcpStream,
-    far: &TcpStream,
+    near: &Peer<S, Silence>,
+    far: &Peer<S, Silence>,
 ) -> Result<Fetched<A>, ProgramFault<A>>
+where
+    A: Allocator + Copy,
+    S: Read + Write + OpenStream,
     ensures fetches { FetchesInPair repo.old specs.now repo.new result }
     ensures settled { IfOk result (λ fetched. Settles repo.new.graph.entries repo.old.refs
         fetched.settled.asks fetched.settled.updates.items repo.new.refs) }
     ensures grows { Grows repo.old.graph.entries repo.new.graph.entries }
 {
-    if set_up(near).is_err() || set_up(far).is_err() {
-        return Err(ProgramFault::Socket);
-    }
     match BufReader::new(repo.graph().allocator(), near) {
         Ok(mut reader) => {
             let mut writer = near;
@@ -252,17 +243,18 @@ fn fetch_between<A: Allocator + Copy>(
 }
 
 // Fetches so over these devices of the client's end.
-fn fetch_from_far<A, N, V>(
+fn fetch_from_far<A, N, V, S>(
     server: &Server<A>,
     repo: &mut Repo<A>,
     specs: &[Spec<A>],
     near_end: (N, V),
-    far: &TcpStream,
+    far: &Peer<S, Silence>,
 ) -> Result<Fetched<A>, ProgramFault<A>>
 where
     A: Allocator + Copy,
     N: Source + Drop,
     V: Sink + Drop,
+    S: Read + Write + OpenStream,
     ensures fetches { FetchesInPair repo.old specs.now repo.new result }
     ensures settled { IfOk result (λ fetched. Settles repo.new.graph.entries repo.old.refs
         fetched.settled.asks fetched.settled.updates.items repo.new.refs) }

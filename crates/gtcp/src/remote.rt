@@ -1,6 +1,6 @@
 //! The programs that open sockets, as functions over the network, bytes and sinks.
 
-ghost use Rattle.std.specs.Prelude.{◌≡◌, IfOk, option_map};
+ghost use Rattle.std.specs.Prelude.{◌≡◌, IfOk};
 ghost use Rattle.gpkt.specs.Packets.{Bytes};
 ghost use Rattle.gdag.specs.Reach.{Grows};
 ghost use Rattle.gpkt.specs.Sending.{output_of};
@@ -8,27 +8,35 @@ ghost use Rattle.gclientrepo.specs.Settling.{Settles};
 ghost use Rattle.gcmd.specs.Fetching.{NamesClient};
 ghost use Rattle.gcmd.specs.Programs.{Runs};
 ghost use Rattle.gcmd.specs.Serving.{NamesServer};
-ghost use Rattle.gtcp.specs.Remote.{Announces, AsksRemote, FetchesAt, FetchesRemote, ListsRemote, Meets, RunsServing, ServesRemote, ShowsReply};
+ghost use Rattle.gcmd.specs.Stored.{stored_of};
+ghost use Rattle.glockfile.specs.Storing.{Holds};
+ghost use Rattle.glockfile.specs.declared.storage.Lockfile.TheVariants.{Absent, Empty};
+ghost use Rattle.gtcp.specs.Remote.{Announces, AsksRemote, FetchesAt, FetchesRemote, IsFetchedRemote, ListsRemote, Meets, RunsServing, ServesRemote, ShowsReply};
 
 use crate::fetching::{fetch_from, ls_from, request_for};
 use crate::listing::text_of;
 use crate::pair::fetch_in_pair;
 use crate::place::Place;
 use crate::serving::serve_listener;
+use crate::stream::{Peer, connect_to};
+use crate::timer::Silence;
 use ganswer::Server;
 use gclient::{FetchFault, Fetched, Repo, Spec};
 use gcmd::{
-    FetchRun, ProgramFault, conclude, finish, load_server, open_client, send_report, send_text,
+    OpenedFile, ProgramFault, conclude_stored, finish, load_server, open_client, open_stored,
+    send_report, send_text,
 };
 use gconnect::GitFetch;
 use gfetchreply::PackLimit;
 use ggrammar::Ends;
 use ggraph::PlainPack;
+use glockfile::Storage;
 use glsreply::LsReply;
 use gname::Prefix;
 use gpkt::Sink;
 use std::alloc::Allocator;
-use std::net::{Net, TcpListener, TcpStream};
+use std::net::{Net, OpenListener, TcpListener};
+use std::time::Clock;
 
 // ---- serving
 
@@ -56,7 +64,7 @@ pub fn cmd_serve<A: Allocator + Copy, N, W: Sink, E: Sink>(
     errors: &mut E,
 ) -> u8
 where
-    N: Net<Stream = TcpStream, Listener = TcpListener>,
+    N: Net + Clock,
     ensures runs { RunsServing A (output_of E.contents E.passed_on E.is_down) errors.old errors.new
         (ServesRemote service.now.file.now service.now.place.now.hello.path service.now.ends
         service.now.connections (output_of W.contents W.passed_on W.is_down output.old output.new))
@@ -77,7 +85,7 @@ fn serve_all<A: Allocator + Copy, N, W: Sink, E: Sink>(
     errors: &mut E,
 ) -> Result<(), ProgramFault<A>>
 where
-    N: Net<Stream = TcpStream, Listener = TcpListener>,
+    N: Net + Clock,
     ensures serves { ServesRemote service.now.file.now service.now.place.now.hello.path
         service.now.ends
         service.now.connections (output_of W.contents W.passed_on W.is_down output.old output.new)
@@ -100,7 +108,7 @@ fn serve_at<A: Allocator + Copy, N, W: Sink, E: Sink>(
     errors: &mut E,
 ) -> Result<(), ProgramFault<A>>
 where
-    N: Net<Stream = TcpStream, Listener = TcpListener>,
+    N: Net + Clock,
     ensures serves { (file : Bytes) → NamesServer file server.now
         → ServesRemote file service.now.place.now.hello.path service.now.ends
         service.now.connections (output_of W.contents W.passed_on W.is_down output.old output.new)
@@ -113,6 +121,7 @@ where
     };
     match announce(server.graph().allocator(), &listener, output) {
         Ok(()) => serve_listener(
+            net,
             server,
             &PlainPack,
             listener,
@@ -126,9 +135,9 @@ where
 }
 
 // Shows the port that is listened at.
-fn announce<A: Allocator + Copy, W: Sink>(
+fn announce<A: Allocator + Copy, L: OpenListener, W: Sink>(
     alloc: A,
-    listener: &TcpListener,
+    listener: &L,
     output: &mut W,
 ) -> Result<(), ProgramFault<A>>
     ensures announces { Announces {A = A} (output_of W.contents W.passed_on W.is_down output.old
@@ -167,7 +176,8 @@ pub struct Listing<'a, A: Allocator + Copy> {
 
 /// `gitv2 ls --tcp ADDR --path PATH [PREFIX]...`: lists the refs of a server, a line each on `output`, as a reply that is
 /// written spells it (gitprotocol-v2(5), "ls-refs"). An unborn `HEAD` comes first, where the server has one. A fault is
-/// one line on `errors`.
+/// one line on `errors`: `Socket` where no address of the place takes a connection within
+/// [`MAX_CONNECT`](crate::MAX_CONNECT) seconds, and otherwise as [`ls_on`](crate::ls_on) fails.
 ///
 /// It answers the exit status: 0 where the lines are written and passed on, 1 where a fault was met.
 pub fn cmd_ls_remote<A: Allocator + Copy, N, W: Sink, E: Sink>(
@@ -178,7 +188,7 @@ pub fn cmd_ls_remote<A: Allocator + Copy, N, W: Sink, E: Sink>(
     errors: &mut E,
 ) -> u8
 where
-    N: Net<Stream = TcpStream, Listener = TcpListener>,
+    N: Net,
     ensures runs { Runs {A = A} (ListsRemote listing.now.prefixes.now listing.now.place.now.hello
         (output_of W.contents W.passed_on W.is_down output.old output.new))
         (output_of E.contents E.passed_on E.is_down errors.old errors.new) result }
@@ -195,7 +205,7 @@ fn list_remote<A: Allocator + Copy, N, W: Sink>(
     output: &mut W,
 ) -> Result<(), ProgramFault<A>>
 where
-    N: Net<Stream = TcpStream, Listener = TcpListener>,
+    N: Net,
     ensures lists { ListsRemote {A = A} listing.now.prefixes.now listing.now.place.now.hello
         (output_of W.contents W.passed_on W.is_down output.old output.new) result }
     ensures loans { W.loans output.new ≡ W.loans output.old }
@@ -213,17 +223,18 @@ fn ask_remote<A: Allocator + Copy, N>(
     listing: &Listing<'_, A>,
 ) -> Result<LsReply<A>, ProgramFault<A>>
 where
-    N: Net<Stream = TcpStream, Listener = TcpListener>,
+    N: Net,
     ensures { AsksRemote listing.now.prefixes.now listing.now.place.now.hello result }
 {
     let asked = match request_for(alloc, listing.prefixes) {
         Ok(asked) => asked,
         Err(fault) => return Err(ProgramFault::Fetch(FetchFault::from(fault))),
     };
-    let Ok(stream) = TcpStream::connect(net, listing.place.address()) else {
+    let Some(stream) = connect_to(net, listing.place.address()) else {
         return Err(ProgramFault::Socket);
     };
-    match ls_from(alloc, &stream, listing.place.hello(), asked) {
+    let peer = Peer::new(stream, Silence);
+    match ls_from(alloc, &peer, listing.place.hello(), asked) {
         Ok(reply) => Ok(reply),
         Err(fault) => Err(ProgramFault::Fetch(fault)),
     }
@@ -246,87 +257,106 @@ fn show_reply<A: Allocator + Copy, W: Sink>(
 
 // ---- fetching
 
-/// What is fetched: from the server at which place, by which refspecs, how many bytes a pack may have, how replies end,
-/// and the text of the repository that is fetched into.
+/// What is fetched: from the server at which place, by which refspecs, how many bytes a pack may have, and how replies
+/// end.
 #[derive(Drop)]
 pub struct RemoteFetch<'a, A: Allocator + Copy> {
     pub place: &'a Place<A>,
     pub specs: &'a [Spec<A>],
     pub limit: PackLimit,
     pub ends: Ends,
-    pub file: &'a [u8],
 }
 
-/// `gitv2 fetch --tcp ADDR --path PATH [--limit N] [--response-end] FILE SPEC...`: fetches by refspecs from a server into
-/// the client's repository of a file, as `gcmd::cmd_fetch` does. The report goes to `report`. A fault is one line on
-/// `errors`.
+/// `gitv2 fetch --tcp ADDR --path PATH [--limit N] [--response-end] FILE SPEC...`: locks and reads the client's file,
+/// connects to the server, and fetches by refspecs into the repository of the file. Where the refs were settled it
+/// replaces the file whole, and only then it writes the report to `report`. A fault is one line on `errors`.
 ///
-/// It answers the exit status, and the new text of the file where the refs were settled: then it is to be written, and
-/// the report to be shown after it. Where the conversation failed the file stays as it is.
-pub fn cmd_fetch_remote<A: Allocator + Copy, N, R: Sink, E: Sink>(
+/// It answers the exit status: 0 where the report is written and passed on, 1 where a fault was met. Where the file can't
+/// be locked, read or replaced the fault is `File`, or `Memory`; nobody is connected to before the file is locked and
+/// read. It is `Socket` where no address of the place takes a connection within [`MAX_CONNECT`](crate::MAX_CONNECT)
+/// seconds, and otherwise as [`fetch_on`](crate::fetch_on) fails. At every fault the file has the old text or the whole
+/// new one, and at the end this run holds no lockfile.
+pub fn cmd_fetch_remote<A, N, T, R, E>(
     net: &N,
     alloc: A,
+    file: &mut T,
     fetch: &RemoteFetch<'_, A>,
     report: &mut R,
     errors: &mut E,
-) -> FetchRun<A>
+) -> u8
 where
-    N: Net<Stream = TcpStream, Listener = TcpListener>,
+    A: Allocator + Copy,
+    N: Net,
+    T: Storage,
+    R: Sink,
+    E: Sink,
+    requires { T.lockfile file.old ≡ Absent }
     ensures runs { Runs {A = A}
-        (FetchesRemote fetch.now.file.now fetch.now.specs.now fetch.now.limit fetch.now.ends
-        fetch.now.place.now.hello
-        (output_of R.contents R.passed_on R.is_down report.old report.new)
-        (option_map (λ text. text.items) result.file))
-        (output_of E.contents E.passed_on E.is_down errors.old errors.new) result.status }
+        (FetchesRemote fetch.now.specs.now fetch.now.limit fetch.now.ends fetch.now.place.now.hello
+        (stored_of T.texts T.lockfile file.old file.new)
+        (output_of R.contents R.passed_on R.is_down report.old report.new))
+        (output_of E.contents E.passed_on E.is_down errors.old errors.new) result }
     ensures report_loans { R.loans report.new ≡ R.loans report.old }
     ensures errors_loans { E.loans errors.new ≡ E.loans errors.old }
 {
-    let (outcome, file) = fetch_remote(net, alloc, fetch, report);
-    let status = finish(outcome, errors);
-    FetchRun { status, file }
+    finish(fetch_remote(net, alloc, file, fetch, report), errors)
 }
 
-// Fetches, and answers how that came out, and the new text of the file where there is one.
-fn fetch_remote<A: Allocator + Copy, N, R: Sink>(
+// Fetches, and answers how that came out.
+fn fetch_remote<A, N, T, R>(
     net: &N,
     alloc: A,
+    file: &mut T,
     fetch: &RemoteFetch<'_, A>,
     report: &mut R,
-) -> (Result<(), ProgramFault<A>>, Option<Vec<u8, A>>)
+) -> Result<(), ProgramFault<A>>
 where
-    N: Net<Stream = TcpStream, Listener = TcpListener>,
-    ensures fetches { FetchesRemote {A = A} fetch.now.file.now fetch.now.specs.now fetch.now.limit
-        fetch.now.ends fetch.now.place.now.hello
-        (output_of R.contents R.passed_on R.is_down report.old report.new)
-        (option_map (λ text. text.items) result.1) result.0 }
+    A: Allocator + Copy,
+    N: Net,
+    T: Storage,
+    R: Sink,
+    requires { T.lockfile file.old ≡ Absent }
+    ensures fetches { FetchesRemote {A = A} fetch.now.specs.now fetch.now.limit fetch.now.ends
+        fetch.now.place.now.hello (stored_of T.texts T.lockfile file.old file.new)
+        (output_of R.contents R.passed_on R.is_down report.old report.new) result }
     ensures loans { R.loans report.new ≡ R.loans report.old }
 {
-    match open_client(alloc, fetch.file) {
-        Ok(mut repo) => fetch_for(net, alloc, &mut repo, fetch, report),
-        Err(fault) => (Err(fault), None),
+    match open_stored(alloc, file) {
+        Ok(mut opened) => fetch_opened(net, &mut opened, file, fetch, report),
+        Err(fault) => Err(fault),
     }
 }
 
-// Fetches into the client's repository of the file.
-fn fetch_for<A: Allocator + Copy, N, R: Sink>(
+// The same for a file that is opened.
+fn fetch_opened<A, N, T, R>(
     net: &N,
-    alloc: A,
-    repo: &mut Repo<A>,
+    opened: &mut OpenedFile<A>,
+    file: &mut T,
     fetch: &RemoteFetch<'_, A>,
     report: &mut R,
-) -> (Result<(), ProgramFault<A>>, Option<Vec<u8, A>>)
+) -> Result<(), ProgramFault<A>>
 where
-    N: Net<Stream = TcpStream, Listener = TcpListener>,
-    ensures fetches { (file : Bytes) → NamesClient file repo.old
-        → FetchesRemote {A = A} file fetch.now.specs.now fetch.now.limit fetch.now.ends
-        fetch.now.place.now.hello
-        (output_of R.contents R.passed_on R.is_down report.old report.new)
-        (option_map (λ text. text.items) result.1) result.0 }
+    A: Allocator + Copy,
+    N: Net,
+    T: Storage,
+    R: Sink,
+    requires { T.lockfile file.old ≡ Empty }
+    ensures fetches { Holds (T.texts file.old) opened.old.text.items
+        → NamesClient opened.old.text.items opened.old.repo
+        → IsFetchedRemote {A = A} fetch.now.specs.now fetch.now.limit fetch.now.ends
+        fetch.now.place.now.hello (stored_of T.texts T.lockfile file.old file.new)
+        (output_of R.contents R.passed_on R.is_down report.old report.new) result }
+    ensures lockfile { T.lockfile file.new ≡ Absent }
     ensures loans { R.loans report.new ≡ R.loans report.old }
 {
-    match fetch_at(net, repo, fetch) {
-        Ok(fetched) => conclude(alloc, repo, &fetched, report),
-        Err(fault) => (Err(fault), None),
+    match fetch_at(net, &mut opened.repo, fetch) {
+        Ok(fetched) => {
+            conclude_stored(file, opened.text.as_slice(), &opened.repo, &fetched, report)
+        }
+        Err(fault) => {
+            file.unlock();
+            Err(fault)
+        }
     }
 }
 
@@ -337,23 +367,24 @@ fn fetch_at<A: Allocator + Copy, N>(
     fetch: &RemoteFetch<'_, A>,
 ) -> Result<Fetched<A>, ProgramFault<A>>
 where
-    N: Net<Stream = TcpStream, Listener = TcpListener>,
+    N: Net,
     ensures fetches { FetchesAt repo.old fetch.now.specs.now fetch.now.limit fetch.now.ends
         fetch.now.place.now.hello repo.new result }
     ensures settled { IfOk result (λ fetched. Settles repo.new.graph.entries repo.old.refs
         fetched.settled.asks fetched.settled.updates.items repo.new.refs) }
     ensures grows { Grows repo.old.graph.entries repo.new.graph.entries }
 {
-    let Ok(stream) = TcpStream::connect(net, fetch.place.address()) else {
+    let Some(stream) = connect_to(net, fetch.place.address()) else {
         return Err(ProgramFault::Socket);
     };
+    let peer = Peer::new(stream, Silence);
     let git_fetch = GitFetch {
         hello: fetch.place.hello(),
         specs: fetch.specs,
         limit: fetch.limit,
         ends: fetch.ends,
     };
-    match fetch_from(&stream, repo, &PlainPack, &git_fetch) {
+    match fetch_from(&peer, repo, &PlainPack, &git_fetch) {
         Ok(fetched) => Ok(fetched),
         Err(fault) => Err(ProgramFault::Fetch(fault)),
     }
@@ -381,7 +412,7 @@ pub fn cmd_pair<A: Allocator + Copy, N, W: Sink, E: Sink>(
     errors: &mut E,
 ) -> u8
 where
-    N: Net<Stream = TcpStream, Listener = TcpListener>,
+    N: Net,
     ensures runs { Runs {A = A}
         (Meets pair.now.client.now pair.now.specs.now
         (output_of W.contents W.passed_on W.is_down output.old output.new))
@@ -398,7 +429,7 @@ fn meet<A: Allocator + Copy, N, W: Sink>(
     output: &mut W,
 ) -> Result<(), ProgramFault<A>>
 where
-    N: Net<Stream = TcpStream, Listener = TcpListener>,
+    N: Net,
     ensures meets { Meets {A = A} pair.now.client.now pair.now.specs.now
         (output_of W.contents W.passed_on W.is_down output.old output.new) result }
     ensures loans { W.loans output.new ≡ W.loans output.old }
@@ -418,7 +449,7 @@ fn meet_client<A: Allocator + Copy, N, W: Sink>(
     output: &mut W,
 ) -> Result<(), ProgramFault<A>>
 where
-    N: Net<Stream = TcpStream, Listener = TcpListener>,
+    N: Net,
     ensures meets { (file : Bytes) → NamesClient file repo.old
         → Meets {A = A} file specs.now (output_of W.contents W.passed_on W.is_down output.old
         output.new) result }

@@ -8,7 +8,8 @@ ghost use Rattle.gtcp.specs.Sockets.{HoldsServing, IsServed, ServesEach, outcome
 ghost use Rattle.gtcp.specs.steps.Sockets.{ServesBetween, ServesFrom};
 ghost use Rattle.gtcp.specs.steps.Remote.{Tells};
 
-use crate::stream::{MESSAGE_BUFFER, hang_up, set_up};
+use crate::stream::{MESSAGE_BUFFER, Peer};
+use crate::timer::{Timer, Turns};
 use ganswer::Server;
 use gcmd::{ProgramFault, print_fault};
 use gconnect::{Export, GitEnd, serve_git};
@@ -18,52 +19,86 @@ use gpkt::{FromRead, Sink, ToWrite};
 use gserve::End;
 use std::alloc::Allocator;
 use std::io::{BufReader, BufWriter, Read, Write};
-use std::net::{TcpListener, TcpStream};
+use std::net::{OpenListener, OpenStream};
+use std::time::Clock;
 
 /// Serves so many connections, one after the other, each from its first line on (gitprotocol-pack(5), "Git
-/// Transport"). The fault of one is one line on `errors`, and the next is served all the same. A peer that says
-/// nothing, or takes nothing, for [`MAX_SILENCE`](crate::MAX_SILENCE) seconds has failed; a connection on which that
-/// limit can't be set is closed, and its fault is 27. Where there is no memory for a buffer a connection is served
-/// without one.
+/// Transport"). The fault of one is one line on `errors`, and the next is served all the same. Where there is no memory
+/// for a buffer a connection is served without one.
+///
+/// A client has [`MAX_FIRST_LINE`](crate::MAX_FIRST_LINE) seconds for its first line, from the accept on, and
+/// [`MAX_REQUEST`](crate::MAX_REQUEST) for each request, from the moment when the server waits for it. The read that is
+/// under way when they are over fails, and so does each read where the clock fails or went back. A write fails where the
+/// client takes no byte for [`MAX_SILENCE`](crate::MAX_SILENCE) seconds.
 ///
 /// It fails with `Socket` where a connection can't be accepted, and serves none from then on.
-pub fn serve_listener<A: Allocator + Copy, K: Packer<A>, E: Sink>(
+pub fn serve_listener<C, A, K, L, S, E>(
+    clock: &C,
     server: &Server<A>,
     packer: &K,
-    listener: TcpListener,
+    listener: L,
     path: &[u8],
     connections: u32,
     ends: Ends,
     errors: &mut E,
 ) -> Result<(), ProgramFault<A>>
+where
+    C: Clock,
+    A: Allocator + Copy,
+    K: Packer<A>,
+    L: OpenListener<Stream = S> + Drop,
+    S: Read + Write + OpenStream + Drop,
+    E: Sink,
     ensures serves { ServesEach server.now (K.packs packer.now) (K.pack_fails packer.now) path.now
         ends
         (output_of E.contents E.passed_on E.is_down errors.old errors.new) connections result }
     ensures loans { E.loans errors.new ≡ E.loans errors.old }
 {
     let export = Export { server, path, ends };
-    serve_each(&export, packer, &listener, connections, errors)
+    let listening = Listening {
+        clock,
+        listener: &listener,
+        connections,
+    };
+    serve_each(&export, packer, &listening, errors)
+}
+
+// Where connections come from, how many are served, and the clock of their clients' time.
+#[derive(Drop)]
+struct Listening<'a, C, L> {
+    clock: &'a C,
+    listener: &'a L,
+    connections: u32,
 }
 
 // Serves so many connections.
-fn serve_each<A: Allocator + Copy, K: Packer<A>, E: Sink>(
+fn serve_each<C, A, K, L, S, E>(
     export: &Export<'_, A>,
     packer: &K,
-    listener: &TcpListener,
-    connections: u32,
+    listening: &Listening<'_, C, L>,
     errors: &mut E,
 ) -> Result<(), ProgramFault<A>>
+where
+    C: Clock,
+    A: Allocator + Copy,
+    K: Packer<A>,
+    L: OpenListener<Stream = S>,
+    S: Read + Write + OpenStream + Drop,
+    E: Sink,
     ensures serves { ServesEach export.now.server.now (K.packs packer.now) (K.pack_fails packer.now)
         export.now.path.now export.now.ends
-        (output_of E.contents E.passed_on E.is_down errors.old errors.new) connections result }
+        (output_of E.contents E.passed_on E.is_down errors.old errors.new)
+        listening.now.connections result }
     ensures loans { E.loans errors.new ≡ E.loans errors.old }
 {
     let mut can_tell = true;
-    for _number in 0..connections {
-        let Ok((stream, _)) = listener.accept() else {
+    for _number in 0..listening.connections {
+        let Ok((stream, _)) = listening.listener.accept() else {
             return Err(ProgramFault::Socket);
         };
-        can_tell = tell(serve_stream(export, packer, &stream), can_tell, errors);
+        let timer = Turns::from_accept(listening.clock);
+        let outcome = serve_stream(export, packer, stream, timer);
+        can_tell = tell(outcome, can_tell, errors);
     }
     Ok(())
 }
@@ -85,61 +120,72 @@ fn tell<A: Allocator + Copy, E: Sink>(
     }
 }
 
-// Serves one connection. Where its peer's silence can't be limited it is closed, as if a write had failed.
-fn serve_stream<A: Allocator + Copy, K: Packer<A>>(
+// Serves one connection.
+fn serve_stream<A, K, S, T>(
     export: &Export<'_, A>,
     packer: &K,
-    stream: &TcpStream,
+    stream: S,
+    timer: T,
 ) -> Result<(), ProgramFault<A>>
+where
+    A: Allocator + Copy,
+    K: Packer<A>,
+    S: Read + Write + OpenStream + Drop,
+    T: Timer + Drop,
     ensures { IsServed export.now.server.now (K.packs packer.now) (K.pack_fails packer.now)
         export.now.path.now export.now.ends result }
 {
-    if set_up(stream).is_err() {
-        return Err(ProgramFault::WriteFailed);
-    }
-    let ended = serve_buffered(export, packer, stream);
-    hang_up(stream);
+    let peer = Peer::new(stream, timer);
+    let ended = serve_peer(export, packer, &peer);
+    peer.hang_up();
     outcome_of(ended)
 }
 
 // Serves it through buffers, where there is memory for them.
-fn serve_buffered<A: Allocator + Copy, K: Packer<A>>(
-    export: &Export<'_, A>,
-    packer: &K,
-    stream: &TcpStream,
-) -> GitEnd
+fn serve_peer<A, K, S, T>(export: &Export<'_, A>, packer: &K, peer: &Peer<S, T>) -> GitEnd
+where
+    A: Allocator + Copy,
+    K: Packer<A>,
+    S: Read + Write + OpenStream,
+    T: Timer,
     ensures { HoldsServing export.now.server.now (K.packs packer.now) (K.pack_fails packer.now)
         export.now.path.now export.now.ends result }
 {
-    match BufReader::new(export.server.graph().allocator(), stream) {
-        Ok(mut reader) => serve_from(export, packer, &mut reader, stream),
+    match BufReader::new(export.server.graph().allocator(), peer) {
+        Ok(mut reader) => serve_from(export, packer, &mut reader, peer),
         Err(_) => {
-            let mut reader = stream;
-            serve_from(export, packer, &mut reader, stream)
+            let mut reader = peer;
+            serve_from(export, packer, &mut reader, peer)
         }
     }
 }
 
 // Serves it from a reader.
-fn serve_from<A: Allocator + Copy, K: Packer<A>, R: Read>(
+fn serve_from<A, K, R, S, T>(
     export: &Export<'_, A>,
     packer: &K,
     reader: &mut R,
-    stream: &TcpStream,
+    peer: &Peer<S, T>,
 ) -> GitEnd
+where
+    A: Allocator + Copy,
+    K: Packer<A>,
+    R: Read,
+    S: Write + OpenStream,
+    T: Timer,
     ensures { ServesFrom export.now.server.now (K.packs packer.now) (K.pack_fails packer.now)
         export.now.path.now export.now.ends (change_of R.remaining reader.old reader.new) result }
 {
     let alloc = export.server.graph().allocator();
-    match BufWriter::with_capacity(alloc, MESSAGE_BUFFER, stream) {
+    match BufWriter::with_capacity(alloc, MESSAGE_BUFFER, peer) {
         Ok(mut writer) => {
             let ended = serve_between(export, packer, reader, &mut writer);
             // What could not be written is not tried again.
-            let (_stream, _unwritten) = writer.into_parts();
+            let (_peer, _unwritten) = writer.into_parts();
             ended
         }
         Err(_) => {
-            let mut writer = stream;
+            let mut writer = peer;
             serve_between(export, packer, reader, &mut writer)
         }
     }

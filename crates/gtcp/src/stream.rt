@@ -1,52 +1,142 @@
-//! What is set and done at a stream of TCP, whoever speaks on it.
+//! A stream to a peer, whoever it is.
 
-use std::io::{self, Read};
-use std::net::{Shutdown, TcpStream};
+ghost use Rattle.std.specs.Io.{ReadsAtMost};
+
+use crate::deadline::{MAX_CONNECT, MAX_SILENCE};
+use crate::timer::Timer;
+use std::cell::RefCell;
+use std::io::{self, ErrorKind, Read, Write};
+use std::net::{Net, OpenStream, Shutdown, TcpStream, ToSocketAddrs};
 use std::time::Duration;
 
 /// The bytes of a message that go out in one write.
 pub(crate) const MESSAGE_BUFFER: usize = 65_536;
-
-/// How many seconds a peer of the server may say nothing, or take nothing.
-pub const MAX_SILENCE: u64 = 60;
 
 // The bytes of one read, and the most reads, of input that nobody wants.
 const DROPPED_BYTES: usize = 4_096;
 
 const MAX_DROPS: usize = 1_024;
 
-/// Sends each message at once, without waiting for the next.
-pub(crate) fn send_at_once(stream: &TcpStream) {
-    let _ = stream.set_nodelay(true);
+// How often a read may be interrupted, as by a process that is stopped and goes on.
+const MAX_INTERRUPTS: u32 = 1_024;
+
+// A write waits for so many seconds at a time. A wait in which the peer takes some bytes counts as none, so a peer that
+// stops in the middle of one is given up that much later.
+const TAKING_WAIT: u64 = 5;
+
+/// Connects to the first of the addresses of a text, HOST:PORT, that takes a connection within [`MAX_CONNECT`] seconds.
+pub(crate) fn connect_to<N: Net>(net: &N, address: &str) -> Option<N::Stream> {
+    let limit = Duration::from_secs(MAX_CONNECT);
+    for address in address.to_socket_addrs(net).ok()? {
+        if let Ok(stream) = TcpStream::connect_timeout(net, &address, limit) {
+            return Some(stream);
+        }
+    }
+    None
 }
 
-/// Sends each message at once, and lets a read and a write fail where the peer says nothing, or takes nothing, for
-/// [`MAX_SILENCE`] seconds.
-///
-/// It fails where the system refuses one of these limits.
-pub(crate) fn set_up(stream: &TcpStream) -> io::Result<()> {
-    send_at_once(stream);
-    let limit = Duration::from_secs(MAX_SILENCE);
-    stream.set_read_timeout(Some(limit))?;
-    stream.set_write_timeout(Some(limit))
+/// The stream to a peer, shared by a reader and a writer. A read fails where the peer gives nothing in the time that the
+/// timer leaves it, and a write where it takes nothing for [`MAX_SILENCE`] seconds; or where the system refuses such a
+/// limit.
+#[derive(Drop)]
+pub(crate) struct Peer<S, T> {
+    stream: RefCell<S>,
+    timer: T,
 }
 
-/// Ends what is written, so that the last message and the end go out, and then drops what has come and was not read,
-/// waiting for nothing. A socket that is closed over such input resets the connection, and the peer might then lose the
-/// last message. It may lose it still where more comes before the socket is closed, or after it.
-pub(crate) fn hang_up(stream: &TcpStream) {
-    let _ = stream.shutdown(Shutdown::Write);
-    if stream.set_nonblocking(true).is_ok() {
-        drop_unread(stream);
+impl<S: OpenStream, T> Peer<S, T> {
+    /// The peer at the other end of a stream. Each message is sent at once, without waiting for the next.
+    pub(crate) fn new(stream: S, timer: T) -> Peer<S, T> {
+        let _ = stream.set_nodelay(true);
+        Peer {
+            stream: RefCell::new(stream),
+            timer,
+        }
     }
 }
 
+impl<S: Read + OpenStream, T> Peer<S, T> {
+    /// Ends what is written, so that the last message and the end go out, and then drops what has come and was not read,
+    /// waiting for nothing. A socket that is closed over such input resets the connection, and the peer might then lose
+    /// the last message. It may lose it still where more comes before the socket is closed, or after it.
+    pub(crate) fn hang_up(&self) {
+        if let Ok(mut stream) = self.stream.try_borrow_mut() {
+            let _ = stream.shutdown(Shutdown::Write);
+            if stream.set_nonblocking(true).is_ok() {
+                drop_unread(&mut *stream);
+            }
+        }
+    }
+}
+
+impl<S: Read + OpenStream, T: Timer> Peer<S, T> {
+    // Reads once, within the time that the timer leaves the peer.
+    fn read_in_time(&self, buf: &mut [u8]) -> io::Result<usize>
+        ensures { ReadsAtMost result buf.new }
+    {
+        let limit = self.timer.next_read()?;
+        let Ok(mut stream) = self.stream.try_borrow_mut() else {
+            return Err(in_use());
+        };
+        stream.set_read_timeout(Some(limit))?;
+        stream.read(buf)
+    }
+}
+
+impl<S: Read + OpenStream, T: Timer> Read for &Peer<S, T> {
+    fn read(&mut self, buf: &mut [u8]) -> io::Result<usize> {
+        for _ in 0..MAX_INTERRUPTS {
+            match self.read_in_time(buf) {
+                Err(error) if error.kind() == ErrorKind::Interrupted => {}
+                read => return read,
+            }
+        }
+        Err(io::Error::from(ErrorKind::Interrupted))
+    }
+}
+
+impl<S: Write + OpenStream, T: Timer> Write for &Peer<S, T> {
+    fn write(&mut self, buf: &[u8]) -> io::Result<usize> {
+        self.timer.note_write();
+        let Ok(mut stream) = self.stream.try_borrow_mut() else {
+            return Err(in_use());
+        };
+        stream.set_write_timeout(Some(Duration::from_secs(TAKING_WAIT)))?;
+        for _ in 0..MAX_SILENCE / TAKING_WAIT {
+            match stream.write(buf) {
+                Err(error) if is_waiting(error.kind()) => {}
+                written => return written,
+            }
+        }
+        Err(io::Error::from(ErrorKind::TimedOut))
+    }
+
+    fn flush(&mut self) -> io::Result<()> {
+        match self.stream.try_borrow_mut() {
+            Ok(mut stream) => stream.flush(),
+            Err(_) => Err(in_use()),
+        }
+    }
+}
+
+// Whether a write that failed so took nothing, and may be tried again.
+fn is_waiting(kind: ErrorKind) -> bool {
+    matches!(
+        kind,
+        ErrorKind::WouldBlock | ErrorKind::TimedOut | ErrorKind::Interrupted
+    )
+}
+
+// No call is made while another is under way.
+fn in_use() -> io::Error {
+    io::Error::from(ErrorKind::ResourceBusy)
+}
+
 // Drops what has come; the stream waits for nothing.
-fn drop_unread(stream: &TcpStream) {
+fn drop_unread<S: Read>(stream: &mut S) {
     let mut dropped = [0; DROPPED_BYTES];
-    let mut reader = stream;
     for _ in 0..MAX_DROPS {
-        match reader.read(&mut dropped) {
+        match stream.read(&mut dropped) {
             Ok(0) | Err(_) => return,
             Ok(_) => {}
         }

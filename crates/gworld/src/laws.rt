@@ -23,7 +23,8 @@ use gsession::laws::{
 };
 use std::alloc::Allocator;
 
-/// From a sound world each step leads to a sound world, and keeps its promises.
+/// From a sound world each step leads to a sound world, and keeps its promises. The premise is that both ends are whole
+/// after the step, too, as the types of a server and of a client's repository keep them.
 pub fn steps_keep<A: Allocator + Copy, K: Packer<A> + Indexer<A>>()
     ensures { (k : K) → StepsKeep (tools_of (K.packs k) (K.pack_fails k) (K.indexes k)
         (K.index_fails k)) }

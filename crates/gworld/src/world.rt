@@ -68,7 +68,8 @@ impl<K: Packer<A> + Indexer<A> + Drop, A: Allocator + Copy> World<K, A> {
     ///
     /// - `Begin`: 82 over 16 refspecs, 64 out of memory; the session before stays.
     /// - `Ask`: 83 where there is no session or no request is due, and nothing changes; 64, and the session is over.
-    /// - `Serve`: 93 where no such request was sent; 64, or 65 where the packer fails. Nothing changes.
+    /// - `Serve`: 93 where no such request was sent; 74 where a want is not held, which takes forged bytes; 64, or 65
+    ///   where the packer fails. Nothing changes.
     /// - `Deliver`: 93 where no such reply is kept; then as `Forge`.
     /// - `Forge`: 83 where no request waits; else the fault of the reply that was read or not taken, and the session is
     ///   over, with refs as before. The world counts as forged from then on.

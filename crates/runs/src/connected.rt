@@ -82,19 +82,29 @@ fn listed<A: Allocator + Copy, I: Source, O: Sink, R: Sink, E: Sink>(
     devices: &mut Devices<I, O, R, E>,
 ) -> Result<(), ProgramFault<A>> {
     let prefixes = prefixes_of(job, words)?;
-    let asked = ask(
+    let listed = ask(
         job,
         prefixes.as_slice(),
         &mut devices.input,
         &mut devices.output,
     );
-    match asked {
-        Ok(reply) => show(job.memory, &reply, &mut devices.report),
+    end_listing(job, listed, &mut devices.report)
+}
+
+/// Ends a listing as its program does: writes the lines of the reply, or answers the fault.
+pub fn end_listing<A: Allocator + Copy, R: Sink>(
+    job: &Job<'_, '_, '_, A>,
+    listed: Result<LsReply<A>, FetchFault<A>>,
+    report: &mut R,
+) -> Result<(), ProgramFault<A>> {
+    match listed {
+        Ok(reply) => show(job.memory, &reply, report),
         Err(fault) => Err(ProgramFault::Fetch(fault)),
     }
 }
 
-fn prefixes_of<A: Allocator + Copy>(
+/// The prefixes of words, which are none where the command has none.
+pub fn prefixes_of<A: Allocator + Copy>(
     job: &Job<'_, '_, '_, A>,
     words: &[String<A>],
 ) -> Result<Vec<Prefix<A>, A>, ProgramFault<A>> {

@@ -5,7 +5,7 @@ ghost use Rattle.gpkt.specs.Devices.{AnswersDown};
 
 use crate::watch::Watch;
 use gpkt::{Down, Sink, Source};
-use std::alloc::Global;
+use std::alloc::{AllocError, Global};
 use std::io;
 use std::io::{ErrorKind, Read, Write};
 
@@ -141,6 +141,18 @@ impl Writer {
             passed_on: 0,
             turns: Turns::new(hindrance),
         }
+    }
+
+    /// A device to which these bytes were written, and passed on or not.
+    pub fn holding(alloc: Global, bytes: &[u8], is_passed_on: bool) -> Result<Writer, AllocError> {
+        let mut writer = Writer::new(alloc, Hindrance::NONE);
+        writer.written.extend_from_slice(bytes)?;
+        writer.passed_on = if is_passed_on {
+            bytes.len()
+        } else {
+            usize::MAX
+        };
+        Ok(writer)
     }
 
     /// What was written.

@@ -27,9 +27,13 @@ mod handed;
 mod lying;
 mod program;
 mod report;
+mod stored;
 mod watch;
 
+pub use crate::connected::{end_listing, prefixes_of};
 pub use crate::device::{AsStd, Hindrance, Reader, Writer};
 pub use crate::files::{client_of, server_of, specs_of};
+pub use crate::lying::{end_fetch, failed};
 pub use crate::program::{Devices, Job, Ran, limit_of, ran_without_file, run};
+pub use crate::stored::{Mishap, Stored, fetch_into_stored};
 pub use crate::watch::Watch;

@@ -108,15 +108,26 @@ where
         specs,
         (&mut devices.input, &mut devices.output),
     );
+    end_fetch(
+        job,
+        &*repo,
+        fetched,
+        &mut devices.report,
+        &mut devices.errors,
+    )
+}
+
+/// Ends a fetch as its program does: makes the new text of the file, and reports; or prints the fault.
+pub fn end_fetch<A: Allocator + Copy, R: Sink, E: Sink>(
+    job: &Job<'_, '_, '_, A>,
+    repo: &Repo<A>,
+    fetched: Result<Fetched<A>, FetchFault<A>>,
+    report: &mut R,
+    errors: &mut E,
+) -> Result<Ran, Trouble> {
     match fetched {
-        Ok(fetched) => conclude(
-            job,
-            &*repo,
-            &fetched,
-            &mut devices.report,
-            &mut devices.errors,
-        ),
-        Err(fault) => give_up(job, &*repo, fault, &mut devices.errors),
+        Ok(fetched) => conclude(job, repo, &fetched, report, errors),
+        Err(fault) => give_up(job, repo, fault, errors),
     }
 }
 
@@ -143,7 +154,8 @@ fn converse<A: Allocator + Copy, K: Indexer<A>, I: Source, O: Sink>(
     fetch_git(repo, input, output, indexer, &fetch)
 }
 
-fn failed<A: Allocator + Copy, E: Sink>(
+/// Ends a run that met a fault, which is printed.
+pub fn failed<A: Allocator + Copy, E: Sink>(
     job: &Job<'_, '_, '_, A>,
     fault: ProgramFault<A>,
     errors: &mut E,

@@ -45,6 +45,8 @@ pub struct Row<'b> {
     /// What is due where the request is cut or changed; nothing where the row does not say it.
     pub table: &'b [Outcome<'b>],
     pub reach: Reach,
+    /// Whether its connection is tried with a peer that is late, and over a socket with allocations refused.
+    pub is_late: bool,
     /// Whether it is tried whole and in pieces alone.
     pub is_long: bool,
 }
@@ -62,7 +64,7 @@ pub enum Reach {
 
 /// How the input stops.
 #[derive(Clone, Copy, PartialEq, Eq)]
-pub(crate) enum Stop {
+pub enum Stop {
     /// It ends.
     Ended,
     /// A read fails.
@@ -70,7 +72,7 @@ pub(crate) enum Stop {
 }
 
 /// Whether the run answered as the row says, and passed all on.
-pub(crate) fn is_as_due(row: &Row<'_>, played: &Played) -> bool {
+pub fn is_as_due(row: &Row<'_>, played: &Played) -> bool {
     (played.status == 1) != row.talk.errors.is_empty()
         && has_written(&played.output, row.talk.output.as_slice(), NOTHING)
         && has_reported(row, played)
@@ -89,7 +91,7 @@ fn has_reported(row: &Row<'_>, played: &Played) -> bool {
 }
 
 /// Whether the run stopped as it is to where the input stops after so many bytes.
-pub(crate) fn is_stopped(
+pub fn is_stopped(
     alloc: Global,
     row: &Row<'_>,
     played: &Played,
@@ -156,7 +158,7 @@ fn fault_line(
 }
 
 /// Whether the run stopped at a failed write.
-pub(crate) fn is_write_failed(row: &Row<'_>, played: &Played) -> bool {
+pub fn is_write_failed(row: &Row<'_>, played: &Played) -> bool {
     played.status == 1
         && row.talk.output.starts_with(played.output.written())
         && played.errors.written() == WRITE_FAILED
@@ -183,7 +185,7 @@ pub(crate) fn is_errors_failed(row: &Row<'_>, played: &Played) -> bool {
 
 /// Whether the run went well, or ended as it is to where an allocation is refused: it reports it, after a beginning of the
 /// output up to the end of a message. A server that serves says it to the client, too.
-pub(crate) fn is_scarce(row: &Row<'_>, played: &Played) -> bool {
+pub fn is_scarce(row: &Row<'_>, played: &Played) -> bool {
     is_as_due(row, played)
         || is_unserved(row, played)
         || has_event_without_memory(row, played)
@@ -311,8 +313,13 @@ fn is_outcome(
     }
 }
 
-// The number of the fault that is printed.
-fn fault_of(errors: &[u8]) -> usize {
+/// Whether the fault of this number may be reported where an allocation was refused.
+pub(crate) fn is_memory_fault(fault: usize) -> bool {
+    MEMORY_FAULTS.contains(&fault)
+}
+
+/// The number of the fault that is printed; 0 where none is.
+pub(crate) fn fault_of(errors: &[u8]) -> usize {
     let Some(text) = fault_text(errors) else {
         return 0;
     };
@@ -352,7 +359,7 @@ fn has_advert(row: &Row<'_>, played: &Played) -> bool {
 
 /// Whether the client's repository is safe after the run, and no object is lost: the new text of its file, and what it was
 /// at the end, which differs from the file only where there is no new text, and then in new objects alone.
-pub(crate) fn is_kept(alloc: Global, row: &Row<'_>, played: &Played) -> bool {
+pub fn is_kept(alloc: Global, row: &Row<'_>, played: &Played) -> bool {
     match (&played.state, &played.file) {
         (Some(state), Some(text)) => {
             state.as_slice() == text.as_slice() && is_grown(alloc, row, text.as_slice())

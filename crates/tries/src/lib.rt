@@ -2,7 +2,8 @@
 //!
 //! A [`Row`] is a program, what it is run on, and what is to come of it. A [`Bench`] tries it in each [`Way`]: as it stands; in
 //! pieces; over std's devices; with an indexer that watches; with each call of each device failing in turn; cut after each
-//! byte; with each byte changed; by its table; and with each allocation refused in turn.
+//! byte; with each byte changed; by its table; with each allocation refused in turn; and over a stored file that fails or stops
+//! at each of its calls. A [`Played`] is what a run did; the functions that judge one serve runs on connections, too.
 //!
 //! # Proved
 //!
@@ -15,14 +16,19 @@
 //! # Stands on
 //!
 //! `cases` for rows and what is said in them; `runs` for runs over devices, `worlds` for events, `gsimulate` for the program of
-//! simulations, `gcmd` for the check of a repository, `gpkt` for devices; `scarce` for memory that ends.
+//! simulations, `gcmd` for the check of a repository, `glockfile` for stored files, `gpkt` for devices; `scarce` for memory that
+//! ends.
 #![tactic(auto)]
 
 mod judge;
 mod play;
+mod stored;
 mod vary;
 mod ways;
 
-pub use crate::judge::{Reach, Row};
+pub use crate::judge::{
+    Reach, Row, Stop, is_as_due, is_kept, is_scarce, is_stopped, is_write_failed,
+};
+pub use crate::play::Played;
 pub use crate::vary::Bench;
 pub use crate::ways::Way;

@@ -70,7 +70,7 @@ pub(crate) enum Device {
 
 /// What a run did.
 #[derive(Drop)]
-pub(crate) struct Played {
+pub struct Played {
     pub(crate) status: u8,
     /// The new text of the client's file.
     pub(crate) file: Option<Vec<u8>>,
@@ -89,6 +89,32 @@ pub(crate) struct Played {
 }
 
 impl Played {
+    /// What a run on a connection did: what it left, and what it wrote to its peer, to the report and to standard error.
+    pub fn on_connection(ran: Ran, output: Writer, report: Writer, errors: Writer) -> Played {
+        Played {
+            status: ran.status,
+            file: ran.file,
+            state: ran.state,
+            output,
+            report,
+            errors,
+            left: 0,
+            read_failed: false,
+            was_misused: false,
+            was_refused: ran.was_refused,
+        }
+    }
+
+    /// Whether there was an allocation to be refused.
+    pub fn was_refused(&self) -> bool {
+        self.was_refused
+    }
+
+    /// What was printed on standard error.
+    pub fn printed(&self) -> &[u8] {
+        self.errors.written()
+    }
+
     /// Whether the device failed.
     pub(crate) fn has_failed(&self, device: Device) -> bool {
         match device {

@@ -5,8 +5,12 @@ use crate::judge::{
     is_scarce, is_sound, is_stopped, is_unserved, is_write_failed,
 };
 use crate::play::{Device, Played, Trial, play};
+use crate::stored::{
+    Fetched, Hindered, fetch_stored, has_stored_file, is_cut_short, is_failed, is_stored,
+};
 use crate::ways::Way;
 use cases::{Change, Liar, Program, Trouble, fault_text};
+use runs::{Hindrance, Mishap};
 use std::alloc::Global;
 use worlds::{Files, Happened, run_one_by_one, run_scarcely};
 
@@ -72,13 +76,14 @@ impl<'a, 'b> Bench<'a, 'b> {
         }
     }
 
-    /// Tries the row in this way, and answers the first try that went wrong. Over a socket nothing is tried.
+    /// Tries the row in this way, and answers the first try that went wrong. Over a socket, by the program, and
+    /// with a peer that is late, nothing is tried.
     pub fn try_way(&mut self, way: Way) -> Result<Option<usize>, Trouble> {
         match way {
             Way::Whole => self.whole(),
             Way::Pieces => self.in_pieces(),
             Way::OverStd => self.over_std(),
-            Way::OverSocket => Ok(None),
+            Way::OverSocket | Way::ByProgram | Way::Late => Ok(None),
             Way::Watched => self.watched(),
             Way::FailingReads => self.failing(Device::Input),
             Way::FailingWrites => self.failing(Device::Output),
@@ -88,6 +93,7 @@ impl<'a, 'b> Bench<'a, 'b> {
             Way::Changed => self.changed(),
             Way::Table => self.by_table(),
             Way::Scarce => self.scarce(),
+            Way::FailingFile => self.stored(),
         }
     }
 
@@ -256,6 +262,92 @@ impl<'a, 'b> Bench<'a, 'b> {
             Device::Report => Ok(is_report_failed(row, played)),
             Device::Errors => Ok(is_errors_failed(row, played)),
         }
+    }
+
+    // A fetch into a stored file: as it stands; with another that holds the lock; where the file fails, or stops before or
+    // after each of its calls; where each byte is changed in each bit, with each call of standard error failing in turn; and,
+    // where each byte is changed to each other value, with each allocation refused.
+    fn stored(&mut self) -> Result<Option<usize>, Trouble> {
+        if !has_stored_file(self.row) {
+            return Ok(None);
+        }
+        let whole = self.store(Hindered::FREE)?;
+        if !is_stored(self.row, &whole) {
+            return self.wrong_store(&whole, 0);
+        }
+        let mut wrong = self.with_mishaps(whole.calls())?;
+        if wrong.is_none() && self.is_thorough() {
+            wrong = self.with_errors_failing()?;
+        }
+        if wrong.is_none() && self.row.reach == Reach::Deep {
+            wrong = self.stored_scarcely()?;
+        }
+        Ok(wrong)
+    }
+
+    fn store(&mut self, hindered: Hindered) -> Result<Fetched, Trouble> {
+        self.runs = self.runs.saturating_add(1);
+        fetch_stored(self.alloc, self.row, hindered)
+    }
+
+    // Keeps what was printed in a run that went wrong.
+    fn wrong_store(&mut self, fetched: &Fetched, number: usize) -> Result<Option<usize>, Trouble> {
+        self.printed.clear();
+        self.printed.extend_from_slice(fetched.printed())?;
+        Ok(Some(number))
+    }
+
+    // With a mishap at each of so many calls, and with another that holds the lock.
+    fn with_mishaps(&mut self, calls: usize) -> Result<Option<usize>, Trouble> {
+        for call in 1..=calls {
+            let mishaps = [
+                Mishap::Locked,
+                Mishap::Fails(call),
+                Mishap::Stops(call),
+                Mishap::StopsAfter(call),
+            ];
+            for mishap in mishaps {
+                let mut hindered = Hindered::FREE;
+                hindered.mishap = mishap;
+                let fetched = self.store(hindered)?;
+                if !is_failed(self.row, &fetched, mishap, calls) {
+                    return self.wrong_store(&fetched, call);
+                }
+            }
+        }
+        Ok(None)
+    }
+
+    fn with_errors_failing(&mut self) -> Result<Option<usize>, Trouble> {
+        for call in 1..MOST_TRIES {
+            let mut hindered = Hindered::FREE;
+            hindered.errors = Hindrance::failing(call);
+            let fetched = self.store(hindered)?;
+            if !fetched.has_failed() {
+                return Ok(None);
+            }
+            if !is_cut_short(self.row, &fetched) {
+                return self.wrong_store(&fetched, call);
+            }
+        }
+        Ok(Some(MOST_TRIES))
+    }
+
+    fn stored_scarcely(&mut self) -> Result<Option<usize>, Trouble> {
+        for number in 1..MOST_TRIES {
+            let mut hindered = Hindered::FREE;
+            hindered.refused = number as u64;
+            let fetched = self.store(hindered)?;
+            let is_right = is_stored(self.row, &fetched)
+                || (fetched.was_refused() && is_cut_short(self.row, &fetched));
+            if !is_right {
+                return self.wrong_store(&fetched, number);
+            }
+            if !fetched.was_refused() {
+                return Ok(None);
+            }
+        }
+        Ok(Some(MOST_TRIES))
     }
 
     // With the input cut after each of its bytes.

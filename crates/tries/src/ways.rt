@@ -7,6 +7,8 @@ pub enum Way {
     Pieces,
     OverStd,
     OverSocket,
+    ByProgram,
+    Late,
     Watched,
     FailingReads,
     FailingWrites,
@@ -16,14 +18,17 @@ pub enum Way {
     Changed,
     Table,
     Scarce,
+    FailingFile,
 }
 
 impl Way {
-    pub const ALL: [Way; 13] = [
+    pub const ALL: [Way; 16] = [
         Way::Whole,
         Way::Pieces,
         Way::OverStd,
         Way::OverSocket,
+        Way::ByProgram,
+        Way::Late,
         Way::Watched,
         Way::FailingReads,
         Way::FailingWrites,
@@ -33,6 +38,7 @@ impl Way {
         Way::Changed,
         Way::Table,
         Way::Scarce,
+        Way::FailingFile,
     ];
 
     /// What is printed of the way.
@@ -42,6 +48,8 @@ impl Way {
             Way::Pieces => "in pieces",
             Way::OverStd => "over std's devices",
             Way::OverSocket => "over a socket",
+            Way::ByProgram => "by the program",
+            Way::Late => "with a peer that is late",
             Way::Watched => "with an indexer that watches",
             Way::FailingReads => "with a read that fails",
             Way::FailingWrites => "with a write that fails",
@@ -51,12 +59,21 @@ impl Way {
             Way::Changed => "with a byte changed",
             Way::Table => "by the table",
             Way::Scarce => "with an allocation refused",
+            Way::FailingFile => "with a file that fails",
         }
     }
 
     /// Whether it takes many more tries than the others.
     pub fn is_long(self) -> bool {
         matches!(&self, Way::Changed)
+    }
+
+    /// Whether it tries a connection's ends, or a stored file.
+    pub fn is_edge(self) -> bool {
+        matches!(
+            &self,
+            Way::Whole | Way::OverSocket | Way::ByProgram | Way::Late | Way::FailingFile
+        )
     }
 
     /// Whether a long row is tried so, too.

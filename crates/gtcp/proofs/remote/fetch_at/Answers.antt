@@ -8,12 +8,12 @@ use Rattle.gtcp.proofs.remote.fetch_at.Goals as goal
 pub returns-in_default-clause-fetches : goal.returns-in_default-clause-fetches
 returns-in_default-clause-fetches g c = refl
 
-pub returns-in-Ok-fetch_from-clause-fetches : goal.returns-in-Ok-fetch_from-clause-fetches
-returns-in-Ok-fetch_from-clause-fetches g c =
+pub returns-in-Ok-clause-fetches : goal.returns-in-Ok-clause-fetches
+returns-in-Ok-clause-fetches g c =
     let fetch = c.args.fetch.now in
     subst (λ (hello : Hello). FetchesFrom plain_indexes (plain_index_fails g.row.A.Denot)
-    (start_of c.args.repo.now fetch.specs.now fetch.limit fetch.ends) hello c.fetch_from.new.repo (Ok c.in-Ok-fetch_from.fetched))
-    c.hello.ensures c.in-Ok-fetch_from.ensures.fetches
+    (start_of c.args.repo.now fetch.specs.now fetch.limit fetch.ends) hello c.fetch_from.new.repo (Ok c.in-Ok.fetched))
+    c.hello.ensures c.in-Ok.ensures.fetches
 
 pub returns-clause-fetches : goal.returns-clause-fetches
 returns-clause-fetches g c =

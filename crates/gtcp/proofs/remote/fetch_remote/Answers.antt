@@ -1,9 +1,22 @@
-use Rattle.std.proofs.Common.{inl, inr, refl}
+use Rattle.std.proofs.Common.{Option, inl, subst}
+use Rattle.gpkt.specs.Sending.{output_of}
+use Rattle.glockfile.specs.Storing.{Holds, Texts}
+use Rattle.gtcp.specs.Remote.{IsFetchedRemote}
 use Rattle.gtcp.proofs.remote.fetch_remote.Goals as goal
 
 pub returns-in-Ok-clause-fetches : goal.returns-in-Ok-clause-fetches
-returns-in-Ok-clause-fetches g c = c.fetch_for.ensures.fetches c.args.fetch.now.file.now c.in-Ok.ensures
-
-pub returns-in-Err-clause-fetches : goal.returns-in-Err-clause-fetches
-returns-in-Err-clause-fetches g c =
-    inr ((c.in-Err.fault, inl c.in-Err.ensures, refl, record { written = refl; passed_on = refl; down = refl }), refl)
+returns-in-Ok-clause-fetches g c =
+    let fetch = c.args.fetch.now in
+    let P : Option Texts → Type 0 = λ texts.
+    Holds texts c.in-Ok.opened.text.items
+    → IsFetchedRemote {A = g.row.A.Denot} fetch.specs.now fetch.limit fetch.ends fetch.place.now.hello
+    (record {
+      old = texts;
+      new = g.T.Storage.texts c.fetch_opened.new.file;
+      lockfile = g.T.Storage.lockfile c.fetch_opened.new.file;
+    })
+    (output_of g.R.Sink.contents g.R.Sink.passed_on g.R.Sink.is_down c.args.report.now c.fetch_opened.new.report)
+    c.fetch_opened.result in (
+      c.fetch_opened.ensures.lockfile,
+      inl (subst P c.in-Ok.ensures.texts (λ held. c.fetch_opened.ensures.fetches held c.in-Ok.ensures.opens.1) c.in-Ok.ensures.opens.0),
+    )

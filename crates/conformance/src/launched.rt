@@ -1,0 +1,67 @@
+//! Cases that the program itself is run on.
+
+use cases::{Case, Fact, Script, Trouble};
+use launches::{Plan, System, add_split, is_launched, launch};
+use tries::{Bench, Row};
+
+/// Runs the program with the words of a row, over a file of its repository, where it can be. It answers a number where it went
+/// wrong, and leaves what it printed.
+pub fn wrong_row<R: System>(
+    rt: &R,
+    script: &Script<'_>,
+    case: &Case<'_>,
+    row: &Row<'_>,
+    bench: &mut Bench<'_, '_>,
+) -> Result<Option<usize>, Trouble> {
+    if !is_launched(rt.alloc(), row)? {
+        return Ok(None);
+    }
+    bench.runs = bench.runs.saturating_add(1);
+    let plan = Plan::of_row(rt.alloc(), script, case, row)?;
+    match launch(rt, &plan)? {
+        Some(wrong) => {
+            bench.printed.extend_from_slice(wrong.as_bytes())?;
+            Ok(Some(0))
+        }
+        None => Ok(None),
+    }
+}
+
+/// Runs it with both ends in one process. It answers what went wrong.
+pub fn wrong_pair<R: System>(
+    rt: &R,
+    script: &Script<'_>,
+    case: &Case<'_>,
+    words: &str,
+) -> Result<Option<String>, Trouble> {
+    launch(rt, &Plan::of_pair(rt.alloc(), script, case, words)?)
+}
+
+/// Runs it as a case says. It answers what went wrong.
+pub fn wrong_launch<R: System>(
+    rt: &R,
+    script: &Script<'_>,
+    case: &Case<'_>,
+) -> Result<Option<String>, Trouble> {
+    match &case.launch {
+        Some(found) => launch(rt, &Plan::of_launch(rt.alloc(), script, case, found)?),
+        None => Ok(None),
+    }
+}
+
+/// Runs it with the words of a fact, in an empty folder. It answers what went wrong: wrong usage is answered to those that ask
+/// for nothing, and to no others.
+pub fn wrong_words<R: System>(
+    rt: &R,
+    script: &Script<'_>,
+    fact: &Fact<'_>,
+) -> Result<Option<String>, Trouble> {
+    let alloc = rt.alloc();
+    let Ok(text) = std::str::from_utf8(fact.text.as_slice()) else {
+        return Ok(None);
+    };
+    let mut words = Vec::new(alloc);
+    add_split(alloc, text, &mut words)?;
+    let is_usage = fact.due.as_slice() != b"none".as_slice();
+    launch(rt, &Plan::of_words(alloc, script, words, is_usage)?)
+}

@@ -1,0 +1,270 @@
+//! The other end of a connection over a socket of this process: it says what a row has it say, and hears the rest.
+
+use cases::{Talk, Trouble};
+use std::alloc::Global;
+use std::cell::{Cell, RefCell};
+use std::io::{self, ErrorKind, Read, Write};
+use std::net::{Net, OpenListener, OpenStream, Shutdown, SocketAddr, TcpListener, TcpStream};
+use std::time::Duration;
+
+/// How both ends take turns.
+#[derive(Clone, Copy, PartialEq, Eq)]
+pub enum Pace {
+    /// The peer says all at once, before it hears anything.
+    AtOnce,
+    /// The peer says a message once it has heard the whole reply to the one before.
+    Turns,
+    /// The same, and each end moves one byte a call.
+    Bytes,
+}
+
+impl Pace {
+    pub const ALL: [Pace; 3] = [Pace::AtOnce, Pace::Turns, Pace::Bytes];
+
+    // The most bytes of a call.
+    fn most(self) -> usize {
+        match self {
+            Pace::AtOnce | Pace::Turns => usize::MAX,
+            Pace::Bytes => 1,
+        }
+    }
+}
+
+// How many seconds the peer waits for bytes that were written already. Only where something is wrong it waits at all.
+const PATIENCE: u64 = 5;
+
+// The bytes that it reads in one call.
+const HEARD_BYTES: usize = 4_096;
+
+/// The peer of a connection.
+#[derive(Drop)]
+pub struct Peer<'r> {
+    talk: &'r Talk,
+    far: TcpStream,
+    pace: Pace,
+    // How many bytes the peer said, and how many of them the near end read.
+    said: Cell<usize>,
+    read: Cell<usize>,
+    // How many bytes the near end wrote, and those of them that the peer heard.
+    written: Cell<usize>,
+    heard: RefCell<Vec<u8>>,
+    // Whether the peer has ended what it says.
+    has_ended: Cell<bool>,
+    // Whether the near end waited for a message before its reply was whole.
+    was_awaited_early: Cell<bool>,
+}
+
+impl<'r> Peer<'r> {
+    /// A peer that connects to the listener.
+    pub fn new<N>(
+        net: &N,
+        alloc: Global,
+        talk: &'r Talk,
+        pace: Pace,
+        listener: &TcpListener,
+    ) -> Result<Peer<'r>, Trouble>
+    where
+        N: Net<Stream = TcpStream, Listener = TcpListener>,
+    {
+        let far = TcpStream::connect(net, listener.local_addr()?)?;
+        far.set_read_timeout(Some(Duration::from_secs(PATIENCE)))?;
+        far.set_nodelay(true)?;
+        let peer = Peer {
+            talk,
+            far,
+            pace,
+            said: Cell::new(0),
+            read: Cell::new(0),
+            written: Cell::new(0),
+            heard: RefCell::new(Vec::new(alloc)),
+            has_ended: Cell::new(false),
+            was_awaited_early: Cell::new(false),
+        };
+        if pace == Pace::AtOnce {
+            peer.say(talk.input.as_slice())?;
+            peer.end()?;
+        }
+        Ok(peer)
+    }
+
+    /// Whether the near end waited for no message before its reply was whole.
+    pub fn was_heard_in_turn(&self) -> bool {
+        !self.was_awaited_early.get()
+    }
+
+    /// What the peer heard.
+    pub fn into_heard(self) -> Vec<u8> {
+        self.heard.into_inner()
+    }
+
+    /// Whether the near end is closed without an error.
+    pub fn is_closed(&self) -> bool {
+        let mut byte = [0; 1];
+        let mut far = &self.far;
+        matches!(far.read(&mut byte), Ok(0))
+    }
+
+    // Lets the peer play, where the near end has read all that was said.
+    fn take_turn(&self) -> io::Result<()> {
+        if self.has_ended.get() || self.read.get() < self.said.get() {
+            return Ok(());
+        }
+        self.hear()?;
+        let part = self.next_part();
+        if part.is_empty() {
+            self.end()
+        } else {
+            self.say(part)
+        }
+    }
+
+    // What the peer says next: nothing where all is said, or where the reply is not whole.
+    fn next_part(&self) -> &'r [u8] {
+        let said = self.said.get();
+        if !self.may_say(said) {
+            self.was_awaited_early.set(true);
+            return b"";
+        }
+        let end = match self.pace {
+            Pace::Bytes => said.saturating_add(1),
+            Pace::AtOnce | Pace::Turns => self.talk.message_end(said),
+        };
+        let input: &'r [u8] = self.talk.input.as_slice();
+        match input.get(said..end.min(input.len())) {
+            Some(part) => part,
+            None => b"",
+        }
+    }
+
+    // Whether a message that begins here may be said: just what is written before it was heard.
+    fn may_say(&self, said: usize) -> bool {
+        match self.talk.message_at(said) {
+            Some(place) => self.count_heard() == place.before,
+            None => true,
+        }
+    }
+
+    fn count_heard(&self) -> usize {
+        match self.heard.try_borrow() {
+            Ok(heard) => heard.len(),
+            Err(_) => 0,
+        }
+    }
+
+    fn say(&self, part: &[u8]) -> io::Result<()> {
+        let mut far = &self.far;
+        far.write_all(part)?;
+        self.said.set(self.said.get().saturating_add(part.len()));
+        Ok(())
+    }
+
+    fn end(&self) -> io::Result<()> {
+        self.has_ended.set(true);
+        self.far.shutdown(Shutdown::Write)
+    }
+
+    /// Hears all that the near end has written. It fails where the connection is reset.
+    pub fn hear(&self) -> io::Result<()> {
+        for _ in 0..u64::MAX {
+            let left = self.written.get().saturating_sub(self.count_heard());
+            if left == 0 || self.hear_some(left)? == 0 {
+                break;
+            }
+        }
+        Ok(())
+    }
+
+    // Hears so many bytes at most, and answers how many.
+    fn hear_some(&self, most: usize) -> io::Result<usize> {
+        let mut bytes = [0; HEARD_BYTES];
+        let mut far = &self.far;
+        let count = far.read(&mut bytes[..most.min(HEARD_BYTES)])?;
+        let Ok(mut heard) = self.heard.try_borrow_mut() else {
+            return Err(io::Error::from(ErrorKind::ResourceBusy));
+        };
+        match heard.extend_from_slice(&bytes[..count]) {
+            Ok(()) => Ok(count),
+            Err(_) => Err(io::Error::from(ErrorKind::OutOfMemory)),
+        }
+    }
+}
+
+/// The near end of a connection: before each read its peer plays.
+#[derive(Drop)]
+pub struct Turned<'p, 'r> {
+    near: TcpStream,
+    peer: &'p Peer<'r>,
+}
+
+impl Read for Turned<'_, '_> {
+    fn read(&mut self, buf: &mut [u8]) -> io::Result<usize> {
+        self.peer.take_turn()?;
+        let most = buf.len().min(self.peer.pace.most());
+        let count = self.near.read(&mut buf[..most])?;
+        let read = self.peer.read.get().saturating_add(count);
+        self.peer.read.set(read);
+        Ok(count)
+    }
+}
+
+impl Write for Turned<'_, '_> {
+    fn write(&mut self, buf: &[u8]) -> io::Result<usize> {
+        let most = buf.len().min(self.peer.pace.most());
+        let count = self.near.write(&buf[..most])?;
+        let written = self.peer.written.get().saturating_add(count);
+        self.peer.written.set(written);
+        Ok(count)
+    }
+
+    fn flush(&mut self) -> io::Result<()> {
+        self.near.flush()
+    }
+}
+
+impl OpenStream for Turned<'_, '_> {
+    fn shutdown(&self, how: Shutdown) -> io::Result<()> {
+        self.near.shutdown(how)
+    }
+
+    fn set_nodelay(&self, nodelay: bool) -> io::Result<()> {
+        self.near.set_nodelay(nodelay)
+    }
+
+    // A read that waits for nothing gives the peer no turn.
+    fn set_nonblocking(&self, nonblocking: bool) -> io::Result<()> {
+        self.peer.has_ended.set(nonblocking);
+        self.near.set_nonblocking(nonblocking)
+    }
+
+    fn set_read_timeout(&self, dur: Option<Duration>) -> io::Result<()> {
+        self.near.set_read_timeout(dur)
+    }
+
+    fn set_write_timeout(&self, dur: Option<Duration>) -> io::Result<()> {
+        self.near.set_write_timeout(dur)
+    }
+}
+
+/// Accepts near ends of one peer.
+#[derive(Drop)]
+pub struct TurnedListener<'p, 'r> {
+    listener: TcpListener,
+    peer: &'p Peer<'r>,
+}
+
+impl<'p, 'r> TurnedListener<'p, 'r> {
+    /// Accepts what comes to the listener, to which the peer connected.
+    pub fn new(listener: TcpListener, peer: &'p Peer<'r>) -> TurnedListener<'p, 'r> {
+        TurnedListener { listener, peer }
+    }
+}
+
+impl<'p, 'r> OpenListener for TurnedListener<'p, 'r> {
+    type Stream = Turned<'p, 'r>;
+
+    fn accept(&self) -> io::Result<(Turned<'p, 'r>, SocketAddr)> {
+        let (near, address) = self.listener.accept()?;
+        let peer = self.peer;
+        Ok((Turned { near, peer }, address))
+    }
+}

@@ -1,0 +1,253 @@
+//! `gitv2 fetch` into a stored file, which is replaced whole, or not at all.
+
+ghost use Rattle.std.specs.Prelude.{◌≡◌, Err, Ok, MatchResult, length};
+ghost use Rattle.gpkt.specs.Packets.{Bytes};
+ghost use Rattle.gpkt.specs.Sending.{input_of, output_of};
+ghost use Rattle.glockfile.specs.Storing.{Holds};
+ghost use Rattle.glockfile.specs.declared.storage.Lockfile.TheVariants.{Absent, Empty};
+ghost use Rattle.gcmd.specs.Fetching.{NamesClient};
+ghost use Rattle.gcmd.specs.steps.Stored.{ExitsNext, StoresAndReports};
+ghost use Rattle.gcmd.specs.Stored.{ConcludesStored, FetchesStored, IsFetchedStored, IsReplaced, OpensStored, ReportsAndExits, stored_of};
+
+use crate::client_file::open_client;
+use crate::fault::ProgramFault;
+use crate::fetch::{send_report, text_of};
+use crate::program::cmd_failed;
+use gclient::{Fetched, Repo, Spec, fetch_over};
+use gfetchreply::PackLimit;
+use ggrammar::Ends;
+use ggraph::PlainPack;
+use glockfile::{Storage, open_file, replace_file};
+use gpkt::{Sink, Source};
+use std::alloc::{Allocator, Global};
+
+/// The options of a fetch.
+#[derive(Clone, Copy)]
+pub struct FetchOptions<'a, A: Allocator + Copy = Global> {
+    /// The refspecs.
+    pub specs: &'a [Spec<A>],
+    /// The most bytes of a pack.
+    pub limit: PackLimit,
+    /// How each reply ends.
+    pub ends: Ends,
+}
+
+/// A client's file that is locked: its text, and the repository that the text names.
+#[derive(Drop)]
+pub struct OpenedFile<A: Allocator + Copy = Global> {
+    /// The text that was read.
+    pub text: Vec<u8, A>,
+    /// The repository.
+    pub repo: Repo<A>,
+}
+
+/// `gitv2 fetch --stdio [--limit N] [--response-end] FILE SPEC...`: locks and reads the file, fetches into its
+/// repository from the server that `input` and `output` lead to, and replaces the file whole where the refs were
+/// settled. Then it writes the report on `errors`, since the output leads to the server. A fault is one line there.
+/// It answers the exit status.
+///
+/// The fault is `File` or `Memory` where the file can't be locked, read or replaced. Nothing is read from the input or
+/// written to the output before the file is locked and read. At every fault the file has the old text or the whole new
+/// one. This run holds no lockfile at the end.
+pub fn cmd_fetch_stored<A: Allocator + Copy, T: Storage, S: Source, W: Sink, E: Sink>(
+    alloc: A,
+    file: &mut T,
+    fetch: &FetchOptions<'_, A>,
+    input: &mut S,
+    output: &mut W,
+    errors: &mut E,
+) -> u8
+    requires { T.lockfile file.old ≡ Absent }
+    ensures runs { ReportsAndExits {A = A} (FetchesStored fetch.now.specs.now fetch.now.limit
+        fetch.now.ends (stored_of T.texts T.lockfile file.old file.new)
+        (input_of S.remaining S.is_down input.old input.new)
+        (output_of W.contents W.passed_on W.is_down output.old output.new))
+        (output_of E.contents E.passed_on E.is_down errors.old errors.new) result }
+    ensures input_loans { S.loans input.new ≡ S.loans input.old }
+    ensures output_loans { W.loans output.new ≡ W.loans output.old }
+    ensures errors_loans { E.loans errors.new ≡ E.loans errors.old }
+{
+    let outcome = fetch_stored(alloc, file, fetch, input, output, errors);
+    exit_after(outcome, errors)
+}
+
+// Ends a program that reports to the sink of its errors.
+fn exit_after<A: Allocator + Copy, E: Sink>(
+    outcome: Result<(), ProgramFault<A>>,
+    errors: &mut E,
+) -> u8
+    ensures exits { ExitsNext outcome
+        (output_of E.contents E.passed_on E.is_down errors.old errors.new) result }
+    ensures loans { E.loans errors.new ≡ E.loans errors.old }
+{
+    match outcome {
+        Ok(()) => 0,
+        // The report went there, too, and the sink is down.
+        Err(ProgramFault::WriteFailed) => 1,
+        Err(fault) => cmd_failed(fault, errors),
+    }
+}
+
+// Fetches, and answers how that came out.
+fn fetch_stored<A: Allocator + Copy, T: Storage, S: Source, W: Sink, R: Sink>(
+    alloc: A,
+    file: &mut T,
+    fetch: &FetchOptions<'_, A>,
+    input: &mut S,
+    output: &mut W,
+    report: &mut R,
+) -> Result<(), ProgramFault<A>>
+    requires { T.lockfile file.old ≡ Absent }
+    ensures fetches { FetchesStored {A = A} fetch.now.specs.now fetch.now.limit
+        fetch.now.ends (stored_of T.texts T.lockfile file.old file.new)
+        (input_of S.remaining S.is_down input.old input.new)
+        (output_of W.contents W.passed_on W.is_down output.old output.new)
+        (output_of R.contents R.passed_on R.is_down report.old report.new) result }
+    ensures input_loans { S.loans input.new ≡ S.loans input.old }
+    ensures output_loans { W.loans output.new ≡ W.loans output.old }
+    ensures report_loans { R.loans report.new ≡ R.loans report.old }
+{
+    match open_stored(alloc, file) {
+        Ok(mut opened) => fetch_opened(&mut opened, file, fetch, input, output, report),
+        Err(fault) => Err(fault),
+    }
+}
+
+// The same for a file that is opened.
+fn fetch_opened<A: Allocator + Copy, T: Storage, S: Source, W: Sink, R: Sink>(
+    opened: &mut OpenedFile<A>,
+    file: &mut T,
+    fetch: &FetchOptions<'_, A>,
+    input: &mut S,
+    output: &mut W,
+    report: &mut R,
+) -> Result<(), ProgramFault<A>>
+    requires { T.lockfile file.old ≡ Empty }
+    ensures fetches { Holds (T.texts file.old) opened.old.text.items
+        → NamesClient opened.old.text.items opened.old.repo
+        → IsFetchedStored {A = A} fetch.now.specs.now fetch.now.limit
+        fetch.now.ends (stored_of T.texts T.lockfile file.old file.new)
+        (input_of S.remaining S.is_down input.old input.new)
+        (output_of W.contents W.passed_on W.is_down output.old output.new)
+        (output_of R.contents R.passed_on R.is_down report.old report.new) result }
+    ensures lockfile { T.lockfile file.new ≡ Absent }
+    ensures input_loans { S.loans input.new ≡ S.loans input.old }
+    ensures output_loans { W.loans output.new ≡ W.loans output.old }
+    ensures report_loans { R.loans report.new ≡ R.loans report.old }
+{
+    match fetch_over(
+        &mut opened.repo,
+        input,
+        output,
+        &PlainPack,
+        fetch.specs,
+        fetch.limit,
+        fetch.ends,
+    ) {
+        Ok(fetched) => {
+            conclude_stored(file, opened.text.as_slice(), &opened.repo, &fetched, report)
+        }
+        Err(fault) => give_up(file, ProgramFault::Fetch(fault)),
+    }
+}
+
+/// Locks a client's file, reads it, and opens its repository.
+///
+/// It fails with `File` where the file can't be locked or read, with `Memory`, and as `open_client`. This run holds no
+/// lockfile then.
+pub fn open_stored<A: Allocator + Copy, T: Storage>(
+    alloc: A,
+    file: &mut T,
+) -> Result<OpenedFile<A>, ProgramFault<A>>
+    requires { T.lockfile file.old ≡ Absent }
+    ensures opens { OpensStored (T.texts file.old) result }
+    ensures lockfile { MatchResult result (λ _. T.lockfile file.new ≡ Empty)
+        (λ _. T.lockfile file.new ≡ Absent) }
+    ensures texts { T.texts file.new ≡ T.texts file.old }
+{
+    match open_file(alloc, file) {
+        Ok(text) => open_text(alloc, file, text),
+        Err(fault) => Err(ProgramFault::from(fault)),
+    }
+}
+
+// Opens the repository of a locked file, or unlocks the file.
+fn open_text<A: Allocator + Copy, T: Storage>(
+    alloc: A,
+    file: &mut T,
+    text: Vec<u8, A>,
+) -> Result<OpenedFile<A>, ProgramFault<A>>
+    requires { T.lockfile file.old ≡ Empty }
+    ensures opens { Holds (T.texts file.old) text.items → OpensStored (T.texts file.old) result }
+    ensures lockfile { MatchResult result (λ _. T.lockfile file.new ≡ Empty)
+        (λ _. T.lockfile file.new ≡ Absent) }
+    ensures texts { T.texts file.new ≡ T.texts file.old }
+{
+    match open_client(alloc, text.as_slice()) {
+        Ok(repo) => Ok(OpenedFile { text, repo }),
+        Err(fault) => give_up(file, fault),
+    }
+}
+
+// Unlocks a file that stays as it is.
+fn give_up<A: Allocator + Copy, T: Storage, X>(
+    file: &mut T,
+    fault: ProgramFault<A>,
+) -> Result<X, ProgramFault<A>>
+    requires { T.lockfile file.old ≡ Empty }
+    ensures result { result ≡ Err fault }
+    ensures lockfile { T.lockfile file.new ≡ Absent }
+    ensures texts { T.texts file.new ≡ T.texts file.old }
+{
+    file.unlock();
+    Err(fault)
+}
+
+/// Ends a fetch into a locked file whose text is `old`, once the refs are settled: replaces the file by the text of the
+/// repository, and only then reports. This run holds no lockfile at the end.
+///
+/// It fails with `Memory` or `File` where the file can't be replaced; then nothing is reported, and the file has the
+/// old text or the whole new one. Once the file has the new text it fails as `send_report`.
+pub fn conclude_stored<A: Allocator + Copy, T: Storage, R: Sink>(
+    file: &mut T,
+    old: &[u8],
+    repo: &Repo<A>,
+    fetched: &Fetched<A>,
+    report: &mut R,
+) -> Result<(), ProgramFault<A>>
+    requires locked { T.lockfile file.old ≡ Empty }
+    requires updates { length fetched.now.settled.updates.items ≡ length fetched.now.settled.asks }
+    ensures concludes { Holds (T.texts file.old) old.now → ConcludesStored old.now repo.now fetched.now
+        (stored_of T.texts T.lockfile file.old file.new)
+        (output_of R.contents R.passed_on R.is_down report.old report.new) result }
+    ensures lockfile { T.lockfile file.new ≡ Absent }
+    ensures report_loans { R.loans report.new ≡ R.loans report.old }
+{
+    match text_of(repo.graph().allocator(), repo) {
+        Ok(text) => store(file, old, &text, fetched, report),
+        Err(_) => give_up(file, ProgramFault::Memory),
+    }
+}
+
+// Replaces the file by the text, and only then reports.
+fn store<A: Allocator + Copy, T: Storage, R: Sink>(
+    file: &mut T,
+    old: &[u8],
+    text: &Vec<u8, A>,
+    fetched: &Fetched<A>,
+    report: &mut R,
+) -> Result<(), ProgramFault<A>>
+    requires locked { T.lockfile file.old ≡ Empty }
+    requires updates { length fetched.now.settled.updates.items ≡ length fetched.now.settled.asks }
+    ensures stores { Holds (T.texts file.old) old.now
+        → StoresAndReports old.now text.now.items fetched.now
+        (stored_of T.texts T.lockfile file.old file.new)
+        (output_of R.contents R.passed_on R.is_down report.old report.new) result }
+    ensures lockfile { T.lockfile file.new ≡ Absent }
+    ensures report_loans { R.loans report.new ≡ R.loans report.old }
+{
+    match replace_file(file, old, text.as_slice()) {
+        Ok(()) => send_report(*text.allocator(), fetched, report),
+        Err(fault) => Err(ProgramFault::from(fault)),
+    }
+}

@@ -1,0 +1,52 @@
+-- What objects link to (gitglossary(7), "commit object", "tree object", "tag object"). A link is an id, and the type of
+-- the object that has it.
+use Rattle.std.specs.Prelude.{◌≡◌, ◌≢◌, ⊤, ℕ, List, [], ◌∷◌, ◌++◌, map, codes}
+use Rattle.std.specs.List.{filter_map}
+use Rattle.gname.specs.Ids.{Id}
+use Rattle.gitobject.specs.Lines.{BeginsWithId, BeginsWithName, BeginsWithType}
+use Rattle.gitobject.specs.Trees.{Entry, IsTree, entry_link, link_of}
+use Rattle.gitobject.specs.declared.types.ObjectType.{ObjectType}
+use Rattle.gitobject.specs.declared.types.ObjectType.TheVariants.{Commit, Tree, Blob, Tag}
+use Rattle.gitobject.specs.declared.links.Link.{Link}
+use Rattle.gitobject.specs.declared.fault.ObjectFault.{ObjectFault}
+use Rattle.gitobject.specs.declared.fault.ObjectFault.TheVariants as faults
+
+-- there is more text, and it does not begin as the line of a parent does
+pub record GoesOn (text : List ℕ) : Type 0 where
+  pub more : text ≢ []
+  pub other : (rest : List ℕ) → ¬ (text ≡ codes "parent " ++ rest)
+
+-- the text begins with a line for each parent, and goes on with something other than a parent
+abbrev pub HasParents : List ℕ → List Id → Type 0
+HasParents text [] = GoesOn text
+HasParents text (id ∷ ids) = (rest : List ℕ) × BeginsWithId (codes "parent ") text id rest × HasParents rest ids
+
+-- a commit: the line of its tree, those of its parents, and more
+pub record IsCommit (body : List ℕ) (tree : Id) (parents : List Id) : Type 0 where
+  pub rest : List ℕ
+  pub names : BeginsWithId (codes "tree ") body tree rest
+  pub follows : HasParents rest parents
+
+-- a tag: the line of the object that it names, that of the object's type, and that of its own name
+pub record IsTag (body : List ℕ) (target : Id) (kind : ObjectType) : Type 0 where
+  pub after_object : List ℕ
+  pub after_type : List ℕ
+  pub object : BeginsWithId (codes "object ") body target after_object
+  pub typed : BeginsWithType after_object kind after_type
+  pub named : BeginsWithName after_type
+
+-- The links of an object: of a commit its tree and then its parents, of a tree those of its entries, of a tag the
+-- object that it names. A blob has none.
+abbrev pub LinksOf : ObjectType → List ℕ → List Link → Type 0
+LinksOf Commit body links =
+    (tree : Id) × (parents : List Id) × IsCommit body tree parents
+    × (links ≡ link_of Tree tree ∷ map (link_of Commit) parents)
+LinksOf Tree body links = (entries : List Entry) × IsTree body entries × (links ≡ filter_map entry_link entries)
+LinksOf Blob body links = links ≡ []
+LinksOf Tag body links =
+    (target : Id) × (kind : ObjectType) × IsTag body target kind × (links ≡ link_of kind target ∷ [])
+
+-- why an object is not read: it has no reading, or there is no memory
+abbrev pub IsObjectFault : Type 0 → ObjectFault → Type 0
+IsObjectFault Reading faults.Malformed = ¬ Reading
+IsObjectFault Reading faults.Memory = ⊤

@@ -1,0 +1,49 @@
+//! The ids of objects.
+
+ghost use Rattle.std.specs.Prelude.{◌≡◌};
+ghost use Rattle.gname.specs.Ids.{IsIdOf};
+ghost use Rattle.gname.specs.declared.formats.Format.TheVariants as formats;
+ghost use Rattle.gitobject.specs.Naming.{id_of};
+
+use crate::types::ObjectType;
+use gname::Oid;
+use gname::laws::{ids_have_one_format, ids_have_texts, texts_have_one_reading};
+use itoa::Buffer;
+use sha1::Sha1;
+
+/// The bytes of an id.
+pub(crate) const ID_BYTES: usize = 20;
+
+/// The digits of an id.
+pub(crate) const ID_TEXT: usize = 40;
+
+/// The id of an object with these bytes: the SHA-1 of the type, a space, the length in decimal, NUL, and the bytes
+/// (gitglossary(7), "object name").
+pub fn id_of(kind: ObjectType, body: &[u8]) -> Oid
+    ensures id { result ≡ id_of kind body.now }
+    ensures format { IsIdOf formats.Sha1 result }
+{
+    let mut digits = Buffer::new();
+    let mut hasher = Sha1::new();
+    hasher.update(kind.name().as_bytes());
+    hasher.update(b" ");
+    hasher.update(digits.format(body.len()).as_bytes());
+    hasher.update(b"\0");
+    hasher.update(body);
+    id_of_bytes(&hasher.finalize())
+}
+
+/// The id with these bytes.
+pub(crate) fn id_of_bytes(bytes: &[u8; ID_BYTES]) -> Oid
+    ensures bytes { result ≡ bytes.now }
+    ensures format { IsIdOf formats.Sha1 result }
+{
+    // Laws.
+    ids_have_one_format();
+    ids_have_texts();
+    texts_have_one_reading();
+    // An `Oid` is made from digits only.
+    let mut digits = [0; ID_TEXT];
+    let _written = hex::encode_to_slice(bytes, &mut digits);
+    Oid::from_hex(&digits).unwrap()
+}

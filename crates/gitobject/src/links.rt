@@ -1,0 +1,198 @@
+//! The links of objects.
+
+ghost use Rattle.std.specs.Prelude.{◌≡◌, ◌++◌, ◌↔◌, List, IsTrue, MatchOption, MatchResult, OnOk, map};
+ghost use Rattle.gname.specs.Ids.{Id};
+ghost use Rattle.gitobject.specs.Links.{GoesOn, HasParents, IsCommit, IsObjectFault, IsTag, LinksOf};
+ghost use Rattle.gitobject.specs.Lines.{BeginsWithName};
+ghost use Rattle.gitobject.specs.Trees.{link_of};
+ghost use Rattle.gitobject.specs.declared.links.Link.{Link};
+ghost use Rattle.gitobject.specs.declared.types.ObjectType.{ObjectType};
+ghost use Rattle.gitobject.specs.declared.types.ObjectType.TheVariants as types;
+
+use crate::fault::ObjectFault;
+use crate::lines::{cut, id_line, strip, type_line};
+use crate::trees::tree_links;
+use crate::types::ObjectType;
+use gname::Oid;
+use std::alloc::{AllocError, Allocator};
+
+/// A link of an object: the id of another one, and the type that the other one must have.
+#[derive(Clone, Copy, Debug, PartialEq, Eq, Drop)]
+pub struct Link {
+    /// The id.
+    pub id: Oid,
+    /// The type.
+    pub kind: ObjectType,
+}
+
+/// The objects to which a commit links.
+#[derive(Debug, Drop)]
+pub struct CommitLinks<A: Allocator + Copy> {
+    /// Its tree.
+    pub tree: Oid,
+    /// Its parents, in order.
+    pub parents: Vec<Oid, A>,
+}
+
+/// The links of an object of this type. A commit links to its tree and then to its parents, a tree to the objects of
+/// its entries, and a tag to the object that it names. A blob has no links.
+///
+/// It fails with `Malformed` if the bytes do not have the form of the type, and with `Memory`.
+pub fn links_of<A: Allocator + Copy>(
+    alloc: A,
+    kind: ObjectType,
+    body: &[u8],
+) -> Result<Vec<Link, A>, ObjectFault>
+    ensures { MatchResult result (λ links. LinksOf kind body.now links.items)
+        (IsObjectFault ((links : List Link) × LinksOf kind body.now links)) }
+{
+    match kind {
+        ObjectType::Commit => list_commit(alloc, body),
+        ObjectType::Tree => tree_links(alloc, body),
+        ObjectType::Blob => Ok(Vec::new(alloc)),
+        ObjectType::Tag => list_tag(alloc, body),
+    }
+}
+
+/// The tree and the parents of a commit, in order.
+///
+/// It fails with `Malformed` if the bytes do not begin as those of a commit, and with `Memory`.
+pub fn commit_links<A: Allocator + Copy>(
+    alloc: A,
+    body: &[u8],
+) -> Result<CommitLinks<A>, ObjectFault>
+    ensures { MatchResult result (λ links. IsCommit body.now links.tree links.parents.items)
+        (IsObjectFault ((tree : Id) × (parents : List Id) × IsCommit body.now tree parents)) }
+{
+    let Some(line) = id_line(b"tree ", body) else {
+        return Err(ObjectFault::Malformed);
+    };
+    let mut parents = Vec::new(alloc);
+    match push_parents(&mut parents, line.1) {
+        Ok(()) => Ok(CommitLinks {
+            tree: line.0,
+            parents,
+        }),
+        Err(fault) => Err(fault),
+    }
+}
+
+// Adds the ids of the parents, whose lines begin the text.
+fn push_parents<A: Allocator + Copy>(
+    parents: &mut Vec<Oid, A>,
+    text: &[u8],
+) -> Result<(), ObjectFault>
+    ensures { MatchResult result (λ _. (ids : List Id) × HasParents text.now ids
+        × (parents.new.items ≡ parents.old.items ++ ids))
+        (IsObjectFault ((ids : List Id) × HasParents text.now ids)) }
+{
+    let mut rest = text;
+    while let Some(line) = id_line(b"parent ", rest) {
+        if let Err(_) = parents.push(line.0) {
+            return Err(ObjectFault::Memory);
+        }
+        rest = line.1;
+    }
+    if goes_on(rest) {
+        Ok(())
+    } else {
+        Err(ObjectFault::Malformed)
+    }
+}
+
+// Whether there is more text, and it does not begin as the line of a parent.
+fn goes_on(text: &[u8]) -> bool
+    ensures { IsTrue result ↔ GoesOn text.now }
+{
+    if text.is_empty() {
+        return false;
+    }
+    match strip(b"parent ", text) {
+        Some(_) => false,
+        None => true,
+    }
+}
+
+/// The object that a tag names; `None` if the bytes do not begin as those of a tag.
+pub fn tag_link(body: &[u8]) -> Option<Link>
+    ensures { MatchOption result ((target : Id) (kind : ObjectType) → ¬ (IsTag body.now target kind))
+        (λ link. IsTag body.now link.id link.kind) }
+{
+    let Some(object) = id_line(b"object ", body) else {
+        return None;
+    };
+    let Some(named) = type_line(object.1) else {
+        return None;
+    };
+    if has_name(named.1) {
+        Some(Link {
+            id: object.0,
+            kind: named.0,
+        })
+    } else {
+        None
+    }
+}
+
+// Whether the text begins with the line of a tag's name.
+fn has_name(text: &[u8]) -> bool
+    ensures { IsTrue result ↔ BeginsWithName text.now }
+{
+    let Some(after) = strip(b"tag ", text) else {
+        return false;
+    };
+    match cut(b'\n', after) {
+        Some(_) => true,
+        None => false,
+    }
+}
+
+// The links of a commit, as one list.
+fn list_commit<A: Allocator + Copy>(alloc: A, body: &[u8]) -> Result<Vec<Link, A>, ObjectFault>
+    ensures { MatchResult result (λ links. LinksOf types.Commit body.now links.items)
+        (IsObjectFault ((links : List Link) × LinksOf types.Commit body.now links)) }
+{
+    let commit = match commit_links(alloc, body) {
+        Ok(commit) => commit,
+        Err(fault) => return Err(fault),
+    };
+    let mut links = Vec::new(alloc);
+    let tree = Link {
+        id: commit.tree,
+        kind: ObjectType::Tree,
+    };
+    links.push(tree)?;
+    push_commits(&mut links, commit.parents.as_slice())?;
+    Ok(links)
+}
+
+// Adds a link to each of these commits.
+fn push_commits<A: Allocator + Copy>(
+    links: &mut Vec<Link, A>,
+    ids: &[Oid],
+) -> Result<(), AllocError>
+    ensures { OnOk result (links.new.items ≡ links.old.items ++ map (link_of types.Commit) ids.now) }
+{
+    for id in ids {
+        links.push(Link {
+            id: *id,
+            kind: ObjectType::Commit,
+        })?;
+    }
+    Ok(())
+}
+
+// The link of a tag, as a list.
+fn list_tag<A: Allocator + Copy>(alloc: A, body: &[u8]) -> Result<Vec<Link, A>, ObjectFault>
+    ensures { MatchResult result (λ links. LinksOf types.Tag body.now links.items)
+        (IsObjectFault ((links : List Link) × LinksOf types.Tag body.now links)) }
+{
+    let Some(link) = tag_link(body) else {
+        return Err(ObjectFault::Malformed);
+    };
+    let mut links = Vec::new(alloc);
+    match links.push(link) {
+        Ok(()) => Ok(links),
+        Err(_) => Err(ObjectFault::Memory),
+    }
+}

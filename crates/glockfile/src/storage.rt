@@ -1,0 +1,130 @@
+//! One file, and the lockfile beside it.
+
+ghost use Rattle.std.specs.Prelude.{◌≡◌, ◌≢◌, ◌≤◌, List, ℕ, Option, IfOk, MatchResult, OnOk, Some};
+ghost use Rattle.glockfile.specs.Faults.{storage_fault_text};
+ghost use Rattle.glockfile.specs.Storing.{HasWritten, Holds, KeepsStates, Renames, Texts, WhereKnown};
+ghost use Rattle.glockfile.specs.declared.storage.Lockfile.TheVariants.{Absent, Empty, Written, Synced, Unusable};
+ghost use Rattle.glockfile.specs.declared.storage.Lockfile.{Lockfile};
+ghost use Rattle.glockfile.specs.declared.storage.StorageFault.TheVariants.{Memory};
+
+use std::alloc::{AllocError, AllocFailed, Allocator};
+use std::error::Error;
+use std::{fmt, io};
+
+/// Why a stored file could not be read or replaced.
+#[derive(Clone, Copy, Debug, PartialEq, Eq)]
+pub enum StorageFault {
+    /// Out of memory.
+    Memory,
+    /// The lockfile is there already, the file is no regular file, or the system refused a call.
+    Failed,
+}
+
+impl fmt::Display for StorageFault {
+    ghost output = { λ fault. Some (storage_fault_text fault) };
+
+    fn fmt<W: fmt::Write>(&self, f: &mut fmt::Formatter<W>) -> fmt::Result {
+        f.write_str(match self {
+            StorageFault::Memory => "out of memory",
+            StorageFault::Failed => "the file can't be read or replaced",
+        })
+    }
+}
+
+impl Error for StorageFault {}
+
+impl From<AllocError> for StorageFault {
+    ghost from_gives = { λ _ fault. fault ≡ Memory };
+
+    fn from(_: AllocError) -> StorageFault {
+        StorageFault::Memory
+    }
+}
+
+impl<T: Drop> From<AllocFailed<T>> for StorageFault {
+    ghost from_gives = { λ _ fault. fault ≡ Memory };
+
+    fn from(_: AllocFailed<T>) -> StorageFault {
+        StorageFault::Memory
+    }
+}
+
+impl From<io::Error> for StorageFault {
+    fn from(error: io::Error) -> StorageFault {
+        if error.kind() == io::ErrorKind::OutOfMemory {
+            StorageFault::Memory
+        } else {
+            StorageFault::Failed
+        }
+    }
+}
+
+/// How far this run is with its lockfile.
+#[derive(Clone, Copy, Debug, PartialEq, Eq)]
+pub enum Lockfile {
+    /// This run holds none.
+    Absent,
+    /// It was made, and nothing is in it.
+    Empty,
+    /// It has the new text.
+    Written,
+    /// The new text is on the disk.
+    Synced,
+    /// A call failed. The lockfile can only be removed.
+    Unusable,
+}
+
+/// One file, and the lockfile beside it (git's `lockfile.h`).
+///
+/// Only a text that is synced is renamed. So after a crash at any moment the name has one of the states.
+pub trait Storage {
+    // Each text that has been under the name, and what was written to the lockfile, where they are known.
+    ghost texts: { Self → Option Texts };
+
+    // How far this run is with its lockfile.
+    ghost lockfile: { Self → Lockfile };
+
+    /// Makes the lockfile. It fails where there is one already, and changes nothing then.
+    fn lock(&mut self) -> Result<(), StorageFault>
+        requires { lockfile self.old ≡ Absent }
+        ensures lockfile { MatchResult result (λ _. lockfile self.new ≡ Empty)
+            (λ _. lockfile self.new ≡ Absent) }
+        ensures texts { texts self.new ≡ texts self.old };
+
+    /// The text that is under the name.
+    fn read<A: Allocator + Copy>(&mut self, alloc: A) -> Result<Vec<u8, A>, StorageFault>
+        requires { lockfile self.old ≡ Empty }
+        ensures text { IfOk result (λ text. Holds (texts self.old) text.items) }
+        ensures lockfile { lockfile self.new ≡ Empty }
+        ensures texts { texts self.new ≡ texts self.old };
+
+    /// Writes the whole new text into the lockfile.
+    fn write(&mut self, text: &[u8]) -> Result<(), StorageFault>
+        requires { lockfile self.old ≡ Empty }
+        ensures written { OnOk result (HasWritten (texts self.new) text.now) }
+        ensures lockfile { MatchResult result (λ _. lockfile self.new ≡ Written)
+            (λ _. lockfile self.new ≡ Unusable) }
+        ensures states { KeepsStates (texts self.old) (texts self.new) };
+
+    /// Brings the text of the lockfile to the disk.
+    fn sync(&mut self) -> Result<(), StorageFault>
+        requires { lockfile self.old ≡ Written }
+        ensures lockfile { MatchResult result (λ _. lockfile self.new ≡ Synced)
+            (λ _. lockfile self.new ≡ Unusable) }
+        ensures texts { texts self.new ≡ texts self.old };
+
+    /// Renames the lockfile over the file. At `Err` the file has the old text, or the whole new one.
+    fn rename(&mut self) -> Result<(), StorageFault>
+        requires { lockfile self.old ≡ Synced }
+        ensures lockfile { MatchResult result (λ _. lockfile self.new ≡ Absent)
+            (λ _. lockfile self.new ≡ Unusable) }
+        ensures states { WhereKnown (texts self.old) (texts self.new)
+            (λ before after. Renames before after result) };
+
+    /// Removes the lockfile that this run made. It stays where the system refuses that, and then nobody can lock the
+    /// file until it is removed.
+    fn unlock(&mut self)
+        requires { lockfile self.old ≢ Absent }
+        ensures lockfile { lockfile self.new ≡ Absent }
+        ensures texts { texts self.new ≡ texts self.old };
+}

@@ -1,0 +1,187 @@
+//! A real file.
+
+ghost use Rattle.std.specs.Prelude.{◌≡◌, None};
+ghost use Rattle.glockfile.specs.declared.storage.Lockfile.TheVariants.{Absent};
+
+use crate::storage::{Lockfile, Storage, StorageFault};
+use std::alloc::{Allocator, Global};
+use std::fs;
+use std::fs::{File, Files, Metadata, OpenFile, OpenOptions};
+use std::io::{Read, Write};
+use std::marker::Model;
+use std::os::unix::fs::OpenOptionsExt;
+use std::path::{Path, PathBuf};
+
+/// A file of the system, and the lockfile beside it, whose name is that of the file and `.lock`.
+///
+/// The name of a symbolic link stands for the file that it leads to: that file is locked and replaced, and it must be a
+/// regular one. The new file has the permissions of the old one. A process that is killed can leave its lockfile.
+#[derive(Drop)]
+pub struct StoredFile<'r, R: Files, A: Allocator + Copy = Global> {
+    files: &'r R,
+    alloc: A,
+    name: &'r str,
+    lockfile: Lockfile,
+    lock: Option<Lock<R, A>>,
+}
+
+// The lockfile that this run made.
+#[derive(Drop)]
+struct Lock<R: Files, A: Allocator + Copy> {
+    // The file that is locked. It is no symbolic link.
+    target: PathBuf<A>,
+    path: PathBuf<A>,
+    file: R::File,
+}
+
+impl<'r, R: Files, A: Allocator + Copy> Model for StoredFile<'r, R, A> {
+    ghost use Rattle.glockfile.specs.declared.storage.Lockfile.{Lockfile};
+
+    ghost Value = { Lockfile };
+
+    ghost view = { λ f. f.lockfile };
+}
+
+impl<'r, R: Files, A: Allocator + Copy> StoredFile<'r, R, A> {
+    /// The file with this name. Nothing is opened yet.
+    pub fn new(alloc: A, files: &'r R, name: &'r str) -> StoredFile<'r, R, A>
+        ensures { result ≡ Absent }
+    {
+        StoredFile {
+            files,
+            alloc,
+            name,
+            lockfile: Lockfile::Absent,
+            lock: None,
+        }
+    }
+}
+
+// The permissions of a lockfile until it has those of the file: nobody but its owner can open it.
+const OWNER_ALONE: u32 = 0o600;
+
+// Makes the lockfile, with the permissions of the file.
+fn make_lock<R: Files, A: Allocator + Copy>(
+    files: &R,
+    alloc: A,
+    name: &str,
+) -> Result<Lock<R, A>, StorageFault> {
+    let target = target_of(files, alloc, name)?;
+    check_is_regular(files, target.as_str())?;
+    let mut path = target.to_path_buf(alloc)?;
+    path.add_extension("lock")?;
+    let file = OpenOptions::new()
+        .write(true)
+        .create_new(true)
+        .mode(OWNER_ALONE)
+        .open(files, path.as_str())?;
+    let lock = Lock { target, path, file };
+    match share_permissions(files, &lock) {
+        Ok(()) => Ok(lock),
+        Err(fault) => {
+            let _ = fs::remove_file(files, lock.path.as_str());
+            Err(fault)
+        }
+    }
+}
+
+// The path of the file that is locked: where the name is that of a symbolic link, that of the file that it leads to.
+fn target_of<R: Files, A: Allocator + Copy>(
+    files: &R,
+    alloc: A,
+    name: &str,
+) -> Result<PathBuf<A>, StorageFault> {
+    if files.symlink_metadata(name)?.is_symlink() {
+        Ok(files.canonicalize(alloc, name)?)
+    } else {
+        Ok(Path::new(name).to_path_buf(alloc)?)
+    }
+}
+
+fn check_is_regular<R: Files>(files: &R, path: &str) -> Result<Metadata, StorageFault> {
+    let metadata = files.metadata(path)?;
+    if metadata.is_file() {
+        Ok(metadata)
+    } else {
+        Err(StorageFault::Failed)
+    }
+}
+
+// Gives the lockfile the permissions that the file has once it is locked.
+fn share_permissions<R: Files, A: Allocator + Copy>(
+    files: &R,
+    lock: &Lock<R, A>,
+) -> Result<(), StorageFault> {
+    let metadata = check_is_regular(files, lock.target.as_str())?;
+    Ok(lock.file.set_permissions(metadata.permissions())?)
+}
+
+// Brings a new name to the disk, in the directory that it is in.
+fn sync_directory<R: Files>(files: &R, target: Path<'_>) -> Result<(), StorageFault> {
+    let directory = match target.parent() {
+        Some(parent) if !parent.as_str().is_empty() => parent.as_str(),
+        _ => ".",
+    };
+    Ok(File::open(files, directory)?.sync_all()?)
+}
+
+impl<R: Files, A: Allocator + Copy> Storage for StoredFile<'_, R, A> {
+    ghost texts = { λ _. None };
+
+    ghost lockfile = { λ f. f };
+
+    fn lock(&mut self) -> Result<(), StorageFault> {
+        self.lock = Some(make_lock(self.files, self.alloc, self.name)?);
+        self.lockfile = Lockfile::Empty;
+        Ok(())
+    }
+
+    fn read<B: Allocator + Copy>(&mut self, alloc: B) -> Result<Vec<u8, B>, StorageFault> {
+        let Some(lock) = &self.lock else {
+            return Err(StorageFault::Failed);
+        };
+        let mut text = Vec::new(alloc);
+        File::open(self.files, lock.target.as_str())?.read_to_end(&mut text)?;
+        Ok(text)
+    }
+
+    fn write(&mut self, text: &[u8]) -> Result<(), StorageFault> {
+        self.lockfile = Lockfile::Unusable;
+        let Some(lock) = &mut self.lock else {
+            return Err(StorageFault::Failed);
+        };
+        lock.file.write_all(text)?;
+        self.lockfile = Lockfile::Written;
+        Ok(())
+    }
+
+    fn sync(&mut self) -> Result<(), StorageFault> {
+        self.lockfile = Lockfile::Unusable;
+        let Some(lock) = &self.lock else {
+            return Err(StorageFault::Failed);
+        };
+        lock.file.sync_all()?;
+        self.lockfile = Lockfile::Synced;
+        Ok(())
+    }
+
+    fn rename(&mut self) -> Result<(), StorageFault> {
+        self.lockfile = Lockfile::Unusable;
+        let Some(lock) = &self.lock else {
+            return Err(StorageFault::Failed);
+        };
+        fs::rename(self.files, lock.path.as_str(), lock.target.as_str())?;
+        // The file is replaced, whether or not its directory can be synced.
+        let _ = sync_directory(self.files, lock.target.as_path());
+        self.lock = None;
+        self.lockfile = Lockfile::Absent;
+        Ok(())
+    }
+
+    fn unlock(&mut self) {
+        if let Some(lock) = self.lock.take() {
+            let _ = fs::remove_file(self.files, lock.path.as_str());
+        }
+        self.lockfile = Lockfile::Absent;
+    }
+}

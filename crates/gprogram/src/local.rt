@@ -1,0 +1,106 @@
+//! Commands over standard input and standard output that change no file and open no socket.
+
+use crate::faults::fail;
+use crate::files::read;
+use crate::streams::let_go;
+use gcmd::{Ends, ProgramFault, cmd_check, cmd_lines, cmd_ls, cmd_upload};
+use gpkt::{FromRead, Sink, ToWrite};
+use std::io;
+use std::io::{BufReader, BufWriter};
+use std::rt::Files;
+
+// The bytes of a reply that go out in one write.
+const REPLY_BUFFER: usize = 65_536;
+
+/// `gitv2 check FILE`
+pub(crate) fn check<R, E>(rt: &R, file: &str, errors: &mut E) -> u8
+where
+    R: Files + Print + AllocGlobal,
+    E: Sink,
+{
+    match read(rt, file) {
+        Ok(text) => check_text(rt, text.as_slice(), errors),
+        Err(fault) => fail(fault, errors),
+    }
+}
+
+fn check_text<R, E>(rt: &R, text: &[u8], errors: &mut E) -> u8
+where
+    R: Print + AllocGlobal,
+    E: Sink,
+{
+    match BufWriter::new(rt.alloc(), io::writer(rt)) {
+        Ok(mut stdout) => {
+            let mut output = ToWrite::new(&mut stdout);
+            let status = cmd_check(rt.alloc(), text, &mut output, errors);
+            let_go(stdout);
+            status
+        }
+        Err(_) => fail(ProgramFault::Memory, errors),
+    }
+}
+
+/// `gitv2 lines`
+pub(crate) fn show_lines<R, E>(rt: &R, errors: &mut E) -> u8
+where
+    R: Input + Print + AllocGlobal,
+    E: Sink,
+{
+    let Ok(mut stdin) = BufReader::new(rt.alloc(), rt.reader()) else {
+        return fail(ProgramFault::Memory, errors);
+    };
+    let Ok(mut stdout) = BufWriter::new(rt.alloc(), io::writer(rt)) else {
+        return fail(ProgramFault::Memory, errors);
+    };
+    let mut input = FromRead::new(&mut stdin);
+    let mut output = ToWrite::new(&mut stdout);
+    let status = cmd_lines(rt.alloc(), &mut input, &mut output, errors);
+    let_go(stdout);
+    status
+}
+
+/// The service on standard input and standard output.
+#[derive(Clone, Copy)]
+pub(crate) enum Served {
+    /// One request, with no advertisement before it: `gitv2 ls --stdio-server FILE`.
+    Request,
+    /// A connection: `gitv2 upload FILE`.
+    Connection(Ends),
+}
+
+/// Serves the repository of a file.
+pub(crate) fn serve<R, E>(rt: &R, served: Served, file: &str, errors: &mut E) -> u8
+where
+    R: Files + Input + Print + AllocGlobal,
+    E: Sink,
+{
+    match read(rt, file) {
+        Ok(text) => serve_text(rt, served, text.as_slice(), errors),
+        Err(fault) => fail(fault, errors),
+    }
+}
+
+// Serves the repository of a text.
+fn serve_text<R, E>(rt: &R, served: Served, text: &[u8], errors: &mut E) -> u8
+where
+    R: Input + Print + AllocGlobal,
+    E: Sink,
+{
+    let alloc = rt.alloc();
+    let Ok(mut stdin) = BufReader::new(alloc, rt.reader()) else {
+        return fail(ProgramFault::Memory, errors);
+    };
+    let Ok(mut stdout) = BufWriter::with_capacity(alloc, REPLY_BUFFER, io::writer(rt)) else {
+        return fail(ProgramFault::Memory, errors);
+    };
+    let mut input = FromRead::new(&mut stdin);
+    let mut output = ToWrite::new(&mut stdout);
+    let status = match served {
+        Served::Request => cmd_ls(alloc, text, &mut input, &mut output, errors),
+        Served::Connection(ends) => {
+            cmd_upload(alloc, text, ends, &mut input, &mut output, errors)
+        }
+    };
+    let_go(stdout);
+    status
+}

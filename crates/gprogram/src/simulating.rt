@@ -1,0 +1,59 @@
+//! Both ends under the events of a scenario.
+
+use crate::faults::fail;
+use crate::files::read;
+use gargs::Simulate;
+use gcmd::{ProgramFault, load_server, open_client};
+use gpkt::{Sink, ToWrite};
+use gsimulate::{Simulation, cmd_simulate};
+use std::alloc::Global;
+use std::io;
+use std::rt::Files;
+
+/// `gitv2 simulate SERVERFILE CLIENTFILE SCENARIOFILE`
+pub(crate) fn simulate<R, E>(rt: &R, asked: &Simulate, errors: &mut E) -> u8
+where
+    R: Files + Print + AllocGlobal,
+    E: Sink,
+{
+    match read(rt, asked.server.as_str()) {
+        Ok(server) => simulate_server(rt, asked, server.as_slice(), errors),
+        Err(fault) => fail(fault, errors),
+    }
+}
+
+// Simulates with the server of a text.
+fn simulate_server<R, E>(rt: &R, asked: &Simulate, server: &[u8], errors: &mut E) -> u8
+where
+    R: Files + Print + AllocGlobal,
+    E: Sink,
+{
+    let Ok(client) = read(rt, asked.client.as_str()) else {
+        return fail(unread(rt.alloc(), server, None), errors);
+    };
+    let client = client.as_slice();
+    let Ok(scenario) = read(rt, asked.scenario.as_str()) else {
+        return fail(unread(rt.alloc(), server, Some(client)), errors);
+    };
+    let files = Simulation {
+        server,
+        client,
+        scenario: scenario.as_slice(),
+    };
+    let mut stdout = io::writer(rt);
+    let mut output = ToWrite::new(&mut stdout);
+    cmd_simulate(rt.alloc(), &files, &mut output, errors)
+}
+
+// Why nothing is simulated where a file can't be read: an earlier file that is refused, or else that.
+fn unread(alloc: Global, server: &[u8], client: Option<&[u8]>) -> ProgramFault {
+    if let Err(fault) = load_server(alloc, server) {
+        return fault;
+    }
+    if let Some(client) = client {
+        if let Err(fault) = open_client(alloc, client) {
+            return fault;
+        }
+    }
+    ProgramFault::File
+}

@@ -1,0 +1,25 @@
+-- The steps of deadlines: the time that a client of the server has left.
+use Rattle.std.specs.Prelude.{◌≡◌, ◌⊎◌, ◌<◌, ◌≤◌, ◌+◌, ◌-◌, ℕ, Option, None, Some}
+
+-- ---- times, in nanoseconds
+
+-- the time for a first line, from the accept on
+abbrev pub first_line_time : ℕ
+first_line_time = 10_000_000_000
+
+-- the time for a request, from the moment when the server waits for it
+abbrev pub request_time : ℕ
+request_time = 60_000_000_000
+
+-- the longest that a read waits
+abbrev pub longest_wait : ℕ
+longest_wait = 60_000_000_000
+
+-- ---- what is left
+
+-- How much is left now, of a time of which so much was left at an earlier moment: what the clock shows to have passed is
+-- taken off. There is nothing where all of it has passed, and where the clock went back.
+abbrev pub LeavesOf : ℕ × ℕ → ℕ → Option (ℕ × ℕ) → Type 0
+LeavesOf (left, at) now (Some (rest, moment)) =
+    (moment ≡ now) × (at ≤ now) × (rest + (now - at) ≡ left) × (0 < rest)
+LeavesOf (left, at) now None = (now < at) ⊎ (left ≤ now - at)

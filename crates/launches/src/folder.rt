@@ -1,0 +1,67 @@
+//! The folder that a program is run in.
+
+use crate::system::System;
+use cases::{Found, Script, Trouble};
+use std::fs::Permissions;
+use std::os::unix::fs::{PermissionsExt, symlink};
+use std::{env, fs};
+
+/// Its name.
+pub(crate) const FOLDER: &str = "launch";
+
+/// The permissions that let everything be looked at and removed.
+const ALL: u32 = 0o700;
+
+/// Makes the folder anew, and goes there.
+pub(crate) fn enter<R: System>(rt: &R) -> Result<(), Trouble> {
+    let _ = fs::remove_dir_all(rt, FOLDER);
+    fs::create_dir(rt, FOLDER)?;
+    Ok(env::set_current_dir(rt, FOLDER)?)
+}
+
+/// Goes back, and removes the folder with all that is in it.
+pub(crate) fn leave<R: System>(rt: &R) -> Result<(), Trouble> {
+    env::set_current_dir(rt, "..")?;
+    Ok(fs::remove_dir_all(rt, FOLDER)?)
+}
+
+/// Makes what a program finds there.
+pub(crate) fn fill<R: System>(
+    rt: &R,
+    script: &Script<'_>,
+    found: &[Found<'_>],
+) -> Result<(), Trouble> {
+    for one in found {
+        match one {
+            Found::File { name, text } => fs::write(rt, *name, script.text(text)?)?,
+            Found::Folder { name } => fs::create_dir(rt, *name)?,
+            Found::Link { name, target } => symlink(rt, *target, *name)?,
+            Found::Mode { name, mode } => set_mode(rt, name, *mode)?,
+        }
+    }
+    Ok(())
+}
+
+/// Lets everything be looked at and removed.
+pub(crate) fn unlock<R: System>(rt: &R, found: &[Found<'_>]) -> Result<(), Trouble> {
+    for one in found {
+        if let Found::Mode { name, mode: _ } = one {
+            let _ = set_mode(rt, name, ALL);
+        }
+    }
+    Ok(())
+}
+
+fn set_mode<R: System>(rt: &R, name: &str, mode: u32) -> Result<(), Trouble> {
+    Ok(fs::set_permissions(rt, name, Permissions::from_mode(mode))?)
+}
+
+/// Whether permissions mean nothing to this process, as to the superuser's.
+pub(crate) fn passes_permissions<R: System>(rt: &R) -> Result<bool, Trouble> {
+    let name = "probe";
+    fs::write(rt, name, "")?;
+    set_mode(rt, name, 0)?;
+    let can_read = fs::read(rt, name).is_ok();
+    fs::remove_file(rt, name)?;
+    Ok(can_read)
+}

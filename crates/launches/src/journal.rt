@@ -1,0 +1,86 @@
+//! The steps of the program, and the step that fails.
+
+use std::alloc::{AllocError, Global};
+use std::cell::RefCell;
+use std::io;
+use std::io::ErrorKind;
+
+/// The steps so far, commas between them.
+#[derive(Drop)]
+pub(crate) struct Journal<'a> {
+    alloc: Global,
+    // The absolute name of the folder that the program runs in.
+    folder: String,
+    // The step that fails, where one does.
+    failing: Option<&'a str>,
+    steps: RefCell<String>,
+}
+
+impl<'a> Journal<'a> {
+    /// A program in this folder has done nothing yet. This step of it fails.
+    pub(crate) fn new(alloc: Global, folder: String, failing: Option<&'a str>) -> Journal<'a> {
+        Journal {
+            alloc,
+            folder,
+            failing,
+            steps: RefCell::new(String::new(alloc)),
+        }
+    }
+
+    /// Notes a step. It fails where the step is to fail.
+    pub(crate) fn note(&self, step: &str) -> io::Result<()> {
+        if let Ok(mut steps) = self.steps.try_borrow_mut() {
+            add_step(&mut steps, step)?;
+        }
+        self.permit(step)
+    }
+
+    /// Notes a step, if it is not the last one already. It fails where the step is to fail.
+    pub(crate) fn note_once(&self, step: &str) -> io::Result<()> {
+        if self.is_last(step) {
+            return self.permit(step);
+        }
+        self.note(step)
+    }
+
+    /// Notes what is done to a file, if that is not the last step already. It fails where the step is to fail.
+    pub(crate) fn note_file(&self, step: &str, path: &str) -> io::Result<()> {
+        let name = match path.strip_prefix(self.folder.as_str()) {
+            Some("") => ".",
+            Some(name) => name.trim_start_matches('/'),
+            None => path,
+        };
+        let line = format!(in self.alloc; "{step} {name}")?;
+        self.note_once(line.as_str())
+    }
+
+    /// All steps.
+    pub(crate) fn text(&self) -> Result<String, AllocError> {
+        match self.steps.try_borrow() {
+            Ok(steps) => String::from_str(self.alloc, steps.as_str()),
+            Err(_) => Ok(String::new(self.alloc)),
+        }
+    }
+
+    fn is_last(&self, step: &str) -> bool {
+        match self.steps.try_borrow() {
+            Ok(steps) => steps.as_str().rsplit(", ").next() == Some(step),
+            Err(_) => false,
+        }
+    }
+
+    fn permit(&self, step: &str) -> io::Result<()> {
+        if self.failing == Some(step) {
+            Err(io::Error::from(ErrorKind::PermissionDenied))
+        } else {
+            Ok(())
+        }
+    }
+}
+
+fn add_step(steps: &mut String, step: &str) -> Result<(), AllocError> {
+    if !steps.is_empty() {
+        steps.push_str(", ")?;
+    }
+    steps.push_str(step)
+}
