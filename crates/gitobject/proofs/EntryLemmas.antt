@@ -1,5 +1,5 @@
 -- The entries of trees, as they are read.
-use Rattle.std.proofs.Common.{◌≡◌, ◌≢◌, ◌↔◌, ◌==◌, eqb-true, true, false, take, drop, ℕ, ◌*◌, ◌<◌, List, [], ◌∷◌, ◌++◌, length, All, Option, None, Some, Result, Ok, Err, OnOk, IsOk, refl, sym, ap, subst, ◌∙◌, append_assoc, length-append, arith}
+use Rattle.std.proofs.Common.{◌≡◌, ◌≢◌, ◌==◌, eqb-true, true, false, take, drop, ℕ, ◌<◌, List, [], ◌∷◌, ◌++◌, length, All, Option, None, Some, MatchOption, refl, sym, ap, subst, ◌∙◌, append_assoc, length-append, arith}
 use Rattle.std.specs.List.{filter_map, cons_option}
 use Rattle.std.specs.Option.{option_to_list}
 use Rattle.std.specs.Str.Parse.{AllDigits, IsNumeral}
@@ -7,38 +7,20 @@ use Rattle.std.specs.Char.{digit_value}
 use Rattle.std.proofs.lemmas.Bool.{false≢true}
 use Rattle.std.proofs.lemmas.List.{append-nil, take-append-drop}
 use Rattle.std.proofs.lemmas.List.Elements.{All-cons, All-head, All-nil, All-push, All-tail, filter_map-append}
-use Rattle.hex.specs.Hex.{encode_lower}
-use Rattle.gname.specs.Ids.{Id, IsIdOf, IsIdTextOf, ReadsId}
-use Rattle.gname.specs.Laws.{IdsHaveOneFormat, IdsHaveTexts, TextsHaveOneReading}
+use Rattle.gname.specs.Formats.{id_length}
+use Rattle.gname.specs.Ids.{Id, IsId, IsIdOf}
 use Rattle.gname.specs.declared.formats.Format.{Format}
 use Rattle.gname.specs.declared.formats.Format.TheVariants.{Sha1}
-use Rattle.gname.specs.declared.ids.OidFault.{OidFault}
 use Rattle.gitobject.specs.Trees.{BeginsWithEntry, Entry, IsEntry, IsTree, entry_link, entry_text, tree_text}
 use Rattle.gitobject.specs.declared.links.Link.{Link}
 use Rattle.gitobject.proofs.Cutting.{cut_once, same_fronts}
 
 -- ---- the bytes of an id
 
-reads_bytes : IdsHaveOneFormat → IdsHaveTexts → TextsHaveOneReading → (bytes digits : List ℕ) (r : Result Id OidFault) → IsIdOf Sha1 bytes → digits ≡ encode_lower bytes → ReadsId Sha1 digits r → r ≡ Ok bytes
-reads_bytes formats texts law bytes digits r is written reads =
-    let known = formats Sha1 bytes is in
-    let spelt = (texts bytes known.0).0 in
-    let P : Format → Type 0 = λ f. IsIdTextOf f (encode_lower bytes) bytes in
-    let Q : List ℕ → Type 0 = λ d. IsIdTextOf Sha1 d bytes in
-    let spells = subst Q (sym written) (subst P known.1 spelt) in
-    (law Sha1 digits).1 r (Ok bytes) reads ((law Sha1 digits).0 bytes spells)
-
-ok_gives : {T E : Type 0} (r : Result T E) (P : Type 0) → OnOk r P → IsOk r → P
-ok_gives (Ok x) P h ok = h
-ok_gives (Err e) P h ok = absurd (false≢true ok)
-
-digits_written : {T E : Type 0} (bytes out : List ℕ) (r : Result T E) → length bytes ≡ 20 → IsOk r ↔ (40 ≡ 2 * length bytes) → OnOk r (out ≡ encode_lower bytes) → out ≡ encode_lower bytes
-digits_written bytes out r long fits written = ok_gives r (out ≡ encode_lower bytes) written (fits.1 (omega (arith, long)))
-
-pub id_is_read : {T E : Type 0} → IdsHaveOneFormat → IdsHaveTexts → TextsHaveOneReading → (bytes out : List ℕ) (w : Result T E) (r : Result Id OidFault)
-    → IsIdOf Sha1 bytes → IsOk w ↔ (40 ≡ 2 * length bytes) → OnOk w (out ≡ encode_lower bytes) → ReadsId Sha1 out r → r ≡ Ok bytes
-id_is_read formats texts law bytes out w r id fits written reads =
-    reads_bytes formats texts law bytes out r id (digits_written bytes out w id.long fits written) reads
+pub id_is_made : (bytes : List ℕ) (r : Option Id) → IsIdOf Sha1 bytes
+    → MatchOption r ((format : Format) → length bytes ≢ id_length format) (λ id. (id ≡ bytes) × IsId id) → r ≡ Some bytes
+id_is_made bytes None is none = absurd (none Sha1 is.long)
+id_is_made bytes (Some id) is made = ap Some made.0
 
 -- ---- the mode of an entry
 

@@ -7,7 +7,7 @@ ghost use Rattle.gitobject.specs.Naming.{id_of};
 
 use crate::types::ObjectType;
 use gname::Oid;
-use gname::laws::{ids_have_one_format, ids_have_texts, texts_have_one_reading};
+use gname::laws::ids_have_one_format;
 use itoa::Buffer;
 use sha1::Sha1;
 
@@ -38,12 +38,7 @@ pub(crate) fn id_of_bytes(bytes: &[u8; ID_BYTES]) -> Oid
     ensures bytes { result ≡ bytes.now }
     ensures format { IsIdOf formats.Sha1 result }
 {
-    // Laws.
+    // Law.
     ids_have_one_format();
-    ids_have_texts();
-    texts_have_one_reading();
-    // An `Oid` is made from digits only.
-    let mut digits = [0; ID_TEXT];
-    let _written = hex::encode_to_slice(bytes, &mut digits);
-    Oid::from_hex(&digits).unwrap()
+    Oid::from_bytes(bytes).unwrap()
 }

@@ -33,8 +33,7 @@
 //!
 //! # Stands on
 //!
-//! `gname` for ids, `sha1` for the hash, `hex` to turn bytes into an id, `itoa` for a length in decimal, `memchr` for
-//! searches.
+//! `gname` for ids, `sha1` for the hash, `itoa` for a length in decimal, `memchr` for searches.
 #![tactic(auto)]
 
 mod fault;

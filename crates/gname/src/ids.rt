@@ -1,14 +1,15 @@
 //! Object ids.
 
-ghost use Rattle.std.specs.Prelude.{◌≡◌, ℕ, [], ◌∷◌, ◌++◌, List, OnOk, Some, take, drop, nat_eq};
+ghost use Rattle.std.specs.Prelude.{◌≡◌, ◌≢◌, ℕ, [], ◌∷◌, ◌++◌, List, MatchOption, OnOk, Some, length, take, drop, nat_eq};
 ghost use Rattle.std.proofs.Common.{rules};
 ghost use Rattle.std.specs.Ordering.{as_partial_cmp};
 ghost use Rattle.std.specs.Cmp as Cmp;
 ghost use Rattle.std.specs.Cmp.{partial_order_from_own_ties};
 ghost use Rattle.std.specs.Cmp.Rules.{comparing, hashing};
 ghost use Rattle.std.specs.Cmp.Lexicographic.{pointwise, nat_list_eq_equiv};
+ghost use Rattle.gname.specs.declared.formats.Format.{Format};
 ghost use Rattle.gname.specs.declared.formats.Format.TheVariants.{Sha1};
-ghost use Rattle.gname.specs.Formats.{id_text_length};
+ghost use Rattle.gname.specs.Formats.{id_length, id_text_length};
 ghost use Rattle.gname.specs.Ids.{IsId, IsIdOf, IsIdText, ReadsId, format_of, id_cmp, id_fault_of, id_text};
 ghost use Rattle.gname.specs.Faults.{id_fault_row, id_fault_text};
 
@@ -75,6 +76,19 @@ impl Oid {
             Format::Sha256 => Digest::Sha256(from_digits(text)?),
         };
         Ok(Oid { digest })
+    }
+
+    /// Reads the bytes of an id: twenty of SHA-1, or thirty-two of SHA-256. It is `None` of any other number of bytes.
+    pub fn from_bytes(bytes: &[u8]) -> Option<Oid>
+        ensures { MatchOption result ((format : Format) → length bytes.now ≢ id_length format)
+            (λ id. (id ≡ bytes.now) × IsId id) }
+    {
+        let digest = match bytes.len() {
+            20 => Digest::Sha1(bytes.try_into().ok()?),
+            32 => Digest::Sha256(bytes.try_into().ok()?),
+            _ => return None,
+        };
+        Some(Oid { digest })
     }
 
     /// Writes the digits of the id, in lower case, into the first forty or sixty-four bytes, and

@@ -6,7 +6,7 @@
 //! - [`Oid::from_hex_in`] reads exactly the texts of forty hexadecimal digits, or sixty-four in
 //!   SHA-256, in either case, and reports of each other text what is wrong with it and where.
 //!   [`Oid::to_hex`] writes the one text in lower case, which reads back as the id, and [`Oid::push_hex`]
-//!   adds it to a text. An id has one [`Format`].
+//!   adds it to a text. [`Oid::from_bytes`] takes exactly twenty or thirty-two bytes. An id has one [`Format`].
 //! - [`RefName::new`], [`RefName::check`] and [`Prefix::new`] accept exactly the names and prefixes that
 //!   the rules of git-check-ref-format(1) allow, and report of each other text the first fault in one
 //!   fixed order, with its first position. Out of memory is reported of a well-formed text alone, and
