@@ -217,7 +217,8 @@ pub fn conclude_stored<A: Allocator + Copy, T: Storage, R: Sink>(
 ) -> Result<(), ProgramFault<A>>
     requires locked { T.lockfile file.old ≡ Empty }
     requires updates { length fetched.now.settled.updates.items ≡ length fetched.now.settled.asks }
-    ensures concludes { Holds (T.texts file.old) old.now → ConcludesStored old.now repo.now fetched.now
+    ensures concludes { Holds (T.texts file.old) old.now
+        → ConcludesStored old.now repo.now fetched.now
         (stored_of T.texts T.lockfile file.old file.new)
         (output_of R.contents R.passed_on R.is_down report.old report.new) result }
     ensures lockfile { T.lockfile file.new ≡ Absent }

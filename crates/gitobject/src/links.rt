@@ -115,7 +115,8 @@ fn goes_on(text: &[u8]) -> bool
 
 /// The object that a tag names; `None` if the bytes do not begin as those of a tag.
 pub fn tag_link(body: &[u8]) -> Option<Link>
-    ensures { MatchOption result ((target : Id) (kind : ObjectType) → ¬ (IsTag body.now target kind))
+    ensures { MatchOption result
+        ((target : Id) (kind : ObjectType) → ¬ (IsTag body.now target kind))
         (λ link. IsTag body.now link.id link.kind) }
 {
     let Some(object) = id_line(b"object ", body) else {
@@ -171,7 +172,8 @@ fn push_commits<A: Allocator + Copy>(
     links: &mut Vec<Link, A>,
     ids: &[Oid],
 ) -> Result<(), AllocError>
-    ensures { OnOk result (links.new.items ≡ links.old.items ++ map (link_of types.Commit) ids.now) }
+    ensures { OnOk result
+        (links.new.items ≡ links.old.items ++ map (link_of types.Commit) ids.now) }
 {
     for id in ids {
         links.push(Link {

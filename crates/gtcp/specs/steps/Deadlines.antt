@@ -17,8 +17,8 @@ longest_wait = 60_000_000_000
 
 -- ---- what is left
 
--- How much is left now, of a time of which so much was left at an earlier moment: what the clock shows to have passed is
--- taken off. There is nothing where all of it has passed, and where the clock went back.
+-- How much is left now, if so much was left at an earlier moment: the time that has passed by the clock is taken off.
+-- Nothing is left if all of it has passed, or if the clock went back.
 abbrev pub LeavesOf : ℕ × ℕ → ℕ → Option (ℕ × ℕ) → Type 0
 LeavesOf (left, at) now (Some (rest, moment)) =
     (moment ≡ now) × (at ≤ now) × (rest + (now - at) ≡ left) × (0 < rest)
