@@ -1,5 +1,7 @@
 //! Connections in memory whose peer is late, and a clock of their own: no time passes but the one that a read or a write waits.
 
+ghost use Rattle.std.specs.Io.{ReadsAtMost, WritesAtMost};
+
 use cases::{Talk, Trouble};
 use runs::Writer;
 use std::alloc::Global;
@@ -178,7 +180,9 @@ impl<'r> Line<'r> {
     }
 
     // Gives what comes next, and answers how many bytes.
-    fn give(&self, clock: &OwnClock, buf: &mut [u8]) -> io::Result<usize> {
+    fn give(&self, clock: &OwnClock, buf: &mut [u8]) -> io::Result<usize>
+        ensures { ReadsAtMost result buf.new }
+    {
         let at = self.at.get();
         let input = self.talk.input.as_slice();
         if at >= input.len() {
@@ -196,7 +200,9 @@ impl<'r> Line<'r> {
     }
 
     // Takes what it takes of the bytes, and answers how many.
-    fn take(&self, clock: &OwnClock, buf: &[u8]) -> io::Result<usize> {
+    fn take(&self, clock: &OwnClock, buf: &[u8]) -> io::Result<usize>
+        ensures { WritesAtMost result buf.now }
+    {
         let Ok(mut taken) = self.taken.try_borrow_mut() else {
             return Err(io::Error::from(ErrorKind::ResourceBusy));
         };

@@ -52,8 +52,9 @@ use cases::{Script, Trouble};
 use gname::Format;
 use launches::System;
 use std::alloc::Global;
+use std::net::{Net, TcpListener, TcpStream};
 use std::process::ExitCode;
-use std::rt::Files;
+use std::rt::{Clock, Env, Files};
 use std::{env, fs, io};
 use tries::Way;
 
@@ -65,7 +66,10 @@ fn main(rt: HostRuntime) -> ExitCode {
 }
 
 // Tries all cases of the files that the words name. It answers whether nothing went wrong.
-fn run<R: System>(rt: &R) -> io::Result<bool> {
+fn run<R>(rt: &R) -> io::Result<bool>
+where
+    R: AllocGlobal + Clock + Env + Files + Print + Net<Stream = TcpStream, Listener = TcpListener>,
+{
     let words: Vec<String> = env::args(rt)?.skip(1).collect(rt.alloc())?;
     let (depth, names) = depth_of(words.as_slice());
     let files = read_files(rt, names)?;
