@@ -11,8 +11,8 @@ use gname::laws::ids_have_one_format;
 use itoa::Buffer;
 use sha1::Sha1;
 
-/// The bytes of an id.
-pub(crate) const ID_BYTES: usize = 20;
+/// The bytes of a SHA-1 id.
+pub const ID_BYTES: usize = 20;
 
 /// The digits of an id.
 pub(crate) const ID_TEXT: usize = 40;
@@ -33,8 +33,8 @@ pub fn id_of(kind: ObjectType, body: &[u8]) -> Oid
     id_of_bytes(&hasher.finalize())
 }
 
-/// The id with these bytes.
-pub(crate) fn id_of_bytes(bytes: &[u8; ID_BYTES]) -> Oid
+/// The SHA-1 id with these bytes.
+pub fn id_of_bytes(bytes: &[u8; ID_BYTES]) -> Oid
     ensures bytes { result ≡ bytes.now }
     ensures format { IsIdOf formats.Sha1 result }
 {

@@ -47,7 +47,7 @@ mod trees;
 mod types;
 
 pub use crate::fault::ObjectFault;
-pub use crate::ids::id_of;
+pub use crate::ids::{ID_BYTES, id_of, id_of_bytes};
 pub use crate::links::{CommitLinks, Link, commit_links, links_of, tag_link};
 pub use crate::loose::split_loose;
 pub use crate::trees::{TreeEntry, split_entry, tree_links};

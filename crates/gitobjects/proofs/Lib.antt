@@ -1,0 +1,3 @@
+pub mod PartsLemmas
+pub mod WindowLemmas
+pub mod ListingLemmas

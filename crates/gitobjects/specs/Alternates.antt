@@ -1,0 +1,16 @@
+-- Alternates (gitrepository-layout(5), "objects/info/alternates"): one path a line. Git leaves out
+-- a line that is empty, and one that begins with `#`.
+use Rattle.std.specs.Prelude.{◌≡◌, ℕ, ◌==◌, Bool, false, not, List, [], ◌∷◌, ◌++◌, filter}
+use Rattle.gitobjects.specs.Parts.{IsOfParts}
+
+-- the line names a folder
+abbrev pub names_folder : List ℕ → Bool
+names_folder [] = false
+names_folder (b ∷ line) = not (b == 35)
+
+-- the paths that a text names, in order
+pub record NamesFolders (text : List ℕ) (paths : List (List ℕ)) : Type 0 where
+  pub lines : List (List ℕ)
+  pub last : List ℕ
+  pub parts : IsOfParts 10 text lines last
+  pub named : paths ≡ filter names_folder (lines ++ last ∷ [])

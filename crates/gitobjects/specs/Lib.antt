@@ -1,0 +1,5 @@
+pub mod Paths
+pub mod Windows
+pub mod Parts
+pub mod Alternates
+pub mod Listings

@@ -1,0 +1,12 @@
+-- The paths of files that hold objects (gitrepository-layout(5), "objects").
+use Rattle.std.specs.Prelude.{ℕ, List, ◌∷◌, ◌++◌, take, drop}
+use Rattle.gname.specs.Ids.{Id, id_text}
+
+-- the path of a name in a folder
+abbrev pub below : List ℕ → List ℕ → List ℕ
+below folder name = folder ++ 47 ∷ name
+
+-- the path of a loose object: a folder for the first two digits of its id, and in it a file for the
+-- others
+abbrev pub loose_path : List ℕ → Id → List ℕ
+loose_path folder id = below (below folder (take 2 (id_text id))) (drop 2 (id_text id))

@@ -1,0 +1,158 @@
+//! The folders of objects: that of the repository, and its alternates (gitrepository-layout(5),
+//! "objects/info/alternates").
+
+ghost use Rattle.std.specs.Prelude.{◌≡◌, ◌++◌, ◌∷◌, [], IfOk, OnOk, filter, map, string_bytes};
+ghost use Rattle.gitobjects.specs.Alternates.{NamesFolders, names_folder};
+
+use crate::fault::{Cause, StoreFault, fault_at};
+use crate::files::ObjectFiles;
+use crate::limits::{MAX_ALTERNATES, MAX_DEPTH, MAX_FOLDERS};
+use crate::parts::cut;
+use crate::paths::join;
+use std::alloc::{AllocError, Allocator};
+use std::io::ErrorKind;
+
+/// A folder of objects.
+#[derive(Drop)]
+pub(crate) struct Folder<A: Allocator + Copy> {
+    pub(crate) path: String<A>,
+    // How many alternates lead to it.
+    depth: usize,
+}
+
+/// The folder of a repository, and all that its alternates name, and theirs, up to the depth that
+/// Git has. A folder that is named again is left out, so alternates in a circle end. One that is
+/// not there is left out, too.
+pub(crate) fn object_folders<F: ObjectFiles, A: Allocator + Copy>(
+    files: &F,
+    alloc: A,
+    own: &str,
+) -> Result<Vec<Folder<A>, A>, StoreFault<A>> {
+    let mut folders = Vec::new(alloc);
+    let path = own_folder(files, alloc, own)?;
+    folders.push(Folder { path, depth: 0 })?;
+    for place in 0..MAX_FOLDERS {
+        let Some(folder) = folders.get(place) else {
+            break;
+        };
+        let (path, depth) = (String::from_str(alloc, folder.path.as_str())?, folder.depth);
+        if depth <= MAX_DEPTH {
+            add_alternates(files, alloc, &mut folders, path.as_str(), depth + 1)?;
+        }
+    }
+    Ok(folders)
+}
+
+// The path of the folder of a repository, which must be there.
+fn own_folder<F: ObjectFiles, A: Allocator + Copy>(
+    files: &F,
+    alloc: A,
+    own: &str,
+) -> Result<String<A>, StoreFault<A>> {
+    match files.canonical(alloc, own) {
+        Ok(Some(path)) => Ok(path),
+        Ok(None) => Err(fault_at(alloc, own, Cause::Open(ErrorKind::NotFound))),
+        Err(cause) => Err(fault_at(alloc, own, cause)),
+    }
+}
+
+// Adds the alternates of a folder, which have this depth.
+fn add_alternates<F: ObjectFiles, A: Allocator + Copy>(
+    files: &F,
+    alloc: A,
+    folders: &mut Vec<Folder<A>, A>,
+    folder: &str,
+    depth: usize,
+) -> Result<(), StoreFault<A>> {
+    let path = join(alloc, folder, "info/alternates")?;
+    let text = match files.read(alloc, path.as_str(), MAX_ALTERNATES) {
+        Ok(Some(text)) => text,
+        Ok(None) => return Ok(()),
+        Err(cause) => return Err(fault_at(alloc, path.as_str(), cause)),
+    };
+    let names = match folder_names(alloc, text.as_slice()) {
+        Ok(names) => names,
+        Err(cause) => return Err(fault_at(alloc, path.as_str(), cause)),
+    };
+    for name in &names {
+        let alternate = path_of(alloc, folder, name.as_str())?;
+        match add_folder(files, alloc, folders, alternate.as_str(), depth) {
+            Ok(()) => {}
+            Err(cause) => return Err(fault_at(alloc, alternate.as_str(), cause)),
+        }
+    }
+    Ok(())
+}
+
+// The paths that a text names, in order.
+fn folder_names<A: Allocator + Copy>(alloc: A, text: &[u8]) -> Result<Vec<String<A>, A>, Cause>
+    ensures { IfOk result (λ names. NamesFolders text.now (map string_bytes names.items)) }
+{
+    let mut names = Vec::new(alloc);
+    let mut rest = text;
+    while let Some((line, after)) = cut(b'\n', rest) {
+        push_name(alloc, &mut names, line)?;
+        rest = after;
+    }
+    push_name(alloc, &mut names, rest)?;
+    Ok(names)
+}
+
+// Adds the path on a line, unless the line is empty or a comment.
+fn push_name<A: Allocator + Copy>(
+    alloc: A,
+    names: &mut Vec<String<A>, A>,
+    line: &[u8],
+) -> Result<(), Cause>
+    ensures { OnOk result (map string_bytes names.new.items
+        ≡ map string_bytes names.old.items ++ filter names_folder (line.now ∷ [])) }
+{
+    match line.first() {
+        None | Some(b'#') => return Ok(()),
+        Some(b'"') => return Err(Cause::Quoted),
+        Some(_) => {}
+    }
+    let Ok(name) = str::from_utf8(line) else {
+        return Err(Cause::NotText);
+    };
+    names.push(String::from_str(alloc, name)?)?;
+    Ok(())
+}
+
+// The path of an alternate. A path that is not absolute begins at the folder that names it.
+fn path_of<A: Allocator + Copy>(
+    alloc: A,
+    folder: &str,
+    name: &str,
+) -> Result<String<A>, AllocError> {
+    if name.starts_with('/') {
+        String::from_str(alloc, name)
+    } else {
+        join(alloc, folder, name)
+    }
+}
+
+// Adds a folder, if it is there and was not added before.
+fn add_folder<F: ObjectFiles, A: Allocator + Copy>(
+    files: &F,
+    alloc: A,
+    folders: &mut Vec<Folder<A>, A>,
+    path: &str,
+    depth: usize,
+) -> Result<(), Cause> {
+    let Some(path) = files.canonical(alloc, path)? else {
+        return Ok(());
+    };
+    if is_known(folders.as_slice(), path.as_str()) {
+        return Ok(());
+    }
+    if folders.len() >= MAX_FOLDERS {
+        return Err(Cause::Folders);
+    }
+    folders.push(Folder { path, depth })?;
+    Ok(())
+}
+
+fn is_known<A: Allocator + Copy>(folders: &[Folder<A>], path: &str) -> bool {
+    folders.iter().any(|folder| folder.path.as_str() == path)
+}

@@ -1,0 +1,100 @@
+//! Objects that deltas were applied to, kept for a while.
+
+use crate::limits::{MAX_BASE, MAX_KEPT};
+use crate::object::Object;
+use std::alloc::{AllocError, Allocator};
+
+// How many objects are kept at most.
+const SLOTS: usize = 8_192;
+
+/// The beginning of an object: the number of its pack, and an offset in it.
+#[derive(Clone, Copy, Debug, PartialEq, Eq)]
+pub(crate) struct Spot {
+    pub(crate) pack: usize,
+    pub(crate) start: usize,
+}
+
+// An object that is kept.
+#[derive(Drop)]
+struct Kept<A: Allocator + Copy> {
+    spot: Spot,
+    object: Object<A>,
+}
+
+/// The objects that are kept. Each has one slot, and takes the place of the one that is there.
+#[derive(Drop)]
+pub(crate) struct BaseCache<A: Allocator + Copy> {
+    alloc: A,
+    slots: Vec<Option<Kept<A>>, A>,
+    // The bytes of all objects that are kept.
+    bytes: usize,
+}
+
+impl<A: Allocator + Copy> BaseCache<A> {
+    /// A cache with nothing in it.
+    pub(crate) fn new(alloc: A) -> Result<BaseCache<A>, AllocError> {
+        let slots = empty_slots(alloc)?;
+        Ok(BaseCache {
+            alloc,
+            slots,
+            bytes: 0,
+        })
+    }
+
+    /// The object that begins here; `None` if it is not kept.
+    pub(crate) fn get(&self, spot: Spot) -> Option<&Object<A>> {
+        match self.slots.get(slot_of(spot)) {
+            Some(Some(kept)) if kept.spot == spot => Some(&kept.object),
+            _ => None,
+        }
+    }
+
+    /// Whether the object that begins here is kept.
+    pub(crate) fn holds(&self, spot: Spot) -> bool {
+        self.get(spot).is_some()
+    }
+
+    /// Keeps an object, unless it is too large. If there are too many bytes, all others are given
+    /// up first.
+    pub(crate) fn put(&mut self, spot: Spot, object: Object<A>) -> Result<(), AllocError> {
+        let more = object.body.len();
+        if more > MAX_BASE {
+            return Ok(());
+        }
+        if self.bytes.saturating_add(more) > MAX_KEPT {
+            self.slots = empty_slots(self.alloc)?;
+            self.bytes = 0;
+        }
+        let slot = slot_of(spot);
+        if slot < self.slots.len() {
+            let less = length_in(&self.slots[slot]);
+            self.slots[slot] = Some(Kept { spot, object });
+            self.bytes = self.bytes.saturating_add(more).saturating_sub(less);
+        }
+        Ok(())
+    }
+}
+
+fn length_in<A: Allocator + Copy>(slot: &Option<Kept<A>>) -> usize {
+    match slot {
+        Some(kept) => kept.object.body.len(),
+        None => 0,
+    }
+}
+
+fn empty_slots<A: Allocator + Copy>(alloc: A) -> Result<Vec<Option<Kept<A>>, A>, AllocError> {
+    let mut slots = Vec::with_capacity(alloc, SLOTS)?;
+    for _slot in 0..SLOTS {
+        slots.push(None)?;
+    }
+    Ok(slots)
+}
+
+// The slot of a place: a number that is spread by the golden ratio.
+fn slot_of(spot: Spot) -> usize {
+    let mixed = spot
+        .start
+        .wrapping_add(spot.pack.wrapping_mul(7_919))
+        .wrapping_mul(0x9e37_79b9_7f4a_7c15);
+    (mixed >> 40) % SLOTS
+}

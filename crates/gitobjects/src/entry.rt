@@ -1,0 +1,63 @@
+//! Entries of a pack, once their bytes are read (gitformat-pack(5)).
+
+ghost use Rattle.std.specs.Prelude.{◌≡◌, IfOk, length};
+
+use crate::fault::Cause;
+use crate::limits::MAX_OBJECT;
+use gitpack::{EntryForm, EntryHead, read_head};
+use gzlib::{InflateFault, Inflater};
+use std::alloc::Allocator;
+
+/// An entry: its head, and what its stream inflates to. This is the body of an object, or a delta.
+#[derive(Drop)]
+pub(crate) struct Inflated<A: Allocator + Copy> {
+    pub(crate) form: EntryForm,
+    pub(crate) size: usize,
+    pub(crate) text: Vec<u8, A>,
+}
+
+/// An entry of a pack as it lies, to be copied.
+#[derive(Drop)]
+pub struct RawEntry<A: Allocator + Copy> {
+    /// Its head.
+    pub head: EntryHead,
+    /// The place of its base in the index of the same pack, if the entry is a delta.
+    pub base: Option<usize>,
+    /// All of its bytes: the head, and then the stream.
+    pub bytes: Vec<u8, A>,
+}
+
+// No zlib stream inflates to more than so many times its length.
+const MAX_RATIO: usize = 1_032;
+
+/// Inflates the entry that has exactly these bytes.
+///
+/// It fails with `Head`, `ObjectSize`, `Stream` and `Memory`.
+pub(crate) fn inflate_entry<A: Allocator + Copy>(
+    alloc: A,
+    inflater: &mut Inflater,
+    bytes: &[u8],
+) -> Result<Inflated<A>, Cause>
+    ensures { IfOk result (λ entry. length entry.text.items ≡ entry.size) }
+{
+    let Some(head) = read_head(bytes) else {
+        return Err(Cause::Head);
+    };
+    let Some(stream) = bytes.get(head.length..) else {
+        return Err(Cause::Head);
+    };
+    let size = head.size;
+    if size > MAX_OBJECT {
+        return Err(Cause::ObjectSize);
+    }
+    let room = size.min(stream.len().saturating_mul(MAX_RATIO));
+    let mut text = Vec::with_capacity(alloc, room)?;
+    match inflater.inflate(stream, &mut text, size) {
+        Ok(length) if length == stream.len() && text.len() == size => {
+            let form = head.form;
+            Ok(Inflated { form, size, text })
+        }
+        Err(InflateFault::Memory) => Err(Cause::Memory),
+        _ => Err(Cause::Stream),
+    }
+}

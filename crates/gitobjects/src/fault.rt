@@ -1,0 +1,216 @@
+//! Why an object is not read.
+
+use gname::{MAX_ID_TEXT, OUT_OF_MEMORY_TEXT, Oid};
+use std::alloc::{AllocError, AllocFailed, Allocator};
+use std::error::Error;
+use std::io::ErrorKind;
+use std::{fmt, io};
+
+/// The fault of a file. It names no file itself: a [`StoreFault`] does.
+#[derive(Clone, Copy, Debug, PartialEq, Eq)]
+pub enum Cause {
+    /// Out of memory.
+    Memory,
+    /// The system does not open the file.
+    Open(ErrorKind),
+    /// The system does not read the file.
+    Read(ErrorKind),
+    /// The system does not list the folder.
+    List(ErrorKind),
+    /// A path is not UTF-8.
+    NotText,
+    /// The file has more bytes than its limit.
+    FileSize,
+    /// An object has more bytes than [`crate::MAX_OBJECT`].
+    ObjectSize,
+    /// The file of alternates has a path in quotes, which this crate does not read.
+    Quoted,
+    /// There are more than [`crate::MAX_FOLDERS`] folders of objects.
+    Folders,
+    /// The file is no pack index of version 2.
+    Index,
+    /// The pack has another header, count of objects or checksum than its index says.
+    Pack,
+    /// An offset in the index lies outside of the pack.
+    Offset,
+    /// The head of an entry is malformed.
+    Head,
+    /// A stream is no zlib stream of the size in its head.
+    Stream,
+    /// The CRC-32 of an entry is not the one in the index.
+    Crc,
+    /// The base of a delta is not in the same pack.
+    Base,
+    /// A chain of deltas leads back to itself.
+    Circle,
+    /// A delta does not fit its base.
+    Delta,
+    /// The text of a loose object is malformed.
+    Loose,
+    /// The bytes of an object have another id.
+    Id,
+}
+
+impl Cause {
+    /// The fault of opening a file.
+    pub(crate) fn open(error: &io::Error) -> Cause {
+        match error.kind() {
+            ErrorKind::OutOfMemory => Cause::Memory,
+            kind => Cause::Open(kind),
+        }
+    }
+
+    /// The fault of reading a file.
+    pub(crate) fn read(error: &io::Error) -> Cause {
+        match error.kind() {
+            ErrorKind::OutOfMemory => Cause::Memory,
+            kind => Cause::Read(kind),
+        }
+    }
+
+    /// The fault of listing a folder.
+    pub(crate) fn list(error: &io::Error) -> Cause {
+        match error.kind() {
+            ErrorKind::OutOfMemory => Cause::Memory,
+            kind => Cause::List(kind),
+        }
+    }
+
+    // The deed that fails.
+    fn verb(self) -> &'static str {
+        match self {
+            Cause::Open(_) => "open",
+            Cause::List(_) => "list",
+            _ => "read",
+        }
+    }
+
+    // The table of causes.
+    fn text(self) -> &'static str {
+        match self {
+            Cause::Memory => OUT_OF_MEMORY_TEXT,
+            Cause::Open(_) | Cause::Read(_) | Cause::List(_) => "the system refuses",
+            Cause::NotText => "the path is not UTF-8",
+            Cause::FileSize => "the file is too large",
+            Cause::ObjectSize => "an object is too large",
+            Cause::Quoted => "a path is in quotes",
+            Cause::Folders => "there are too many folders of objects",
+            Cause::Index => "the file is no pack index of version 2",
+            Cause::Pack => "the pack does not fit its index",
+            Cause::Offset => "an offset of the index lies outside of the pack",
+            Cause::Head => "the head of an entry is malformed",
+            Cause::Stream => "the stream of an object is malformed or has another size",
+            Cause::Crc => "the CRC-32 of an entry is wrong",
+            Cause::Base => "the base of a delta is not in the pack",
+            Cause::Circle => "a chain of deltas leads back to itself",
+            Cause::Delta => "a delta does not fit its base",
+            Cause::Loose => "the loose object is malformed",
+            Cause::Id => "an object has another id than its name says",
+        }
+    }
+}
+
+impl fmt::Display for Cause {
+    fn fmt<W: fmt::Write>(&self, f: &mut fmt::Formatter<W>) -> fmt::Result {
+        match self {
+            Cause::Open(kind) | Cause::Read(kind) | Cause::List(kind) => write!(f, "{kind}"),
+            _ => f.write_str(self.text()),
+        }
+    }
+}
+
+impl From<AllocError> for Cause {
+    fn from(_refused: AllocError) -> Cause {
+        Cause::Memory
+    }
+}
+
+impl<T: Drop> From<AllocFailed<T>> for Cause {
+    fn from(_refused: AllocFailed<T>) -> Cause {
+        Cause::Memory
+    }
+}
+
+/// Why an object is not read: what is wrong, and with which file.
+#[derive(Drop)]
+pub enum StoreFault<A: Allocator + Copy> {
+    /// Out of memory.
+    Memory,
+    /// No object has this id.
+    Missing(Oid),
+    /// A file is refused.
+    File(FileFault<A>),
+}
+
+/// A file, and what is wrong with it.
+#[derive(Drop)]
+pub struct FileFault<A: Allocator + Copy> {
+    /// The path of the file.
+    pub path: String<A>,
+    /// The fault.
+    pub cause: Cause,
+}
+
+impl<A: Allocator + Copy> fmt::Display for StoreFault<A> {
+    fn fmt<W: fmt::Write>(&self, f: &mut fmt::Formatter<W>) -> fmt::Result {
+        match self {
+            StoreFault::Memory => f.write_str(OUT_OF_MEMORY_TEXT),
+            StoreFault::Missing(id) => write_missing(id, f),
+            StoreFault::File(fault) => write!(f, "{fault}"),
+        }
+    }
+}
+
+impl<A: Allocator + Copy> fmt::Debug for StoreFault<A> {
+    fn fmt<W: fmt::Write>(&self, f: &mut fmt::Formatter<W>) -> fmt::Result {
+        write!(f, "{self}")
+    }
+}
+
+impl<A: Allocator + Copy> fmt::Debug for FileFault<A> {
+    fn fmt<W: fmt::Write>(&self, f: &mut fmt::Formatter<W>) -> fmt::Result {
+        write!(f, "{self}")
+    }
+}
+
+impl<A: Allocator + Copy> fmt::Display for FileFault<A> {
+    fn fmt<W: fmt::Write>(&self, f: &mut fmt::Formatter<W>) -> fmt::Result {
+        let verb = self.cause.verb();
+        let path = self.path.as_str();
+        let cause = self.cause;
+        write!(f, "cannot {verb} {path}: {cause}")
+    }
+}
+
+fn write_missing<W: fmt::Write>(id: &Oid, f: &mut fmt::Formatter<W>) -> fmt::Result {
+    let mut digits = [0; MAX_ID_TEXT];
+    let count = id.to_hex(&mut digits);
+    f.write_str("object ")?;
+    f.write_str(str::from_utf8(&digits[..count]).unwrap_or(""))?;
+    f.write_str(" is missing")
+}
+
+impl<A: Allocator + Copy> Error for StoreFault<A> {}
+
+impl<A: Allocator + Copy> From<AllocError> for StoreFault<A> {
+    fn from(_refused: AllocError) -> StoreFault<A> {
+        StoreFault::Memory
+    }
+}
+
+impl<T: Drop, A: Allocator + Copy> From<AllocFailed<T>> for StoreFault<A> {
+    fn from(_refused: AllocFailed<T>) -> StoreFault<A> {
+        StoreFault::Memory
+    }
+}
+
+/// The fault of the file with this path.
+pub(crate) fn fault_at<A: Allocator + Copy>(alloc: A, path: &str, cause: Cause) -> StoreFault<A> {
+    if cause == Cause::Memory {
+        return StoreFault::Memory;
+    }
+    match String::from_str(alloc, path) {
+        Ok(path) => StoreFault::File(FileFault { path, cause }),
+        Err(_) => StoreFault::Memory,
+    }
+}

@@ -1,0 +1,79 @@
+//! The objects of a Git directory, read only (gitrepository-layout(5)): packs through windows,
+//! loose objects, and alternates. This crate knows nothing of refs, graphs or the protocol.
+//!
+//! - An [`ObjectStore`] opens the packs of a directory and finds objects.
+//! - An [`ObjectReader`] reads them. It applies deltas without recursion, and keeps some bases in a
+//!   bounded cache.
+//! - [`ObjectReader::raw_entry`] answers an entry of a pack as it lies, so that a packer can copy
+//!   it.
+//! - [`StoredFiles`] are the files of the system, and [`MemoryFiles`] are files in memory.
+//!
+//! # Proved
+//!
+//! - [`ObjectReader::read_checked`] answers an object only if its id is the one that was asked for.
+//!   The SHA-1 is computed.
+//! - A loose object has the type and the length that its text says. The stream of an entry inflates
+//!   to as many bytes as its head says.
+//! - The window of a pack answers the bytes of the pack, where they are known, whatever blocks it
+//!   holds.
+//! - The path of a loose object is made of a folder and the digits of the id. The path of a pack is
+//!   made of a folder and a name that is listed there. The paths of alternates are those that
+//!   `info/alternates` names, in order.
+//! - No call panics, overflows or reads out of bounds, and each returns, on any files. A chain of
+//!   deltas that leads back to itself is a fault.
+//!
+//! # Differences from Git
+//!
+//! - A pack stays open once it is found. Git opens packs as it needs them, and closes some.
+//! - An index of version 1, a multi-pack index, bitmaps and a commit-graph are not read.
+//! - A path in quotes in `info/alternates`, or one that is not UTF-8, is a fault. Git reads both.
+//! - An alternate that is not there is left out. Git does so, too, and prints an error.
+//! - An entry of a pack must have no byte after its stream. Git does not look for one.
+//! - A pack that does not fit its index is a fault of the store. Git leaves such a pack out.
+//!
+//! # What the contracts do not rule out
+//!
+//! - [`ObjectReader::read`] trusts the files: it computes no id. A clause cannot say what a file of
+//!   the system has.
+//! - No clause states the object that a whole chain of deltas makes. Each step rests on a contract
+//!   of `gitpack`.
+//! - The cache of bases is proved safe only.
+//! - Any call may fail out of memory, and any file may be refused.
+//!
+//! # Stands on
+//!
+//! `gitpack` for entries, deltas and the index, `gzlib` for streams and CRC-32, `gitobject` for
+//! types, ids and the text of loose objects, `gname` for ids, `memchr` for searches.
+#![tactic(auto)]
+
+mod alternates;
+mod cache;
+mod entry;
+mod fault;
+mod files;
+mod limits;
+mod listing;
+mod memory;
+mod object;
+mod order;
+mod pack;
+mod parts;
+mod paths;
+mod reader;
+mod store;
+mod stored;
+mod window;
+
+pub use crate::entry::RawEntry;
+pub use crate::fault::{Cause, FileFault, StoreFault};
+pub use crate::files::{ObjectFiles, OpenPack};
+pub use crate::limits::{
+    MAX_ALTERNATES, MAX_BASE, MAX_DEPTH, MAX_FOLDERS, MAX_INDEX, MAX_KEPT, MAX_NAMES, MAX_OBJECT,
+    MAX_STREAM,
+};
+pub use crate::memory::{MemoryFiles, MemoryPack};
+pub use crate::object::Object;
+pub use crate::order::Start;
+pub use crate::reader::ObjectReader;
+pub use crate::store::{Found, ObjectStore};
+pub use crate::stored::{StoredFiles, StoredPack};

@@ -1,0 +1,39 @@
+//! The limits of this crate, in one table. They bound memory, whatever the files say.
+
+/// The most bytes of an object: 1 GiB.
+pub const MAX_OBJECT: usize = 1_073_741_824;
+
+/// The most bytes of an entry of a pack, or of the file of a loose object: those of an object, and
+/// an eighth more.
+pub const MAX_STREAM: usize = 1_207_959_552;
+
+/// The most bytes of the index of a pack: 4 GiB.
+pub const MAX_INDEX: usize = 4_294_967_296;
+
+/// The most bytes of `objects/info/alternates`: 1 MiB.
+pub const MAX_ALTERNATES: usize = 1_048_576;
+
+/// How deep alternates name others. Git has the same limit.
+pub const MAX_DEPTH: usize = 5;
+
+/// The most folders of objects: that of the repository, and all alternates.
+pub const MAX_FOLDERS: usize = 1_024;
+
+/// The most bytes of the names in one folder of packs: 64 MiB.
+pub const MAX_NAMES: usize = 67_108_864;
+
+/// The most bytes of the bases that a reader keeps: 64 MiB.
+pub const MAX_KEPT: usize = 67_108_864;
+
+/// The most bytes of one base that a reader keeps: 4 MiB.
+pub const MAX_BASE: usize = 4_194_304;
+
+/// The most bytes of an object that is kept as it is answered, since a delta may need it next: 64
+/// KiB.
+pub(crate) const MAX_ANSWER: usize = 65_536;
+
+/// The bytes of a block of a window: 1 MiB.
+pub(crate) const BLOCK: usize = 1_048_576;
+
+/// The blocks that a window holds.
+pub(crate) const BLOCKS: usize = 16;

@@ -1,0 +1,71 @@
+//! The names in a folder of packs.
+
+ghost use Rattle.std.specs.Prelude.{◌≡◌, ◌++◌, ◌∷◌, [], ℕ, List, All, IfOk, IfSome, OnOk, codes, map, string_bytes};
+ghost use Rattle.gitobjects.specs.Listings.{AreListed, IsStemIn};
+
+use crate::fault::Cause;
+use crate::parts::cut;
+use std::alloc::Allocator;
+
+/// The names of the packs whose index is listed, without the extension, in order. Each name in the
+/// list has a NUL after it.
+pub(crate) fn index_stems<A: Allocator + Copy>(
+    alloc: A,
+    names: &[u8],
+) -> Result<Vec<String<A>, A>, Cause>
+    ensures { IfOk result (λ stems. AreListed names.now (map string_bytes stems.items)) }
+{
+    let mut stems = listed_stems(alloc, names)?;
+    stems.sort_unstable();
+    Ok(stems)
+}
+
+// The same names, in the order of the list.
+fn listed_stems<A: Allocator + Copy>(alloc: A, names: &[u8]) -> Result<Vec<String<A>, A>, Cause>
+    ensures { IfOk result (λ stems. AreListed names.now (map string_bytes stems.items)) }
+{
+    let mut stems = Vec::new(alloc);
+    let mut rest = names;
+    while let Some((name, after)) = cut(0, rest) {
+        push_stem(alloc, &mut stems, name)?;
+        rest = after;
+    }
+    Ok(stems)
+}
+
+// Adds the name of a pack, if this is the name of its index.
+fn push_stem<A: Allocator + Copy>(
+    alloc: A,
+    stems: &mut Vec<String<A>, A>,
+    name: &[u8],
+) -> Result<(), Cause>
+    ensures { OnOk result ((names : List (List ℕ))
+        → All (IsStemIn names) (map string_bytes stems.old.items)
+        → All (IsStemIn (names ++ name.now ∷ [])) (map string_bytes stems.new.items)) }
+{
+    match stem_of(name) {
+        Some(stem) => {
+            let stem = String::from_str(alloc, stem)?;
+            stems.push(stem)?;
+            Ok(())
+        }
+        None => Ok(()),
+    }
+}
+
+// The name of an index without its extension; `None` if it is no index. Git gives no name that is
+// not UTF-8.
+fn stem_of(name: &[u8]) -> Option<&str>
+    ensures { IfSome result (λ stem. name.now ≡ stem.now ++ codes ".idx") }
+{
+    let Some(stem) = name.strip_suffix(b".idx") else {
+        return None;
+    };
+    if stem.contains(&b'/') {
+        return None;
+    }
+    match str::from_utf8(stem) {
+        Ok(stem) => Some(stem),
+        Err(_) => None,
+    }
+}

@@ -1,0 +1,74 @@
+//! An object that was read.
+
+ghost use Rattle.std.specs.Prelude.{◌≡◌, ◌↔◌, IsTrue, IfOk};
+ghost use Rattle.gitobject.specs.Naming.{id_of, object_text};
+
+use crate::fault::Cause;
+use crate::limits::MAX_OBJECT;
+use gitobject::{ObjectType, id_of, split_loose};
+use gname::Oid;
+use gzlib::{InflateFault, Inflater};
+use std::alloc::{AllocError, Allocator};
+
+/// An object: its type and its bytes.
+#[derive(Debug, Drop)]
+pub struct Object<A: Allocator + Copy> {
+    /// The type.
+    pub kind: ObjectType,
+    /// The bytes.
+    pub body: Vec<u8, A>,
+}
+
+impl<A: Allocator + Copy> Object<A> {
+    /// Whether the object has this id. Its SHA-1 is computed.
+    pub fn has_id(&self, id: &Oid) -> bool
+        ensures { IsTrue result ↔ (id_of self.now.kind self.now.body.items ≡ id.now) }
+    {
+        id_of(self.kind, self.body.as_slice()) == *id
+    }
+
+    /// The same object, in another allocator.
+    pub(crate) fn copy_in<B: Allocator + Copy>(&self, alloc: B) -> Result<Object<B>, AllocError>
+        ensures kind { IfOk result (λ copy. copy.kind ≡ self.now.kind) }
+        ensures body { IfOk result (λ copy. copy.body.items ≡ self.now.body.items) }
+    {
+        Ok(Object {
+            kind: self.kind,
+            body: self.body.as_slice().to_vec(alloc)?,
+        })
+    }
+}
+
+// The most bytes of the text of a loose object before its body: a type, a length, a space and a
+// NUL.
+const MAX_LOOSE_HEAD: usize = 32;
+
+/// The object in the file of a loose object: one zlib stream of its text, and no byte more.
+///
+/// It fails with `Stream`, `Loose` and `Memory`.
+pub(crate) fn read_loose<A: Allocator + Copy>(
+    alloc: A,
+    inflater: &mut Inflater,
+    stream: &[u8],
+) -> Result<Object<A>, Cause> {
+    let mut text = Vec::new(alloc);
+    match inflater.inflate(stream, &mut text, MAX_OBJECT + MAX_LOOSE_HEAD) {
+        Ok(length) if length == stream.len() => object_of(alloc, text.as_slice()),
+        Ok(_) => Err(Cause::Stream),
+        Err(InflateFault::Memory) => Err(Cause::Memory),
+        Err(_) => Err(Cause::Stream),
+    }
+}
+
+// The object with this text.
+fn object_of<A: Allocator + Copy>(alloc: A, text: &[u8]) -> Result<Object<A>, Cause>
+    ensures { IfOk result (λ object. text.now ≡ object_text object.kind object.body.items) }
+{
+    match split_loose(text) {
+        Some((kind, body)) => Ok(Object {
+            kind,
+            body: body.to_vec(alloc)?,
+        }),
+        None => Err(Cause::Loose),
+    }
+}

@@ -1,0 +1,214 @@
+//! A pack and its index. The index is held in memory; of the pack only a window is.
+
+use crate::entry::RawEntry;
+use crate::fault::{Cause, StoreFault, fault_at};
+use crate::files::{ObjectFiles, OpenPack};
+use crate::limits::{MAX_INDEX, MAX_STREAM};
+use crate::order::{EntryOrder, HEADER, Start};
+use crate::paths::pack_path;
+use crate::window::Window;
+use gitpack::{EntryForm, MAX_HEAD, PackIndex, read_head};
+use gname::Oid;
+use gzlib::crc32_of;
+use std::alloc::Allocator;
+
+// The bytes of the checksum at the end of a pack.
+const TRAILER: usize = 20;
+
+/// A pack that is open, with its index.
+#[derive(Drop)]
+pub(crate) struct PackFile<P: OpenPack + Drop, A: Allocator + Copy> {
+    path: String<A>,
+    index: PackIndex<A>,
+    window: Window<P, A>,
+    order: EntryOrder<A>,
+}
+
+/// Opens the pack that has this name in a folder, without its extension; `None` if its index or the
+/// pack is not there.
+pub(crate) fn open_pack<F: ObjectFiles, A: Allocator + Copy>(
+    files: &F,
+    alloc: A,
+    folder: &str,
+    stem: &str,
+) -> Result<Option<PackFile<F::Pack, A>>, StoreFault<A>> {
+    let index_path = pack_path(alloc, folder, stem, ".idx")?;
+    let index = match read_index(files, alloc, index_path.as_str()) {
+        Ok(Some(index)) => index,
+        Ok(None) => return Ok(None),
+        Err(cause) => return Err(fault_at(alloc, index_path.as_str(), cause)),
+    };
+    let path = pack_path(alloc, folder, stem, ".pack")?;
+    match open_window(files, alloc, path.as_str(), &index) {
+        Ok(Some((window, order))) => Ok(Some(PackFile {
+            path,
+            index,
+            window,
+            order,
+        })),
+        Ok(None) => Ok(None),
+        Err(cause) => Err(fault_at(alloc, path.as_str(), cause)),
+    }
+}
+
+fn read_index<F: ObjectFiles, A: Allocator + Copy>(
+    files: &F,
+    alloc: A,
+    path: &str,
+) -> Result<Option<PackIndex<A>>, Cause> {
+    let Some(bytes) = files.read(alloc, path, MAX_INDEX)? else {
+        return Ok(None);
+    };
+    match PackIndex::read(alloc, bytes.as_slice())? {
+        Some(index) => Ok(Some(index)),
+        None => Err(Cause::Index),
+    }
+}
+
+// Opens the pack of an index.
+fn open_window<F: ObjectFiles, A: Allocator + Copy>(
+    files: &F,
+    alloc: A,
+    path: &str,
+    index: &PackIndex<A>,
+) -> Result<Option<(Window<F::Pack, A>, EntryOrder<A>)>, Cause> {
+    let Some((file, length)) = files.open_pack(path)? else {
+        return Ok(None);
+    };
+    let Some(end) = length.checked_sub(TRAILER) else {
+        return Err(Cause::Pack);
+    };
+    let mut window = Window::new(alloc, file, length);
+    check_header(&mut window, index)?;
+    check_trailer(&mut window, end, index)?;
+    let order = EntryOrder::new(alloc, index, end)?;
+    Ok(Some((window, order)))
+}
+
+// Checks that the header of the pack has the version 2 and the count of the index.
+fn check_header<P: OpenPack + Drop, A: Allocator + Copy>(
+    window: &mut Window<P, A>,
+    index: &PackIndex<A>,
+) -> Result<(), Cause> {
+    let header = window.read(0, HEADER)?;
+    let Some(count) = header.as_slice().strip_prefix(b"PACK\0\0\0\x02") else {
+        return Err(Cause::Pack);
+    };
+    match count.first_chunk::<4>() {
+        Some(count) if u32::from_be_bytes(*count) as usize == index.len() => Ok(()),
+        _ => Err(Cause::Pack),
+    }
+}
+
+// Checks that the pack ends with the checksum that the index has.
+fn check_trailer<P: OpenPack + Drop, A: Allocator + Copy>(
+    window: &mut Window<P, A>,
+    end: usize,
+    index: &PackIndex<A>,
+) -> Result<(), Cause> {
+    let trailer = window.read(end, TRAILER)?;
+    let checksum = index.pack_checksum();
+    if trailer.as_slice() == checksum.as_bytes() {
+        Ok(())
+    } else {
+        Err(Cause::Pack)
+    }
+}
+
+impl<P: OpenPack + Drop, A: Allocator + Copy> PackFile<P, A> {
+    /// The path of the pack.
+    pub(crate) fn path(&self) -> &str {
+        self.path.as_str()
+    }
+
+    /// The index.
+    pub(crate) fn index(&self) -> &PackIndex<A> {
+        &self.index
+    }
+
+    /// The entries, in the order in which they lie.
+    pub(crate) fn starts(&self) -> &[Start] {
+        self.order.starts()
+    }
+
+    /// The offset of the entry at a place of the index; `None` past its end.
+    pub(crate) fn start_of(&self, place: usize) -> Option<usize> {
+        usize::try_from(self.index.offset(place)?).ok()
+    }
+
+    /// The offset of the base of the entry that begins here; `None` if the entry is a whole object.
+    /// It fails with `Head`, and with `Base` if no entry begins here or the base is not in the
+    /// pack.
+    pub(crate) fn base_at(&mut self, start: usize) -> Result<Option<usize>, Cause> {
+        let length = self.length_of(start)?;
+        let bytes = self.window.read(start, length.min(MAX_HEAD))?;
+        match read_head(bytes.as_slice()) {
+            Some(head) => self.base_of(start, head.form),
+            None => Err(Cause::Head),
+        }
+    }
+
+    /// All bytes of the entry that begins here. It fails with `Base` if none does, and with
+    /// `ObjectSize`.
+    pub(crate) fn bytes_at(&mut self, start: usize) -> Result<Vec<u8, A>, Cause> {
+        let length = self.length_of(start)?;
+        if length > MAX_STREAM {
+            return Err(Cause::ObjectSize);
+        }
+        self.window.read(start, length)
+    }
+
+    /// The entry at a place of the index as it lies; `None` past the end of the index. It fails
+    /// with `Crc` if it has another CRC-32 than the index says, with `Head`, and otherwise as
+    /// `bytes_at`.
+    pub(crate) fn raw_entry(&mut self, place: usize) -> Result<Option<RawEntry<A>>, Cause> {
+        let (Some(start), Some(crc)) = (self.start_of(place), self.index.crc(place)) else {
+            return Ok(None);
+        };
+        let bytes = self.bytes_at(start)?;
+        if crc32_of(bytes.as_slice()) != crc {
+            return Err(Cause::Crc);
+        }
+        let Some(head) = read_head(bytes.as_slice()) else {
+            return Err(Cause::Head);
+        };
+        let base = self.base_place(start, head.form)?;
+        Ok(Some(RawEntry { head, base, bytes }))
+    }
+
+    // The place in the index of the base of a delta; `None` if the entry is a whole object.
+    fn base_place(&self, start: usize, form: EntryForm) -> Result<Option<usize>, Cause> {
+        match self.base_of(start, form)? {
+            Some(base) => match self.order.place_of(base) {
+                Some(place) => Ok(Some(place)),
+                None => Err(Cause::Base),
+            },
+            None => Ok(None),
+        }
+    }
+
+    fn length_of(&self, start: usize) -> Result<usize, Cause> {
+        match self.order.length_of(start) {
+            Some(length) => Ok(length),
+            None => Err(Cause::Base),
+        }
+    }
+
+    // The offset of the base of an entry that begins here; `None` of a whole object.
+    fn base_of(&self, start: usize, form: EntryForm) -> Result<Option<usize>, Cause> {
+        let base = match form {
+            EntryForm::Whole(_) => return Ok(None),
+            EntryForm::OffsetDelta(back) if back > 0 => start.checked_sub(back),
+            EntryForm::OffsetDelta(_) => None,
+            EntryForm::RefDelta(id) => self.start_of_id(&id),
+        };
+        match base {
+            Some(base) => Ok(Some(base)),
+            None => Err(Cause::Base),
+        }
+    }
+
+    fn start_of_id(&self, id: &Oid) -> Option<usize> {
+        self.start_of(self.index.find(id)?)
+    }
+}

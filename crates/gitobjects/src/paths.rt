@@ -1,0 +1,58 @@
+//! The paths of files that hold objects (gitrepository-layout(5)).
+
+ghost use Rattle.std.specs.Prelude.{◌≡◌, ◌++◌, IfOk, string_bytes};
+ghost use Rattle.gitobjects.specs.Paths as paths;
+
+use crate::fault::Cause;
+use gname::{MAX_ID_TEXT, Oid};
+use std::alloc::{AllocError, Allocator};
+
+/// The path of a name in a folder.
+pub(crate) fn join<A: Allocator + Copy>(
+    alloc: A,
+    folder: &str,
+    name: &str,
+) -> Result<String<A>, AllocError>
+    ensures { IfOk result (λ path. string_bytes path ≡ paths.below folder.now name.now) }
+{
+    let mut path = String::from_str(alloc, folder)?;
+    path.push_str("/")?;
+    path.push_str(name)?;
+    Ok(path)
+}
+
+/// The path of a file in a folder of packs: the name of the pack, and an extension.
+pub(crate) fn pack_path<A: Allocator + Copy>(
+    alloc: A,
+    folder: &str,
+    stem: &str,
+    extension: &str,
+) -> Result<String<A>, AllocError>
+    ensures { IfOk result (λ path. string_bytes path
+        ≡ paths.below folder.now (stem.now ++ extension.now)) }
+{
+    let mut path = join(alloc, folder, stem)?;
+    path.push_str(extension)?;
+    Ok(path)
+}
+
+/// The path of a loose object in a folder of objects.
+pub(crate) fn loose_path<A: Allocator + Copy>(
+    alloc: A,
+    folder: &str,
+    id: &Oid,
+) -> Result<String<A>, Cause>
+    ensures { IfOk result (λ path. string_bytes path ≡ paths.loose_path folder.now id.now) }
+{
+    let mut buffer = [0; MAX_ID_TEXT];
+    let count = id.to_hex(&mut buffer);
+    let digits = &buffer[..count];
+    let Some((first, rest)) = digits.split_at_checked(2) else {
+        return Err(Cause::NotText);
+    };
+    let (Ok(first), Ok(rest)) = (str::from_utf8(first), str::from_utf8(rest)) else {
+        return Err(Cause::NotText);
+    };
+    let own = join(alloc, folder, first)?;
+    Ok(join(alloc, own.as_str(), rest)?)
+}

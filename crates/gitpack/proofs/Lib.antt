@@ -1,0 +1,6 @@
+pub mod NumberLemmas
+pub mod EntryLemmas
+pub mod HeadLemmas
+pub mod DeltaLemmas
+pub mod IndexLemmas
+pub mod SortLemmas

@@ -1,0 +1,69 @@
+-- The order of the lines of a pack index.
+use Rattle.std.proofs.Common.{◌≡◌, ◌≢◌, ℕ, zero, suc, ◌+◌, ◌<◌, ◌≤◌, true, false, Bool, not, IsTrue, List, length, get_or, All, Err, ◌⊎◌, inl, inr, refl, sym, ap, ◌∙◌, arith, rules}
+use Rattle.std.specs.Cmp.{IsStrictWeakOrder, IsTotalOrder}
+use Rattle.std.specs.Cmp.Rules.{comparing}
+use Rattle.std.specs.List.{HoldsAt, IsAllAdjacentAnswer}
+use Rattle.std.specs.List.Sorted.{IsBinarySearchResult, IsSortedByKey}
+use Rattle.std.specs.Ordering.{is_lt, ordering_reverse, ordering_then}
+use Rattle.std.specs.declared.cmp.Ordering.{Ordering}
+use Rattle.std.specs.declared.cmp.Ordering.TheVariants.{Less, Equal, Greater}
+use Rattle.std.proofs.lemmas.List.Sorted.{ranks_by, searchable_from_sorted}
+use Rattle.std.proofs.lemmas.Map.Lookups.{exact_bytes}
+use Rattle.gname.specs.Ids.{Id, id_cmp}
+use Rattle.gitpack.specs.Indexes.{entry_id, object_id}
+use Rattle.gitpack.specs.declared.index.IndexEntry.{IndexEntry}
+
+not_true : (b : Bool) → true ≡ not b → b ≡ false
+not_true true h = cc
+not_true false h = refl
+
+pub sorted_from_adjacent : (entries : List IndexEntry) (r : Bool) → IsTrue r → IsAllAdjacentAnswer (λ x y b. b ≡ not (is_lt (id_cmp y.id x.id))) entries r → IsSortedByKey entry_id id_cmp entries
+sorted_from_adjacent entries true is h = λ k d low high. not_true (is_lt (id_cmp (entry_id (get_or entries (k + 1) d)) (entry_id (get_or entries k d)))) (h k d high)
+sorted_from_adjacent entries false is h = cc
+
+-- ---- ids that are the same
+
+ids_ordered : IsTotalOrder id_cmp
+ids_ordered = search (comparing, rules)
+
+then_equal : (o p : Ordering) → ordering_then o p ≡ Equal → p ≡ Equal
+then_equal Less p h = cc
+then_equal Equal p h = h
+then_equal Greater p h = cc
+
+pub same_ids : (a b : Id) → id_cmp a b ≡ Equal → a ≡ b
+same_ids a b h = exact_bytes a b (then_equal _ _ h)
+
+own_reverse : (o : Ordering) → o ≡ ordering_reverse o → o ≡ Equal
+own_reverse Less h = cc
+own_reverse Equal h = refl
+own_reverse Greater h = cc
+
+pub id_is_itself : (a b : Id) → a ≡ b → id_cmp a b ≡ Equal
+id_is_itself a b is = ap (λ c. id_cmp a c) (sym is) ∙ own_reverse (id_cmp a a) (ids_ordered.antisymm a a)
+
+-- ---- a binary search
+
+not_both : {o : Ordering} (p : Ordering) → o ≡ Equal → o ≡ p → (p ≡ Equal → ⊥) → ⊥
+not_both p equal is differ = differ (sym is ∙ equal)
+
+lt_or_ge : (k n : ℕ) → (k < n) ⊎ (n ≤ k)
+lt_or_ge k zero = inr (omega arith)
+lt_or_ge zero (suc n) = inl (omega arith)
+lt_or_ge (suc k) (suc n) = elim (lt_or_ge k n) [ inl below ↦ inl (omega (arith, below)) | inr above ↦ inr (omega (arith, above)) ]
+
+module _ {X : Type 0} (key : X → Id) (entries : List X) (id : Id) (place : ℕ) where
+  pub found_id : HoldsAt (λ e. id_cmp (key e) id ≡ Equal) entries place → HoldsAt (λ e. key e ≡ id) entries place
+  found_id h d = same_ids (key (get_or entries place d)) id (h d)
+
+  pub no_id : IsSortedByKey key id_cmp entries → place ≤ length entries → IsBinarySearchResult (λ e. id_cmp (key e) id) entries (Err place) → All (λ e. key e ≢ id) entries
+  no_id sorted inside parted k d in_list same =
+      let parts = parted (searchable_from_sorted ids_ordered key entries id sorted) in
+      let equal = id_is_itself (key (get_or entries k d)) id same in
+      elim (lt_or_ge k place) [
+        | inl below ↦ let less = parts.0 k d (omega arith) below in not_both Less equal less (λ h. cc)
+        | inr above ↦ let more = parts.1 k d above in_list in not_both Greater equal more (λ h. cc)
+      ]
+
+pub object_order : IsStrictWeakOrder (λ x y. is_lt (id_cmp (object_id x) (object_id y)))
+object_order = ranks_by ids_ordered object_id

@@ -1,0 +1,16 @@
+use Rattle.std.proofs.Common.{rules}
+use Rattle.std.proofs.lemmas.Fn.{always_returns_same}
+use Rattle.gname.specs.Ids.{id_cmp}
+use Rattle.gitpack.proofs.SortLemmas.{found_id, no_id}
+use Rattle.gitpack.specs.Indexes.{entry_id}
+use Rattle.gitpack.proofs.index.find.Goals as goal
+
+pub returns-in-Ok : goal.returns-in-Ok
+returns-in-Ok c =
+    found_id entry_id c.args.entries.now c.args.id.now c.in-Ok.place
+    (c.in-Ok.ensures.position (λ e. id_cmp e.id c.args.id.now) (always_returns_same _ _ _ (λ a r g called. (search rules, search rules))))
+
+pub returns-in-Err : goal.returns-in-Err
+returns-in-Err c =
+    no_id entry_id c.args.entries.now c.args.id.now c.in-Err.field-0 c.requires.sorted c.in-Err.ensures.bound
+    (c.in-Err.ensures.position (λ e. id_cmp e.id c.args.id.now) (always_returns_same _ _ _ (λ a r g called. (search rules, search rules))))

@@ -1,0 +1,190 @@
+//! Deltas (gitformat-pack(5), "Deltified representation").
+
+ghost use Rattle.std.specs.Prelude.{◌≡◌, ◌+◌, ◌^◌, ◌<◌, ◌≤◌, ◌++◌, ◌∷◌, List, ℕ, IfOk, IfSome, MatchOption, drop, length, take};
+ghost use Rattle.gitpack.specs.Deltas.{BeginsWithInstruction, Instruction, IsCopy, IsDelta, IsSparse, Makes, added, copied};
+
+use crate::numbers::split_size;
+use std::alloc::{AllocError, Allocator};
+
+// A command from here on is a copy; one below is an insertion, of so many bytes.
+const COPIES: u8 = 128;
+
+// The bits of a copy's command that are for the bytes of the offset.
+const OFFSET_BITS: u8 = 16;
+
+// The numbers of bytes of the offset and of the size of a copy.
+const OFFSET_BYTES: u32 = 4;
+
+const SIZE_BYTES: u32 = 3;
+
+// The size of a copy whose number is 0.
+const FULL_COPY: usize = 0x10000;
+
+/// The body that a delta makes of its base. It is `None` if the bytes are no delta of this base,
+/// or one that makes more than `most` bytes. No more memory is taken than for a body of the size
+/// that the delta names.
+///
+/// It fails only out of memory.
+pub fn apply_delta<A: Allocator + Copy>(
+    alloc: A,
+    base: &[u8],
+    delta: &[u8],
+    most: usize,
+) -> Result<Option<Vec<u8, A>>, AllocError>
+    ensures { IfOk result (λ made. MatchOption made
+        ((body : List ℕ) → IsDelta base.now delta.now body → ¬ (length body ≤ most))
+        (λ body. IsDelta base.now delta.now body.items × (length body.items ≤ most))) }
+{
+    let Some((base_size, after)) = split_size(delta) else {
+        return Ok(None);
+    };
+    let Some((size, commands)) = split_size(after) else {
+        return Ok(None);
+    };
+    if base_size != base.len() {
+        return Ok(None);
+    }
+    if size > most {
+        return Ok(None);
+    }
+    follow(alloc, base, commands, size)
+}
+
+// The body of so many bytes that these instructions make.
+fn follow<A: Allocator + Copy>(
+    alloc: A,
+    base: &[u8],
+    commands: &[u8],
+    size: usize,
+) -> Result<Option<Vec<u8, A>>, AllocError>
+    ensures { IfOk result (λ made. MatchOption made
+        ((is : List Instruction) (body : List ℕ) → Makes base.now is commands.now body
+        → ¬ (length body ≡ size))
+        (λ body. (is : List Instruction) × Makes base.now is commands.now body.items
+        × (length body.items ≡ size))) }
+{
+    let mut body = Vec::new(alloc);
+    let mut rest = commands;
+    while !rest.is_empty() {
+        let Some((part, after)) = split_instruction(base, rest) else {
+            return Ok(None);
+        };
+        if part.len() > size - body.len() {
+            return Ok(None);
+        }
+        body.extend_from_slice(part)?;
+        rest = after;
+    }
+    if body.len() == size {
+        Ok(Some(body))
+    } else {
+        Ok(None)
+    }
+}
+
+// The bytes that the first instruction of a text adds, and the text after it. It is `None` if the
+// text begins with no instruction that fits the base.
+fn split_instruction<'a>(base: &'a [u8], text: &'a [u8]) -> Option<(&'a [u8], &'a [u8])>
+    ensures { MatchOption result
+        ((i : Instruction) (rest : List ℕ) → ¬ (BeginsWithInstruction base.now text.now i rest))
+        (λ parts. (i : Instruction) × BeginsWithInstruction base.now text.now i parts.1.now
+        × (parts.0.now ≡ added base.now i)) }
+{
+    let Some((command, after)) = text.split_first() else {
+        return None;
+    };
+    if *command >= COPIES {
+        let Some((copy, rest)) = split_copy(*command, after) else {
+            return None;
+        };
+        let Some(part) = part_of(base, copy) else {
+            return None;
+        };
+        return Some((part, rest));
+    }
+    if *command == 0 {
+        return None;
+    }
+    let Some((bytes, rest)) = after.split_at_checked(usize::from(*command)) else {
+        return None;
+    };
+    Some((bytes, rest))
+}
+
+// The offset and the size of a copy.
+#[derive(Clone, Copy)]
+struct Range {
+    offset: usize,
+    size: usize,
+}
+
+// These bytes of the base; `None` if they do not lie within it.
+fn part_of(base: &[u8], range: Range) -> Option<&[u8]>
+    ensures { MatchOption result (length base.now < range.offset + range.size)
+        (λ part. (range.offset + range.size ≤ length base.now)
+        × (part.now ≡ take range.size (drop range.offset base.now))) }
+{
+    let Some((_, after)) = base.split_at_checked(range.offset) else {
+        return None;
+    };
+    match after.split_at_checked(range.size) {
+        Some((part, _)) => Some(part),
+        None => None,
+    }
+}
+
+// The range of the copy with this command, and the text after it.
+fn split_copy(command: u8, bytes: &[u8]) -> Option<(Range, &[u8])>
+    requires { 128 ≤ command }
+    ensures cases { MatchOption result
+        ((offset size : ℕ) (text rest : List ℕ) → IsCopy offset size text
+        → ¬ (command ∷ bytes.now ≡ text ++ rest))
+        (λ parts. (text : List ℕ) × IsCopy parts.0.offset parts.0.size text
+        × (command ∷ bytes.now ≡ text ++ parts.1.now)) }
+    ensures bound { IfSome result (λ parts. (parts.0.offset < 2 ^ 32) × (parts.0.size < 2 ^ 32)) }
+{
+    let Some((offset, after)) = split_sparse(command, OFFSET_BYTES, bytes) else {
+        return None;
+    };
+    let Some((number, rest)) = split_sparse(command / OFFSET_BITS, SIZE_BYTES, after) else {
+        return None;
+    };
+    let size = copied(number);
+    Some((Range { offset, size }, rest))
+}
+
+// The size of a copy with this number.
+fn copied(number: usize) -> usize
+    ensures { result ≡ copied number }
+{
+    if number == 0 { FULL_COPY } else { number }
+}
+
+// The number of which so many bytes are there as these bits say, the lowest first, and the text
+// after them.
+fn split_sparse(bits: u8, count: u32, bytes: &[u8]) -> Option<(usize, &[u8])>
+    requires { count ≤ 4 }
+    ensures cases { MatchOption result
+        ((number : ℕ) (text rest : List ℕ) → IsSparse bits count number text
+        → ¬ (bytes.now ≡ text ++ rest))
+        (λ parts. (text : List ℕ) × IsSparse bits count parts.0 text
+        × (bytes.now ≡ text ++ parts.1.now)) }
+    ensures bound { IfSome result (λ parts. parts.0 < 256 ^ count) }
+{
+    if count == 0 {
+        return Some((0, bytes));
+    }
+    if bits % 2 == 0 {
+        let Some((high, rest)) = split_sparse(bits / 2, count - 1, bytes) else {
+            return None;
+        };
+        return Some((256 * high, rest));
+    }
+    let Some((low, after)) = bytes.split_first() else {
+        return None;
+    };
+    let Some((high, rest)) = split_sparse(bits / 2, count - 1, after) else {
+        return None;
+    };
+    Some((usize::from(*low) + 256 * high, rest))
+}

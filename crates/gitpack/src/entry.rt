@@ -1,0 +1,117 @@
+//! The heads of entries.
+
+ghost use Rattle.std.specs.Prelude.{◌≡◌, ◌+◌, ◌*◌, ◌/◌, ◌%◌, ◌≤◌, ◌++◌, List, ℕ, MatchOption, OnOk, length, drop};
+ghost use Rattle.gitpack.specs.Entries.{BeginsWithHead, IsBaseOf, IsHead, IsTypeAndSize};
+ghost use Rattle.gitpack.specs.declared.entry.EntryForm.{EntryForm};
+
+use crate::numbers::{low_first, split_number, split_offset};
+use gitobject::{ID_BYTES, ObjectType, id_of_bytes};
+use gname::Oid;
+
+/// The most bytes of a head: nine of the type and the size, and an id.
+pub const MAX_HEAD: usize = 29;
+
+// The most bytes of the type and the size.
+const MAX_TYPE_AND_SIZE: usize = 9;
+
+// The low bits of the first byte, which are bits of the size, and the bits of the type.
+const LOW_SIZES: u8 = 16;
+
+const TYPES: u8 = 8;
+
+// The numbers of deltas (gitformat-pack(5), "Object types").
+pub(crate) const OFFSET_DELTA: u8 = 6;
+
+pub(crate) const REF_DELTA: u8 = 7;
+
+/// How a pack holds an object (gitformat-pack(5), "Object types").
+#[derive(Clone, Copy, Debug, PartialEq, Eq, Drop)]
+pub enum EntryForm {
+    /// Whole.
+    Whole(ObjectType),
+    /// As a delta of the object whose entry begins so many bytes before this entry.
+    OffsetDelta(usize),
+    /// As a delta of the object with this id.
+    RefDelta(Oid),
+}
+
+/// The head of an entry, after which its zlib stream comes.
+#[derive(Clone, Copy, Debug, Drop)]
+pub struct EntryHead {
+    /// The form of the entry.
+    pub form: EntryForm,
+    /// The number of bytes to which the stream inflates.
+    pub size: usize,
+    /// The number of bytes of the head.
+    pub length: usize,
+}
+
+/// The head with which some bytes begin; `None` if they begin with no head. A size has fewer than
+/// 60 bits here, and an offset has eight bytes at most.
+pub fn read_head(bytes: &[u8]) -> Option<EntryHead>
+    ensures { MatchOption result
+        ((form : EntryForm) (size : ℕ) (rest : List ℕ)
+        → ¬ (BeginsWithHead bytes.now form size rest))
+        (λ head. (head.length ≤ length bytes.now)
+        × BeginsWithHead bytes.now head.form head.size (drop head.length bytes.now)) }
+{
+    let Some((sized, after)) = split_type_and_size(bytes) else {
+        return None;
+    };
+    let Some((form, rest)) = split_form(sized.number, after) else {
+        return None;
+    };
+    let length = bytes.len() - rest.len();
+    let size = sized.size;
+    Some(EntryHead { form, size, length })
+}
+
+// The number of a type, and a size.
+#[derive(Clone, Copy)]
+struct TypeAndSize {
+    number: u8,
+    size: usize,
+}
+
+// The type and the size with which some bytes begin, and the bytes after them.
+fn split_type_and_size(bytes: &[u8]) -> Option<(TypeAndSize, &[u8])>
+    ensures { MatchOption result
+        ((number size : ℕ) (text rest : List ℕ) → IsTypeAndSize number size text
+        → ¬ (bytes.now ≡ text ++ rest))
+        (λ parts. (text : List ℕ) × IsTypeAndSize parts.0.number parts.0.size text
+        × (bytes.now ≡ text ++ parts.1.now)) }
+{
+    let Some((text, rest)) = split_number(MAX_TYPE_AND_SIZE, bytes) else {
+        return None;
+    };
+    let Some((first, more)) = text.split_first() else {
+        return None;
+    };
+    let size = usize::from(*first % LOW_SIZES) + usize::from(LOW_SIZES) * low_first(more);
+    let number = *first / LOW_SIZES % TYPES;
+    Some((TypeAndSize { number, size }, rest))
+}
+
+// The form with this number, of which the bytes begin with the base, and the bytes after that.
+fn split_form(number: u8, bytes: &[u8]) -> Option<(EntryForm, &[u8])>
+    ensures { MatchOption result
+        ((form : EntryForm) (text rest : List ℕ) → IsBaseOf form number text
+        → ¬ (bytes.now ≡ text ++ rest))
+        (λ parts. (text : List ℕ) × IsBaseOf parts.0 number text
+        × (bytes.now ≡ text ++ parts.1.now)) }
+{
+    match number {
+        OFFSET_DELTA => match split_offset(bytes) {
+            Some((back, rest)) => Some((EntryForm::OffsetDelta(back), rest)),
+            None => None,
+        },
+        REF_DELTA => match bytes.split_first_chunk::<ID_BYTES>() {
+            Some((id, rest)) => Some((EntryForm::RefDelta(id_of_bytes(id)), rest)),
+            None => None,
+        },
+        _ => match ObjectType::from_pack_number(number) {
+            Some(kind) => Some((EntryForm::Whole(kind), bytes)),
+            None => None,
+        },
+    }
+}

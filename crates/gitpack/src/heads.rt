@@ -1,0 +1,142 @@
+//! Writing the heads of entries.
+
+ghost use Rattle.std.specs.Prelude.{◌≡◌, ◌+◌, ◌^◌, ◌<◌, ◌≤◌, ◌++◌, ◌∷◌, [], suc, All, List, ℕ, OnOk, length};
+ghost use Rattle.gname.specs.Ids.{IsIdOf};
+ghost use Rattle.gname.specs.declared.formats.Format.TheVariants as formats;
+ghost use Rattle.gitpack.specs.Entries.{IsHead, IsTypeAndSize};
+ghost use Rattle.gitpack.specs.Numbers.{IsNumber, IsOffset, high_first, low_first};
+
+use crate::entry::{EntryForm, OFFSET_DELTA, REF_DELTA};
+use crate::fault::PackFileFault;
+use gname::{Format, Oid};
+use std::alloc::{AllocError, Allocator};
+
+// The bit of a byte after which more bytes of its number come, and the values of the other bits.
+const MORE: u8 = 128;
+
+const DIGITS: usize = 128;
+
+// The values of the low bits of the first byte, which are bits of the size.
+const LOW_SIZES: usize = 16;
+
+// The sizes that a number of nine bytes can name are below this one.
+const SIZES: usize = 1 << 60;
+
+// The offsets that are written are below this number, so that eight bytes do.
+const OFFSETS: usize = 1 << 56;
+
+/// Adds the head of an entry of this form, of whose stream this is the size.
+///
+/// It fails with `TooLarge` if the size has more than 60 bits or the offset more than 56, with
+/// `Format` if the base has no SHA-1 id, and with `Memory`. Then a part of the head may have been
+/// added.
+pub(crate) fn put_head<A: Allocator + Copy>(
+    out: &mut Vec<u8, A>,
+    form: EntryForm,
+    size: usize,
+) -> Result<(), PackFileFault>
+    ensures { OnOk result ((head : List ℕ) × IsHead form size head
+        × (out.new.items ≡ out.old.items ++ head)) }
+{
+    match form {
+        EntryForm::Whole(kind) => put_type_and_size(out, kind.pack_number(), size),
+        EntryForm::OffsetDelta(back) => {
+            put_type_and_size(out, OFFSET_DELTA, size)?;
+            put_offset(out, back)
+        }
+        EntryForm::RefDelta(base) => {
+            put_type_and_size(out, REF_DELTA, size)?;
+            put_id(out, &base)
+        }
+    }
+}
+
+// Adds the number of a type, and a size.
+fn put_type_and_size<A: Allocator + Copy>(
+    out: &mut Vec<u8, A>,
+    number: u8,
+    size: usize,
+) -> Result<(), PackFileFault>
+    requires { number < 8 }
+    ensures { OnOk result ((text : List ℕ) × IsTypeAndSize number size text
+        × (out.new.items ≡ out.old.items ++ text)) }
+{
+    if size >= SIZES {
+        return Err(PackFileFault::TooLarge);
+    }
+    let first = number * 16 + (size % LOW_SIZES) as u8;
+    let high = size / LOW_SIZES;
+    if high == 0 {
+        out.push(first)?;
+        return Ok(());
+    }
+    out.push(MORE + first)?;
+    put_size(out, high)?;
+    Ok(())
+}
+
+// Adds a number, the lowest digit first.
+fn put_size<A: Allocator + Copy>(out: &mut Vec<u8, A>, number: usize) -> Result<(), AllocError>
+    ensures { OnOk result ((text : List ℕ) × IsNumber text × (number ≡ low_first text)
+        × ((k : ℕ) → number < 128 ^ (k + 1) → length text ≤ k + 1)
+        × (out.new.items ≡ out.old.items ++ text)) }
+{
+    let digit = (number % DIGITS) as u8;
+    let high = number / DIGITS;
+    if high == 0 {
+        out.push(digit)?;
+        return Ok(());
+    }
+    out.push(MORE + digit)?;
+    put_size(out, high)
+}
+
+// Adds an offset.
+fn put_offset<A: Allocator + Copy>(out: &mut Vec<u8, A>, offset: usize) -> Result<(), PackFileFault>
+    ensures { OnOk result ((text : List ℕ) × IsOffset text offset
+        × (out.new.items ≡ out.old.items ++ text)) }
+{
+    if offset >= OFFSETS {
+        return Err(PackFileFault::TooLarge);
+    }
+    let digit = (offset % DIGITS) as u8;
+    let high = offset / DIGITS;
+    if high == 0 {
+        out.push(digit)?;
+        return Ok(());
+    }
+    put_high(out, high - 1)?;
+    out.push(digit)?;
+    Ok(())
+}
+
+// Adds the bytes of a number before its last one.
+fn put_high<A: Allocator + Copy>(out: &mut Vec<u8, A>, number: usize) -> Result<(), AllocError>
+    ensures { OnOk result ((text : List ℕ) × (0 < length text) × All (λ b. 128 ≤ b) text
+        × (number ≡ high_first text)
+        × ((k : ℕ) → number < 128 ^ (k + 1) → length text ≤ k + 1)
+        × (out.new.items ≡ out.old.items ++ text)) }
+{
+    let byte = MORE + (number % DIGITS) as u8;
+    let high = number / DIGITS;
+    if high == 0 {
+        out.push(byte)?;
+        return Ok(());
+    }
+    put_high(out, high - 1)?;
+    out.push(byte)?;
+    Ok(())
+}
+
+// Adds the bytes of an id.
+fn put_id<A: Allocator + Copy>(out: &mut Vec<u8, A>, id: &Oid) -> Result<(), PackFileFault>
+    ensures { OnOk result (IsIdOf formats.Sha1 id.now × (out.new.items ≡ out.old.items ++ id.now)) }
+{
+    match id.format() {
+        Format::Sha1 => {
+            out.extend_from_slice(id.as_bytes())?;
+            Ok(())
+        }
+        Format::Sha256 => Err(PackFileFault::Format),
+    }
+}

@@ -1,0 +1,145 @@
+//! The pack index of version 2 (gitformat-pack(5)).
+
+ghost use Rattle.std.specs.Prelude.{◌≡◌, ◌==◌, ◌≢◌, All, IfOk, IfSome, IsTrue, MatchOption, length};
+ghost use Rattle.std.specs.List.{HoldsAt};
+ghost use Rattle.gitpack.specs.Indexes.{AreEntries, IsIndex};
+
+use crate::frame::is_same;
+use crate::index_reading::read_entries;
+use crate::index_writing::body_of;
+use gitobject::{ID_BYTES, id_of_bytes};
+use gname::Oid;
+use std::alloc::{AllocError, Allocator};
+use std::marker::Model;
+
+// The most entries of an index, of which the long offsets are numbered in 31 bits.
+pub(crate) const MAX_ENTRIES: usize = 0x7fff_ffff;
+
+/// A line of the pack index.
+#[derive(Clone, Copy, Debug, PartialEq, Eq, Drop)]
+pub struct IndexEntry {
+    /// The id of the object.
+    pub id: Oid,
+    /// The CRC-32 of its entry in the pack.
+    pub crc: u32,
+    /// The position in the pack at which its entry begins.
+    pub offset: u64,
+}
+
+/// The index of a pack: its lines in the order of their ids, and the checksum of the pack.
+#[derive(Drop)]
+pub struct PackIndex<A: Allocator + Copy> {
+    entries: Vec<IndexEntry, A>,
+    checksum: Oid,
+}
+
+impl<A: Allocator + Copy> Model for PackIndex<A> {
+    ghost use Rattle.gitpack.specs.Indexes.{AreEntries, Index};
+
+    ghost Value = { Index };
+
+    ghost view = { λ index. record { entries = index.entries.items; checksum = index.checksum } };
+
+    ghost invariant = { λ index. AreEntries index.entries.items };
+}
+
+impl<A: Allocator + Copy> PackIndex<A> {
+    /// The index with this text; `None` of any other text. The checksum of the index itself is not
+    /// tested.
+    ///
+    /// It fails only out of memory.
+    pub fn read(alloc: A, bytes: &[u8]) -> Result<Option<PackIndex<A>>, AllocError>
+        ensures { IfOk result (λ found. IfSome found (λ index. IsIndex index bytes.now)) }
+    {
+        let Some((text, _own)) = bytes.split_last_chunk::<ID_BYTES>() else {
+            return Ok(None);
+        };
+        let Some((tables, trailer)) = text.split_last_chunk::<ID_BYTES>() else {
+            return Ok(None);
+        };
+        let Some(entries) = read_entries(alloc, tables)? else {
+            return Ok(None);
+        };
+        let checksum = id_of_bytes(trailer);
+        if !are_entries(entries.as_slice()) {
+            return Ok(None);
+        }
+        let written = body_of(alloc, entries.as_slice(), &checksum)?;
+        if !is_same(written.as_slice(), text) {
+            return Ok(None);
+        }
+        Ok(Some(PackIndex { entries, checksum }))
+    }
+
+    /// The number of objects.
+    pub fn len(&self) -> usize
+        ensures { result ≡ length self.now.entries }
+    {
+        self.entries.len()
+    }
+
+    /// Whether there is no object.
+    pub fn is_empty(&self) -> bool
+        ensures { result ≡ (length self.now.entries == 0) }
+    {
+        self.entries.is_empty()
+    }
+
+    /// The lines, in the order of their ids.
+    pub fn entries(&self) -> &[IndexEntry]
+        ensures lines { result.now ≡ self.now.entries }
+        ensures order { AreEntries result.now }
+    {
+        self.entries.as_slice()
+    }
+
+    /// The place of the line of the object with this id; `None` if there is none.
+    pub fn find(&self, id: &Oid) -> Option<usize>
+        ensures { MatchOption result (All (λ e. e.id ≢ id.now) self.now.entries)
+            (HoldsAt (λ e. e.id ≡ id.now) self.now.entries) }
+    {
+        find(self.entries.as_slice(), id)
+    }
+
+    /// The id of the line at this place; `None` past the end.
+    pub fn id(&self, place: usize) -> Option<Oid> {
+        Some(self.entries.get(place)?.id)
+    }
+
+    /// The CRC-32 of the line at this place; `None` past the end.
+    pub fn crc(&self, place: usize) -> Option<u32> {
+        Some(self.entries.get(place)?.crc)
+    }
+
+    /// The offset of the line at this place; `None` past the end.
+    pub fn offset(&self, place: usize) -> Option<u64> {
+        Some(self.entries.get(place)?.offset)
+    }
+
+    /// The checksum of the pack, which is the trailer of the pack.
+    pub fn pack_checksum(&self) -> Oid
+        ensures { result ≡ self.now.checksum }
+    {
+        self.checksum
+    }
+}
+
+// The place of the line with this id.
+fn find(entries: &[IndexEntry], id: &Oid) -> Option<usize>
+    requires { AreEntries entries.now }
+    ensures { MatchOption result (All (λ e. e.id ≢ id.now) entries.now)
+        (HoldsAt (λ e. e.id ≡ id.now) entries.now) }
+{
+    match entries.binary_search_by(|entry| entry.id.cmp(id)) {
+        Ok(place) => Some(place),
+        Err(_) => None,
+    }
+}
+
+// Whether the ids ascend, and the lines are few enough.
+fn are_entries(entries: &[IndexEntry]) -> bool
+    ensures { IsTrue result → AreEntries entries.now }
+{
+    entries.len() <= MAX_ENTRIES
+        && entries.is_sorted_by(|one, other| !other.id.cmp(&one.id).is_lt())
+}

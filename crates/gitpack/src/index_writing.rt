@@ -1,0 +1,166 @@
+//! The text of a pack index (gitformat-pack(5)).
+
+ghost use Rattle.std.specs.Prelude.{◌≡◌, ◌^◌, ◌<◌, ◌≤◌, ◌++◌, IfOk, OnOk, length, slice_index};
+ghost use Rattle.std.specs.List.{flat_map};
+ghost use Rattle.gitpack.specs.Indexes.{crc_bytes, fan_out, id_bytes, ids_within, index_body, index_text, long_bytes, short_offsets};
+
+use crate::index::IndexEntry;
+use gname::Oid;
+use sha1::Sha1;
+use std::alloc::{AllocError, Allocator};
+
+// The signature, and version 2.
+const HEADER: &[u8; 8] = b"\xfftOc\0\0\0\x02";
+
+// The offsets from here on lie in the table of 64-bit offsets.
+const LONG: u64 = 1 << 31;
+
+// The bit that marks the place of a 64-bit offset.
+const LONG_MARK: u32 = 1 << 31;
+
+// Adds the text of an index without its own checksum.
+fn put_body<A: Allocator + Copy>(
+    out: &mut Vec<u8, A>,
+    entries: &[IndexEntry],
+    checksum: &Oid,
+) -> Result<(), AllocError>
+    requires { length entries.now < 2 ^ 31 }
+    ensures { OnOk result (out.new.items ≡ out.old.items
+        ++ index_body (record { entries = entries.now; checksum = checksum.now })) }
+{
+    out.extend_from_slice(HEADER)?;
+    put_fan_out(out, entries)?;
+    put_ids(out, entries)?;
+    put_crcs(out, entries)?;
+    put_offsets(out, entries)?;
+    put_long_offsets(out, entries)?;
+    out.extend_from_slice(checksum.as_bytes())
+}
+
+// Adds the fan-out table.
+fn put_fan_out<A: Allocator + Copy>(
+    out: &mut Vec<u8, A>,
+    entries: &[IndexEntry],
+) -> Result<(), AllocError>
+    requires { length entries.now < 2 ^ 31 }
+    ensures { OnOk result (out.new.items ≡ out.old.items ++ fan_out 256 entries.now) }
+{
+    for byte in 0..256u32 {
+        let count = ids_up_to(byte, entries);
+        out.extend_from_slice(&count.to_be_bytes())?;
+    }
+    Ok(())
+}
+
+// The number of ids whose first byte is at most this one.
+fn ids_up_to(byte: u32, entries: &[IndexEntry]) -> u32
+    requires { length entries.now < 2 ^ 31 }
+    ensures { result ≡ ids_within byte entries.now }
+{
+    let mut count = 0;
+    for entry in entries {
+        if first_byte(&entry.id) <= byte {
+            count += 1;
+        }
+    }
+    count
+}
+
+// The first byte of an id.
+fn first_byte(id: &Oid) -> u32
+    ensures { result ≡ slice_index id.now 0 }
+{
+    u32::from(id.as_bytes()[0])
+}
+
+// Adds the ids.
+fn put_ids<A: Allocator + Copy>(
+    out: &mut Vec<u8, A>,
+    entries: &[IndexEntry],
+) -> Result<(), AllocError>
+    ensures { OnOk result (out.new.items ≡ out.old.items ++ flat_map id_bytes entries.now) }
+{
+    for entry in entries {
+        out.extend_from_slice(entry.id.as_bytes())?;
+    }
+    Ok(())
+}
+
+// Adds the CRC-32s.
+fn put_crcs<A: Allocator + Copy>(
+    out: &mut Vec<u8, A>,
+    entries: &[IndexEntry],
+) -> Result<(), AllocError>
+    ensures { OnOk result (out.new.items ≡ out.old.items ++ flat_map crc_bytes entries.now) }
+{
+    for entry in entries {
+        out.extend_from_slice(&entry.crc.to_be_bytes())?;
+    }
+    Ok(())
+}
+
+// Adds the table of offsets.
+fn put_offsets<A: Allocator + Copy>(
+    out: &mut Vec<u8, A>,
+    entries: &[IndexEntry],
+) -> Result<(), AllocError>
+    requires { length entries.now < 2 ^ 31 }
+    ensures { OnOk result (out.new.items ≡ out.old.items ++ short_offsets 0 entries.now) }
+{
+    let mut longs = 0;
+    for entry in entries {
+        if entry.offset < LONG {
+            out.extend_from_slice(&(entry.offset as u32).to_be_bytes())?;
+        } else {
+            out.extend_from_slice(&(LONG_MARK + longs).to_be_bytes())?;
+            longs += 1;
+        }
+    }
+    Ok(())
+}
+
+// Adds the table of 64-bit offsets.
+fn put_long_offsets<A: Allocator + Copy>(
+    out: &mut Vec<u8, A>,
+    entries: &[IndexEntry],
+) -> Result<(), AllocError>
+    ensures { OnOk result (out.new.items ≡ out.old.items ++ flat_map long_bytes entries.now) }
+{
+    for entry in entries {
+        if entry.offset >= LONG {
+            out.extend_from_slice(&entry.offset.to_be_bytes())?;
+        }
+    }
+    Ok(())
+}
+
+/// The text of an index without its own checksum. It fails only out of memory.
+pub(crate) fn body_of<A: Allocator + Copy>(
+    alloc: A,
+    entries: &[IndexEntry],
+    checksum: &Oid,
+) -> Result<Vec<u8, A>, AllocError>
+    requires { length entries.now < 2 ^ 31 }
+    ensures { IfOk result (λ text. text.items
+        ≡ index_body (record { entries = entries.now; checksum = checksum.now })) }
+{
+    let mut text = Vec::new(alloc);
+    put_body(&mut text, entries, checksum)?;
+    Ok(text)
+}
+
+/// The text of an index. It fails only out of memory.
+pub(crate) fn write_index<A: Allocator + Copy>(
+    alloc: A,
+    entries: &[IndexEntry],
+    checksum: &Oid,
+) -> Result<Vec<u8, A>, AllocError>
+    requires { length entries.now < 2 ^ 31 }
+    ensures { IfOk result (λ text. text.items
+        ≡ index_text (record { entries = entries.now; checksum = checksum.now })) }
+{
+    let mut text = body_of(alloc, entries, checksum)?;
+    let own = Sha1::digest(text.as_slice());
+    text.extend_from_slice(&own)?;
+    Ok(text)
+}

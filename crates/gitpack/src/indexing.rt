@@ -1,0 +1,155 @@
+//! Indexing a pack that came from a peer.
+
+ghost use Rattle.std.specs.Prelude.{◌≡◌, ◌≢◌, ℕ, All, IfOk, MatchOption, length, map};
+ghost use Rattle.gitobject.specs.Naming.{id_of};
+ghost use Rattle.gitpack.specs.Indexes.{AreObjects, index_of, index_text, line_of, object_id};
+ghost use Rattle.gitpack.specs.Packs.{IsFramed};
+
+use crate::fault::PackFileFault;
+use crate::index::{IndexEntry, MAX_ENTRIES};
+use crate::index_writing::write_index;
+use crate::resolving::Resolver;
+use crate::scanning::scan;
+use gitobject::ObjectType;
+use gname::Oid;
+use std::alloc::{AllocError, Allocator};
+use std::marker::Model;
+
+/// A visitor of the objects of a pack.
+pub trait ObjectVisitor {
+    /// Visits an object: its id, its type and its bytes. It may refuse the object with a fault,
+    /// which then is that of the pack.
+    fn visit(&mut self, id: &Oid, kind: ObjectType, body: &[u8]) -> Result<(), PackFileFault>
+        requires { id.now ≡ id_of kind body.now };
+}
+
+/// How much a pack may ask for. A small pack can hold objects of very many bytes.
+#[derive(Clone, Copy, Debug, Drop)]
+pub struct IndexLimits {
+    /// The most bytes of an object.
+    pub object: usize,
+    /// The most bytes of the objects that are held at a time, as bases of deltas.
+    pub held: usize,
+    /// The most bytes of all objects and deltas together.
+    pub total: usize,
+}
+
+/// An object of a pack: its line of the pack index, and its type.
+#[derive(Clone, Copy, Debug, Drop)]
+pub struct IndexedEntry {
+    /// Its line of the pack index.
+    pub entry: IndexEntry,
+    /// Its type.
+    pub kind: ObjectType,
+}
+
+/// A pack that is indexed: its objects in the order of their ids, and its checksum.
+#[derive(Drop)]
+pub struct IndexedPack<A: Allocator + Copy> {
+    entries: Vec<IndexedEntry, A>,
+    checksum: Oid,
+}
+
+impl<A: Allocator + Copy> Model for IndexedPack<A> {
+    ghost use Rattle.gitpack.specs.Indexes.{AreObjects, Indexed};
+
+    ghost Value = { Indexed };
+
+    ghost view = { λ pack. record { entries = pack.entries.items; checksum = pack.checksum } };
+
+    ghost invariant = { λ pack. AreObjects pack.entries.items };
+}
+
+impl<A: Allocator + Copy> IndexedPack<A> {
+    /// The objects, in the order of their ids.
+    pub fn entries(&self) -> &[IndexedEntry]
+        ensures objects { result.now ≡ self.now.entries }
+        ensures order { AreObjects result.now }
+    {
+        self.entries.as_slice()
+    }
+
+    /// The object with this id; `None` if there is none.
+    pub fn find(&self, id: &Oid) -> Option<IndexedEntry>
+        ensures { MatchOption result (All (λ e. object_id e ≢ id.now) self.now.entries)
+            (λ e. object_id e ≡ id.now) }
+    {
+        find(self.entries.as_slice(), id)
+    }
+
+    /// The checksum of the pack: its trailer.
+    pub fn checksum(&self) -> Oid
+        ensures { result ≡ self.now.checksum }
+    {
+        self.checksum
+    }
+
+    /// The text of the pack index of version 2. It fails only out of memory.
+    pub fn write_index(&self, alloc: A) -> Result<Vec<u8, A>, AllocError>
+        ensures { IfOk result (λ text. text.items ≡ index_text (index_of self.now)) }
+    {
+        let lines = lines_of(alloc, self.entries.as_slice())?;
+        write_index(alloc, lines.as_slice(), &self.checksum)
+    }
+}
+
+// The object with this id.
+fn find(entries: &[IndexedEntry], id: &Oid) -> Option<IndexedEntry>
+    requires { AreObjects entries.now }
+    ensures { MatchOption result (All (λ e. object_id e ≢ id.now) entries.now)
+        (λ e. object_id e ≡ id.now) }
+{
+    match entries.binary_search_by(|entry| entry.entry.id.cmp(id)) {
+        Ok(place) => Some(entries[place]),
+        Err(_) => None,
+    }
+}
+
+// The lines of the index.
+fn lines_of<A: Allocator + Copy>(
+    alloc: A,
+    entries: &[IndexedEntry],
+) -> Result<Vec<IndexEntry, A>, AllocError>
+    ensures lines { IfOk result (λ lines. lines.items ≡ map line_of entries.now) }
+    ensures count { IfOk result (λ lines. length lines.items ≡ length entries.now) }
+{
+    entries.iter().map(|entry| entry.entry).collect(alloc)
+}
+
+/// Indexes a pack, and shows each of its objects to a visitor: whole objects first, and each delta
+/// after its base.
+///
+/// It fails with `Frame` if the header, the number of entries or the trailer is wrong. It fails
+/// with `Entry` at an entry that is wrong, and with `Thin` if a base is not in the pack. It fails
+/// with `TooLarge` past a limit, or if there are 2^31 objects or more. Otherwise it fails with the
+/// visitor's fault, and with `Memory`.
+pub fn index_pack<A: Allocator + Copy, V: ObjectVisitor>(
+    alloc: A,
+    pack: &[u8],
+    limits: IndexLimits,
+    visitor: &mut V,
+) -> Result<IndexedPack<A>, PackFileFault>
+    ensures { IfOk result (λ indexed. (count : ℕ) × IsFramed count indexed.checksum pack.now) }
+{
+    let scanned = scan(alloc, pack, limits, visitor)?;
+    let checksum = scanned.trailer;
+    let mut resolver = Resolver::new(alloc, pack, limits, scanned.entries)?;
+    resolver.resolve_all(visitor)?;
+    let entries = in_order(resolver.into_entries()?)?;
+    Ok(IndexedPack { entries, checksum })
+}
+
+// These objects in the order of their ids. It fails with `TooLarge` if they are too many for an
+// index.
+fn in_order<A: Allocator + Copy>(
+    objects: Vec<IndexedEntry, A>,
+) -> Result<Vec<IndexedEntry, A>, PackFileFault>
+    ensures { IfOk result (λ entries. AreObjects entries.items) }
+{
+    let mut entries = objects;
+    if entries.len() > MAX_ENTRIES {
+        return Err(PackFileFault::TooLarge);
+    }
+    entries.sort_unstable_by(|one, other| one.entry.id.cmp(&other.entry.id));
+    Ok(entries)
+}

@@ -1,0 +1,76 @@
+//! The packs of a Git repository as bytes in memory: entries, deltas, the pack index, indexing a
+//! pack, and writing one (gitformat-pack(5)). This crate reads no file, and knows no graph of
+//! objects.
+//!
+//! # Proved
+//!
+//! - [`read_head`] accepts exactly the heads of entries in `specs/Entries.antt`: a type, a size,
+//!   and the offset or the id of a base. Bytes begin with one head ([`laws`]), so each head that
+//!   [`PackWriter`] writes is read again.
+//! - [`apply_delta`] makes a body exactly if the bytes are a delta of the base. In a delta both
+//!   sizes are right, and each copy lies within the base. The body is the bytes that the copies
+//!   and insertions add, in order.
+//! - [`PackIndex::read`] answers an index only for the text of that index. The lines are sorted by
+//!   their ids, and the fan-out table and both tables of offsets are theirs. [`PackIndex::find`]
+//!   finds an id exactly if it is in the index.
+//! - [`IndexedPack::write_index`] writes the text of version 2, with its own checksum.
+//! - [`PackWriter`] writes the header with the count, then each entry as it is put, and then the
+//!   SHA-1 of all.
+//! - [`index_pack`] accepts only packs of version 2 whose trailer is the SHA-1 of all bytes
+//!   before. Each object that the visitor is shown has the id of its type and bytes, and the
+//!   objects come out sorted by their ids.
+//! - No call panics, overflows or reads out of bounds, and each returns.
+//!
+//! # Differences from Git
+//!
+//! - A size in a delta and an offset of a base have eight bytes at most.
+//! - An index of version 1 is not read. One of version 2 is read only as Git writes it: no offset
+//!   below 2^31 lies in the table of 64-bit offsets. The checksum of the index itself is not
+//!   tested.
+//! - A pack of 2^31 objects or more is refused, and so is a thin pack.
+//! - An object that a pack holds twice is accepted, and both entries are in the index. Git does so
+//!   without `--strict`.
+//!
+//! # What the contracts do not rule out
+//!
+//! - Any call that allocates may fail with out of memory; the contracts do not say when.
+//! - [`PackIndex::read`] might refuse the text of an index, and its contract says nothing of
+//!   [`PackIndex::id`], [`PackIndex::crc`] and [`PackIndex::offset`].
+//! - [`index_pack`] might refuse a good pack. It might leave out a delta, give an object a wrong
+//!   offset or a wrong CRC-32, or apply a delta to a wrong base. Its contract does not count the
+//!   objects, and says nothing of limits and faults.
+//! - [`PackWriter`] might refuse an entry. The stream of [`PackWriter::put_body`] is any, and the
+//!   number of entries is not compared with the count.
+//! - The contracts say nothing of time, or of how much memory a call takes.
+//!
+//! There are no tests here.
+//!
+//! # Stands on
+//!
+//! `gzlib` for zlib streams and CRC-32, `gitobject` for types and the ids of objects, `gname` for
+//! ids, `sha1` for checksums.
+#![tactic(auto)]
+
+mod children;
+mod delta;
+mod entry;
+mod fault;
+mod frame;
+mod heads;
+mod index;
+mod index_reading;
+mod index_writing;
+mod indexing;
+pub mod laws;
+mod numbers;
+mod resolving;
+mod scanning;
+mod streams;
+mod writing;
+
+pub use crate::delta::apply_delta;
+pub use crate::entry::{EntryForm, EntryHead, MAX_HEAD, read_head};
+pub use crate::fault::PackFileFault;
+pub use crate::index::{IndexEntry, PackIndex};
+pub use crate::indexing::{IndexLimits, IndexedEntry, IndexedPack, ObjectVisitor, index_pack};
+pub use crate::writing::PackWriter;

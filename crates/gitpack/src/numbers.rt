@@ -1,0 +1,98 @@
+//! Numbers in bytes of seven bits: sizes, and offsets of bases.
+
+ghost use Rattle.std.specs.Prelude.{◌≡◌, ◌^◌, ◌<◌, ◌≤◌, ◌++◌, ◌∷◌, List, ℕ, MatchOption, length, slice_index};
+ghost use Rattle.gitpack.specs.Numbers.{IsNumber, IsOffset, IsSize, high_first, low_first};
+
+// The values of a digit. A byte from here on is not the last of its number.
+const DIGITS: u8 = 128;
+
+// The most bytes of a size or an offset.
+const MAX_BYTES: usize = 8;
+
+/// The bytes of the number with which some bytes begin, and the bytes after it; `None` if they
+/// begin with no number of at most so many bytes.
+pub(crate) fn split_number(most: usize, bytes: &[u8]) -> Option<(&[u8], &[u8])>
+    ensures { MatchOption result
+        ((text rest : List ℕ) → IsNumber text → length text ≤ most → ¬ (bytes.now ≡ text ++ rest))
+        (λ parts. IsNumber parts.0.now × (length parts.0.now ≤ most)
+        × (bytes.now ≡ parts.0.now ++ parts.1.now)) }
+{
+    let Some(last) = last_place(bytes) else {
+        return None;
+    };
+    if last >= most {
+        return None;
+    }
+    Some(bytes.split_at(last + 1))
+}
+
+// The place of the first byte below 128.
+fn last_place(bytes: &[u8]) -> Option<usize>
+    ensures { MatchOption result
+        ((k : ℕ) → k < length bytes.now → 128 ≤ slice_index bytes.now k)
+        (λ place. (place < length bytes.now) × (slice_index bytes.now place < 128)
+        × ((k : ℕ) → k < place → 128 ≤ slice_index bytes.now k)) }
+{
+    for (place, byte) in bytes.iter().enumerate() {
+        if *byte < DIGITS {
+            return Some(place);
+        }
+    }
+    None
+}
+
+/// The number with these digits, the lowest first.
+pub(crate) fn low_first(bytes: &[u8]) -> usize
+    requires { length bytes.now ≤ 8 }
+    ensures number { result ≡ low_first bytes.now }
+    ensures bound { result < 2 ^ 56 }
+{
+    let mut number = 0;
+    let mut unit = 1;
+    for byte in bytes {
+        number += usize::from(*byte % DIGITS) * unit;
+        unit *= usize::from(DIGITS);
+    }
+    number
+}
+
+// The number with these digits, the highest first, and a carry at each byte but one.
+fn high_first(first: u8, more: &[u8]) -> usize
+    requires { length more.now ≤ 7 }
+    ensures { result ≡ high_first (first ∷ more.now) }
+{
+    let mut number = usize::from(first % DIGITS);
+    for byte in more {
+        number = (number + 1) * usize::from(DIGITS) + usize::from(*byte % DIGITS);
+    }
+    number
+}
+
+/// The size with which some bytes begin, and the bytes after it; `None` if they begin with no
+/// size.
+pub(crate) fn split_size(bytes: &[u8]) -> Option<(usize, &[u8])>
+    ensures { MatchOption result
+        ((size : ℕ) (text rest : List ℕ) → IsSize text size → ¬ (bytes.now ≡ text ++ rest))
+        (λ parts. (text : List ℕ) × IsSize text parts.0 × (bytes.now ≡ text ++ parts.1.now)) }
+{
+    let Some((text, rest)) = split_number(MAX_BYTES, bytes) else {
+        return None;
+    };
+    Some((low_first(text), rest))
+}
+
+/// The offset with which some bytes begin, and the bytes after it; `None` if they begin with no
+/// offset.
+pub(crate) fn split_offset(bytes: &[u8]) -> Option<(usize, &[u8])>
+    ensures { MatchOption result
+        ((offset : ℕ) (text rest : List ℕ) → IsOffset text offset → ¬ (bytes.now ≡ text ++ rest))
+        (λ parts. (text : List ℕ) × IsOffset text parts.0 × (bytes.now ≡ text ++ parts.1.now)) }
+{
+    let Some((text, rest)) = split_number(MAX_BYTES, bytes) else {
+        return None;
+    };
+    let Some((first, more)) = text.split_first() else {
+        return None;
+    };
+    Some((high_first(*first, more), rest))
+}

@@ -1,0 +1,220 @@
+//! Deltas, applied to their bases: depth first, so that only the objects of one chain are held at
+//! a time.
+
+use crate::children::{Children, Cursor};
+use crate::delta::apply_delta;
+use crate::entry::EntryForm;
+use crate::fault::PackFileFault;
+use crate::index::IndexEntry;
+use crate::indexing::{IndexLimits, IndexedEntry, ObjectVisitor};
+use crate::scanning::{Object, Scanned};
+use crate::streams::inflate;
+use gitobject::{ObjectType, id_of};
+use gzlib::Inflater;
+use std::alloc::{AllocError, Allocator};
+
+// An object to which deltas are applied.
+#[derive(Drop)]
+struct Base<A: Allocator + Copy> {
+    kind: ObjectType,
+    body: Vec<u8, A>,
+    // Its deltas that are still to be applied.
+    left: Cursor,
+}
+
+/// Applies the deltas of a pack.
+#[derive(Drop)]
+pub(crate) struct Resolver<'a, A: Allocator + Copy> {
+    alloc: A,
+    pack: &'a [u8],
+    limits: IndexLimits,
+    entries: Vec<Scanned, A>,
+    children: Children<A>,
+    // The chain of objects to which deltas are applied, and the number of their bytes.
+    bases: Vec<Base<A>, A>,
+    held: usize,
+    // The number of bytes of all objects that deltas made.
+    total: usize,
+    inflater: Inflater,
+}
+
+impl<'a, A: Allocator + Copy> Resolver<'a, A> {
+    /// Makes ready to apply the deltas of a pack with these entries. It fails only out of memory.
+    pub(crate) fn new(
+        alloc: A,
+        pack: &'a [u8],
+        limits: IndexLimits,
+        entries: Vec<Scanned, A>,
+    ) -> Result<Resolver<'a, A>, AllocError> {
+        let children = Children::new(alloc, entries.as_slice())?;
+        Ok(Resolver {
+            alloc,
+            pack,
+            limits,
+            entries,
+            children,
+            bases: Vec::new(alloc),
+            held: 0,
+            total: 0,
+            inflater: Inflater::new(),
+        })
+    }
+
+    /// Applies all deltas, and shows each object to the visitor.
+    pub(crate) fn resolve_all<V: ObjectVisitor>(
+        &mut self,
+        visitor: &mut V,
+    ) -> Result<(), PackFileFault> {
+        for place in 0..self.entries.len() {
+            self.begin(place)?;
+            self.resolve_chain(visitor)?;
+        }
+        Ok(())
+    }
+
+    // Begins a chain with the object of this entry, if it is whole and has deltas.
+    fn begin(&mut self, place: usize) -> Result<(), PackFileFault> {
+        let Some(entry) = self.entries.get(place).copied() else {
+            return Ok(());
+        };
+        let (EntryForm::Whole(_), Some(object)) = (entry.form, entry.object) else {
+            return Ok(());
+        };
+        let left = self.children.of(entry.start, object.id);
+        if self.children.peek(&left).is_none() {
+            return Ok(());
+        }
+        let body = self.inflate(place, &entry)?;
+        let kind = object.kind;
+        self.hold(Base { kind, body, left })
+    }
+
+    // The bytes to which the stream of the entry at this place inflates.
+    fn inflate(&mut self, place: usize, entry: &Scanned) -> Result<Vec<u8, A>, PackFileFault> {
+        let stream = self.pack.get(entry.stream..entry.end).unwrap_or(b"");
+        let inflated = inflate(self.alloc, &mut self.inflater, stream, entry.size, place)?;
+        Ok(inflated.body)
+    }
+
+    // Holds an object, to apply deltas to it.
+    fn hold(&mut self, base: Base<A>) -> Result<(), PackFileFault> {
+        self.held = self.held.saturating_add(base.body.len());
+        if self.held > self.limits.held {
+            return Err(PackFileFault::TooLarge);
+        }
+        self.bases.push(base)?;
+        Ok(())
+    }
+
+    // Applies the deltas of the object that is held, of those that they make, and so on.
+    fn resolve_chain<V: ObjectVisitor>(&mut self, visitor: &mut V) -> Result<(), PackFileFault> {
+        // Each delta is applied once, and each object let go once.
+        let steps = self.entries.len().saturating_mul(2).saturating_add(2);
+        for _step in 0..steps {
+            if self.bases.is_empty() {
+                return Ok(());
+            }
+            match self.next_delta() {
+                Some(place) => self.resolve(place, visitor)?,
+                None => self.let_go(),
+            }
+        }
+        Err(PackFileFault::Frame)
+    }
+
+    fn let_go(&mut self) {
+        if let Some(base) = self.bases.pop() {
+            self.held = self.held.saturating_sub(base.body.len());
+        }
+    }
+
+    // Lets the object go that is held last, if none of its deltas is left: so a chain of any
+    // length holds two objects.
+    fn let_go_of_done(&mut self) {
+        let Some(last) = self.bases.last() else {
+            return;
+        };
+        let left = last.left;
+        if self.children.peek(&left).is_none() {
+            self.let_go();
+        }
+    }
+
+    // The place of the next delta of the object that is held last.
+    fn next_delta(&mut self) -> Option<usize> {
+        let last = self.bases.last_mut()?;
+        let left = last.left;
+        last.left = self.children.after(&left);
+        self.children.peek(&left)
+    }
+
+    // Applies the delta at this place to the object that is held last.
+    fn resolve<V: ObjectVisitor>(
+        &mut self,
+        place: usize,
+        visitor: &mut V,
+    ) -> Result<(), PackFileFault> {
+        let Some(entry) = self.entries.get(place).copied() else {
+            return Err(PackFileFault::Entry(place));
+        };
+        if entry.object.is_some() {
+            return Ok(());
+        }
+        let delta = self.inflate(place, &entry)?;
+        let Some((kind, body)) = self.apply(delta.as_slice())? else {
+            return Err(PackFileFault::Entry(place));
+        };
+        self.count(body.len())?;
+        self.let_go_of_done();
+        let id = id_of(kind, body.as_slice());
+        visitor.visit(&id, kind, body.as_slice())?;
+        if let Some(entry) = self.entries.get_mut(place) {
+            entry.object = Some(Object { id, kind });
+        }
+        let left = self.children.of(entry.start, id);
+        if self.children.peek(&left).is_some() {
+            self.hold(Base { kind, body, left })?;
+        }
+        Ok(())
+    }
+
+    // Counts so many bytes more.
+    fn count(&mut self, size: usize) -> Result<(), PackFileFault> {
+        self.total = self.total.saturating_add(size);
+        if self.total > self.limits.total {
+            return Err(PackFileFault::TooLarge);
+        }
+        Ok(())
+    }
+
+    // The type and the bytes of what the delta makes of the object that is held last.
+    fn apply(&self, delta: &[u8]) -> Result<Option<(ObjectType, Vec<u8, A>)>, AllocError> {
+        let Some(base) = self.bases.last() else {
+            return Ok(None);
+        };
+        let made = apply_delta(self.alloc, base.body.as_slice(), delta, self.limits.object)?;
+        match made {
+            Some(body) => Ok(Some((base.kind, body))),
+            None => Ok(None),
+        }
+    }
+
+    /// The objects, if each entry is one. It fails with `Thin` if the base of a delta is not in
+    /// the pack, and with `Memory`.
+    pub(crate) fn into_entries(self) -> Result<Vec<IndexedEntry, A>, PackFileFault> {
+        let mut indexed = Vec::with_capacity(self.alloc, self.entries.len())?;
+        for scanned in &self.entries {
+            let Some(object) = scanned.object else {
+                return Err(PackFileFault::Thin);
+            };
+            let entry = IndexEntry {
+                id: object.id,
+                crc: scanned.crc,
+                offset: scanned.start as u64,
+            };
+            let kind = object.kind;
+            indexed.push(IndexedEntry { entry, kind })?;
+        }
+        Ok(indexed)
+    }
+}

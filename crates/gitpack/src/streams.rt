@@ -1,0 +1,46 @@
+//! The zlib streams of entries.
+
+ghost use Rattle.std.specs.Prelude.{◌≡◌, IfOk, vec_len};
+
+use crate::fault::PackFileFault;
+use gzlib::{InflateFault, Inflater};
+use std::alloc::Allocator;
+
+// No stream inflates to more than so many times its length (RFC 1951, section 3.2.5: 258 bytes in
+// two bits).
+const MAX_RATIO: usize = 1_032;
+
+/// A stream, inflated.
+#[derive(Drop)]
+pub(crate) struct Inflated<A: Allocator + Copy> {
+    /// The bytes to which it inflates.
+    pub body: Vec<u8, A>,
+    /// The number of bytes of the stream.
+    pub length: usize,
+}
+
+/// Inflates the stream with which some bytes begin, that of the entry at this place among all, to
+/// exactly `size` bytes.
+pub(crate) fn inflate<A: Allocator + Copy>(
+    alloc: A,
+    inflater: &mut Inflater,
+    bytes: &[u8],
+    size: usize,
+    number: usize,
+) -> Result<Inflated<A>, PackFileFault>
+    ensures { IfOk result (λ it. vec_len it.body ≡ size) }
+{
+    let room = size.min(bytes.len().saturating_mul(MAX_RATIO));
+    let mut body = Vec::with_capacity(alloc, room)?;
+    match inflater.inflate(bytes, &mut body, size) {
+        Ok(length) => {
+            if body.len() == size {
+                Ok(Inflated { body, length })
+            } else {
+                Err(PackFileFault::Entry(number))
+            }
+        }
+        Err(InflateFault::Memory) => Err(PackFileFault::Memory),
+        Err(_) => Err(PackFileFault::Entry(number)),
+    }
+}

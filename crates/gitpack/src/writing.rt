@@ -1,0 +1,141 @@
+//! Writing a pack.
+
+ghost use Rattle.std.specs.Prelude.{◌≡◌, List, ℕ, IfOk, OnOk, length};
+ghost use Rattle.gname.specs.Ids.{Id};
+ghost use Rattle.gitpack.specs.Packs.{AddsEntry, pack_header, with_trailer};
+ghost use Rattle.gitpack.specs.declared.entry.EntryForm.TheVariants as forms;
+
+use crate::entry::EntryForm;
+use crate::fault::PackFileFault;
+use crate::frame::SIGNATURE;
+use crate::heads::put_head;
+use gitobject::ObjectType;
+use gname::Oid;
+use gzlib::put_stored;
+use sha1::Sha1;
+use std::alloc::{AllocError, Allocator};
+use std::marker::Model;
+
+/// A pack that is written, entry after entry. Contracts see it as its bytes so far.
+///
+/// After a fault a part of an entry may have been added, and the pack is of no use.
+#[derive(Drop)]
+pub struct PackWriter<A: Allocator + Copy> {
+    alloc: A,
+    bytes: Vec<u8, A>,
+    most: usize,
+}
+
+impl<A: Allocator + Copy> Model for PackWriter<A> {
+    ghost use Rattle.std.specs.Prelude.{ℕ, List};
+
+    ghost Value = { List ℕ };
+
+    ghost view = { λ writer. writer.bytes.items };
+}
+
+impl<A: Allocator + Copy> PackWriter<A> {
+    /// A pack of `count` entries, none of which is written yet. It is of at most `most` bytes
+    /// without its trailer, and room for `room` bytes is made at once. It fails only out of
+    /// memory.
+    pub fn new(alloc: A, count: u32, room: usize, most: usize) -> Result<PackWriter<A>, AllocError>
+        ensures { IfOk result (λ writer. writer ≡ pack_header count) }
+    {
+        let mut bytes = Vec::with_capacity(alloc, room)?;
+        bytes.extend_from_slice(SIGNATURE)?;
+        bytes.extend_from_slice(&count.to_be_bytes())?;
+        Ok(PackWriter { alloc, bytes, most })
+    }
+
+    /// The position at which the next entry begins.
+    pub fn position(&self) -> usize
+        ensures { result ≡ length self.now }
+    {
+        self.bytes.len()
+    }
+
+    /// Adds a whole object of `size` bytes, whose zlib stream is given.
+    ///
+    /// It fails with `TooLarge` if the size has more than 60 bits or the pack has no room for the
+    /// stream, and with `Memory`.
+    pub fn put_whole(
+        &mut self,
+        kind: ObjectType,
+        size: usize,
+        stream: &[u8],
+    ) -> Result<(), PackFileFault>
+        ensures { OnOk result (AddsEntry (forms.Whole kind) size stream.now self.old self.new) }
+    {
+        self.put_entry(EntryForm::Whole(kind), size, stream)
+    }
+
+    /// Adds a delta of `size` bytes, whose zlib stream is given, of the object whose entry begins
+    /// `back` bytes before this one.
+    ///
+    /// It fails as `put_whole` does, and with `TooLarge` if the offset has more than 56 bits.
+    pub fn put_offset_delta(
+        &mut self,
+        size: usize,
+        back: usize,
+        stream: &[u8],
+    ) -> Result<(), PackFileFault>
+        ensures { OnOk result
+            (AddsEntry (forms.OffsetDelta back) size stream.now self.old self.new) }
+    {
+        self.put_entry(EntryForm::OffsetDelta(back), size, stream)
+    }
+
+    /// Adds a delta of `size` bytes, whose zlib stream is given, of the object with this id.
+    ///
+    /// It fails as `put_whole` does, and with `Format` if the id is not a SHA-1 id.
+    pub fn put_ref_delta(
+        &mut self,
+        size: usize,
+        base: &Oid,
+        stream: &[u8],
+    ) -> Result<(), PackFileFault>
+        ensures { OnOk result
+            (AddsEntry (forms.RefDelta base.now) size stream.now self.old self.new) }
+    {
+        self.put_entry(EntryForm::RefDelta(*base), size, stream)
+    }
+
+    /// Adds a whole object with these bytes, in a zlib stream of stored blocks.
+    ///
+    /// It fails as `put_whole` does.
+    pub fn put_body(&mut self, kind: ObjectType, body: &[u8]) -> Result<(), PackFileFault>
+        ensures { OnOk result ((stream : List ℕ)
+            × AddsEntry (forms.Whole kind) (length body.now) stream self.old self.new) }
+    {
+        let mut stream = Vec::new(self.alloc);
+        put_stored(&mut stream, body)?;
+        self.put_entry(EntryForm::Whole(kind), body.len(), stream.as_slice())
+    }
+
+    // Adds an entry.
+    fn put_entry(
+        &mut self,
+        form: EntryForm,
+        size: usize,
+        stream: &[u8],
+    ) -> Result<(), PackFileFault>
+        ensures { OnOk result (AddsEntry form size stream.now self.old self.new) }
+    {
+        put_head(&mut self.bytes, form, size)?;
+        if stream.len() > self.most.saturating_sub(self.bytes.len()) {
+            return Err(PackFileFault::TooLarge);
+        }
+        self.bytes.extend_from_slice(stream)?;
+        Ok(())
+    }
+
+    /// The pack with its trailer. It fails only out of memory.
+    pub fn finish(self) -> Result<Vec<u8, A>, AllocError>
+        ensures { IfOk result (λ pack. pack.items ≡ with_trailer self) }
+    {
+        let mut pack = self.bytes;
+        let trailer = Sha1::digest(pack.as_slice());
+        pack.extend_from_slice(&trailer)?;
+        Ok(pack)
+    }
+}

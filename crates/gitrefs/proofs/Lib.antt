@@ -1,0 +1,4 @@
+pub mod Cutting
+pub mod LooseLemmas
+pub mod PackedLemmas
+pub mod TextLemmas

@@ -1,0 +1,9 @@
+pub mod Spaces
+pub mod Ids
+pub mod LooseRefs
+pub mod PackedRefs
+pub mod PackedTexts
+pub mod Texts
+pub mod Paths
+pub mod Faults
+pub mod steps

@@ -1,0 +1,141 @@
+//! A git directory, as far as its refs go.
+
+use crate::fault::{Cause, RefFault};
+use crate::git_file::GitFile;
+use crate::locked::LockedFile;
+use crate::packed_text::{packed_refs_text, peeled_refs_text};
+use crate::path::FilePath;
+use crate::update::first_conflict;
+use gname::RefName;
+use grefs::{Refs, Target};
+use std::alloc::{Allocator, Global};
+use std::fs;
+use std::fs::{File, Files};
+use std::io::{ErrorKind, Read};
+
+/// A git directory, as far as its refs go (gitrepository-layout(5)).
+#[derive(Drop)]
+pub struct GitDirectory<'r, R: Files, A: Allocator + Copy = Global> {
+    pub(crate) files: &'r R,
+    pub(crate) alloc: A,
+    pub(crate) path: &'r str,
+}
+
+// The directories of a new repository.
+const DIRECTORIES: [&str; 4] = ["objects/info", "objects/pack", "refs/heads", "refs/tags"];
+
+// The configuration of a new bare repository (git-config(1), "core").
+const BARE_CONFIG: &[u8] =
+    b"[core]\n\trepositoryformatversion = 0\n\tfilemode = true\n\tbare = true\n";
+
+impl<'r, R: Files, A: Allocator + Copy> GitDirectory<'r, R, A> {
+    /// The git directory with this path. Nothing is opened yet.
+    pub fn new(alloc: A, files: &'r R, path: &'r str) -> GitDirectory<'r, R, A> {
+        GitDirectory { files, alloc, path }
+    }
+
+    /// Makes a bare repository without objects and refs, whose HEAD points at this branch
+    /// (git-init(1)).
+    ///
+    /// If the directory is there already, it fails with `System` and changes nothing. If another
+    /// call fails, a part of the repository stays.
+    pub fn make(&self, branch: &Target<A>) -> Result<(), RefFault<A>> {
+        if let Err(error) = fs::create_dir(self.files, self.path) {
+            return Err(RefFault::system(self.alloc, self.path, error));
+        }
+        for name in DIRECTORIES {
+            self.make_directory(name)?;
+        }
+        let config = FilePath::of_config(self.alloc, self.path)?;
+        self.lock(config)?.replace(BARE_CONFIG)?;
+        self.write_head(branch)
+    }
+
+    fn make_directory(&self, name: &str) -> Result<(), RefFault<A>> {
+        let mut path = String::from_str(self.alloc, self.path)?;
+        path.push_str("/")?;
+        path.push_str(name)?;
+        match fs::create_dir_all(self.files, path.as_str()) {
+            Ok(()) => Ok(()),
+            Err(error) => Err(RefFault::system(self.alloc, path.as_str(), error)),
+        }
+    }
+
+    // Points HEAD at a branch.
+    fn write_head(&self, branch: &Target<A>) -> Result<(), RefFault<A>> {
+        let head = RefName::head(self.alloc)?;
+        let path = FilePath::of_ref(self.alloc, self.path, &head)?;
+        let mut text = Vec::new(self.alloc);
+        text.extend_from_slice(b"ref: ")?;
+        text.extend_from_slice(branch.name().as_bytes())?;
+        text.push(b'\n')?;
+        self.lock(path)?.replace(text.as_slice())
+    }
+
+    /// Writes `packed-refs` of a repository that has none, as a clone does (git-pack-refs(1)). The
+    /// peeled ids are those of the objects to which tags lead, by the names of the tags. Without
+    /// them, the header does not say that they are there.
+    ///
+    /// It fails with `Missing`; with `Conflict` if one ref has the name of another's directory;
+    /// with `Exists` if there is a `packed-refs`; with `Locked`, `System` or `Memory`. Then there
+    /// is no new file, or the whole one. Its lock is removed.
+    pub fn write_packed_refs(
+        &self,
+        refs: &Refs<A>,
+        peeled: Option<&Refs<A>>,
+    ) -> Result<(), RefFault<A>> {
+        self.check_repository()?;
+        if let Some(name) = first_conflict(self.alloc, refs)? {
+            return Err(self.fault_of(name, Cause::Conflict));
+        }
+        let text = match peeled {
+            Some(peeled) => peeled_refs_text(self.alloc, refs, peeled)?,
+            None => packed_refs_text(self.alloc, refs)?,
+        };
+        let packed = self.lock(FilePath::of_packed_refs(self.alloc, self.path)?)?;
+        if !packed.text().is_empty() {
+            return Err(RefFault::at(self.alloc, packed.path(), Cause::Exists));
+        }
+        packed.replace(text.as_slice())
+    }
+
+    // There is a `HEAD`, as each git directory has one.
+    pub(crate) fn check_repository(&self) -> Result<(), RefFault<A>> {
+        let path = FilePath::of_ref(self.alloc, self.path, &RefName::head(self.alloc)?)?;
+        match self.files.symlink_metadata(path.as_str()) {
+            Ok(_) => Ok(()),
+            Err(error) if error.kind() == ErrorKind::NotFound => {
+                Err(RefFault::at(self.alloc, path.as_str(), Cause::Missing))
+            }
+            Err(error) => Err(RefFault::system(self.alloc, path.as_str(), error)),
+        }
+    }
+
+    // The fault of a ref's file.
+    pub(crate) fn fault_of(&self, name: &RefName<A>, cause: Cause) -> RefFault<A> {
+        match FilePath::of_ref(self.alloc, self.path, name) {
+            Ok(path) => RefFault::at(self.alloc, path.as_str(), cause),
+            Err(fault) => fault,
+        }
+    }
+
+    // Locks a file of the directory, and reads it.
+    pub(crate) fn lock(&self, path: FilePath<A>) -> Result<LockedFile<'r, R, A>, RefFault<A>> {
+        let file = GitFile::new(self.alloc, self.files, path)?;
+        LockedFile::lock(self.alloc, file)
+    }
+
+    // The text of a file of the directory; `None` if it is not there.
+    pub(crate) fn read(&self, path: &FilePath<A>) -> Result<Option<Vec<u8, A>>, RefFault<A>> {
+        let mut text = Vec::new(self.alloc);
+        let mut file = match File::open(self.files, path.as_str()) {
+            Ok(file) => file,
+            Err(error) if error.kind() == ErrorKind::NotFound => return Ok(None),
+            Err(error) => return Err(RefFault::system(self.alloc, path.as_str(), error)),
+        };
+        match file.read_to_end(&mut text) {
+            Ok(_) => Ok(Some(text)),
+            Err(error) => Err(RefFault::system(self.alloc, path.as_str(), error)),
+        }
+    }
+}

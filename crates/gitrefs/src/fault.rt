@@ -1,0 +1,152 @@
+//! Faults.
+
+ghost use Rattle.std.specs.Prelude.{◌≡◌, Some};
+ghost use Rattle.gitrefs.specs.Faults.{text_fault_text};
+ghost use Rattle.gitrefs.specs.declared.fault.TextFault.TheVariants.{Memory};
+
+use gname::OUT_OF_MEMORY_TEXT;
+use std::alloc::{AllocError, AllocFailed, Allocator, Global};
+use std::error::Error;
+use std::{fmt, io};
+
+/// Why the text of a file could not be read.
+#[derive(Clone, Copy, Debug, PartialEq, Eq, Drop)]
+pub enum TextFault {
+    /// It does not have the form of the file.
+    Malformed,
+    /// Out of memory.
+    Memory,
+}
+
+/// The cause for which a file of a git directory is not read or written.
+#[derive(Debug, Drop)]
+pub enum Cause {
+    /// Its text does not have the form of the file.
+    Malformed,
+    /// Its lockfile is there already.
+    Locked,
+    /// It is there already.
+    Exists,
+    /// There is no `HEAD`, so this is no git directory.
+    Missing,
+    /// The ref is not where it was.
+    Moved,
+    /// The ref is symbolic, or its file is a symbolic link.
+    Symbolic,
+    /// Its name is that of a directory of refs, or a ref has the name of its directory.
+    Conflict,
+    /// Its name is not UTF-8, so no path can be made of it.
+    Utf8,
+    /// There would be more than 65,536 refs, or the ref is `HEAD`.
+    Refs,
+    /// The system refused a call.
+    System(io::Error),
+}
+
+/// Why refs could not be read or written.
+#[derive(Drop)]
+pub enum RefFault<A: Allocator + Copy = Global> {
+    /// Out of memory.
+    Memory,
+    /// Something is wrong with a file.
+    File {
+        /// Its path.
+        path: String<A>,
+        /// The cause.
+        cause: Cause,
+    },
+}
+
+impl<A: Allocator + Copy> RefFault<A> {
+    /// The fault of the file with this path.
+    pub(crate) fn at(alloc: A, path: &str, cause: Cause) -> RefFault<A> {
+        match String::from_str(alloc, path) {
+            Ok(path) => RefFault::File { path, cause },
+            Err(_) => RefFault::Memory,
+        }
+    }
+
+    /// The fault of a file whose call the system refused.
+    pub(crate) fn system(alloc: A, path: &str, error: io::Error) -> RefFault<A> {
+        if error.kind() == io::ErrorKind::OutOfMemory {
+            RefFault::Memory
+        } else {
+            RefFault::at(alloc, path, Cause::System(error))
+        }
+    }
+}
+
+impl fmt::Display for TextFault {
+    ghost output = { λ fault. Some (text_fault_text fault) };
+
+    fn fmt<W: fmt::Write>(&self, f: &mut fmt::Formatter<W>) -> fmt::Result {
+        match self {
+            TextFault::Malformed => f.write_str("the text is malformed"),
+            TextFault::Memory => f.write_str(OUT_OF_MEMORY_TEXT),
+        }
+    }
+}
+
+impl Error for TextFault {}
+
+impl fmt::Display for Cause {
+    fn fmt<W: fmt::Write>(&self, f: &mut fmt::Formatter<W>) -> fmt::Result {
+        f.write_str(match self {
+            Cause::Malformed => "the file is malformed",
+            Cause::Locked => "the file is locked",
+            Cause::Exists => "the file is there already",
+            Cause::Missing => "there is no git directory",
+            Cause::Moved => "the ref has moved meanwhile",
+            Cause::Symbolic => "the ref is symbolic",
+            Cause::Conflict => "the name of a ref is also that of a directory of refs",
+            Cause::Utf8 => "the name of the ref is not UTF-8",
+            Cause::Refs => "the ref can't be set",
+            Cause::System(error) => return fmt::Display::fmt(error, f),
+        })
+    }
+}
+
+impl<A: Allocator + Copy> fmt::Display for RefFault<A> {
+    fn fmt<W: fmt::Write>(&self, f: &mut fmt::Formatter<W>) -> fmt::Result {
+        match self {
+            RefFault::Memory => f.write_str(OUT_OF_MEMORY_TEXT),
+            RefFault::File { path, cause } => write!(f, "{path}: {cause}"),
+        }
+    }
+}
+
+impl<A: Allocator + Copy> fmt::Debug for RefFault<A> {
+    fn fmt<W: fmt::Write>(&self, f: &mut fmt::Formatter<W>) -> fmt::Result {
+        fmt::Display::fmt(self, f)
+    }
+}
+
+impl<A: Allocator + Copy> Error for RefFault<A> {}
+
+impl From<AllocError> for TextFault {
+    ghost from_gives = { λ _ fault. fault ≡ Memory };
+
+    fn from(_: AllocError) -> TextFault {
+        TextFault::Memory
+    }
+}
+
+impl<T: Drop> From<AllocFailed<T>> for TextFault {
+    ghost from_gives = { λ _ fault. fault ≡ Memory };
+
+    fn from(_: AllocFailed<T>) -> TextFault {
+        TextFault::Memory
+    }
+}
+
+impl<A: Allocator + Copy> From<AllocError> for RefFault<A> {
+    fn from(_: AllocError) -> RefFault<A> {
+        RefFault::Memory
+    }
+}
+
+impl<T: Drop, A: Allocator + Copy> From<AllocFailed<T>> for RefFault<A> {
+    fn from(_: AllocFailed<T>) -> RefFault<A> {
+        RefFault::Memory
+    }
+}

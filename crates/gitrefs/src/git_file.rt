@@ -1,0 +1,226 @@
+//! A file of a git directory, and the lockfile beside it.
+//!
+//! It is another storage than `StoredFile` of `glockfile`: it need not be there, it is no symbolic
+//! link, and it keeps the cause of a failure.
+
+ghost use Rattle.std.specs.Prelude.{◌≡◌, IfOk, None};
+ghost use Rattle.glockfile.specs.declared.storage.Lockfile.TheVariants.{Absent};
+
+use crate::fault::{Cause, RefFault};
+use crate::path::FilePath;
+use glockfile::{Lockfile, Storage, StorageFault};
+use std::alloc::{AllocError, Allocator, Global};
+use std::fs::{File, Files, OpenFile};
+use std::io::{ErrorKind, Read, Write};
+use std::marker::Model;
+use std::path::Path;
+use std::{fs, io};
+
+/// A file of a git directory, and the lockfile beside it, whose name is that of the file and
+/// `.lock`. A file that is not there has no text. The directories in which it lies are made with
+/// the lockfile.
+#[derive(Drop)]
+pub(crate) struct GitFile<'r, R: Files, A: Allocator + Copy = Global> {
+    files: &'r R,
+    alloc: A,
+    path: FilePath<A>,
+    lock_path: String<A>,
+    lock: Option<R::File>,
+    lockfile: Lockfile,
+    cause: Option<Cause>,
+}
+
+impl<'r, R: Files, A: Allocator + Copy> Model for GitFile<'r, R, A> {
+    ghost use Rattle.glockfile.specs.declared.storage.Lockfile.{Lockfile};
+
+    ghost Value = { Lockfile };
+
+    ghost view = { λ f. f.lockfile };
+}
+
+impl<'r, R: Files, A: Allocator + Copy> GitFile<'r, R, A> {
+    /// The file with this path. Nothing is opened yet. It fails out of memory.
+    pub(crate) fn new(
+        alloc: A,
+        files: &'r R,
+        path: FilePath<A>,
+    ) -> Result<GitFile<'r, R, A>, AllocError>
+        ensures { IfOk result (λ file. file ≡ Absent) }
+    {
+        let mut lock_path = String::from_str(alloc, path.as_str())?;
+        lock_path.push_str(".lock")?;
+        Ok(GitFile {
+            files,
+            alloc,
+            path,
+            lock_path,
+            lock: None,
+            lockfile: Lockfile::Absent,
+            cause: None,
+        })
+    }
+
+    /// The path of the file.
+    pub(crate) fn path(&self) -> &str {
+        self.path.as_str()
+    }
+
+    /// The fault of the file, after a call that failed so.
+    pub(crate) fn into_fault(self, fault: StorageFault) -> RefFault<A> {
+        match (fault, self.cause) {
+            (StorageFault::Failed, Some(cause)) => {
+                RefFault::at(self.alloc, self.path.as_str(), cause)
+            }
+            _ => RefFault::Memory,
+        }
+    }
+
+    // Keeps why the system refused a call.
+    fn refuse(&mut self, error: io::Error) -> StorageFault
+        ensures { self.new ≡ self.old }
+    {
+        if error.kind() == ErrorKind::OutOfMemory {
+            return StorageFault::Memory;
+        }
+        self.cause = Some(Cause::System(error));
+        StorageFault::Failed
+    }
+
+    // Keeps the cause for which a call fails.
+    fn fail(&mut self, cause: Cause) -> StorageFault
+        ensures { self.new ≡ self.old }
+    {
+        self.cause = Some(cause);
+        StorageFault::Failed
+    }
+
+    // Whether the path is that of a symbolic link.
+    fn is_symlink(&self) -> bool {
+        match self.files.symlink_metadata(self.path.as_str()) {
+            Ok(metadata) => metadata.is_symlink(),
+            Err(_) => false,
+        }
+    }
+
+    // Takes an empty directory away that has the name of the file.
+    fn clear_directory(&mut self) -> Result<(), StorageFault>
+        ensures { self.new ≡ self.old }
+    {
+        match fs::remove_dir(self.files, self.path.as_str()) {
+            Ok(()) => Ok(()),
+            Err(_) => Err(self.fail(Cause::Conflict)),
+        }
+    }
+}
+
+// Makes the directories in which a file lies.
+fn make_parents<R: Files>(files: &R, path: &str) -> Result<(), Cause> {
+    let Some(parent) = Path::new(path).parent() else {
+        return Ok(());
+    };
+    match fs::create_dir_all(files, parent) {
+        Ok(()) => Ok(()),
+        Err(error) if is_no_directory(error.kind()) => Err(Cause::Conflict),
+        Err(error) => Err(Cause::System(error)),
+    }
+}
+
+// Whether an error says that a part of a path is a file.
+fn is_no_directory(kind: ErrorKind) -> bool {
+    kind == ErrorKind::AlreadyExists || kind == ErrorKind::NotADirectory
+}
+
+// Brings a new name to the disk, in the directory that it is in.
+fn sync_directory<R: Files>(files: &R, path: &str) -> io::Result<()> {
+    match Path::new(path).parent() {
+        Some(parent) => File::open(files, parent)?.sync_all(),
+        None => Ok(()),
+    }
+}
+
+impl<R: Files, A: Allocator + Copy> Storage for GitFile<'_, R, A> {
+    ghost texts = { λ _. None };
+
+    ghost lockfile = { λ f. f };
+
+    fn lock(&mut self) -> Result<(), StorageFault> {
+        if let Err(cause) = make_parents(self.files, self.path.as_str()) {
+            return Err(self.fail(cause));
+        }
+        match File::create_new(self.files, self.lock_path.as_str()) {
+            Ok(lock) => {
+                self.lock = Some(lock);
+                self.lockfile = Lockfile::Empty;
+                Ok(())
+            }
+            Err(error) if error.kind() == ErrorKind::AlreadyExists => {
+                Err(self.fail(Cause::Locked))
+            }
+            Err(error) => Err(self.refuse(error)),
+        }
+    }
+
+    fn read<B: Allocator + Copy>(&mut self, alloc: B) -> Result<Vec<u8, B>, StorageFault> {
+        let mut text = Vec::new(alloc);
+        if self.is_symlink() {
+            return Err(self.fail(Cause::Symbolic));
+        }
+        let mut file = match File::open(self.files, self.path.as_str()) {
+            Ok(file) => file,
+            Err(error) if error.kind() == ErrorKind::NotFound => return Ok(text),
+            Err(error) => return Err(self.refuse(error)),
+        };
+        match file.read_to_end(&mut text) {
+            Ok(0) => Err(self.fail(Cause::Malformed)),
+            Ok(_) => Ok(text),
+            Err(error) if error.kind() == ErrorKind::IsADirectory => {
+                self.clear_directory()?;
+                Ok(Vec::new(alloc))
+            }
+            Err(error) => Err(self.refuse(error)),
+        }
+    }
+
+    fn write(&mut self, text: &[u8]) -> Result<(), StorageFault> {
+        self.lockfile = Lockfile::Unusable;
+        let Some(lock) = &mut self.lock else {
+            return Err(StorageFault::Failed);
+        };
+        if let Err(error) = lock.write_all(text) {
+            return Err(self.refuse(error));
+        }
+        self.lockfile = Lockfile::Written;
+        Ok(())
+    }
+
+    fn sync(&mut self) -> Result<(), StorageFault> {
+        self.lockfile = Lockfile::Unusable;
+        let Some(lock) = &self.lock else {
+            return Err(StorageFault::Failed);
+        };
+        if let Err(error) = lock.sync_all() {
+            return Err(self.refuse(error));
+        }
+        self.lockfile = Lockfile::Synced;
+        Ok(())
+    }
+
+    fn rename(&mut self) -> Result<(), StorageFault> {
+        self.lockfile = Lockfile::Unusable;
+        if let Err(error) = fs::rename(self.files, self.lock_path.as_str(), self.path.as_str()) {
+            return Err(self.refuse(error));
+        }
+        // The file is replaced, whether or not its directory can be synced.
+        let _ = sync_directory(self.files, self.path.as_str());
+        self.lock = None;
+        self.lockfile = Lockfile::Absent;
+        Ok(())
+    }
+
+    fn unlock(&mut self) {
+        if let Some(_) = self.lock.take() {
+            let _ = fs::remove_file(self.files, self.lock_path.as_str());
+        }
+        self.lockfile = Lockfile::Absent;
+    }
+}

@@ -1,0 +1,84 @@
+//! The file of a loose ref.
+
+ghost use Rattle.std.specs.Prelude.{◌≡◌, IfOk, MatchOption, MatchResult};
+ghost use Rattle.gname.specs.Names.{IsRefName, Name};
+ghost use Rattle.gitrefs.specs.Faults.{IsTextFault};
+ghost use Rattle.gitrefs.specs.LooseRefs.{IsLooseRefFile, IsTarget, LooseRefOf};
+
+use crate::fault::TextFault;
+use crate::words::{cut_id, cut_word, ends_word, is_blank, skip_blank, strip};
+use gname::laws::{names_are_clean, texts_have_one_reading};
+use gname::{Oid, RefName};
+use std::alloc::{Allocator, Global};
+
+/// The meaning of a ref's file (gitrepository-layout(5), "refs").
+#[derive(Debug, Drop)]
+pub enum LooseRef<A: Allocator + Copy = Global> {
+    /// The ref is at this id.
+    Id(Oid),
+    /// The ref is symbolic: it is where the ref of this name is (git-symbolic-ref(1)).
+    Symref(RefName<A>),
+}
+
+/// Reads the text of a loose ref's file, or of `HEAD`: forty hexadecimal digits, or `ref:` and the
+/// name of another ref. White space may surround the name. It may also follow the digits, and then
+/// anything may come after it.
+///
+/// It fails with `Malformed` if the text has another form, and with `Memory`.
+pub fn parse_loose_ref<A: Allocator + Copy>(alloc: A, text: &[u8]) -> Result<LooseRef<A>, TextFault>
+    ensures { MatchResult result (λ value. LooseRefOf text.now value)
+        (IsTextFault (IsLooseRefFile text.now)) }
+{
+    // Laws.
+    texts_have_one_reading();
+    if let Some(target) = strip(b"ref:", text) {
+        return match parse_target(alloc, target) {
+            Ok(name) => Ok(LooseRef::Symref(name)),
+            Err(fault) => Err(fault),
+        };
+    }
+    let Some(parts) = cut_id(text) else {
+        return Err(TextFault::Malformed);
+    };
+    if ends_word(parts.1) {
+        Ok(LooseRef::Id(parts.0))
+    } else {
+        Err(TextFault::Malformed)
+    }
+}
+
+// The name after the word `ref:`.
+fn parse_target<A: Allocator + Copy>(alloc: A, text: &[u8]) -> Result<RefName<A>, TextFault>
+    ensures { MatchResult result (λ name. IsTarget text.now name)
+        (IsTextFault ((name : Name) × IsTarget text.now name)) }
+{
+    // Laws.
+    names_are_clean();
+    let (_, padded) = skip_blank(text);
+    let (word, rest) = cut_word(padded);
+    if !is_blank(rest) {
+        return Err(TextFault::Malformed);
+    }
+    match name_of(alloc, word) {
+        Ok(Some(name)) => Ok(name),
+        Ok(None) => Err(TextFault::Malformed),
+        Err(_) => Err(TextFault::Memory),
+    }
+}
+
+/// The ref name with these bytes; `None` if no ref has this name. It fails with `Memory` alone.
+pub(crate) fn name_of<A: Allocator + Copy>(
+    alloc: A,
+    text: &[u8],
+) -> Result<Option<RefName<A>>, TextFault>
+    ensures { IfOk result (λ found. MatchOption found (¬ (IsRefName text.now))
+        (λ name. (name ≡ text.now) × IsRefName text.now)) }
+{
+    if let Err(_) = RefName::check(text) {
+        return Ok(None);
+    }
+    match RefName::new(alloc, text) {
+        Ok(name) => Ok(Some(name)),
+        Err(_) => Err(TextFault::Memory),
+    }
+}

@@ -1,0 +1,176 @@
+//! The file `packed-refs`.
+
+ghost use Rattle.std.specs.Prelude.{◌≡◌, ◌++◌, ◌∷◌, ◌<◌, ◌≤◌, [], List, ℕ, Option, IfSome, IsTrue, MatchOption, MatchResult, OnOk, ◌↔◌, filter, length, map};
+ghost use Rattle.gname.specs.Ids.{Id};
+ghost use Rattle.gitrefs.specs.Faults.{IsTextFault};
+ghost use Rattle.gitrefs.specs.PackedRefs.{BeginsWithHeader, BeginsWithPeeled, BeginsWithLine, HasPackedLines, IsPackedRefsFile, PackedLine, PackedRefsOf, line_of, names_ref};
+ghost use Rattle.gitrefs.specs.steps.Lines.{line_at};
+
+use crate::fault::TextFault;
+use crate::loose::name_of;
+use crate::words::{cut_id, cut_line, strip};
+use gname::{Oid, RefName};
+use grefs::is_below_refs;
+use std::alloc::{Allocator, Global};
+
+/// A ref of `packed-refs`.
+#[derive(Debug, Drop)]
+pub struct PackedRef<A: Allocator + Copy = Global> {
+    /// Its name, which is below `refs/`.
+    pub name: RefName<A>,
+    /// Its id.
+    pub id: Oid,
+    /// The object to which the tag with that id leads, if the file says so.
+    pub peeled: Option<Oid>,
+}
+
+// A line, and the id of the line of `^` after it.
+#[derive(Clone, Copy)]
+struct Line<'a> {
+    name: &'a [u8],
+    id: Oid,
+    peeled: Option<Oid>,
+}
+
+/// Reads the text of `packed-refs` (git-pack-refs(1)): perhaps a header, and for each ref a line of
+/// an id, a space and a name. A line of `^` and an id may follow. The refs may come in any order.
+///
+/// A line whose name is no ref name below `refs/` is left out. It fails with `Malformed` if the
+/// text has another form, and with `Memory`.
+pub fn parse_packed_refs<A: Allocator + Copy>(
+    alloc: A,
+    text: &[u8],
+) -> Result<Vec<PackedRef<A>, A>, TextFault>
+    ensures { MatchResult result (λ refs. PackedRefsOf text.now refs.items)
+        (IsTextFault (IsPackedRefsFile text.now)) }
+{
+    let Some(lines) = after_header(text) else {
+        return Err(TextFault::Malformed);
+    };
+    match parse_lines(alloc, lines) {
+        Ok(refs) => Ok(refs),
+        Err(fault) => Err(fault),
+    }
+}
+
+// The text after the header, or the whole text if it has none; `None` if the header is malformed.
+fn after_header(text: &[u8]) -> Option<&[u8]>
+    ensures { MatchOption result ((rest : List ℕ) → ¬ (BeginsWithHeader text.now rest))
+        (λ rest. BeginsWithHeader text.now rest.now) }
+{
+    if let None = strip(b"#", text) {
+        return Some(text);
+    }
+    let Some(words) = strip(b"# pack-refs with:", text) else {
+        return None;
+    };
+    match cut_line(words) {
+        Some((_, rest)) => Some(rest),
+        None => None,
+    }
+}
+
+// The refs of lines.
+fn parse_lines<A: Allocator + Copy>(
+    alloc: A,
+    text: &[u8],
+) -> Result<Vec<PackedRef<A>, A>, TextFault>
+    ensures { MatchResult result (λ refs. (lines : List PackedLine) × HasPackedLines text.now lines
+        × (map line_of refs.items ≡ filter names_ref lines))
+        (IsTextFault ((lines : List PackedLine) × HasPackedLines text.now lines)) }
+{
+    let mut refs = Vec::new(alloc);
+    let mut rest = text;
+    while !is_over(rest) {
+        let Some(parts) = cut_ref(rest) else {
+            return Err(TextFault::Malformed);
+        };
+        if let Err(_) = push_ref(alloc, &mut refs, &parts.0) {
+            return Err(TextFault::Memory);
+        }
+        rest = parts.1;
+    }
+    Ok(refs)
+}
+
+// Whether no byte is left.
+fn is_over(text: &[u8]) -> bool
+    ensures { IsTrue result ↔ (text.now ≡ []) }
+{
+    text.is_empty()
+}
+
+// The first line of a text with the line of `^` after it, and the text that follows.
+fn cut_ref(text: &[u8]) -> Option<(Line<'_>, &[u8])>
+    ensures line { MatchOption result
+        ((line : PackedLine) (rest : List ℕ) → ¬ (BeginsWithLine text.now line rest))
+        (λ parts. BeginsWithLine text.now (line_at parts.0) parts.1.now) }
+    ensures shorter { IfSome result (λ parts. length parts.1.now < length text.now) }
+{
+    let Some(id) = cut_id(text) else {
+        return None;
+    };
+    let Some(after_space) = strip(b" ", id.1) else {
+        return None;
+    };
+    let Some((name, next)) = cut_line(after_space) else {
+        return None;
+    };
+    let Some(peeled) = cut_peeled(next) else {
+        return None;
+    };
+    let line = Line {
+        name,
+        id: id.0,
+        peeled: peeled.0,
+    };
+    Some((line, peeled.1))
+}
+
+// The id of a line of `^`, if the text begins with one, and the text after it; `None` if that line
+// is malformed.
+fn cut_peeled(text: &[u8]) -> Option<(Option<Oid>, &[u8])>
+    ensures line { MatchOption result
+        ((peeled : Option Id) (rest : List ℕ) → ¬ (BeginsWithPeeled text.now peeled rest))
+        (λ parts. BeginsWithPeeled text.now parts.0 parts.1.now) }
+    ensures shorter { IfSome result (λ parts. length parts.1.now ≤ length text.now) }
+{
+    let Some(line) = strip(b"^", text) else {
+        return Some((None, text));
+    };
+    let Some(id) = cut_id(line) else {
+        return None;
+    };
+    match strip(b"\n", id.1) {
+        Some(rest) => Some((Some(id.0), rest)),
+        None => None,
+    }
+}
+
+// Adds the ref of a line, if its name is one below `refs/`. It fails with `Memory` alone.
+fn push_ref<A: Allocator + Copy>(
+    alloc: A,
+    refs: &mut Vec<PackedRef<A>, A>,
+    line: &Line<'_>,
+) -> Result<(), TextFault>
+    ensures { OnOk result (map line_of refs.new.items
+        ≡ map line_of refs.old.items ++ filter names_ref (line_at line.now ∷ [])) }
+{
+    let name = match name_of(alloc, line.name) {
+        Ok(Some(name)) => name,
+        Ok(None) => return Ok(()),
+        Err(_) => return Err(TextFault::Memory),
+    };
+    if !is_below_refs(&name) {
+        return Ok(());
+    }
+    let packed = PackedRef {
+        name,
+        id: line.id,
+        peeled: line.peeled,
+    };
+    match refs.push(packed) {
+        Ok(()) => Ok(()),
+        Err(_) => Err(TextFault::Memory),
+    }
+}

@@ -1,0 +1,75 @@
+//! The text of `packed-refs`, as it is written.
+
+ghost use Rattle.std.specs.List.{flat_map};
+ghost use Rattle.std.specs.Prelude.{◌≡◌, ◌++◌, IfOk, OnOk};
+ghost use Rattle.gitrefs.specs.PackedTexts.{line_text, peeled_header, peeled_ref_text, peeled_text, plain_header, plain_ref_text};
+
+use gname::{Oid, RefName};
+use grefs::Refs;
+use std::alloc::{AllocError, Allocator};
+
+/// The text of `packed-refs` (git-pack-refs(1)) without peeled ids: a header, and a line for each
+/// ref, in the order of their names. It fails where out of memory.
+pub fn packed_refs_text<A: Allocator + Copy>(
+    alloc: A,
+    refs: &Refs<A>,
+) -> Result<Vec<u8, A>, AllocError>
+    ensures { IfOk result (λ text. text.items
+        ≡ plain_header ++ flat_map plain_ref_text refs.now) }
+{
+    let mut text = Vec::new(alloc);
+    text.extend_from_slice(b"# pack-refs with: sorted \n")?;
+    for pair in refs.as_slice() {
+        push_line(&mut text, &pair.0, &pair.1)?;
+    }
+    Ok(text)
+}
+
+/// The text of `packed-refs` with peeled ids, by the names of the tags that lead to them. If a ref
+/// has a peeled id, a line of `^` and that id follows its own. It fails where out of memory.
+pub fn peeled_refs_text<A: Allocator + Copy>(
+    alloc: A,
+    refs: &Refs<A>,
+    peeled: &Refs<A>,
+) -> Result<Vec<u8, A>, AllocError>
+    ensures { IfOk result (λ text. text.items
+        ≡ peeled_header ++ flat_map (peeled_ref_text peeled.now) refs.now) }
+{
+    let mut text = Vec::new(alloc);
+    text.extend_from_slice(b"# pack-refs with: peeled fully-peeled sorted \n")?;
+    for pair in refs.as_slice() {
+        push_line(&mut text, &pair.0, &pair.1)?;
+        push_peeled(&mut text, peeled.get(&pair.0))?;
+    }
+    Ok(text)
+}
+
+// Adds the line of a ref.
+fn push_line<A: Allocator + Copy>(
+    text: &mut Vec<u8, A>,
+    name: &RefName<A>,
+    id: &Oid,
+) -> Result<(), AllocError>
+    ensures { OnOk result (text.new.items ≡ text.old.items ++ line_text name.now id.now) }
+{
+    id.push_hex(text)?;
+    text.push(b' ')?;
+    text.extend_from_slice(name.as_bytes())?;
+    text.push(b'\n')?;
+    Ok(())
+}
+
+// Adds the line of a peeled id, if there is one.
+fn push_peeled<A: Allocator + Copy>(
+    text: &mut Vec<u8, A>,
+    peeled: Option<Oid>,
+) -> Result<(), AllocError>
+    ensures { OnOk result (text.new.items ≡ text.old.items ++ peeled_text peeled) }
+{
+    if let Some(id) = peeled {
+        text.push(b'^')?;
+        id.push_hex(text)?;
+        text.push(b'\n')?;
+    }
+    Ok(())
+}

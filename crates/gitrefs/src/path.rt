@@ -1,0 +1,72 @@
+//! The paths of files of a git directory.
+
+ghost use Rattle.std.specs.Prelude.{◌≡◌, ◌++◌, ◌∷◌, IfOk, codes, string_bytes};
+ghost use Rattle.gitrefs.specs.Paths.{PathIsBelow};
+
+use crate::fault::{Cause, RefFault};
+use gname::RefName;
+use std::alloc::{AllocError, Allocator, Global};
+use std::marker::Model;
+
+/// The path of a file of a git directory: a ref, `HEAD`, `packed-refs` or `config`.
+#[derive(Debug, Drop)]
+pub(crate) struct FilePath<A: Allocator + Copy = Global> {
+    text: String<A>,
+}
+
+impl<A: Allocator + Copy> Model for FilePath<A> {
+    ghost use Rattle.std.specs.Prelude.{List, ℕ, string_bytes};
+
+    ghost Value = { List ℕ };
+
+    ghost view = { λ path. string_bytes path.text };
+}
+
+impl<A: Allocator + Copy> FilePath<A> {
+    /// The path of the file of a ref, or of `HEAD`.
+    ///
+    /// It fails with `Utf8` if the name is not UTF-8, and with `Memory`.
+    pub(crate) fn of_ref(
+        alloc: A,
+        git_dir: &str,
+        name: &RefName<A>,
+    ) -> Result<FilePath<A>, RefFault<A>>
+        ensures { IfOk result (λ path. PathIsBelow git_dir.now path name.now) }
+    {
+        match str::from_utf8(name.as_bytes()) {
+            Ok(name) => Ok(join(alloc, git_dir, name)?),
+            Err(_) => Err(RefFault::at(alloc, git_dir, Cause::Utf8)),
+        }
+    }
+
+    /// The path of `packed-refs`.
+    pub(crate) fn of_packed_refs(alloc: A, git_dir: &str) -> Result<FilePath<A>, AllocError>
+        ensures { IfOk result (λ path. PathIsBelow git_dir.now path (codes "packed-refs")) }
+    {
+        join(alloc, git_dir, "packed-refs")
+    }
+
+    /// The path of `config`.
+    pub(crate) fn of_config(alloc: A, git_dir: &str) -> Result<FilePath<A>, AllocError>
+        ensures { IfOk result (λ path. PathIsBelow git_dir.now path (codes "config")) }
+    {
+        join(alloc, git_dir, "config")
+    }
+
+    /// The text of the path.
+    pub(crate) fn as_str(&self) -> &str
+        ensures { result.now ≡ self.now }
+    {
+        self.text.as_str()
+    }
+}
+
+// The path of a file of the git directory.
+fn join<A: Allocator + Copy>(alloc: A, git_dir: &str, name: &str) -> Result<FilePath<A>, AllocError>
+    ensures { IfOk result (λ path. PathIsBelow git_dir.now path name.now) }
+{
+    let mut text = String::from_str(alloc, git_dir)?;
+    text.push_str("/")?;
+    text.push_str(name)?;
+    Ok(FilePath { text })
+}

@@ -1,0 +1,147 @@
+//! Refs are moved, all or none as far as it can be known before.
+
+use crate::directory::GitDirectory;
+use crate::fault::{Cause, RefFault, TextFault};
+use crate::locked::LockedFile;
+use crate::loose::{LooseRef, name_of, parse_loose_ref};
+use crate::path::FilePath;
+use gname::{Oid, RefName};
+use grefs::{Refs, RefsFault};
+use std::alloc::{Allocator, Global};
+use std::fs::Files;
+
+/// A ref that is to be moved (git-update-ref(1)).
+#[derive(Debug, Drop)]
+pub struct RefUpdate<A: Allocator + Copy = Global> {
+    /// Its name, which is below `refs/`.
+    pub name: RefName<A>,
+    /// Its id, which is tested under the lock; `None` if there must be no such ref.
+    pub old: Option<Oid>,
+    /// Its new id.
+    pub new: Oid,
+}
+
+impl<R: Files, A: Allocator + Copy> GitDirectory<'_, R, A> {
+    /// Moves refs (git-update-ref(1)). Each is locked and read. When all are where they must be,
+    /// each is replaced. A ref that is not loose is where `packed-refs` says. Reflogs are left
+    /// alone.
+    ///
+    /// It fails with `Missing`, with `Conflict` if one ref has the name of another's directory,
+    /// with `Refs`, `Locked`, `Moved`, `Symbolic`, `Malformed` or `Utf8`; no ref has moved then. It
+    /// may fail with `System` or `Memory` when some have moved; each is where it was, or where it
+    /// is to be. The locks that it made are removed; directories that it made for them may stay.
+    pub fn update_refs(&self, updates: &[RefUpdate<A>]) -> Result<(), RefFault<A>> {
+        self.check_repository()?;
+        self.check_conflicts(updates)?;
+        let mut locked = Vec::new(self.alloc);
+        for update in updates {
+            let path = FilePath::of_ref(self.alloc, self.path, &update.name)?;
+            locked.push(self.lock(path)?)?;
+        }
+        let packed = self.packed_ids()?;
+        for (file, update) in locked.iter().zip(updates) {
+            self.check_unmoved(file, &packed, update)?;
+        }
+        for (file, update) in locked.into_iter().zip(updates) {
+            file.move_to(self.alloc, &update.new)?;
+        }
+        Ok(())
+    }
+
+    // Two of the refs that there will be are not a file and its directory.
+    fn check_conflicts(&self, updates: &[RefUpdate<A>]) -> Result<(), RefFault<A>> {
+        let (mut refs, _) = self.read_refs()?;
+        for update in updates {
+            match refs.set(update.name.copy_in(self.alloc)?, update.new) {
+                Ok(()) => {}
+                Err(RefsFault::Memory) => return Err(RefFault::Memory),
+                Err(RefsFault::Refs) => return Err(self.fault_of(&update.name, Cause::Refs)),
+            }
+        }
+        match first_conflict(self.alloc, &refs)? {
+            Some(name) => Err(self.fault_of(name, Cause::Conflict)),
+            None => Ok(()),
+        }
+    }
+
+    // The refs of `packed-refs`.
+    fn packed_ids(&self) -> Result<Refs<A>, RefFault<A>> {
+        let mut refs = Refs::new(self.alloc);
+        for packed in self.packed_refs()? {
+            match refs.set(packed.name, packed.id) {
+                Ok(()) => {}
+                Err(RefsFault::Memory) => return Err(RefFault::Memory),
+                Err(RefsFault::Refs) => {
+                    return Err(RefFault::at(self.alloc, self.path, Cause::Refs));
+                }
+            }
+        }
+        Ok(refs)
+    }
+
+    // The ref of a locked file is where it must be.
+    fn check_unmoved(
+        &self,
+        file: &LockedFile<'_, R, A>,
+        packed: &Refs<A>,
+        update: &RefUpdate<A>,
+    ) -> Result<(), RefFault<A>> {
+        let now = if file.text().is_empty() {
+            packed.get(&update.name)
+        } else {
+            Some(self.loose_id(file)?)
+        };
+        if now == update.old {
+            Ok(())
+        } else {
+            Err(RefFault::at(self.alloc, file.path(), Cause::Moved))
+        }
+    }
+
+    // The id of a loose ref, whose file is locked.
+    fn loose_id(&self, file: &LockedFile<'_, R, A>) -> Result<Oid, RefFault<A>> {
+        let value = match parse_loose_ref(self.alloc, file.text()) {
+            Ok(value) => value,
+            Err(TextFault::Memory) => return Err(RefFault::Memory),
+            Err(TextFault::Malformed) => {
+                return Err(RefFault::at(self.alloc, file.path(), Cause::Malformed));
+            }
+        };
+        match &value {
+            LooseRef::Id(id) => Ok(*id),
+            LooseRef::Symref(_) => Err(RefFault::at(self.alloc, file.path(), Cause::Symbolic)),
+        }
+    }
+}
+
+/// The first ref whose directory, or one above it, has the name of another ref.
+pub(crate) fn first_conflict<A: Allocator + Copy>(
+    alloc: A,
+    refs: &Refs<A>,
+) -> Result<Option<&RefName<A>>, RefFault<A>> {
+    for pair in refs.as_slice() {
+        if lies_in_ref(alloc, refs, &pair.0)? {
+            return Ok(Some(&pair.0));
+        }
+    }
+    Ok(None)
+}
+
+// Whether a directory in which the ref lies has the name of a ref.
+fn lies_in_ref<A: Allocator + Copy>(
+    alloc: A,
+    refs: &Refs<A>,
+    name: &RefName<A>,
+) -> Result<bool, RefFault<A>> {
+    let text = name.as_bytes();
+    for end in 0..text.len() {
+        if text[end] == b'/' {
+            match name_of(alloc, &text[..end]) {
+                Ok(Some(upper)) if refs.get(&upper).is_some() => return Ok(true),
+                Ok(_) => {}
+                Err(_) => return Err(RefFault::Memory),
+            }
+        }
+    }
+    Ok(false)
+}

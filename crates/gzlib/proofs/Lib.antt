@@ -1,0 +1,4 @@
+pub mod CrcLemmas
+pub mod AdlerLemmas
+pub mod StoredLemmas
+pub mod KeepsLemmas

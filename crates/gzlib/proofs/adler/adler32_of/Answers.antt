@@ -1,0 +1,5 @@
+use Rattle.std.proofs.Common.{[]}
+use Rattle.gzlib.proofs.adler.adler32_of.Goals as goal
+
+pub returns : goal.returns
+returns c = c.sum.ensures c.args.bytes.now (c.update.ensures [] c.new-adler.ensures)

@@ -1,0 +1,24 @@
+-- Adler-32 (RFC 1950, section 9): two sums modulo 65,521, the largest prime below 65,536.
+use Rattle.std.specs.Prelude.{◌≡◌, ℕ, ◌+◌, ◌*◌, ◌%◌, List, [], ◌∷◌, sum}
+use Rattle.gzlib.specs.declared.adler.Adler32.{Adler32}
+
+-- the sum of the values that a first sum has after each byte, where it begins with this value
+abbrev pub sum_of_sums : ℕ → List ℕ → ℕ
+sum_of_sums first [] = 0
+sum_of_sums first (byte ∷ bytes) = (first + byte) + sum_of_sums (first + byte) bytes
+
+-- the first sum: one and the sum of the bytes
+abbrev pub low_sum : List ℕ → ℕ
+low_sum bytes = (1 + sum bytes) % 65521
+
+-- the second sum: that of the first one's values
+abbrev pub high_sum : List ℕ → ℕ
+high_sum bytes = sum_of_sums 1 bytes % 65521
+
+-- the checksum: the second sum in the high half, the first in the low half
+abbrev pub adler32 : List ℕ → ℕ
+adler32 bytes = high_sum bytes * 65536 + low_sum bytes
+
+-- the value has the checksum of these bytes
+abbrev pub HasAdlerOf : Adler32 → List ℕ → Type 0
+HasAdlerOf adler bytes = (adler.low ≡ low_sum bytes) × (adler.high ≡ high_sum bytes)

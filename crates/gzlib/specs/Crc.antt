@@ -1,0 +1,31 @@
+-- CRC-32 (RFC 1952, section 8): a register of 32 bits, from which the lowest bit goes first.
+use Rattle.std.specs.Prelude.{◌≡◌, ℕ, zero, suc, ◌/◌, ◌%◌, ◌==◌, List, [], ◌∷◌, bit_xor}
+use Rattle.std.specs.Prelude.{if◌then◌else◌}
+use Rattle.std.specs.Int.{w32, bit_not}
+use Rattle.gzlib.specs.declared.crc.Crc32.{Crc32}
+
+-- One bit goes out at the low end. A bit of one adds the polynomial.
+abbrev pub shift_out : ℕ → ℕ
+shift_out register = if register % 2 == 1 then bit_xor (register / 2) 0xEDB8_8320 else register / 2
+
+-- so many bits go out
+abbrev pub shift_bits : ℕ → ℕ → ℕ
+shift_bits zero register = register
+shift_bits (suc bits) register = shift_bits bits (shift_out register)
+
+-- the register after one more byte
+unfoldable pub next_register : ℕ → ℕ → ℕ
+next_register register byte = shift_bits 8 (bit_xor register byte)
+
+-- the register after more bytes
+abbrev pub register_after : ℕ → List ℕ → ℕ
+register_after register [] = register
+register_after register (byte ∷ bytes) = register_after (next_register register byte) bytes
+
+-- the checksum: the register begins with ones, and its complement is the result
+abbrev pub crc32 : List ℕ → ℕ
+crc32 bytes = bit_not w32 (register_after 0xFFFF_FFFF bytes)
+
+-- the value has the checksum of these bytes
+abbrev pub HasCrcOf : Crc32 → List ℕ → Type 0
+HasCrcOf crc bytes = crc.register ≡ register_after 0xFFFF_FFFF bytes

@@ -1,0 +1,50 @@
+//! zlib streams (RFC 1950, RFC 1951) in memory: inflating one, deflating bytes into one, and the
+//! checksums Adler-32 and CRC-32.
+//!
+//! # Proved
+//!
+//! - [`crc32_of`] and [`Crc32`] give the CRC-32 of the bytes, and [`adler32_of`] and [`Adler32`]
+//!   their Adler-32, also where the bytes come in pieces.
+//! - [`Inflater::inflate`] appends at most `most` bytes. The Adler-32 of those is the four bytes
+//!   with which the stream ends, and the stream lies within the bytes. At a fault the body is as it
+//!   was.
+//! - [`put_stored`] appends exactly the stream of stored blocks that `specs/Stored.antt` defines.
+//! - [`Deflater::deflate`] appends a header, some blocks, and the Adler-32 of the bytes. At a fault
+//!   `out` is as it was.
+//! - No call panics, overflows or reads out of bounds, and each returns, for any bytes.
+//!
+//! # What the contracts do not rule out
+//!
+//! No contract says that inflating is RFC 1951's function, or that what is deflated inflates to the
+//! same bytes. Both are only tested, against zlib. The contracts do not say which fault comes: an
+//! inflater could refuse a good stream. Deflated blocks could be larger than need be.
+//!
+//! Any call that allocates may fail with out of memory; the contracts do not say when. They say
+//! nothing of time, or of how much memory a call takes.
+//!
+//! # Stands on
+//!
+//! `std` alone.
+#![tactic(auto)]
+
+mod adler;
+mod bits;
+mod blocks;
+mod code;
+mod crc;
+mod deflate;
+mod fault;
+mod inflate;
+mod lengths;
+mod matches;
+mod stored;
+mod symbols;
+mod tokens;
+mod writer;
+
+pub use crate::adler::{Adler32, adler32_of};
+pub use crate::crc::{Crc32, crc32_of};
+pub use crate::deflate::Deflater;
+pub use crate::fault::InflateFault;
+pub use crate::inflate::Inflater;
+pub use crate::stored::put_stored;
