@@ -7,3 +7,4 @@ pub mod Promised
 pub mod CodeLemmas
 pub mod Runs
 pub mod Starting
+pub mod Kept

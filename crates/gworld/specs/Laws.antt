@@ -1,5 +1,6 @@
 -- What follows from the definitions of a world.
-use Rattle.std.specs.Prelude.{◌≡◌, ⊤, false, List, All}
+use Rattle.std.specs.Prelude.{◌≡◌, ⊤, ℕ, false, List, ◌++◌, All}
+use Rattle.gdag.specs.Reach.{Grows}
 use Rattle.gworld.specs.Promises.{AreCommonsShared, AreRefsWhole, AreRequestsFew, Promises}
 use Rattle.gworld.specs.Runs.{Run, RunWith}
 use Rattle.gworld.specs.Sound.{AreEndsWhole, IsSound}
@@ -8,6 +9,7 @@ use Rattle.gworld.specs.Worlds.{PackTools, WorldState}
 use Rattle.gscenario.specs.declared.event.Event.{Event}
 use Rattle.gscenario.specs.declared.event.Event.TheVariants as event
 use Rattle.gworld.specs.declared.outcome.Outcome.{Outcome}
+use Rattle.gworld.specs.declared.outcome.Outcome.TheVariants as outcomes
 
 -- from a sound world each step that leaves both ends whole leads to a sound world, and keeps its promises
 abbrev pub StepsKeep : {A : Type 0} → PackTools A → Type 0
@@ -34,6 +36,79 @@ abbrev pub RequestsStayFew : {A : Type 0} → PackTools A → Type 0
 RequestsStayFew {A} tools =
     (w new : WorldState A) (events : List (Event A)) (outcomes : List Outcome) → AreRequestsFew w
     → RunWith (Promises tools) w events outcomes new → AreRequestsFew new
+
+-- ---- all worlds of a run
+
+-- a run leads through the world `v`, between the events `front` and the events `rest`
+pub record LeadsThrough {A : Type 0} (P : WorldState A → Event A → Outcome → WorldState A → Type 0) (w : WorldState A)
+    (front rest : List (Event A)) (outcomes : List Outcome) (new v : WorldState A) : Type 0 where
+  pub early : List Outcome
+  pub late : List Outcome
+  pub told : outcomes ≡ early ++ late
+  pub before : RunWith P w front early v
+  pub after : RunWith P v rest late new
+
+-- a front of a run is a run: it leads to a world from which the other events lead to the same end
+abbrev pub FrontsAreRuns : {A : Type 0} → PackTools A → Type 0
+FrontsAreRuns {A} tools =
+    (w new : WorldState A) (front rest : List (Event A)) (outcomes : List Outcome)
+    → Run tools w (front ++ rest) outcomes new
+    → (v : WorldState A) × LeadsThrough (Step tools) w front rest outcomes new v
+
+-- and so it is of runs whose steps keep their promises
+abbrev pub FrontsKeepPromises : {A : Type 0} → PackTools A → Type 0
+FrontsKeepPromises {A} tools =
+    (w new : WorldState A) (front rest : List (Event A)) (outcomes : List Outcome)
+    → RunWith (Promises tools) w (front ++ rest) outcomes new
+    → (v : WorldState A) × LeadsThrough (Promises tools) w front rest outcomes new v
+
+-- where the client's refs are connected, they are so in every world through which a run leads
+abbrev pub RefsAreAlwaysWhole : {A : Type 0} → PackTools A → Type 0
+RefsAreAlwaysWhole {A} tools =
+    (w new v : WorldState A) (front rest : List (Event A)) (outcomes : List Outcome) → AreRefsWhole w
+    → LeadsThrough (Promises tools) w front rest outcomes new v → AreRefsWhole v
+
+-- ---- nothing is lost
+
+-- over any run objects only come, at the server and at the client
+abbrev pub GraphsOnlyGrow : {A : Type 0} → PackTools A → Type 0
+GraphsOnlyGrow {A} tools =
+    (w new : WorldState A) (events : List (Event A)) (outcomes : List Outcome) → Run tools w events outcomes new
+    → Grows w.server.graph.entries new.server.graph.entries × Grows w.repo.graph.entries new.repo.graph.entries
+
+-- any event but a settle and one that sets a ref of the client
+abbrev pub LeavesClientRefs : {A : Type 0} → Event A → Type 0
+LeavesClientRefs event.Settle = ⊥
+LeavesClientRefs (event.ClientRef name id) = ⊥
+LeavesClientRefs _ = ⊤
+
+-- any event but one that sets a ref of the server
+abbrev pub LeavesServerRefs : {A : Type 0} → Event A → Type 0
+LeavesServerRefs (event.ServerRef name id) = ⊥
+LeavesServerRefs _ = ⊤
+
+-- any event but one that brings an object to the server, or sets a ref of it
+abbrev pub LeavesServer : {A : Type 0} → Event A → Type 0
+LeavesServer (event.ServerAdd entry) = ⊥
+LeavesServer (event.ServerRef name id) = ⊥
+LeavesServer _ = ⊤
+
+-- over a run without events that may change them, refs stay, and the server does
+pub record OthersLeaveRefs {A : Type 0} (tools : PackTools A) : Type 0 where
+  pub client : (w new : WorldState A) (events : List (Event A)) (outcomes : List Outcome) →
+      All LeavesClientRefs events → Run tools w events outcomes new → new.repo.refs ≡ w.repo.refs
+  pub server_refs : (w new : WorldState A) (events : List (Event A)) (outcomes : List Outcome) →
+      All LeavesServerRefs events → Run tools w events outcomes new → new.server.refs ≡ w.server.refs
+  pub server : (w new : WorldState A) (events : List (Event A)) (outcomes : List Outcome) →
+      All LeavesServer events → Run tools w events outcomes new → new.server ≡ w.server
+
+-- an event that is refused leaves the server, the client's objects and the client's refs as they were
+abbrev pub RefusalsLeaveBothEnds : {A : Type 0} → PackTools A → Type 0
+RefusalsLeaveBothEnds {A} tools =
+    (w new : WorldState A) (event : Event A) (number : ℕ) → Step tools w event (outcomes.Fault number) new
+    → (new.server ≡ w.server) × (new.repo ≡ w.repo)
+
+-- ---- runs in which nothing is forged
 
 -- the event forges no bytes
 abbrev pub IsNoForge : {A : Type 0} → Event A → Type 0

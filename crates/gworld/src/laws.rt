@@ -1,7 +1,7 @@
 //! The laws of worlds: functions without effect, whose contracts they are.
 
 ghost use Rattle.std.specs.Prelude.{◌≡◌, false};
-ghost use Rattle.gworld.specs.Laws.{CommonsStayShared, PromisesAreRuns, RefsStayWhole, RequestsStayFew, StepsKeep};
+ghost use Rattle.gworld.specs.Laws.{CommonsStayShared, FrontsAreRuns, FrontsKeepPromises, GraphsOnlyGrow, OthersLeaveRefs, PromisesAreRuns, RefsAreAlwaysWhole, RefsStayWhole, RefusalsLeaveBothEnds, RequestsStayFew, StepsKeep};
 ghost use Rattle.gworld.specs.Sound.{IsUnforgedAndFaithful};
 ghost use Rattle.gworld.specs.Worlds.{WorldState, tools_of};
 
@@ -101,3 +101,48 @@ pub fn commons_stay_shared<A: Allocator + Copy, K: Packer<A> + Indexer<A>>()
     ensures { (k : K) → CommonsStayShared (tools_of (K.packs k) (K.pack_fails k) (K.indexes k)
         (K.index_fails k)) }
 {}
+
+/// A front of a run is a run, whose steps keep their promises where those of the whole run do.
+pub fn fronts_are_runs<A: Allocator + Copy, K: Packer<A> + Indexer<A>>()
+    ensures runs { (k : K) → FrontsAreRuns (tools_of (K.packs k) (K.pack_fails k) (K.indexes k)
+        (K.index_fails k)) }
+    ensures promises { (k : K) → FrontsKeepPromises (tools_of (K.packs k) (K.pack_fails k) (K.indexes k)
+        (K.index_fails k)) }
+{}
+
+/// Where each ref of the client is connected, so it is in every world through which a run leads.
+pub fn refs_are_always_whole<A: Allocator + Copy, K: Packer<A> + Indexer<A>>()
+    ensures { (k : K) → RefsAreAlwaysWhole (tools_of (K.packs k) (K.pack_fails k) (K.indexes k)
+        (K.index_fails k)) }
+{}
+
+/// Over any run the graphs of both ends only grow: no object is lost or changed.
+pub fn graphs_only_grow<A: Allocator + Copy, K: Packer<A> + Indexer<A>>()
+    ensures { (k : K) → GraphsOnlyGrow (tools_of (K.packs k) (K.pack_fails k) (K.indexes k)
+        (K.index_fails k)) }
+{
+    taking_only_grows::<A, K>();
+    refusals_change_nothing::<A>();
+    servers_grow::<A>();
+}
+
+/// Only a settle or [`Event::ClientRef`](crate::Event::ClientRef) moves refs of the client; only an event of the
+/// server's own moves its refs, or changes it otherwise.
+pub fn others_leave_refs<A: Allocator + Copy, K: Packer<A> + Indexer<A>>()
+    ensures { (k : K) → OthersLeaveRefs (tools_of (K.packs k) (K.pack_fails k) (K.indexes k)
+        (K.index_fails k)) }
+{
+    taking_only_grows::<A, K>();
+    refusals_change_nothing::<A>();
+    servers_grow::<A>();
+}
+
+/// An event that is refused leaves the server and the client's repository as they were.
+pub fn refusals_leave_both_ends<A: Allocator + Copy, K: Packer<A> + Indexer<A>>()
+    ensures { (k : K) → RefusalsLeaveBothEnds (tools_of (K.packs k) (K.pack_fails k) (K.indexes k)
+        (K.index_fails k)) }
+{
+    taking_only_grows::<A, K>();
+    refusals_change_nothing::<A>();
+    servers_grow::<A>();
+}
