@@ -49,6 +49,7 @@ use Rattle.gsession.specs.TakingReplies.{RefusesPack, reading_for}
 use Rattle.gsession.specs.declared.fault.ClientFault.{ClientFault}
 use Rattle.gsession.specs.declared.fault.ClientFault.TheVariants as client
 use Rattle.gworld.specs.Promises.{IsTakenOrDeclined, MayDecline}
+use Rattle.gworld.specs.Promises.{round as is_round, after_acks as is_pack, direct as is_direct_pack}
 use Rattle.gworld.specs.Sound.{IsUnforgedAndFaithful, IsSoundFetch}
 use Rattle.gworld.specs.Taking.{IsAtHand, TakesObjects, code_of}
 use Rattle.gworld.specs.Worlds.{PackTools, WorldState, reply_bytes}
@@ -68,20 +69,18 @@ pub record FaultLaws (A : Type 0) : Type 0 where
 
 module _ {A : Type 0} (tools : PackTools A) (r : RepoState A) where
   round_taken : (reply : FetchReply) (common : ℕ) → ¬ (HasPack reply) → IsTakenOrDeclined tools r reply (Round common)
-  round_taken (Acks ids) common none = tt
+  round_taken (Acks ids) common none = is_round
   round_taken (Ready ids pack) common none = absurd (none tt)
   round_taken (Pack pack) common none = absurd (none tt)
 
   pack_taken : (reply : FetchReply) (added : ℕ) → HasPack reply → IsTakenOrDeclined tools r reply (PackTaken added)
   pack_taken (Acks ids) added has = absurd has
-  pack_taken (Ready ids pack) added has = tt
-  pack_taken (Pack pack) added has = tt
+  pack_taken (Ready ids pack) added has = is_pack
+  pack_taken (Pack pack) added has = is_direct_pack
 
   declined : (reply : FetchReply) (number : ℕ) → MayDecline tools r reply number
       → IsTakenOrDeclined tools r reply (Fault number)
-  declined (Acks ids) number why = why
-  declined (Ready ids pack) number why = why
-  declined (Pack pack) number why = why
+  declined reply number why = why
 
 err_is_no_ok : {T E : Type 0} (e : E) (t : T) → Err e ≡ Ok t → ⊥
 err_is_no_ok e t wrong = cc
