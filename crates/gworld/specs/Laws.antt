@@ -1,7 +1,8 @@
 -- What follows from the definitions of a world.
-use Rattle.std.specs.Prelude.{◌≡◌, ⊤, ℕ, false, List, ◌++◌, All}
+use Rattle.std.specs.Prelude.{◌≡◌, ⊤, ℕ, false, List, ◌++◌, All, IfSome}
 use Rattle.gdag.specs.Reach.{Grows}
-use Rattle.gworld.specs.Promises.{AreCommonsShared, AreRefsWhole, AreRequestsFew, Promises}
+use Rattle.gworld.specs.Promises.{AreCommonsShared, AreRefsWhole, AreRequestsFew, HonestPromises, Promises}
+use Rattle.gworld.specs.Promises.{SettlesUpToDate, SharesCommons}
 use Rattle.gworld.specs.Runs.{Run, RunWith}
 use Rattle.gworld.specs.Sound.{AreEndsWhole, IsSound}
 use Rattle.gworld.specs.Events.{Step}
@@ -121,3 +122,20 @@ CommonsStayShared {A} tools =
     (w new : WorldState A) (events : List (Event A)) (outcomes : List Outcome) → w.forged ≡ false
     → AreCommonsShared w → All IsNoForge events → RunWith (Promises tools) w events outcomes new
     → (new.forged ≡ false) × AreCommonsShared new
+
+-- all that is promised of a step and of the world after it, with no premise left
+pub record KeepsAll {A : Type 0} (tools : PackTools A) (w : WorldState A) (event : Event A) (outcome : Outcome)
+    (new : WorldState A) : Type 0 where
+  pub step : Step tools w event outcome new
+  pub refs : AreRefsWhole new
+  pub commons : IfSome new.session (SharesCommons new)
+  pub up_to_date : SettlesUpToDate w event outcome new
+  pub few : AreRequestsFew new
+  pub honest : HonestPromises tools w event outcome new
+
+-- from a world in which nothing was forged, each step of a run whose events forge no bytes keeps all that is promised
+abbrev pub HonestRunsKeepAll : {A : Type 0} → PackTools A → Type 0
+HonestRunsKeepAll {A} tools =
+    (w new : WorldState A) (events : List (Event A)) (outcomes : List Outcome) → w.forged ≡ false
+    → All IsNoForge events → RunWith (Promises tools) w events outcomes new
+    → RunWith (KeepsAll tools) w events outcomes new

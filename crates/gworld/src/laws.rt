@@ -1,7 +1,7 @@
 //! The laws of worlds: functions without effect, whose contracts they are.
 
 ghost use Rattle.std.specs.Prelude.{◌≡◌, false};
-ghost use Rattle.gworld.specs.Laws.{CommonsStayShared, FrontsAreRuns, FrontsKeepPromises, GraphsOnlyGrow, OthersLeaveRefs, PromisesAreRuns, RefsAreAlwaysWhole, RefsStayWhole, RefusalsLeaveBothEnds, RequestsStayFew, StepsKeep};
+ghost use Rattle.gworld.specs.Laws.{CommonsStayShared, FrontsAreRuns, FrontsKeepPromises, GraphsOnlyGrow, HonestRunsKeepAll, OthersLeaveRefs, PromisesAreRuns, RefsAreAlwaysWhole, RefsStayWhole, RefusalsLeaveBothEnds, RequestsStayFew, StepsKeep};
 ghost use Rattle.gworld.specs.Sound.{IsUnforgedAndFaithful};
 ghost use Rattle.gworld.specs.Worlds.{WorldState, tools_of};
 
@@ -145,4 +145,13 @@ pub fn refusals_leave_both_ends<A: Allocator + Copy, K: Packer<A> + Indexer<A>>(
     taking_only_grows::<A, K>();
     refusals_change_nothing::<A>();
     servers_grow::<A>();
+}
+
+/// From a world with a faithful packer and indexer, in which no bytes were forged, each step of a run that forges none
+/// keeps all that is promised, with no premise left.
+pub fn honest_runs_keep_all<A: Allocator + Copy, K: Faithful<A>>(tools: &K)
+    ensures { HonestRunsKeepAll {A = A} (tools_of (K.packs tools.now) (K.pack_fails tools.now)
+        (K.indexes tools.now) (K.index_fails tools.now)) }
+{
+    faithful_lose_nothing::<A, K>(tools);
 }
