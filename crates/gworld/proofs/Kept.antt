@@ -23,6 +23,7 @@ use Rattle.gworld.specs.Laws.{LeadsThrough, LeavesClientRefs, LeavesServer, Leav
 use Rattle.gworld.specs.Runs.{Run, RunWith}
 use Rattle.gworld.specs.Taking.{TakesBytes}
 use Rattle.gworld.specs.Worlds.{Kept, PackTools, WorldState}
+use Rattle.gworld.proofs.Sessions.{only_same}
 use Rattle.gscenario.specs.declared.event.Event.{Event}
 use Rattle.gscenario.specs.declared.event.Event.TheVariants as event
 use Rattle.gworld.specs.declared.outcome.Outcome.{Outcome}
@@ -94,30 +95,21 @@ module _ {A : Type 0} (tools : PackTools A) (grows : TakingOnlyGrows tools.index
     }
 
   -- how the repository changes where bytes come
-  bytes_grow : (asked : Asked) (s after : SessionState A) (before repo : RepoState A) (bytes : List ℕ)
+  pub bytes_grow : (asked : Asked) (s after : SessionState A) (before repo : RepoState A) (bytes : List ℕ)
       (outcome : Outcome) → TakesBytes tools.indexes tools.index_fails asked s before bytes outcome after repo
-      → Grows before.graph.entries repo.graph.entries × (repo.refs ≡ before.refs)
-  bytes_grow (Ls asked) s after before repo bytes (LsTaken asks wants) takes = (
-    grows_none before.graph.entries repo.graph.entries (ap (λ (r : RepoState A). r.graph.entries) takes.5),
-    ap (λ (r : RepoState A). r.refs) takes.5,
-  )
-  bytes_grow (Ls asked) s after before repo bytes (Fault number) takes = (
-    grows_none before.graph.entries repo.graph.entries (ap (λ (r : RepoState A). r.graph.entries) takes.5),
-    ap (λ (r : RepoState A). r.refs) takes.5,
-  )
+      → OnlyGrows before repo
+  bytes_grow (Ls asked) s after before repo bytes (LsTaken asks wants) takes = only_same before repo takes.5
+  bytes_grow (Ls asked) s after before repo bytes (Fault number) takes = only_same before repo takes.5
   bytes_grow (Fetches asked) s after before repo bytes (Round common) takes =
-      let only = grows s after before repo (known bytes takes.0) (Ok (taken.Round common)) takes.1 in
-      (only.grows, only.refs)
+      grows s after before repo (known bytes takes.0) (Ok (taken.Round common)) takes.1
   bytes_grow (Fetches asked) s after before repo bytes (PackTaken added) takes =
-      let only = grows s after before repo (known bytes takes.0) (Ok (taken.PackTaken added)) takes.1 in
-      (only.grows, only.refs)
+      grows s after before repo (known bytes takes.0) (Ok (taken.PackTaken added)) takes.1
   bytes_grow (Fetches asked) s after before repo bytes (Fault number) takes =
-      let only = grows s after before repo (known bytes takes.0) (Err takes.1) takes.2 in
-      (only.grows, only.refs)
+      grows s after before repo (known bytes takes.0) (Err takes.1) takes.2
   bytes_grow _ s after before repo bytes _ takes = absurd takes
 
   -- a settle that is refused changes nothing
-  settle_refused : (s after : SessionState A) (before repo : RepoState A) (fault : ClientFault A)
+  pub settle_refused : (s after : SessionState A) (before repo : RepoState A) (fault : ClientFault A)
       → SettlesSession s before after repo (Err fault) → repo ≡ before
   settle_refused s after before repo (client.Repo fault) settles =
       refusals.settling before repo s.asks fault settles.2
@@ -163,8 +155,8 @@ module _ {A : Type 0} (tools : PackTools A) (grows : TakingOnlyGrows tools.index
         let came = step.2 in
         let only = bytes_grow asked s came.after w.repo came.repo _ outcome came.takes in
         client_only (event.Deliver number count) (ap (λ (x : WorldState A). x.server) came.is)
-        (subst (λ (x : WorldState A). Grows w.repo.graph.entries x.repo.graph.entries) (sym came.is) only.0)
-        (λ _. ap (λ (x : WorldState A). x.repo.refs) came.is ∙ only.1)
+        (subst (λ (x : WorldState A). Grows w.repo.graph.entries x.repo.graph.entries) (sym came.is) only.grows)
+        (λ _. ap (λ (x : WorldState A). x.repo.refs) came.is ∙ only.refs)
 
     forges_spare : (e : Event A) (bytes : List ℕ) (waits : Option (SessionState A × Asked)) (outcome : Outcome)
         → Forges tools.indexes tools.index_fails w bytes waits outcome v → Spares e w v
@@ -173,8 +165,8 @@ module _ {A : Type 0} (tools : PackTools A) (grows : TakingOnlyGrows tools.index
     forges_spare e bytes (Some (s, asked)) outcome step =
         let only = bytes_grow asked s step.after w.repo step.repo bytes outcome step.takes in
         client_only e (ap (λ (x : WorldState A). x.server) step.is)
-        (subst (λ (x : WorldState A). Grows w.repo.graph.entries x.repo.graph.entries) (sym step.is) only.0)
-        (λ _. ap (λ (x : WorldState A). x.repo.refs) step.is ∙ only.1)
+        (subst (λ (x : WorldState A). Grows w.repo.graph.entries x.repo.graph.entries) (sym step.is) only.grows)
+        (λ _. ap (λ (x : WorldState A). x.repo.refs) step.is ∙ only.refs)
 
     pub step_spares : (e : Event A) (outcome : Outcome) → Step tools w e outcome v → Spares e w v
     step_spares (event.Begin specs) Done step = neither (event.Begin specs)

@@ -8,3 +8,4 @@ pub mod CodeLemmas
 pub mod Runs
 pub mod Starting
 pub mod Kept
+pub mod Whole

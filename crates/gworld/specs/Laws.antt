@@ -1,12 +1,17 @@
 -- What follows from the definitions of a world.
 use Rattle.std.specs.Prelude.{◌≡◌, ⊤, ℕ, false, List, ◌++◌, All, IfSome}
 use Rattle.gdag.specs.Reach.{Grows}
+use Rattle.grefs.specs.RefLists.{IsRefs}
+use Rattle.gclientrepo.specs.Repos.{RepoState}
+use Rattle.ganswer.specs.Servers.{Server}
+use Rattle.gsession.specs.Sessions.{IsSession}
 use Rattle.gworld.specs.Promises.{AreCommonsShared, AreRefsWhole, AreRequestsFew, HonestPromises, Promises}
 use Rattle.gworld.specs.Promises.{SettlesUpToDate, SharesCommons}
 use Rattle.gworld.specs.Runs.{Run, RunWith}
 use Rattle.gworld.specs.Sound.{AreEndsWhole, IsSound}
 use Rattle.gworld.specs.Events.{Step}
-use Rattle.gworld.specs.Worlds.{PackTools, WorldState}
+use Rattle.gworld.specs.Starts.{CanStart}
+use Rattle.gworld.specs.Worlds.{PackTools, WorldState, new_world}
 use Rattle.gscenario.specs.declared.event.Event.{Event}
 use Rattle.gscenario.specs.declared.event.Event.TheVariants as event
 use Rattle.gworld.specs.declared.outcome.Outcome.{Outcome}
@@ -18,6 +23,37 @@ StepsKeep {A} tools =
     (w new : WorldState A) (event : Event A) (outcome : Outcome) → AreEndsWhole w → AreEndsWhole new
     → IsSound tools w → Step tools w event outcome new
     → IsSound tools new × Promises tools w event outcome new
+
+-- What the definition of a step leaves open, and the types of server, repository and session keep: refs come in the
+-- order of their names, and the lists of the session go with its stage.
+pub record AreListed {A : Type 0} (w : WorldState A) : Type 0 where
+  pub server : IsRefs w.server.refs
+  pub client : IsRefs w.repo.refs
+  pub session : IfSome w.session IsSession
+
+-- each step leaves both ends whole
+abbrev pub EndsStayWhole : {A : Type 0} → PackTools A → Type 0
+EndsStayWhole {A} tools =
+    (w new : WorldState A) (event : Event A) (outcome : Outcome) → AreEndsWhole w → AreListed new
+    → Step tools w event outcome new → AreEndsWhole new
+
+-- a step to a world whose lists are in order
+pub record StepsListed {A : Type 0} (tools : PackTools A) (w : WorldState A) (event : Event A) (outcome : Outcome)
+    (new : WorldState A) : Type 0 where
+  pub step : Step tools w event outcome new
+  pub listed : AreListed new
+
+-- from a sound world with whole ends each run keeps its promises, and leads to such a world
+abbrev pub RunsKeepPromises : {A : Type 0} → PackTools A → Type 0
+RunsKeepPromises {A} tools =
+    (w new : WorldState A) (events : List (Event A)) (outcomes : List Outcome) → AreEndsWhole w → IsSound tools w
+    → RunWith (StepsListed tools) w events outcomes new
+    → RunWith (Promises tools) w events outcomes new × AreEndsWhole new × IsSound tools new
+
+-- a world as it begins is sound
+abbrev pub NewWorldsAreSound : {A : Type 0} → PackTools A → Type 0
+NewWorldsAreSound {A} tools =
+    (server : Server A) (repo : RepoState A) → CanStart server repo → IsSound tools (new_world server repo)
 
 -- a run whose steps keep their promises is a run
 abbrev pub PromisesAreRuns : {A : Type 0} → PackTools A → Type 0

@@ -1,7 +1,7 @@
 //! The laws of worlds: functions without effect, whose contracts they are.
 
 ghost use Rattle.std.specs.Prelude.{◌≡◌, false};
-ghost use Rattle.gworld.specs.Laws.{CommonsStayShared, FrontsAreRuns, FrontsKeepPromises, GraphsOnlyGrow, HonestRunsKeepAll, OthersLeaveRefs, PromisesAreRuns, RefsAreAlwaysWhole, RefsStayWhole, RefusalsLeaveBothEnds, RequestsStayFew, StepsKeep};
+ghost use Rattle.gworld.specs.Laws.{CommonsStayShared, EndsStayWhole, FrontsAreRuns, FrontsKeepPromises, GraphsOnlyGrow, HonestRunsKeepAll, NewWorldsAreSound, OthersLeaveRefs, PromisesAreRuns, RefsAreAlwaysWhole, RefsStayWhole, RefusalsLeaveBothEnds, RequestsStayFew, RunsKeepPromises, StepsKeep};
 ghost use Rattle.gworld.specs.Sound.{IsUnforgedAndFaithful};
 ghost use Rattle.gworld.specs.Worlds.{WorldState, tools_of};
 
@@ -9,9 +9,12 @@ use ganswer::laws::{
     acks_are_common, fetch_answers_fit, held_wants_are_served, ls_answers_are_held, ls_answers_fit,
     packs_are_enough, servers_grow,
 };
-use gclientrepo::laws::{held_is_not_missing, refusals_change_nothing};
+use gclientrepo::laws::{
+    held_is_not_missing, refusals_change_nothing, setting_stays_whole, settling_stays_whole,
+    whole_stays,
+};
 use ggraph::graph_laws::{
-    agreeing_entries_fit, agreeing_stays, coming_grows, full_stays_full, growing_goes_on,
+    agreeing_entries_fit, agreeing_stays, closed_stays, coming_grows, full_stays_full, growing_goes_on,
     growing_keeps, keeping_has_all, keeping_holds, keeping_reaches,
 };
 use ggraph::{Faithful, Indexer, Packer};
@@ -154,4 +157,31 @@ pub fn honest_runs_keep_all<A: Allocator + Copy, K: Faithful<A>>(tools: &K)
         (K.indexes tools.now) (K.index_fails tools.now)) }
 {
     faithful_lose_nothing::<A, K>(tools);
+}
+
+/// Each step leaves both ends whole: the server misses no object, and each ref of the client is connected. The premise
+/// is the order of lists alone, which the definition of a step leaves open.
+pub fn ends_stay_whole<A: Allocator + Copy, K: Packer<A> + Indexer<A>>()
+    ensures { (k : K) → EndsStayWhole (tools_of (K.packs k) (K.pack_fails k) (K.indexes k)
+        (K.index_fails k)) }
+{
+    taking_only_grows::<A, K>();
+    refusals_change_nothing::<A>();
+    servers_grow::<A>();
+    closed_stays::<A>();
+    whole_stays::<A>();
+    settling_stays_whole::<A>();
+    setting_stays_whole::<A>();
+}
+
+/// A world as it begins is sound. From a sound world whose ends are whole each run keeps its promises, and leads to
+/// such a world.
+pub fn runs_keep_promises<A: Allocator + Copy, K: Packer<A> + Indexer<A>>()
+    ensures begins { (k : K) → NewWorldsAreSound (tools_of (K.packs k) (K.pack_fails k) (K.indexes k)
+        (K.index_fails k)) }
+    ensures keeps { (k : K) → RunsKeepPromises (tools_of (K.packs k) (K.pack_fails k) (K.indexes k)
+        (K.index_fails k)) }
+{
+    steps_keep::<A, K>();
+    ends_stay_whole::<A, K>();
 }
