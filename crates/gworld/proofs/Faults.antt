@@ -16,7 +16,9 @@ use Rattle.ggrammar.specs.Grammar.{Judge}
 use Rattle.ggrammar.specs.Kinds.{ReadsExactly, SaysAtFront}
 use Rattle.ggrammar.specs.MessageBytes.{IsFront, IsOfBytes, known}
 use Rattle.ggrammar.specs.MessageReading.{IsReadFailure, IsReasonAfter, ReadsRefused}
+use Rattle.ggrammar.specs.declared.ends.Ends.{Ends}
 use Rattle.ggrammar.specs.declared.ends.Ends.TheVariants.{Plain}
+use Rattle.glsreply.specs.LsReplies as refs
 use Rattle.ggrammar.specs.declared.fault.MessageFault.{MessageFault}
 use Rattle.ggrammar.specs.declared.fault.Why.{Why}
 use Rattle.ggrammar.specs.declared.fault.Why.TheVariants as why
@@ -64,6 +66,8 @@ pub record FaultLaws (A : Type 0) : Type 0 where
   pub any_limit : IsInAnyLimit
   pub over_limit : IsRefusedOverLimit
   pub fit : AgreeingEntriesFit A
+  pub refs_exactly : (format : Format) (ends : Ends) → ReadsExactly (refs.judge format ends) refs.brings
+      (refs.Says format ends)
 
 -- ---- taken
 
@@ -82,13 +86,13 @@ module _ {A : Type 0} (tools : PackTools A) (r : RepoState A) where
       → IsTakenOrDeclined tools r reply (Fault number)
   declined reply number why = why
 
-err_is_no_ok : {T E : Type 0} (e : E) (t : T) → Err e ≡ Ok t → ⊥
+pub err_is_no_ok : {T E : Type 0} (e : E) (t : T) → Err e ≡ Ok t → ⊥
 err_is_no_ok e t wrong = cc
 
 -- ---- as it is read
 
 -- bytes at hand are refused for a reason in them, or out of memory
-why_cases : (w : Why) → IsReadFailure false false w → (w ≡ why.Memory) ⊎ IsOfBytes w
+pub why_cases : (w : Why) → IsReadFailure false false w → (w ≡ why.Memory) ⊎ IsOfBytes w
 why_cases (why.Line line.Io) at = absurd (false≢true at.1)
 why_cases (why.Line line.Failed) at = absurd (false≢true at)
 why_cases (why.Line line.Memory) at = absurd at

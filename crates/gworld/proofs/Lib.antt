@@ -9,3 +9,4 @@ pub mod Runs
 pub mod Starting
 pub mod Kept
 pub mod Whole
+pub mod Listing

@@ -50,6 +50,7 @@ use Rattle.gworld.specs.declared.outcome.Outcome.{Outcome}
 use Rattle.gworld.specs.declared.outcome.Outcome.TheVariants.{Served, PackTaken, Settled, Fault}
 use Rattle.gworld.proofs.Delivering.{either_full, pack_came}
 use Rattle.gworld.proofs.Faults.{FaultLaws, IsWhole, whole_taken}
+use Rattle.gworld.proofs.Listing.{lists_each}
 use Rattle.gworld.proofs.Sessions.{IsAnsweredIn, IsSoundIn, WorldLaws}
 use Rattle.gworld.proofs.Steps.{step_sound}
 
@@ -295,7 +296,9 @@ module _ {A : Type 0} {tools : PackTools A} (laws : WorldLaws tools) where
           refs = later.repo.safe;
           few = requests_few rounds v v.session after.session later.session;
           commons = commons_shared v v.session after.session;
+          lists = lists_each laws faults sound v e outcome step;
           up_to_date = settles_up_to_date settling w v sound e outcome step;
+          ends = later;
           honest = λ honest. record {
             completes = completes sound honest v e outcome step;
             takes = takes_each sound honest faults v e outcome step;

@@ -29,6 +29,14 @@ out_of_turn = 83
 abbrev pub no_memory_to_read : ℕ
 no_memory_to_read = 53
 
+-- a ref can't have its name
+abbrev pub bad_name : ℕ
+bad_name = 47
+
+-- more objects are wanted than a request takes
+abbrev pub too_many_wants : ℕ
+too_many_wants = 86
+
 -- the pack has more bytes than a client takes
 abbrev pub pack_over_limit : ℕ
 pack_over_limit = 48

@@ -14,6 +14,7 @@ use Rattle.gobject.specs.declared.node.Entry.{Entry}
 use Rattle.gfetchreply.specs.FetchReplies.{FetchReply, Acks, Ready, Pack}
 use Rattle.gfetchreply.specs.FetchHeads.{pack_of}
 use Rattle.gfetchreply.specs.Values.{default_limit}
+use Rattle.glsreply.specs.LsReplies.{LsReply}
 use Rattle.ggraph.specs.SafeRefs.{IsSafe}
 use Rattle.gdag.specs.Graphs.{Holds}
 use Rattle.gdag.specs.Reach.{IsFull, Reaches}
@@ -24,15 +25,17 @@ use Rattle.grequest.specs.Asked.{Asked, Fetches, FetchAsked}
 use Rattle.gclientrepo.specs.Repos.{RepoState}
 use Rattle.gclientrepo.specs.Settling.{CannotSettle, MayMove, asked_ids}
 use Rattle.gclientrepo.specs.declared.ask.Ask.{Ask}
-use Rattle.ganswer.specs.Answers.{Fetch}
+use Rattle.ganswer.specs.Answers.{Fetch, Ls as Refs}
 use Rattle.ganswer.specs.FetchAnswers.{FailsToPack}
 use Rattle.ganswer.specs.Servers.{Server}
+use Rattle.gsession.specs.Asking.{AreNamed, asks_by_all}
 use Rattle.gsession.specs.Sessions.{SessionState}
+use Rattle.gsession.specs.TakingRefs.{WantsTooMuch}
 use Rattle.gsession.specs.TakingReplies.{RefusesPack}
 use Rattle.gsession.specs.declared.stage.Stage.TheVariants.{Settling}
 use Rattle.gworld.specs.Faults.{indexer_failed, memory_refused, no_memory_to_read, no_room, pack_over_limit}
-use Rattle.gworld.specs.Faults.{packer_failed, too_many_refs}
-use Rattle.gworld.specs.Sound.{IsUnforgedAndFaithful}
+use Rattle.gworld.specs.Faults.{bad_name, packer_failed, too_many_refs, too_many_wants}
+use Rattle.gworld.specs.Sound.{AreEndsWhole, IsUnforgedAndFaithful}
 use Rattle.gworld.specs.Events.{Step}
 use Rattle.gworld.specs.Worlds.{Kept, PackTools, WorldState, reply_bytes}
 use Rattle.gscenario.specs.declared.event.Event.{Event}
@@ -106,6 +109,38 @@ module _ {A : Type 0} where
     pub session : SessionState A
     pub goes_on : w.session ≡ Some session
     pub waits : session.pending ≡ Some kept.asked
+
+  -- ---- a complete reply to ls-refs is taken
+
+  -- all bytes come of a reply to ls-refs that is kept for a request equal to the one that waits
+  pub record BringsRefs (w : WorldState A) (number count : ℕ) (reply : LsReply) (s : SessionState A) : Type 0 where
+    pub kept : Kept
+    pub at : slice_get w.kept number ≡ Some kept
+    pub refs : kept.reply ≡ Refs reply
+    pub all : length (reply_bytes kept.reply) ≤ count
+    pub goes_on : w.session ≡ Some s
+    pub waits : s.pending ≡ Some kept.asked
+
+  -- Why the client does not take it: a ref that is asked for can't have its name; more objects are wanted than a request
+  -- takes; or the client is out of memory to read the reply, or for what it brings.
+  abbrev pub MayDeclineRefs : WorldState A → SessionState A → LsReply → ℕ → Type 0
+  MayDeclineRefs w s reply number =
+      ((number ≡ bad_name) × ¬ (AreNamed {A = A} (asks_by_all s.refspecs reply.lines)))
+      ⊎ ((number ≡ too_many_wants) × WantsTooMuch s (client_graph w) reply)
+      ⊎ (number ≡ no_memory_to_read)
+      ⊎ (number ≡ memory_refused)
+
+  -- its refs are told, or the client declines it
+  abbrev pub IsListedOrDeclined : WorldState A → SessionState A → LsReply → Outcome → Type 0
+  IsListedOrDeclined w s reply (outcomes.LsTaken asks wants) = ⊤
+  IsListedOrDeclined w s reply (outcomes.Fault number) = MayDeclineRefs w s reply number
+  IsListedOrDeclined w s reply _ = ⊥
+
+  -- a complete reply to ls-refs is taken, or the client declines it
+  abbrev pub ListsRefs : WorldState A → Event A → Outcome → Type 0
+  ListsRefs w (event.Deliver number count) outcome =
+      (reply : LsReply) (s : SessionState A) → BringsRefs w number count reply s → IsListedOrDeclined w s reply outcome
+  ListsRefs w event outcome = ⊤
 
   -- ---- how often objects are asked for
 
@@ -212,12 +247,15 @@ module _ {A : Type 0} (tools : PackTools A) where
     pub settles : SettlesAnswered w event outcome new
 
   -- What a step does, and what it promises. Whatever bytes came, and whatever packer and indexer do: each ref of the
-  -- client is connected, a session that wanted nothing settles, and objects are asked for seldom. Where no bytes were
-  -- forged, server and client hold each common id. Where packer and indexer are faithful, too, all the rest holds.
+  -- client is connected, a complete reply to ls-refs is taken, a session that wanted nothing settles, objects are asked
+  -- for seldom, and both ends are as their types keep them. Where no bytes were forged, server and client hold each
+  -- common id. Where packer and indexer are faithful, too, all the rest holds.
   pub record Promises (w : WorldState A) (event : Event A) (outcome : Outcome) (new : WorldState A) : Type 0 where
     pub step : Step tools w event outcome new
     pub refs : AreRefsWhole new
     pub commons : AreCommonsShared new
+    pub lists : ListsRefs w event outcome
     pub up_to_date : SettlesUpToDate w event outcome new
     pub few : AreRequestsFew new
+    pub ends : AreEndsWhole new
     pub honest : IsUnforgedAndFaithful tools w → HonestPromises w event outcome new

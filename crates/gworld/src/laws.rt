@@ -49,6 +49,7 @@ pub fn steps_keep<A: Allocator + Copy, K: Packer<A> + Indexer<A>>()
     glsreply::laws::canonical_says();
     glsreply::laws::one_meaning();
     glsreply::laws::prefix_free();
+    glsreply::laws::reads_exactly();
     replies_differ();
     fetch_answers_fit::<A, K>();
     ls_answers_fit::<A>();
