@@ -10,3 +10,4 @@ pub mod Starting
 pub mod Kept
 pub mod Whole
 pub mod Listing
+pub mod Fetching

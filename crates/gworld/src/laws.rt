@@ -1,6 +1,7 @@
 //! The laws of worlds: functions without effect, whose contracts they are.
 
 ghost use Rattle.std.specs.Prelude.{◌≡◌, false};
+ghost use Rattle.gworld.specs.Fetching.{FetchesComplete};
 ghost use Rattle.gworld.specs.Laws.{CommonsStayShared, EndsStayWhole, FrontsAreRuns, FrontsKeepPromises, GraphsOnlyGrow, HonestRunsKeepAll, NewWorldsAreSound, OthersLeaveRefs, PromisesAreRuns, RefsAreAlwaysWhole, RefsStayWhole, RefusalsLeaveBothEnds, RequestsStayFew, RunsKeepPromises, StepsKeep};
 ghost use Rattle.gworld.specs.Sound.{IsUnforgedAndFaithful};
 ghost use Rattle.gworld.specs.Worlds.{WorldState, tools_of};
@@ -14,8 +15,8 @@ use gclientrepo::laws::{
     whole_stays,
 };
 use ggraph::graph_laws::{
-    agreeing_entries_fit, agreeing_stays, closed_stays, coming_grows, full_stays_full, growing_goes_on,
-    growing_keeps, keeping_has_all, keeping_holds, keeping_reaches,
+    agreeing_entries_fit, agreeing_stays, closed_stays, coming_grows, counts_stay, full_stays_full, growing_goes_on,
+    growing_keeps, keeping_has_all, keeping_holds, keeping_reaches, reached_are_counted,
 };
 use ggraph::{Faithful, Indexer, Packer};
 use gmsg::laws::replies_differ;
@@ -185,4 +186,17 @@ pub fn runs_keep_promises<A: Allocator + Copy, K: Packer<A> + Indexer<A>>()
 {
     steps_keep::<A, K>();
     ends_stay_whole::<A, K>();
+}
+
+/// A fetch completes: from a session that just began, after at most N + 2 rounds in which each reply arrives whole and
+/// nothing is refused, it can settle, and then moves each ref that may move. N is how many ids its tips reach.
+pub fn fetches_complete<A: Allocator + Copy, K: Packer<A> + Indexer<A>>()
+    ensures { (k : K) → FetchesComplete (tools_of (K.packs k) (K.pack_fails k) (K.indexes k)
+        (K.index_fails k)) }
+{
+    steps_keep::<A, K>();
+    graphs_only_grow::<A, K>();
+    rounds_are_few::<A>();
+    counts_stay::<A>();
+    reached_are_counted::<A>();
 }
