@@ -15,8 +15,9 @@ use gclientrepo::laws::{
     whole_stays,
 };
 use ggraph::graph_laws::{
-    agreeing_entries_fit, agreeing_stays, closed_stays, coming_grows, counts_stay, full_stays_full, growing_goes_on,
-    growing_keeps, keeping_has_all, keeping_holds, keeping_reaches, reached_are_counted,
+    agreeing_entries_fit, agreeing_stays, closed_stays, coming_grows, counts_stay, full_stays_full,
+    growing_goes_on, growing_keeps, keeping_has_all, keeping_holds, keeping_reaches,
+    reached_are_counted,
 };
 use ggraph::{Faithful, Indexer, Packer};
 use gmsg::laws::replies_differ;
@@ -28,7 +29,7 @@ use gsession::laws::{
 use std::alloc::Allocator;
 
 /// From a sound world each step leads to a sound world, and keeps its promises. The premise is that both ends are whole
-/// after the step, too, as the types of a server and of a client's repository keep them.
+/// after the step, too: [`ends_stay_whole`] has what follows of that from the step.
 pub fn steps_keep<A: Allocator + Copy, K: Packer<A> + Indexer<A>>()
     ensures { (k : K) → StepsKeep (tools_of (K.packs k) (K.pack_fails k) (K.indexes k)
         (K.index_fails k)) }
@@ -115,7 +116,7 @@ pub fn fronts_are_runs<A: Allocator + Copy, K: Packer<A> + Indexer<A>>()
         (K.index_fails k)) }
 {}
 
-/// Where each ref of the client is connected, so it is in every world through which a run leads.
+/// At all times the client's refs are connected: if they are when a run begins, they are in each of its worlds.
 pub fn refs_are_always_whole<A: Allocator + Copy, K: Packer<A> + Indexer<A>>()
     ensures { (k : K) → RefsAreAlwaysWhole (tools_of (K.packs k) (K.pack_fails k) (K.indexes k)
         (K.index_fails k)) }
@@ -152,8 +153,8 @@ pub fn refusals_leave_both_ends<A: Allocator + Copy, K: Packer<A> + Indexer<A>>(
     servers_grow::<A>();
 }
 
-/// From a world with a faithful packer and indexer, in which no bytes were forged, each step of a run that forges none
-/// keeps all that is promised, with no premise left.
+/// An honest run keeps all that is promised, with no premise left: no bytes were forged before it, none of its events
+/// forges any, and packer and indexer are faithful.
 pub fn honest_runs_keep_all<A: Allocator + Copy, K: Faithful<A>>(tools: &K)
     ensures { HonestRunsKeepAll {A = A} (tools_of (K.packs tools.now) (K.pack_fails tools.now)
         (K.indexes tools.now) (K.index_fails tools.now)) }
@@ -188,8 +189,8 @@ pub fn runs_keep_promises<A: Allocator + Copy, K: Packer<A> + Indexer<A>>()
     ends_stay_whole::<A, K>();
 }
 
-/// A fetch completes: from a session that just began, after at most N + 2 rounds in which each reply arrives whole and
-/// nothing is refused, it can settle, and then moves each ref that may move. N is how many ids its tips reach.
+/// A fetch completes: a session that just began can settle after at most N + 2 rounds, and each ref then moves that may.
+/// In a round each reply arrives whole, and nothing is refused. N is how many ids the session's tips reach.
 pub fn fetches_complete<A: Allocator + Copy, K: Packer<A> + Indexer<A>>()
     ensures { (k : K) → FetchesComplete (tools_of (K.packs k) (K.pack_fails k) (K.indexes k)
         (K.index_fails k)) }
