@@ -89,20 +89,20 @@ pub fn promises_are_runs<A: Allocator + Copy, K: Packer<A> + Indexer<A>>()
         (K.index_fails k)) }
 {}
 
-/// Where each ref of the client is connected, so it is after any run.
+/// If each ref of the client is connected, it stays so over any run.
 pub fn refs_stay_whole<A: Allocator + Copy, K: Packer<A> + Indexer<A>>()
     ensures { (k : K) → RefsStayWhole (tools_of (K.packs k) (K.pack_fails k) (K.indexes k)
         (K.index_fails k)) }
 {}
 
-/// Where the client's session asked for objects at most once more than there are ids that its tips reach, so it is
-/// after any run. The tips are the ids at which the client's refs stood when the session began.
+/// Over any run the client's session asks for objects at most N + 1 times, if it did so before. N is how many ids its
+/// tips reach. The tips are the ids of the client's refs when the session began.
 pub fn requests_stay_few<A: Allocator + Copy, K: Packer<A> + Indexer<A>>()
     ensures { (k : K) → RequestsStayFew (tools_of (K.packs k) (K.pack_fails k) (K.indexes k)
         (K.index_fails k)) }
 {}
 
-/// Where no bytes were forged, and server and client hold each common id, so it is after any run that forges none.
+/// If no bytes were forged, and server and client hold each common id, this stays so over any run that forges none.
 pub fn commons_stay_shared<A: Allocator + Copy, K: Packer<A> + Indexer<A>>()
     ensures { (k : K) → CommonsStayShared (tools_of (K.packs k) (K.pack_fails k) (K.indexes k)
         (K.index_fails k)) }
