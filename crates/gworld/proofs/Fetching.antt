@@ -1,35 +1,33 @@
 -- Rounds of a fetch, up to its settle.
-use Rattle.std.proofs.Common.{[], ◌∷◌, ◌++◌, ◌≡◌, ◌⊎◌, ◌∙◌, ◌↔◌, ℕ, ◌+◌, ◌≤◌, zero, suc, true, false, List, length, All}
-use Rattle.std.proofs.Common.{Option, Some, None, Ok, inl, inr, refl, sym, ap, subst, arith, take, IsTrue, Bool}
-use Rattle.std.specs.Prelude.{IfSome, MatchOption, slice_get}
+use Rattle.std.proofs.Common.{[], ◌∷◌, ◌++◌, ◌≡◌, ◌⊎◌, ◌∙◌, ℕ, ◌+◌, ◌≤◌, zero, suc, true, List, length}
+use Rattle.std.proofs.Common.{Option, Some, None, inl, inr, refl, sym, ap, subst, arith, take}
+use Rattle.std.specs.Prelude.{IfSome, slice_get}
 use Rattle.std.proofs.lemmas.List.Elements.{All-cons, All-nil}
 use Rattle.gobject.specs.declared.node.Entry.{Entry}
 use Rattle.gdag.specs.Laws.{CountsStay, ReachedAreCounted}
-use Rattle.gdag.specs.Reach.{Grows, IsFull}
 use Rattle.gdag.specs.Walks.{CountsReached}
 use Rattle.grequest.specs.Asked.{Asked, Empty, Ls, Fetches}
 use Rattle.gclientrepo.specs.Repos.{RepoState}
-use Rattle.gsession.specs.Bounds.{BeganOn, RoundsAreFew}
-use Rattle.gsession.specs.Requesting.{MakesNext, is_due}
-use Rattle.gsession.specs.Sessions.{FitsStage, IsBegun, IsSession, SessionState}
+use Rattle.gsession.specs.Bounds.{RoundsAreFew}
+use Rattle.gsession.specs.Requesting.{MakesNext}
+use Rattle.gsession.specs.Sessions.{IsBegun, IsSession, SessionState}
 use Rattle.gsession.specs.TakingRefs.{stage_for}
-use Rattle.gsession.specs.declared.stage.Stage.{Stage}
 use Rattle.gsession.specs.declared.stage.Stage.TheVariants.{Fetching, Listing, Settling}
 use Rattle.ganswer.specs.Answers.{Reply}
-use Rattle.gworld.specs.Events.{AsksNext, Delivers, ServesRequest, Step, waiting, waits_for}
-use Rattle.gworld.specs.Fetching.{CanSettle, FetchesComplete, HasFetched, IsDone, IsRound, Rounds}
+use Rattle.gworld.specs.Events.{AsksNext, Delivers, ServesRequest, waiting, waits_for}
+use Rattle.gworld.specs.Fetching.{CanSettle, HasFetched, IsDone, IsRound, Rounds}
 use Rattle.gworld.specs.Laws.{GraphsOnlyGrow, IsNoForge, StepsKeep}
 use Rattle.gworld.specs.Promises.{IsSettledOrRefused, IsUpToDate, Promises}
 use Rattle.gworld.specs.Runs.{RunWith}
 use Rattle.gworld.specs.Sound.{AreEndsWhole, IsSound, IsSoundSession, IsUnforgedAndFaithful}
-use Rattle.gworld.specs.Taking.{IsFullAnswer, IsPackTaken, TakesBytes}
+use Rattle.gworld.specs.Taking.{IsPackTaken, TakesBytes}
 use Rattle.gworld.specs.Worlds.{Kept, PackTools, WorldState, reply_bytes}
 use Rattle.gscenario.specs.declared.event.Event.{Event}
 use Rattle.gscenario.specs.declared.event.Event.TheVariants as event
 use Rattle.gworld.specs.declared.outcome.Outcome.{Outcome}
 use Rattle.gworld.specs.declared.outcome.Outcome.TheVariants.{Asked as Asks, Served, LsTaken, Round, PackTaken, Fault}
 use Rattle.gworld.proofs.Runs.{is_run, unforged_on}
-use Rattle.gworld.proofs.Sessions.{IsAnsweredIn, IsSoundIn}
+use Rattle.gworld.proofs.Sessions.{IsSoundIn}
 
 -- what comes last stands at the end
 at_end : {X : Type 0} (xs : List X) (x : X) → slice_get (xs ++ x ∷ []) (length xs) ≡ Some x

@@ -2,7 +2,6 @@
 use Rattle.std.proofs.Common.{◌≡◌, ℕ, List, [], ◌∷◌, ◌++◌, All, Option, Some, None, Ok, Err, refl, sym, ap, subst, ◌∙◌}
 use Rattle.std.specs.Prelude.{slice_get}
 use Rattle.std.proofs.lemmas.List.Elements.{All-head, All-tail}
-use Rattle.gobject.specs.declared.node.Entry.{Entry}
 use Rattle.gdag.proofs.Growing.{comes_grows, grows_none, grows_on}
 use Rattle.gdag.specs.Graphs.{History}
 use Rattle.gdag.specs.Reach.{Grows}

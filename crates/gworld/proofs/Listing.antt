@@ -1,10 +1,9 @@
 -- Why a complete reply to ls-refs, to the very request that waits, is not taken.
-use Rattle.std.proofs.Common.{[], false, ◌≡◌, ◌⊎◌, ℕ, ◌≤◌, List, length, Option, None, Some, Ok, Err, inl, inr, refl, sym, ap}
+use Rattle.std.proofs.Common.{[], false, ◌≡◌, ◌⊎◌, ℕ, ◌≤◌, List, length, Option, Some, Err, inl, inr, sym, ap}
 use Rattle.std.proofs.Common.{subst, ◌∙◌, take}
 use Rattle.std.specs.Prelude.{slice_get}
 use Rattle.std.proofs.lemmas.List.{take_all}
 use Rattle.gname.specs.declared.formats.Format.{Format}
-use Rattle.gpkt.specs.Packets.{Packet}
 use Rattle.ggrammar.specs.Faults.{why_row}
 use Rattle.ggrammar.specs.Kinds.{ReadsMessage, SaysAtFront}
 use Rattle.ggrammar.specs.MessageBytes.{IsOfBytes, known}

@@ -34,7 +34,7 @@ use Rattle.gsession.specs.SettlingRefs.{SettlesSession}
 use Rattle.gsession.specs.declared.fault.ClientFault.{ClientFault}
 use Rattle.gsession.specs.declared.fault.ClientFault.TheVariants as client
 use Rattle.gsession.specs.declared.stage.Stage.TheVariants.{Settling}
-use Rattle.gworld.specs.Promises.{AsksSeldom, BringsAnswer, BringsWants, CompletesWants, HasSettled, HonestPromises}
+use Rattle.gworld.specs.Promises.{AsksSeldom, BringsAnswer, BringsWants, CompletesWants, HasSettled}
 use Rattle.gworld.specs.Promises.{IsBrought, IsUpToDate, SettlesUpToDate}
 use Rattle.gworld.specs.Promises.{IsServedOrRefused, IsSettledOrRefused, IsTakenOrDeclined, MayRefuse, ServesSent}
 use Rattle.gworld.specs.Promises.{SettlesAnswered, SharesCommons, Promises, TakesAnswers}

@@ -1,11 +1,10 @@
 -- Both ends stay whole over each step, and so each run keeps its promises.
-use Rattle.std.proofs.Common.{[], ◌∷◌, ◌≡◌, ◌∙◌, ℕ, List, All, Option, Some, None, Ok, Err, inl, inr, refl, sym, ap, subst}
+use Rattle.std.proofs.Common.{[], ◌∷◌, ◌≡◌, ℕ, List, Option, Some, None, Ok, inl, inr, refl, sym, ap, subst}
 use Rattle.std.specs.Map.{values_of}
-use Rattle.std.specs.Prelude.{Bool, IfSome, slice_get}
+use Rattle.std.specs.Prelude.{Bool, slice_get}
 use Rattle.std.proofs.lemmas.List.Elements.{All-weaker}
 use Rattle.gname.specs.declared.formats.Format.{Format}
 use Rattle.gobject.specs.declared.node.Entry.{Entry}
-use Rattle.ggrammar.specs.MessageBytes.{known}
 use Rattle.gdag.proofs.Growing.{comes_grows, graph_push, grows_keeps, keeps_held}
 use Rattle.gdag.specs.Graphs.{History, Holds, IsGraph}
 use Rattle.gdag.specs.Insert.{ComesIn, Inserts}
@@ -14,16 +13,15 @@ use Rattle.gdag.specs.Reach.{Keeps}
 use Rattle.grefs.specs.RefLists.{IsRefs, RefList}
 use Rattle.grefs.specs.declared.head.Head.{Head}
 use Rattle.grefs.specs.declared.head.Head.TheVariants as heads
-use Rattle.grequest.specs.Asked.{Asked, Empty, Ls, Fetches}
+use Rattle.grequest.specs.Asked.{Asked, Ls, Fetches}
 use Rattle.gclientrepo.specs.Laws.{RefusalsChangeNothing, SettingStaysWhole, SettlingStaysWhole, WholeStays}
 use Rattle.gclientrepo.specs.Repos.{IsWhole, RepoState}
 use Rattle.ganswer.proofs.ServerLemmas.{with_ref_or_same}
 use Rattle.ganswer.specs.Changes.{AddsObject, SetsOneRef}
 use Rattle.ganswer.specs.Laws.{ServersGrow}
-use Rattle.ganswer.specs.Servers.{HoldsHead, HoldsRefs, IsServer, Server, served}
+use Rattle.ganswer.specs.Servers.{HoldsHead, IsServer, Server, served}
 use Rattle.gsession.specs.Laws.{OnlyGrows, TakingOnlyGrows}
-use Rattle.gsession.specs.Sessions.{IsSession, SessionState}
-use Rattle.gsession.specs.declared.taken.Taken.TheVariants as taken
+use Rattle.gsession.specs.Sessions.{SessionState}
 use Rattle.gworld.specs.Events.{AsksNext, Delivers, Forges, ServesRequest, SettlesRefs, Step, waiting}
 use Rattle.gworld.specs.Laws.{AreListed, EndsStayWhole, StepsKeep, StepsListed}
 use Rattle.gworld.specs.Promises.{Promises}

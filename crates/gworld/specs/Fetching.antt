@@ -1,5 +1,5 @@
 -- A fetch as a whole: rounds in which each reply arrives whole, and the settle at their end.
-use Rattle.std.specs.Prelude.{◌≡◌, ◌⊎◌, ⊤, ℕ, ◌+◌, ◌≤◌, zero, suc, true, List, [], ◌∷◌, length, Option, Some, slice_get}
+use Rattle.std.specs.Prelude.{◌≡◌, ◌⊎◌, ⊤, ℕ, ◌+◌, ◌≤◌, zero, suc, true, [], ◌∷◌, length, Some, slice_get}
 use Rattle.gdag.specs.Walks.{CountsReached}
 use Rattle.gsession.specs.Requesting.{is_due}
 use Rattle.gsession.specs.Sessions.{IsBegun, SessionState}
@@ -7,7 +7,6 @@ use Rattle.gworld.specs.Promises.{IsSettledOrRefused, Promises, client_graph}
 use Rattle.gworld.specs.Runs.{RunWith}
 use Rattle.gworld.specs.Sound.{AreEndsWhole, IsSound, IsUnforgedAndFaithful}
 use Rattle.gworld.specs.Worlds.{Kept, PackTools, WorldState, reply_bytes}
-use Rattle.gscenario.specs.declared.event.Event.{Event}
 use Rattle.gscenario.specs.declared.event.Event.TheVariants as event
 use Rattle.gworld.specs.declared.outcome.Outcome.{Outcome}
 use Rattle.gworld.specs.declared.outcome.Outcome.TheVariants as outcomes
