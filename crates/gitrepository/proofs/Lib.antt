@@ -1,3 +1,0 @@
-pub mod HistoryLemmas
-pub mod PutLemmas
-pub mod RefLemmas

@@ -1,5 +1,0 @@
-pub mod Entries
-pub mod Packs
-pub mod Repositories
-pub mod Installing
-pub mod MemoryFolders

@@ -1,4 +1,0 @@
-mod CleanLemmas
-mod CutLemmas
-mod ServedLemmas
-mod UrlLemmas

@@ -1,4 +1,0 @@
-pub mod Clean
-pub mod Served
-pub mod Urls
-pub mod Answers
