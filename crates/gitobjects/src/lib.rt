@@ -12,20 +12,21 @@
 //!
 //! - [`ObjectReader::read_checked`] answers an object only if its id is the one that was asked for.
 //!   The SHA-1 is computed.
-//! - A loose object has the type and the length that its text says. The stream of an entry inflates
-//!   to as many bytes as its head says.
+//! - A private part of a read inflates the stream of an entry to as many bytes as it was told, and
+//!   splits the text of a loose object exactly.
 //! - The window of a pack answers the bytes of the pack, where they are known, whatever blocks it
 //!   holds.
-//! - The path of a loose object is made of a folder and the digits of the id. The path of a pack is
-//!   made of a folder and a name that is listed there. The paths of alternates are those that
-//!   `info/alternates` names, in order.
-//! - No call panics, overflows or reads out of bounds, and each returns, on any files. A chain of
-//!   deltas that leads back to itself is a fault.
+//! - The path of a loose object is made of a folder and the digits of the id. The stem of a pack is
+//!   a name that is listed in its folder. The lines of `info/alternates` are read in order.
+//! - No call panics, overflows or reads out of bounds, and each returns, on any files, also if a
+//!   chain of deltas leads back to itself.
 //!
 //! # Differences from Git
 //!
 //! - A pack stays open once it is found. Git opens packs as it needs them, and closes some.
-//! - An index of version 1, a multi-pack index, bitmaps and a commit-graph are not read.
+//! - An index of version 1 is a fault of the store. A multi-pack index, bitmaps and a commit-graph
+//!   are not read.
+//! - If an object lies in two places and the first is broken, that is a fault. Git tries others.
 //! - A path in quotes in `info/alternates`, or one that is not UTF-8, is a fault. Git reads both.
 //! - An alternate that is not there is left out. Git does so, too, and prints an error.
 //! - An entry of a pack must have no byte after its stream. Git does not look for one.

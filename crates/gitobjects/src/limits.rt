@@ -1,4 +1,5 @@
-//! The limits of this crate, in one table. They bound memory, whatever the files say.
+//! The limits of this crate, in one table. They bound each file and each
+//! cache, whatever the files say. The number of packs is not bounded.
 
 /// The most bytes of an object: 1 GiB.
 pub const MAX_OBJECT: usize = 1_073_741_824;

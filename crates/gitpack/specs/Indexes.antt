@@ -16,7 +16,7 @@ pub record Index : Type 0 where
 abbrev pub entry_id : IndexEntry → Id
 entry_id e = e.id
 
--- the ids ascend, and the lines are few enough to be numbered in 31 bits
+-- no id is less than the one before, and the lines are few enough to be numbered in 31 bits
 pub record AreEntries (entries : List IndexEntry) : Type 0 where
   pub sorted : IsSortedByKey entry_id id_cmp entries
   pub few : length entries < 2 ^ 31
@@ -92,7 +92,7 @@ object_id e = e.entry.id
 abbrev pub line_of : IndexedEntry → IndexEntry
 line_of e = e.entry
 
--- the ids ascend, and the objects are few enough for an index
+-- no id is less than the one before, and the objects are few enough for an index
 pub record AreObjects (entries : List IndexedEntry) : Type 0 where
   pub sorted : IsSortedByKey object_id id_cmp entries
   pub few : length entries < 2 ^ 31

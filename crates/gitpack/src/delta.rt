@@ -21,8 +21,7 @@ const SIZE_BYTES: u32 = 3;
 const FULL_COPY: usize = 0x10000;
 
 /// The body that a delta makes of its base. It is `None` if the bytes are no delta of this base,
-/// or one that makes more than `most` bytes. No more memory is taken than for a body of the size
-/// that the delta names.
+/// or one that makes more than `most` bytes. The body takes memory for at most twice its bytes.
 ///
 /// It fails only out of memory.
 pub fn apply_delta<A: Allocator + Copy>(

@@ -46,7 +46,7 @@ pub struct EntryHead {
     pub length: usize,
 }
 
-/// The head with which some bytes begin; `None` if they begin with no head. A size has fewer than
+/// The head with which some bytes begin; `None` if they begin with no head. A size has at most
 /// 60 bits here, and an offset has eight bytes at most.
 pub fn read_head(bytes: &[u8]) -> Option<EntryHead>
     ensures { MatchOption result

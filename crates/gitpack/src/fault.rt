@@ -12,10 +12,10 @@ pub enum PackFileFault {
     Memory,
     /// The header, the number of entries or the trailer of the pack is wrong.
     Frame,
-    /// The entry at this place is cut, has no zlib stream or one of another size, or is no delta
-    /// of its base.
+    /// The entry at this place is cut, or has no zlib stream or one of another size. Or it is no
+    /// delta of its base, makes an object past the limit, or has a base that comes twice.
     Entry(usize),
-    /// The base of a delta is not in the pack: the pack is thin.
+    /// The base of a delta is not in the pack: the pack is thin, or an offset is wrong.
     Thin,
     /// An object has more bytes than the limits allow, or so have all objects, those that are held
     /// at a time, or a pack that is written.

@@ -119,10 +119,11 @@ fn lines_of<A: Allocator + Copy>(
 /// Indexes a pack, and shows each of its objects to a visitor: whole objects first, and each delta
 /// after its base.
 ///
-/// It fails with `Frame` if the header, the number of entries or the trailer is wrong. It fails
-/// with `Entry` at an entry that is wrong, and with `Thin` if a base is not in the pack. It fails
-/// with `TooLarge` past a limit, or if there are 2^31 objects or more. Otherwise it fails with the
-/// visitor's fault, and with `Memory`.
+/// It fails with `Frame` if the header or the trailer is wrong, or if bytes come after the last
+/// entry. It fails with `Entry` at an entry that is wrong or missing, and with `Thin` if a base is
+/// not in the pack. It fails with `TooLarge` past a limit, or if there are 2^31 objects or more.
+/// Otherwise it fails with the visitor's fault, and with `Memory`. The visitor may have seen some
+/// objects by then.
 pub fn index_pack<A: Allocator + Copy, V: ObjectVisitor>(
     alloc: A,
     pack: &[u8],
@@ -133,6 +134,12 @@ pub fn index_pack<A: Allocator + Copy, V: ObjectVisitor>(
 {
     let scanned = scan(alloc, pack, limits, visitor)?;
     let checksum = scanned.trailer;
+    // What the scan took counts.
+    let limits = IndexLimits {
+        object: limits.object,
+        held: limits.held,
+        total: limits.total.saturating_sub(scanned.total),
+    };
     let mut resolver = Resolver::new(alloc, pack, limits, scanned.entries)?;
     resolver.resolve_all(visitor)?;
     let entries = in_order(resolver.into_entries()?)?;

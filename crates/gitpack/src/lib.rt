@@ -23,24 +23,28 @@
 //!
 //! # Differences from Git
 //!
-//! - A size in a delta and an offset of a base have eight bytes at most.
+//! - A size in a delta and an offset of a base have eight bytes at most, and a type and a size
+//!   nine. A delta may make an empty body, which Git refuses.
+//! - A pack of version 3 is refused; Git reads it. All ids are SHA-1.
 //! - An index of version 1 is not read. One of version 2 is read only as Git writes it: no offset
 //!   below 2^31 lies in the table of 64-bit offsets. The checksum of the index itself is not
 //!   tested.
 //! - A pack of 2^31 objects or more is refused, and so is a thin pack.
 //! - An object that a pack holds twice is accepted, and both entries are in the index. Git does so
-//!   without `--strict`.
+//!   without `--strict`. A delta by id whose base comes twice is refused, as in Git.
 //!
 //! # What the contracts do not rule out
 //!
 //! - Any call that allocates may fail with out of memory; the contracts do not say when.
 //! - [`PackIndex::read`] might refuse the text of an index, and its contract says nothing of
 //!   [`PackIndex::id`], [`PackIndex::crc`] and [`PackIndex::offset`].
-//! - [`index_pack`] might refuse a good pack. It might leave out a delta, give an object a wrong
-//!   offset or a wrong CRC-32, or apply a delta to a wrong base. Its contract does not count the
-//!   objects, and says nothing of limits and faults.
-//! - [`PackWriter`] might refuse an entry. The stream of [`PackWriter::put_body`] is any, and the
-//!   number of entries is not compared with the count.
+//! - [`index_pack`] might refuse a good pack. It might leave out any object, or list one that it
+//!   did not show. It might give an object a wrong offset or a wrong CRC-32, or apply a delta to a
+//!   wrong base. Its contract says nothing of limits and faults.
+//! - [`IndexedPack::find`] answers an object with the id, but no clause says that it is one of
+//!   [`IndexedPack::entries`].
+//! - [`PackWriter`] might refuse an entry. The number of entries is not compared with the count,
+//!   and no clause bounds the bytes of the pack.
 //! - The contracts say nothing of time, or of how much memory a call takes.
 //!
 //! There are no tests here.

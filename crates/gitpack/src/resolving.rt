@@ -157,8 +157,9 @@ impl<'a, A: Allocator + Copy> Resolver<'a, A> {
         let Some(entry) = self.entries.get(place).copied() else {
             return Err(PackFileFault::Entry(place));
         };
+        // Its base came before, under the same id.
         if entry.object.is_some() {
-            return Ok(());
+            return Err(PackFileFault::Entry(place));
         }
         let delta = self.inflate(place, &entry)?;
         let Some((kind, body)) = self.apply(delta.as_slice())? else {

@@ -48,6 +48,8 @@ pub(crate) struct ScannedPack<A: Allocator + Copy> {
     pub entries: Vec<Scanned, A>,
     /// The trailer.
     pub trailer: Oid,
+    /// The bytes to which the streams inflate.
+    pub total: usize,
 }
 
 /// Scans a pack to its end. Whole objects are shown to the visitor.
@@ -81,7 +83,12 @@ pub(crate) fn scan<A: Allocator + Copy, V: ObjectVisitor>(
     if scanner.place != body.len() {
         return Err(PackFileFault::Frame);
     }
-    Ok(ScannedPack { entries, trailer })
+    let total = scanner.total;
+    Ok(ScannedPack {
+        entries,
+        trailer,
+        total,
+    })
 }
 
 // How far a pack is scanned.

@@ -10,6 +10,9 @@ use std::alloc::Allocator;
 // two bits).
 const MAX_RATIO: usize = 1_032;
 
+// An inflater makes room for so many bytes past the end of a body.
+const SPARE: usize = 258;
+
 /// A stream, inflated.
 #[derive(Drop)]
 pub(crate) struct Inflated<A: Allocator + Copy> {
@@ -30,7 +33,8 @@ pub(crate) fn inflate<A: Allocator + Copy>(
 ) -> Result<Inflated<A>, PackFileFault>
     ensures { IfOk result (λ it. vec_len it.body ≡ size) }
 {
-    let room = size.min(bytes.len().saturating_mul(MAX_RATIO));
+    let most = bytes.len().saturating_mul(MAX_RATIO);
+    let room = size.min(most).saturating_add(SPARE);
     let mut body = Vec::with_capacity(alloc, room)?;
     match inflater.inflate(bytes, &mut body, size) {
         Ok(length) => {

@@ -1,7 +1,8 @@
 //! Writing a pack.
 
-ghost use Rattle.std.specs.Prelude.{◌≡◌, List, ℕ, IfOk, OnOk, length};
+ghost use Rattle.std.specs.Prelude.{◌≡◌, IfOk, OnOk, length};
 ghost use Rattle.gname.specs.Ids.{Id};
+ghost use Rattle.gzlib.specs.Stored.{stored_stream};
 ghost use Rattle.gitpack.specs.Packs.{AddsEntry, pack_header, with_trailer};
 ghost use Rattle.gitpack.specs.declared.entry.EntryForm.TheVariants as forms;
 
@@ -104,8 +105,8 @@ impl<A: Allocator + Copy> PackWriter<A> {
     ///
     /// It fails as `put_whole` does.
     pub fn put_body(&mut self, kind: ObjectType, body: &[u8]) -> Result<(), PackFileFault>
-        ensures { OnOk result ((stream : List ℕ)
-            × AddsEntry (forms.Whole kind) (length body.now) stream self.old self.new) }
+        ensures { OnOk result (AddsEntry (forms.Whole kind) (length body.now)
+            (stored_stream body.now) self.old self.new) }
     {
         let mut stream = Vec::new(self.alloc);
         put_stored(&mut stream, body)?;

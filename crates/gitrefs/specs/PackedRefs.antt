@@ -49,7 +49,7 @@ abbrev pub BeginsWithHeader : List ℕ → List ℕ → Type 0
 BeginsWithHeader text rest = ((words : List ℕ) × HasHeader text words rest)
     ⊎ ((text ≡ rest) × ((more : List ℕ) → ¬ (text ≡ codes "#" ++ more)))
 
--- whether a name is that of a ref below refs/; Git leaves out all other lines
+-- whether a name is that of a ref below refs/; all other lines are left out here
 abbrev pub names_ref : PackedLine → Bool
 names_ref line = is_none (name_fault line.name) && starts_with nat_eq line.name (codes "refs/")
 

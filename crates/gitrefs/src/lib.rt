@@ -7,8 +7,8 @@
 //!   `specs/`, and refuse all others. They answer what the text says: an id or the name of another
 //!   ref; the refs of the lines, in their order, with the peeled ids.
 //! - [`packed_refs_text`] and [`peeled_refs_text`] write a header and the line of each ref, in the
-//!   order of the names, since `Refs` are in that order. The text reads back as these refs:
-//!   [`laws`].
+//!   order of the names, since `Refs` are in that order. If all ids are SHA-1, the text reads back
+//!   as these refs: [`laws`].
 //! - [`replace_ref`] replaces a ref's file under a lock, over any `Storage` of `glockfile`. In
 //!   every state since then the file has the old text or the whole new one. At `Ok` it has the new
 //!   one. This run holds no lockfile at the end.
@@ -33,6 +33,11 @@
 //! - Git follows a symbolic ref to the ref to be moved. Here it is not moved, nor is a symbolic
 //!   link.
 //! - A ref can't get the name of a directory that has empty directories in it; Git removes these.
+//! - Git skips a ref whose file can't be read, or whose link leads in a circle. Here reading stops.
+//! - Git dies of a directory that has neither HEAD nor `refs`. Here such a directory has no refs.
+//! - Git follows a symbolic ref to a name outside `refs/`, as `ORIG_HEAD`. Here it is left out.
+//! - Git refuses a ref to an object that is missing, and a branch at no commit. This crate sees no
+//!   object.
 //! - The configuration is not read: no SHA-256, no reftable, no shared permissions. The git
 //!   directory of a linked worktree is not joined with its common one. Reflogs are left alone.
 //!
@@ -42,6 +47,10 @@
 //! Git. This holds of the files that it opens, of loose refs before packed ones, and of symbolic
 //! refs. It also holds of the updates that it refuses, and of the locks that it removes. A lockfile
 //! is removed when its guard is dropped; no clause says so.
+//!
+//! An update opens a lockfile for each of its refs, so about a thousand refs at once can use up the
+//! descriptors of the process. Conflicts of names are judged before the locks are there, so a ref
+//! that is packed meanwhile can escape.
 //!
 //! Any call that allocates may fail with out of memory; the contracts do not say when. A process
 //! that is killed can leave a lockfile. Two git directories that are one, as by symbolic links, are

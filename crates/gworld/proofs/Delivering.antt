@@ -198,7 +198,7 @@ module _ {A : Type 0} {tools : PackTools A} (laws : WorldLaws tools) where
 
   -- ---- an answered session can settle
 
-  either_full : (g : List (Entry A)) (s : SessionState A) → All (IsFull g) s.wants → (a : List ℕ) → IsWantedOrFull g s a
+  pub either_full : (g : List (Entry A)) (s : SessionState A) → All (IsFull g) s.wants → (a : List ℕ) → IsWantedOrFull g s a
       → IsFull g a
   either_full g s full a (inl wanted) = All-contains (IsFull g) s.wants a full wanted
   either_full g s full a (inr there) = there

@@ -16,7 +16,9 @@ use Rattle.ggrammar.specs.Grammar.{Judge}
 use Rattle.ggrammar.specs.Kinds.{ReadsExactly, SaysAtFront}
 use Rattle.ggrammar.specs.MessageBytes.{IsFront, IsOfBytes, known}
 use Rattle.ggrammar.specs.MessageReading.{IsReadFailure, IsReasonAfter, ReadsRefused}
+use Rattle.ggrammar.specs.declared.ends.Ends.{Ends}
 use Rattle.ggrammar.specs.declared.ends.Ends.TheVariants.{Plain}
+use Rattle.glsreply.specs.LsReplies as refs
 use Rattle.ggrammar.specs.declared.fault.MessageFault.{MessageFault}
 use Rattle.ggrammar.specs.declared.fault.Why.{Why}
 use Rattle.ggrammar.specs.declared.fault.Why.TheVariants as why
@@ -49,6 +51,7 @@ use Rattle.gsession.specs.TakingReplies.{RefusesPack, reading_for}
 use Rattle.gsession.specs.declared.fault.ClientFault.{ClientFault}
 use Rattle.gsession.specs.declared.fault.ClientFault.TheVariants as client
 use Rattle.gworld.specs.Promises.{IsTakenOrDeclined, MayDecline}
+use Rattle.gworld.specs.Promises.{round as is_round, after_acks as is_pack, direct as is_direct_pack}
 use Rattle.gworld.specs.Sound.{IsUnforgedAndFaithful, IsSoundFetch}
 use Rattle.gworld.specs.Taking.{IsAtHand, TakesObjects, code_of}
 use Rattle.gworld.specs.Worlds.{PackTools, WorldState, reply_bytes}
@@ -63,33 +66,33 @@ pub record FaultLaws (A : Type 0) : Type 0 where
   pub any_limit : IsInAnyLimit
   pub over_limit : IsRefusedOverLimit
   pub fit : AgreeingEntriesFit A
+  pub refs_exactly : (format : Format) (ends : Ends) → ReadsExactly (refs.judge format ends) refs.brings
+      (refs.Says format ends)
 
 -- ---- taken
 
 module _ {A : Type 0} (tools : PackTools A) (r : RepoState A) where
   round_taken : (reply : FetchReply) (common : ℕ) → ¬ (HasPack reply) → IsTakenOrDeclined tools r reply (Round common)
-  round_taken (Acks ids) common none = tt
+  round_taken (Acks ids) common none = is_round
   round_taken (Ready ids pack) common none = absurd (none tt)
   round_taken (Pack pack) common none = absurd (none tt)
 
   pack_taken : (reply : FetchReply) (added : ℕ) → HasPack reply → IsTakenOrDeclined tools r reply (PackTaken added)
   pack_taken (Acks ids) added has = absurd has
-  pack_taken (Ready ids pack) added has = tt
-  pack_taken (Pack pack) added has = tt
+  pack_taken (Ready ids pack) added has = is_pack
+  pack_taken (Pack pack) added has = is_direct_pack
 
   declined : (reply : FetchReply) (number : ℕ) → MayDecline tools r reply number
       → IsTakenOrDeclined tools r reply (Fault number)
-  declined (Acks ids) number why = why
-  declined (Ready ids pack) number why = why
-  declined (Pack pack) number why = why
+  declined reply number why = why
 
-err_is_no_ok : {T E : Type 0} (e : E) (t : T) → Err e ≡ Ok t → ⊥
+pub err_is_no_ok : {T E : Type 0} (e : E) (t : T) → Err e ≡ Ok t → ⊥
 err_is_no_ok e t wrong = cc
 
 -- ---- as it is read
 
 -- bytes at hand are refused for a reason in them, or out of memory
-why_cases : (w : Why) → IsReadFailure false false w → (w ≡ why.Memory) ⊎ IsOfBytes w
+pub why_cases : (w : Why) → IsReadFailure false false w → (w ≡ why.Memory) ⊎ IsOfBytes w
 why_cases (why.Line line.Io) at = absurd (false≢true at.1)
 why_cases (why.Line line.Failed) at = absurd (false≢true at)
 why_cases (why.Line line.Memory) at = absurd at

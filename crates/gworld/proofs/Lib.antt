@@ -7,3 +7,7 @@ pub mod Promised
 pub mod CodeLemmas
 pub mod Runs
 pub mod Starting
+pub mod Kept
+pub mod Whole
+pub mod Listing
+pub mod Fetching

@@ -1,6 +1,7 @@
 -- What each step promises follows from what is sound.
-use Rattle.std.proofs.Common.{◌≡◌, ◌⊎◌, ℕ, ◌≤◌, false, List, length, All, Option, Some, None, Ok, Err, inl, inr, refl}
+use Rattle.std.proofs.Common.{[], ◌≡◌, ◌⊎◌, ℕ, ◌≤◌, false, List, length, All, Option, Some, None, Ok, Err, inl, inr, refl}
 use Rattle.std.proofs.Common.{sym, ap, subst, ◌∙◌, take}
+use Rattle.std.proofs.lemmas.List.Elements.{All-nil, All-weaker}
 use Rattle.std.specs.Prelude.{IfSome, slice_get, slice_index_or}
 use Rattle.gobject.specs.declared.node.Entry.{Entry}
 use Rattle.gobject.specs.declared.fault.PackFault.{PackFault}
@@ -33,21 +34,23 @@ use Rattle.gsession.specs.SettlingRefs.{SettlesSession}
 use Rattle.gsession.specs.declared.fault.ClientFault.{ClientFault}
 use Rattle.gsession.specs.declared.fault.ClientFault.TheVariants as client
 use Rattle.gsession.specs.declared.stage.Stage.TheVariants.{Settling}
-use Rattle.gworld.specs.Promises.{AreWantsComplete, AsksSeldom, BringsAnswer, CompletesKept, CompletesWants, HasSettled}
+use Rattle.gworld.specs.Promises.{AsksSeldom, BringsAnswer, BringsWants, CompletesWants, HasSettled}
+use Rattle.gworld.specs.Promises.{IsBrought, IsUpToDate, SettlesUpToDate}
 use Rattle.gworld.specs.Promises.{IsServedOrRefused, IsSettledOrRefused, IsTakenOrDeclined, MayRefuse, ServesSent}
 use Rattle.gworld.specs.Promises.{SettlesAnswered, SharesCommons, Promises, TakesAnswers}
 use Rattle.gworld.specs.Sound.{AreEndsWhole, IsUnforgedAndFaithful, IsSound, IsSoundKept, IsSoundRequest}
-use Rattle.gworld.specs.Sound.{IsSoundSession}
+use Rattle.gworld.specs.Sound.{IsSoundSession, IsWantedOrFull}
 use Rattle.gworld.specs.Events.{Delivers, ServesRequest, SettlesRefs, Step, waiting, waits_for}
-use Rattle.gworld.specs.Faults.{out_of_turn}
+use Rattle.gworld.specs.Faults.{no_such, out_of_turn}
 use Rattle.gworld.specs.Taking.{TakesBytes, code_of}
 use Rattle.gworld.specs.Worlds.{Kept, PackTools, WorldState, reply_bytes}
 use Rattle.gscenario.specs.declared.event.Event.{Event}
 use Rattle.gscenario.specs.declared.event.Event.TheVariants as event
 use Rattle.gworld.specs.declared.outcome.Outcome.{Outcome}
 use Rattle.gworld.specs.declared.outcome.Outcome.TheVariants.{Served, PackTaken, Settled, Fault}
-use Rattle.gworld.proofs.Delivering.{pack_came}
+use Rattle.gworld.proofs.Delivering.{either_full, pack_came}
 use Rattle.gworld.proofs.Faults.{FaultLaws, IsWhole, whole_taken}
+use Rattle.gworld.proofs.Listing.{lists_each}
 use Rattle.gworld.proofs.Sessions.{IsAnsweredIn, IsSoundIn, WorldLaws}
 use Rattle.gworld.proofs.Steps.{step_sound}
 
@@ -92,49 +95,83 @@ module _ {A : Type 0} {tools : PackTools A} (laws : WorldLaws tools) where
     moved = settles.1.asked;
   }
 
+  -- the session settles where it is time for that, and each asked id is connected
+  settles_full : HeldIsNotMissing A → (w v : WorldState A) (s : SessionState A) (outcome : Outcome)
+      → s.stage ≡ Settling → All (IsFull w.repo.graph.entries) (asked_ids s.asks) → SettlesRefs w (Some s) outcome v
+      → IsSettledOrRefused w.repo (Some s) outcome v.repo
+  settles_full law w v s (Settled moved same not_forward) stage full settles =
+      subst (λ (x : WorldState A). HasSettled w.repo s.asks x.repo) (sym settles.6)
+      (has_settled w.repo settles.1 s.asks settles.3 settles.4.3)
+  settles_full law w v s (Fault number) stage full settles =
+      settle_fault law s settles.0 w.repo settles.1 settles.2 number stage full settles.3 settles.4
+  settles_full law w v s _ stage full settles = absurd settles
+
   settles_well : HeldIsNotMissing A → (w v : WorldState A) (session : Option (SessionState A)) (outcome : Outcome)
       → IsUnforgedAndFaithful tools w → IsAnsweredIn tools w session → SettlesRefs w session outcome v
       → IsSettledOrRefused w.repo session outcome v.repo
   settles_well law w v None outcome honest can settles = absurd can
-  settles_well law w v (Some s) (Settled moved same not_forward) honest can settles =
-      subst (λ (x : WorldState A). HasSettled w.repo s.asks x.repo) (sym settles.6)
-      (has_settled w.repo settles.1 s.asks settles.3 settles.4.3)
-  settles_well law w v (Some s) (Fault number) honest can settles =
-      settle_fault law s settles.0 w.repo settles.1 settles.2 number can.stage (can.full honest) settles.3 settles.4
-  settles_well law w v (Some s) _ honest can settles = absurd settles
+  settles_well law w v (Some s) outcome honest can settles =
+      settles_full law w v s outcome can.stage (can.full honest) settles
+
+  -- where nothing is wanted, each asked id is connected
+  none_wanted : (g : List (Entry A)) (s : SessionState A) → s.wants ≡ [] → All (IsWantedOrFull g s) (asked_ids s.asks)
+      → All (IsFull g) (asked_ids s.asks)
+  none_wanted g s none each = All-weaker (IsWantedOrFull g s) (IsFull g)
+      (λ (a : List ℕ) either.
+      either_full laws g s (subst (All (IsFull g)) (sym none) (All-nil (IsFull g))) a either) (asked_ids s.asks) each
+
+  settles_idle : HeldIsNotMissing A → (w v : WorldState A) (session : Option (SessionState A)) (outcome : Outcome)
+      → IsSoundIn w session → SettlesRefs w session outcome v
+      → IfSome session (λ s. IsUpToDate s → IsSettledOrRefused w.repo session outcome v.repo)
+  settles_idle law w v None outcome is settles = tt
+  settles_idle law w v (Some s) outcome is settles = λ idle.
+      settles_full law w v s outcome idle.stage (none_wanted w.repo.graph.entries s idle.none is.asked) settles
+
+  settles_up_to_date : HeldIsNotMissing A → (w v : WorldState A) → IsSound tools w → (e : Event A) (outcome : Outcome)
+      → Step tools w e outcome v → SettlesUpToDate w e outcome v
+  settles_up_to_date law w v sound event.Settle outcome step =
+      settles_idle law w v w.session outcome sound.session step
+  settles_up_to_date law w v sound e outcome step = tt
 
   -- from a sound world where nothing was forged, and packer and indexer are faithful
   module _ {w : WorldState A} (sound : IsSound tools w) (honest : IsUnforgedAndFaithful tools w) where
     -- ---- packs
 
     module _ (v : WorldState A) {kept : Kept} (count added : ℕ) (is : IsSoundKept tools.packs w kept) where
+      -- the reply answers a request for objects, whose wants were brought
+      abbrev Brought : Type 0
+      Brought = (asked : FetchAsked) × (kept.asked ≡ Fetches asked) × All (IsBrought v) asked.wants
+
       to_complete : (s : SessionState A) (pending : Option Asked) → IsSoundSession w s
           → Delivers tools.indexes tools.index_fails w (Some kept) count (waits_for s pending) (PackTaken added) v
-          → AreWantsComplete kept.asked v
+          → Brought
       to_complete s (Some (Fetches asked)) session delivers =
           let bytes = delivers.2 in
-          let came = pack_came laws count added bytes.after bytes.repo honest sound is session bytes.takes in
-          let u : WorldState A = record w { session = Some bytes.after; repo = bytes.repo; answered = delivers.0 } in
-          subst (AreWantsComplete kept.asked) (sym bytes.is)
-          (subst (λ (a : Asked). AreWantsComplete a u) (sym came.is_asked) came.completed.all)
+          let came = pack_came laws count added bytes.after bytes.repo honest sound is session bytes.takes in (
+            came.fetch,
+            came.is_asked,
+            subst (λ (u : WorldState A). All (IsBrought u) came.fetch.wants) (sym bytes.is) came.completed.all,
+          )
       to_complete s None session delivers =
           let wrong : PackTaken added ≡ Fault out_of_turn = delivers.0 in absurd (cc)
       to_complete s (Some asked) session delivers = absurd delivers.2.takes
 
       kept_complete : (session : Option (SessionState A)) → IsSoundIn w session
           → Delivers tools.indexes tools.index_fails w (Some kept) count (waiting session) (PackTaken added) v
-          → AreWantsComplete kept.asked v
+          → Brought
       kept_complete None session delivers =
           let wrong : PackTaken added ≡ Fault out_of_turn = delivers.0 in absurd (cc)
       kept_complete (Some s) session delivers = to_complete s s.pending session delivers
 
     found_complete : (v : WorldState A) (number count added : ℕ) (found : Option Kept) → slice_get w.kept number ≡ found
         → Delivers tools.indexes tools.index_fails w found count (waiting w.session) (PackTaken added) v
-        → CompletesKept found v
-    found_complete v number count added None at delivers = tt
+        → BringsWants w number v
+    found_complete v number count added None at delivers =
+        let wrong : PackTaken added ≡ Fault no_such = delivers.0 in absurd (cc)
     found_complete v number count added (Some kept) at delivers =
-        kept_complete v count added (all_standing (IsSoundKept tools.packs w) w.kept number kept at sound.kept)
-        w.session sound.session delivers
+        let brought = kept_complete v count added
+        (all_standing (IsSoundKept tools.packs w) w.kept number kept at sound.kept) w.session sound.session delivers
+        in record { kept = kept; at = at; asked = brought.0; fetches = brought.1; wants = brought.2 }
 
     completes : (v : WorldState A) (e : Event A) (outcome : Outcome) → Step tools w e outcome v
         → CompletesWants w e outcome v
@@ -259,9 +296,14 @@ module _ {A : Type 0} {tools : PackTools A} (laws : WorldLaws tools) where
           refs = later.repo.safe;
           few = requests_few rounds v v.session after.session later.session;
           commons = commons_shared v v.session after.session;
-          completes = λ honest. completes sound honest v e outcome step;
-          takes = λ honest. takes_each sound honest faults v e outcome step;
-          serves = λ honest. serves_each sound honest v e outcome ends.server step;
-          settles = λ honest. settles_answered sound honest settling v e outcome step;
+          lists = lists_each laws faults sound v e outcome step;
+          up_to_date = settles_up_to_date settling w v sound e outcome step;
+          ends = later;
+          honest = λ honest. record {
+            completes = completes sound honest v e outcome step;
+            takes = takes_each sound honest faults v e outcome step;
+            serves = serves_each sound honest v e outcome ends.server step;
+            settles = settles_answered sound honest settling v e outcome step;
+          };
         },
       )

@@ -5,7 +5,7 @@ use Rattle.std.proofs.lemmas.Bool.{false≢true}
 use Rattle.gdag.proofs.Growing.{at_front}
 use Rattle.gworld.specs.steps.Bringing.{RunsSoundly}
 use Rattle.gworld.specs.Promises.{Promises}
-use Rattle.gworld.specs.Sound.{IsSound}
+use Rattle.gworld.specs.Sound.{IsSound, IsUnforgedAndFaithful}
 use Rattle.gworld.specs.Runs.{RunWith, RunsFront, Run}
 use Rattle.gworld.specs.Worlds.{PackTools, WorldState, Kept}
 use Rattle.gscenario.specs.declared.event.Event.{Event}
@@ -15,7 +15,7 @@ use Rattle.std.proofs.lemmas.List.Elements.{All-head, All-tail}
 use Rattle.grequest.specs.Asked.{Asked}
 use Rattle.gsession.specs.Sessions.{SessionState}
 use Rattle.gscenario.specs.declared.event.Event.TheVariants as event
-use Rattle.gworld.specs.Laws.{IsNoForge}
+use Rattle.gworld.specs.Laws.{IsNoForge, KeepsAll}
 use Rattle.gworld.specs.Events.{AsksNext, Delivers, ServesRequest, SettlesRefs, Step, waiting}
 use Rattle.gworld.specs.declared.outcome.Outcome.TheVariants.{Done, Asked as Asks, Served, Settled, Fault}
 
@@ -94,7 +94,7 @@ module _ {A : Type 0} (tools : PackTools A) where
     delivers_unforged (Some kept) count None outcome step = ap mark step.1
     delivers_unforged (Some kept) count (Some (s, asked)) outcome step = ap mark step.2.is
 
-    unforged_step : (e : Event A) (outcome : Outcome) → IsNoForge e → Step tools w e outcome v → mark v ≡ mark w
+    pub unforged_step : (e : Event A) (outcome : Outcome) → IsNoForge e → Step tools w e outcome v → mark v ≡ mark w
     unforged_step (event.Begin specs) Done quiet step = ap mark step.4
     unforged_step (event.Begin specs) (Fault number) quiet step = ap mark step.3
     unforged_step event.Ask outcome quiet step = asks_unforged w.session outcome step
@@ -141,3 +141,26 @@ module _ {A : Type 0} (tools : PackTools A) where
       unforged_on next v events outcomes (All-tail IsNoForge first events none) rest
       ∙ unforged_step w next first told (All-head IsNoForge first events none) here.step
   unforged_on w v _ _ none run = absurd run
+
+  -- ---- runs in which nothing is forged
+
+  pub all_kept : ((x : WorldState A) → mark x ≡ false → IsUnforgedAndFaithful tools x)
+      → (w v : WorldState A) (events : List (Event A)) (outcomes : List Outcome) → mark w ≡ false
+      → All IsNoForge events → RunWith (Promises tools) w events outcomes v
+      → RunWith (KeepsAll tools) w events outcomes v
+  all_kept honest w v [] [] unforged none run = run
+  all_kept honest w v (first ∷ events) (told ∷ outcomes) unforged none (next, here, rest) =
+      let after : mark next ≡ false =
+      unforged_step w next first told (All-head IsNoForge first events none) here.step ∙ unforged in (
+        next,
+        record {
+          step = here.step;
+          refs = here.refs;
+          commons = here.commons after;
+          up_to_date = here.up_to_date;
+          few = here.few;
+          honest = here.honest (honest w unforged);
+        },
+        all_kept honest next v events outcomes after (All-tail IsNoForge first events none) rest,
+      )
+  all_kept honest w v _ _ unforged none run = absurd run

@@ -135,7 +135,7 @@ module _ {A : Type 0} where
     forged = unforged;
   }
 
-  only_same : (old new : RepoState A) → new ≡ old → OnlyGrows old new
+  pub only_same : (old new : RepoState A) → new ≡ old → OnlyGrows old new
   only_same old new same = record {
     grows = grows_none old.graph.entries new.graph.entries (ap (λ (r : RepoState A). r.graph.entries) same);
     format = ap (λ (r : RepoState A). r.graph.format) same;

@@ -23,6 +23,44 @@ no_such = 93
 abbrev pub out_of_turn : ℕ
 out_of_turn = 83
 
+-- ---- the numbers of faults that an honest world may still report
+
+-- the client is out of memory to read a reply
+abbrev pub no_memory_to_read : ℕ
+no_memory_to_read = 53
+
+-- a ref can't have its name
+abbrev pub bad_name : ℕ
+bad_name = 47
+
+-- more objects are wanted than a request takes
+abbrev pub too_many_wants : ℕ
+too_many_wants = 86
+
+-- the pack has more bytes than a client takes
+abbrev pub pack_over_limit : ℕ
+pack_over_limit = 48
+
+-- a graph has as many objects as it can
+abbrev pub no_room : ℕ
+no_room = 61
+
+-- the server or the client is out of memory
+abbrev pub memory_refused : ℕ
+memory_refused = 64
+
+-- the packer makes no pack
+abbrev pub packer_failed : ℕ
+packer_failed = 65
+
+-- the indexer reads no objects
+abbrev pub indexer_failed : ℕ
+indexer_failed = 66
+
+-- there would be too many refs
+abbrev pub too_many_refs : ℕ
+too_many_refs = 69
+
 -- ---- the faults
 
 -- the two repositories have ids of two formats; or both hold one id, with two objects

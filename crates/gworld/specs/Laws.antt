@@ -1,13 +1,21 @@
 -- What follows from the definitions of a world.
-use Rattle.std.specs.Prelude.{◌≡◌, ⊤, false, List, All}
-use Rattle.gworld.specs.Promises.{AreCommonsShared, AreRefsWhole, AreRequestsFew, Promises}
+use Rattle.std.specs.Prelude.{◌≡◌, ⊤, ℕ, false, List, ◌++◌, All, IfSome}
+use Rattle.gdag.specs.Reach.{Grows}
+use Rattle.grefs.specs.RefLists.{IsRefs}
+use Rattle.gclientrepo.specs.Repos.{RepoState}
+use Rattle.ganswer.specs.Servers.{Server}
+use Rattle.gsession.specs.Sessions.{IsSession}
+use Rattle.gworld.specs.Promises.{AreCommonsShared, AreRefsWhole, AreRequestsFew, HonestPromises, Promises}
+use Rattle.gworld.specs.Promises.{SettlesUpToDate, SharesCommons}
 use Rattle.gworld.specs.Runs.{Run, RunWith}
 use Rattle.gworld.specs.Sound.{AreEndsWhole, IsSound}
 use Rattle.gworld.specs.Events.{Step}
-use Rattle.gworld.specs.Worlds.{PackTools, WorldState}
+use Rattle.gworld.specs.Starts.{CanStart}
+use Rattle.gworld.specs.Worlds.{PackTools, WorldState, new_world}
 use Rattle.gscenario.specs.declared.event.Event.{Event}
 use Rattle.gscenario.specs.declared.event.Event.TheVariants as event
 use Rattle.gworld.specs.declared.outcome.Outcome.{Outcome}
+use Rattle.gworld.specs.declared.outcome.Outcome.TheVariants as outcomes
 
 -- from a sound world each step that leaves both ends whole leads to a sound world, and keeps its promises
 abbrev pub StepsKeep : {A : Type 0} → PackTools A → Type 0
@@ -15,6 +23,37 @@ StepsKeep {A} tools =
     (w new : WorldState A) (event : Event A) (outcome : Outcome) → AreEndsWhole w → AreEndsWhole new
     → IsSound tools w → Step tools w event outcome new
     → IsSound tools new × Promises tools w event outcome new
+
+-- What the definition of a step leaves open, and the types of server, repository and session keep: refs come in the
+-- order of their names, and the lists of the session go with its stage.
+pub record AreListed {A : Type 0} (w : WorldState A) : Type 0 where
+  pub server : IsRefs w.server.refs
+  pub client : IsRefs w.repo.refs
+  pub session : IfSome w.session IsSession
+
+-- each step leaves both ends whole
+abbrev pub EndsStayWhole : {A : Type 0} → PackTools A → Type 0
+EndsStayWhole {A} tools =
+    (w new : WorldState A) (event : Event A) (outcome : Outcome) → AreEndsWhole w → AreListed new
+    → Step tools w event outcome new → AreEndsWhole new
+
+-- a step to a world whose lists are in order
+pub record StepsListed {A : Type 0} (tools : PackTools A) (w : WorldState A) (event : Event A) (outcome : Outcome)
+    (new : WorldState A) : Type 0 where
+  pub step : Step tools w event outcome new
+  pub listed : AreListed new
+
+-- from a sound world with whole ends each run keeps its promises, and leads to such a world
+abbrev pub RunsKeepPromises : {A : Type 0} → PackTools A → Type 0
+RunsKeepPromises {A} tools =
+    (w new : WorldState A) (events : List (Event A)) (outcomes : List Outcome) → AreEndsWhole w → IsSound tools w
+    → RunWith (StepsListed tools) w events outcomes new
+    → RunWith (Promises tools) w events outcomes new × AreEndsWhole new × IsSound tools new
+
+-- a world as it begins is sound
+abbrev pub NewWorldsAreSound : {A : Type 0} → PackTools A → Type 0
+NewWorldsAreSound {A} tools =
+    (server : Server A) (repo : RepoState A) → CanStart server repo → IsSound tools (new_world server repo)
 
 -- a run whose steps keep their promises is a run
 abbrev pub PromisesAreRuns : {A : Type 0} → PackTools A → Type 0
@@ -35,6 +74,79 @@ RequestsStayFew {A} tools =
     (w new : WorldState A) (events : List (Event A)) (outcomes : List Outcome) → AreRequestsFew w
     → RunWith (Promises tools) w events outcomes new → AreRequestsFew new
 
+-- ---- all worlds of a run
+
+-- a run leads through the world `v`, between the events `front` and the events `rest`
+pub record LeadsThrough {A : Type 0} (P : WorldState A → Event A → Outcome → WorldState A → Type 0) (w : WorldState A)
+    (front rest : List (Event A)) (outcomes : List Outcome) (new v : WorldState A) : Type 0 where
+  pub early : List Outcome
+  pub late : List Outcome
+  pub told : outcomes ≡ early ++ late
+  pub before : RunWith P w front early v
+  pub after : RunWith P v rest late new
+
+-- a front of a run is a run: it leads to a world from which the other events lead to the same end
+abbrev pub FrontsAreRuns : {A : Type 0} → PackTools A → Type 0
+FrontsAreRuns {A} tools =
+    (w new : WorldState A) (front rest : List (Event A)) (outcomes : List Outcome)
+    → Run tools w (front ++ rest) outcomes new
+    → (v : WorldState A) × LeadsThrough (Step tools) w front rest outcomes new v
+
+-- and so it is of runs whose steps keep their promises
+abbrev pub FrontsKeepPromises : {A : Type 0} → PackTools A → Type 0
+FrontsKeepPromises {A} tools =
+    (w new : WorldState A) (front rest : List (Event A)) (outcomes : List Outcome)
+    → RunWith (Promises tools) w (front ++ rest) outcomes new
+    → (v : WorldState A) × LeadsThrough (Promises tools) w front rest outcomes new v
+
+-- where the client's refs are connected, they are so in every world through which a run leads
+abbrev pub RefsAreAlwaysWhole : {A : Type 0} → PackTools A → Type 0
+RefsAreAlwaysWhole {A} tools =
+    (w new v : WorldState A) (front rest : List (Event A)) (outcomes : List Outcome) → AreRefsWhole w
+    → LeadsThrough (Promises tools) w front rest outcomes new v → AreRefsWhole v
+
+-- ---- nothing is lost
+
+-- over any run objects only come, at the server and at the client
+abbrev pub GraphsOnlyGrow : {A : Type 0} → PackTools A → Type 0
+GraphsOnlyGrow {A} tools =
+    (w new : WorldState A) (events : List (Event A)) (outcomes : List Outcome) → Run tools w events outcomes new
+    → Grows w.server.graph.entries new.server.graph.entries × Grows w.repo.graph.entries new.repo.graph.entries
+
+-- any event but a settle and one that sets a ref of the client
+abbrev pub LeavesClientRefs : {A : Type 0} → Event A → Type 0
+LeavesClientRefs event.Settle = ⊥
+LeavesClientRefs (event.ClientRef name id) = ⊥
+LeavesClientRefs _ = ⊤
+
+-- any event but one that sets a ref of the server
+abbrev pub LeavesServerRefs : {A : Type 0} → Event A → Type 0
+LeavesServerRefs (event.ServerRef name id) = ⊥
+LeavesServerRefs _ = ⊤
+
+-- any event but one that brings an object to the server, or sets a ref of it
+abbrev pub LeavesServer : {A : Type 0} → Event A → Type 0
+LeavesServer (event.ServerAdd entry) = ⊥
+LeavesServer (event.ServerRef name id) = ⊥
+LeavesServer _ = ⊤
+
+-- over a run without events that may change them, refs stay, and the server does
+pub record OthersLeaveRefs {A : Type 0} (tools : PackTools A) : Type 0 where
+  pub client : (w new : WorldState A) (events : List (Event A)) (outcomes : List Outcome) →
+      All LeavesClientRefs events → Run tools w events outcomes new → new.repo.refs ≡ w.repo.refs
+  pub server_refs : (w new : WorldState A) (events : List (Event A)) (outcomes : List Outcome) →
+      All LeavesServerRefs events → Run tools w events outcomes new → new.server.refs ≡ w.server.refs
+  pub server : (w new : WorldState A) (events : List (Event A)) (outcomes : List Outcome) →
+      All LeavesServer events → Run tools w events outcomes new → new.server ≡ w.server
+
+-- an event that is refused leaves the server, the client's objects and the client's refs as they were
+abbrev pub RefusalsLeaveBothEnds : {A : Type 0} → PackTools A → Type 0
+RefusalsLeaveBothEnds {A} tools =
+    (w new : WorldState A) (event : Event A) (number : ℕ) → Step tools w event (outcomes.Fault number) new
+    → (new.server ≡ w.server) × (new.repo ≡ w.repo)
+
+-- ---- runs in which nothing is forged
+
 -- the event forges no bytes
 abbrev pub IsNoForge : {A : Type 0} → Event A → Type 0
 IsNoForge (event.Forge bytes) = ⊥
@@ -46,3 +158,20 @@ CommonsStayShared {A} tools =
     (w new : WorldState A) (events : List (Event A)) (outcomes : List Outcome) → w.forged ≡ false
     → AreCommonsShared w → All IsNoForge events → RunWith (Promises tools) w events outcomes new
     → (new.forged ≡ false) × AreCommonsShared new
+
+-- all that is promised of a step and of the world after it, with no premise left
+pub record KeepsAll {A : Type 0} (tools : PackTools A) (w : WorldState A) (event : Event A) (outcome : Outcome)
+    (new : WorldState A) : Type 0 where
+  pub step : Step tools w event outcome new
+  pub refs : AreRefsWhole new
+  pub commons : IfSome new.session (SharesCommons new)
+  pub up_to_date : SettlesUpToDate w event outcome new
+  pub few : AreRequestsFew new
+  pub honest : HonestPromises tools w event outcome new
+
+-- from a world in which nothing was forged, each step of a run whose events forge no bytes keeps all that is promised
+abbrev pub HonestRunsKeepAll : {A : Type 0} → PackTools A → Type 0
+HonestRunsKeepAll {A} tools =
+    (w new : WorldState A) (events : List (Event A)) (outcomes : List Outcome) → w.forged ≡ false
+    → All IsNoForge events → RunWith (Promises tools) w events outcomes new
+    → RunWith (KeepsAll tools) w events outcomes new

@@ -6,6 +6,7 @@ pub mod Sound
 pub mod Promises
 pub mod Starts
 pub mod Laws
+pub mod Fetching
 pub mod Events
 pub mod steps
 -- what a server and a client's repository are, of which a world is made

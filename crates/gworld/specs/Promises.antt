@@ -1,29 +1,41 @@
--- What each step of a world promises, part by part.
-use Rattle.std.specs.Prelude.{◌≡◌, ◌⊎◌, ⊤, ℕ, ◌+◌, ◌<◌, ◌≤◌, true, false, List, length, All, IfSome, Option, None, Some}
-use Rattle.std.specs.Prelude.{slice_get}
+-- What each step of a world promises.
+--
+-- Whatever events come, each ref of the client stands at an id whose whole ancestry the client holds. And where no
+-- bytes were forged, and packer and indexer are faithful, server and client hold each common id, a pack that is taken
+-- brings all ancestors of its request's wants, and a settle after the whole pack of the open request moves every ref
+-- that may move.
+use Rattle.std.specs.Prelude.{◌≡◌, ◌⊎◌, ⊤, ℕ, ◌+◌, ◌<◌, ◌≤◌, true, false, List, [], length, All, IfSome, Option, None}
+use Rattle.std.specs.Prelude.{Some, slice_get}
 use Rattle.gname.specs.Ids.{Id}
+use Rattle.gpkt.specs.Packets.{Bytes}
 use Rattle.gobject.specs.declared.fault.IndexFault.TheVariants as index
 use Rattle.gobject.specs.declared.fault.PackFault.TheVariants as pack
+use Rattle.gobject.specs.declared.node.Entry.{Entry}
 use Rattle.gfetchreply.specs.FetchReplies.{FetchReply, Acks, Ready, Pack}
 use Rattle.gfetchreply.specs.FetchHeads.{pack_of}
 use Rattle.gfetchreply.specs.Values.{default_limit}
+use Rattle.glsreply.specs.LsReplies.{LsReply}
 use Rattle.ggraph.specs.SafeRefs.{IsSafe}
 use Rattle.gdag.specs.Graphs.{Holds}
-use Rattle.gdag.specs.Laws.{HasAll}
-use Rattle.gdag.specs.Reach.{IsFull}
+use Rattle.gdag.specs.Reach.{IsFull, Reaches}
 use Rattle.gdag.specs.Walks.{CountsReached}
 use Rattle.gdag.specs.declared.fault.GraphFault.TheVariants as graph
 use Rattle.grefs.specs.RefLists.{ref_at}
-use Rattle.grequest.specs.Asked.{Asked, Fetches}
+use Rattle.grequest.specs.Asked.{Asked, Fetches, FetchAsked}
 use Rattle.gclientrepo.specs.Repos.{RepoState}
 use Rattle.gclientrepo.specs.Settling.{CannotSettle, MayMove, asked_ids}
 use Rattle.gclientrepo.specs.declared.ask.Ask.{Ask}
-use Rattle.ganswer.specs.Answers.{Fetch}
+use Rattle.ganswer.specs.Answers.{Fetch, Ls as Refs}
 use Rattle.ganswer.specs.FetchAnswers.{FailsToPack}
 use Rattle.ganswer.specs.Servers.{Server}
+use Rattle.gsession.specs.Asking.{AreNamed, asks_by_all}
 use Rattle.gsession.specs.Sessions.{SessionState}
+use Rattle.gsession.specs.TakingRefs.{WantsTooMuch}
 use Rattle.gsession.specs.TakingReplies.{RefusesPack}
-use Rattle.gworld.specs.Sound.{IsUnforgedAndFaithful}
+use Rattle.gsession.specs.declared.stage.Stage.TheVariants.{Settling}
+use Rattle.gworld.specs.Faults.{indexer_failed, memory_refused, no_memory_to_read, no_room, pack_over_limit}
+use Rattle.gworld.specs.Faults.{bad_name, packer_failed, too_many_refs, too_many_wants}
+use Rattle.gworld.specs.Sound.{AreEndsWhole, IsUnforgedAndFaithful}
 use Rattle.gworld.specs.Events.{Step}
 use Rattle.gworld.specs.Worlds.{Kept, PackTools, WorldState, reply_bytes}
 use Rattle.gscenario.specs.declared.event.Event.{Event}
@@ -31,47 +43,62 @@ use Rattle.gscenario.specs.declared.event.Event.TheVariants as event
 use Rattle.gworld.specs.declared.outcome.Outcome.{Outcome}
 use Rattle.gworld.specs.declared.outcome.Outcome.TheVariants as outcomes
 
+-- how a reply is taken: acknowledgments alone are a round; the pack of any other reply is taken
+pub data IsTaken : FetchReply → Outcome → Type 0 where
+  round : {ids : List Id} {common : ℕ} → IsTaken (Acks ids) (outcomes.Round common)
+  after_acks : {ids : List Id} {bytes : Bytes} {added : ℕ} → IsTaken (Ready ids bytes) (outcomes.PackTaken added)
+  direct : {bytes : Bytes} {added : ℕ} → IsTaken (Pack bytes) (outcomes.PackTaken added)
+
 module _ {A : Type 0} where
-  -- ---- the client's refs are connected
+  -- the objects of the server, and those of the client
+  abbrev pub server_graph : WorldState A → List (Entry A)
+  server_graph w = w.server.graph.entries
 
-  -- each ref of the client is connected
+  abbrev pub client_graph : WorldState A → List (Entry A)
+  client_graph w = w.repo.graph.entries
+
+  -- ---- 1. the client's refs are connected
+
+  -- the client holds whatever each of its refs reaches
   abbrev pub AreRefsWhole : WorldState A → Type 0
-  AreRefsWhole w = IsSafe w.repo.graph.entries w.repo.refs
+  AreRefsWhole w = IsSafe (client_graph w) w.repo.refs
 
-  -- ---- common ids are held by both
+  -- ---- 2. server and client hold each common id
 
   -- the server and the client hold the id
   pub record IsHeldByBoth (w : WorldState A) (a : Id) : Type 0 where
-    pub server : Holds w.server.graph.entries a
-    pub client : Holds w.repo.graph.entries a
+    pub server : Holds (server_graph w) a
+    pub client : Holds (client_graph w) a
 
   -- server and client hold each common id of the session
   abbrev pub SharesCommons : WorldState A → SessionState A → Type 0
   SharesCommons w s = All (IsHeldByBoth w) s.commons
 
-  -- where no bytes were forged, server and client hold each common id
+  -- where no bytes were forged, they hold each common id of the session, if there is one
   abbrev pub AreCommonsShared : WorldState A → Type 0
   AreCommonsShared w = w.forged ≡ false → IfSome w.session (SharesCommons w)
 
-  -- ---- once a pack is taken, the wants of its request are connected
+  -- ---- 3. a pack that is taken brings the wants of its request
 
-  -- each want of the request is connected at the client, which also holds all that the want reaches at the server
-  abbrev pub AreWantsComplete : Asked → WorldState A → Type 0
-  AreWantsComplete (Fetches asked) new = HasAll new.server.graph.entries asked.wants new.repo.graph.entries
-  AreWantsComplete _ new = ⊤
+  -- the want is connected at the client, which also holds all that it reaches at the server
+  abbrev pub IsBrought : WorldState A → Id → Type 0
+  IsBrought w want =
+      IsFull (client_graph w) want × ((a : Id) → Reaches (server_graph w) want a → Holds (client_graph w) a)
 
-  -- the wants of the request that the kept reply answers are connected, where there is such a reply
-  abbrev pub CompletesKept : Option Kept → WorldState A → Type 0
-  CompletesKept None new = ⊤
-  CompletesKept (Some kept) new = AreWantsComplete kept.asked new
+  -- the kept reply answers a request for objects, and each want of that request was brought
+  pub record BringsWants (w : WorldState A) (number : ℕ) (new : WorldState A) : Type 0 where
+    pub kept : Kept
+    pub at : slice_get w.kept number ≡ Some kept
+    pub asked : FetchAsked
+    pub fetches : kept.asked ≡ Fetches asked
+    pub wants : All (IsBrought new) asked.wants
 
-  -- where a pack was taken of a kept reply, complete or cut short, the wants of that reply's request are connected
+  -- where a pack was taken of a kept reply, complete or cut short, it brought the wants of that reply's request
   abbrev pub CompletesWants : WorldState A → Event A → Outcome → WorldState A → Type 0
-  CompletesWants w (event.Deliver number count) (outcomes.PackTaken added) new =
-      CompletesKept (slice_get w.kept number) new
-  CompletesWants w _ outcome new = ⊤
+  CompletesWants w (event.Deliver number count) (outcomes.PackTaken added) new = BringsWants w number new
+  CompletesWants w event outcome new = ⊤
 
-  -- ---- a complete reply to the request that waits
+  -- ---- 4. a complete reply is taken
 
   -- all bytes come of a reply to fetch that is kept for a request equal to the one that waits
   pub record BringsAnswer (w : WorldState A) (number count : ℕ) (reply : FetchReply) : Type 0 where
@@ -83,70 +110,97 @@ module _ {A : Type 0} where
     pub goes_on : w.session ≡ Some session
     pub waits : session.pending ≡ Some kept.asked
 
+  -- ---- a complete reply to ls-refs is taken
+
+  -- all bytes come of a reply to ls-refs that is kept for a request equal to the one that waits
+  pub record BringsRefs (w : WorldState A) (number count : ℕ) (reply : LsReply) (s : SessionState A) : Type 0 where
+    pub kept : Kept
+    pub at : slice_get w.kept number ≡ Some kept
+    pub refs : kept.reply ≡ Refs reply
+    pub all : length (reply_bytes kept.reply) ≤ count
+    pub goes_on : w.session ≡ Some s
+    pub waits : s.pending ≡ Some kept.asked
+
+  -- Why the client does not take it: a ref that is asked for can't have its name; more objects are wanted than a request
+  -- takes; or the client is out of memory to read the reply, or for what it brings.
+  abbrev pub MayDeclineRefs : WorldState A → SessionState A → LsReply → ℕ → Type 0
+  MayDeclineRefs w s reply number =
+      ((number ≡ bad_name) × ¬ (AreNamed {A = A} (asks_by_all s.refspecs reply.lines)))
+      ⊎ ((number ≡ too_many_wants) × WantsTooMuch s (client_graph w) reply)
+      ⊎ (number ≡ no_memory_to_read)
+      ⊎ (number ≡ memory_refused)
+
+  -- its refs are told, or the client declines it
+  abbrev pub IsListedOrDeclined : WorldState A → SessionState A → LsReply → Outcome → Type 0
+  IsListedOrDeclined w s reply (outcomes.LsTaken asks wants) = ⊤
+  IsListedOrDeclined w s reply (outcomes.Fault number) = MayDeclineRefs w s reply number
+  IsListedOrDeclined w s reply _ = ⊥
+
+  -- a complete reply to ls-refs is taken, or the client declines it
+  abbrev pub ListsRefs : WorldState A → Event A → Outcome → Type 0
+  ListsRefs w (event.Deliver number count) outcome =
+      (reply : LsReply) (s : SessionState A) → BringsRefs w number count reply s → IsListedOrDeclined w s reply outcome
+  ListsRefs w event outcome = ⊤
+
   -- ---- how often objects are asked for
 
   -- the session asked for objects at most once more than there are ids that its tips reach
   abbrev pub AsksSeldom : WorldState A → SessionState A → Type 0
   AsksSeldom w s =
-      (held parents : ℕ) → CountsReached w.repo.graph.entries s.tips held parents → s.rounds ≤ held + 1
+      (held parents : ℕ) → CountsReached (client_graph w) s.tips held parents → s.rounds ≤ held + 1
 
-  -- the session, where there is one, asked for objects so seldom
+  -- the session, where there is one, asked for objects at most that often
   abbrev pub AreRequestsFew : WorldState A → Type 0
   AreRequestsFew w = IfSome w.session (AsksSeldom w)
 
 module _ {A : Type 0} (tools : PackTools A) where
-  -- ---- a complete reply to the request that waits is taken
-
-  -- Why a complete reply to the request that waits is not taken: its pack has more bytes than a client takes (48); the
-  -- client's graph has no room for the pack's objects (61); or the client is out of memory to read the reply (53), for
-  -- what it brings (64), or for the indexer (66).
+  -- Why the client does not take a complete reply: its pack has more bytes than a client takes; the client's graph has no
+  -- room for the pack's objects; or the client is out of memory to read the reply, for what it brings, or for the
+  -- indexer.
   abbrev pub MayDecline : RepoState A → FetchReply → ℕ → Type 0
   MayDecline repo reply number =
-      ((number ≡ 48) × (default_limit < length (pack_of reply)))
-      ⊎ ((number ≡ 61) × RefusesPack tools.indexes tools.index_fails repo (pack_of reply) graph.TooMany)
-      ⊎ (number ≡ 53)
-      ⊎ (number ≡ 64)
-      ⊎ ((number ≡ 66) × tools.index_fails (pack_of reply) index.Memory)
+      ((number ≡ pack_over_limit) × (default_limit < length (pack_of reply)))
+      ⊎ ((number ≡ no_room) × RefusesPack tools.indexes tools.index_fails repo (pack_of reply) graph.TooMany)
+      ⊎ (number ≡ no_memory_to_read)
+      ⊎ (number ≡ memory_refused)
+      ⊎ ((number ≡ indexer_failed) × tools.index_fails (pack_of reply) index.Memory)
 
-  -- acknowledgments are a round; a pack is taken; or the reply is declined for one of these reasons
+  -- the reply is taken, or the client declines it
   abbrev pub IsTakenOrDeclined : RepoState A → FetchReply → Outcome → Type 0
-  IsTakenOrDeclined repo (Acks ids) (outcomes.Round common) = ⊤
-  IsTakenOrDeclined repo (Ready ids pack) (outcomes.PackTaken added) = ⊤
-  IsTakenOrDeclined repo (Pack pack) (outcomes.PackTaken added) = ⊤
   IsTakenOrDeclined repo reply (outcomes.Fault number) = MayDecline repo reply number
-  IsTakenOrDeclined repo reply _ = ⊥
+  IsTakenOrDeclined repo reply outcome = IsTaken reply outcome
 
-  -- such a reply is taken, or declined for one of these reasons
+  -- a complete reply to the request that waits is taken, or the client declines it
   abbrev pub TakesAnswers : WorldState A → Event A → Outcome → Type 0
   TakesAnswers w (event.Deliver number count) outcome =
       (reply : FetchReply) → BringsAnswer w number count reply → IsTakenOrDeclined w.repo reply outcome
-  TakesAnswers w _ outcome = ⊤
+  TakesAnswers w event outcome = ⊤
 
-  -- ---- each request that was sent is served
+  -- ---- 5. each request that was sent is served
 
-  -- Why a request that was sent is refused: the pack of the objects that it asks for would have too many bytes, or the
-  -- packer is out of memory (65); or the server is, for the reply (64).
+  -- Why the server refuses a request that was sent: the pack of the objects that it asks for would have too many bytes,
+  -- or the packer is out of memory; or the server is, for the reply.
   abbrev pub MayRefuse : Server A → Asked → ℕ → Type 0
   MayRefuse server (Fetches asked) number =
-      ((number ≡ 65) × (FailsToPack server tools.pack_fails asked pack.TooLarge
+      ((number ≡ packer_failed) × (FailsToPack server tools.pack_fails asked pack.TooLarge
       ⊎ FailsToPack server tools.pack_fails asked pack.Memory))
-      ⊎ (number ≡ 64)
-  MayRefuse server asked number = number ≡ 64
+      ⊎ (number ≡ memory_refused)
+  MayRefuse server asked number = number ≡ memory_refused
 
-  -- a reply to the request is kept; or it is refused for one of these reasons
+  -- a reply to the request is kept, or the server refuses it; of no request nothing is said here
   abbrev pub IsServedOrRefused : Server A → Option Asked → Outcome → Type 0
   IsServedOrRefused server None outcome = ⊤
   IsServedOrRefused server (Some asked) (outcomes.Served number) = ⊤
   IsServedOrRefused server (Some asked) (outcomes.Fault number) = MayRefuse server asked number
   IsServedOrRefused server (Some asked) _ = ⊥
 
-  -- a server that is asked to answer a request that was sent keeps a reply, or refuses it for one of these reasons
+  -- a reply is kept to a request that was sent, or the server refuses it
   abbrev pub ServesSent : WorldState A → Event A → Outcome → Type 0
   ServesSent w (event.Serve number) outcome = IsServedOrRefused w.server (slice_get w.sent number) outcome
-  ServesSent w _ outcome = ⊤
+  ServesSent w event outcome = ⊤
 
 module _ {A : Type 0} where
-  -- ---- an answered session settles
+  -- ---- 6. a session settles
 
   -- the ref that is asked for stands at the asked id, where it may move there
   abbrev pub MovesAsked : RepoState A → RepoState A → Ask A → Type 0
@@ -157,37 +211,51 @@ module _ {A : Type 0} where
     pub full : All (IsFull new.graph.entries) (asked_ids asks)
     pub moved : All (MovesAsked old new) asks
 
-  -- What is asked for is settled; or the refs can't be set, as there would be too many (69: no refspec moves HEAD, the
-  -- one other cause that `CannotSettle` has); or the client is out of memory (64).
+  -- The session settles what it asked for; or the refs can't be set, as there would be too many (no refspec moves
+  -- HEAD, the one other cause that `CannotSettle` has); or the client is out of memory. There is a session.
   abbrev pub IsSettledOrRefused : RepoState A → Option (SessionState A) → Outcome → RepoState A → Type 0
   IsSettledOrRefused old None outcome new = ⊥
   IsSettledOrRefused old (Some s) (outcomes.Settled moved same not_forward) new = HasSettled old s.asks new
   IsSettledOrRefused old (Some s) (outcomes.Fault number) new =
-      ((number ≡ 69) × CannotSettle old.refs s.asks) ⊎ (number ≡ 64)
+      ((number ≡ too_many_refs) × CannotSettle old.refs s.asks) ⊎ (number ≡ memory_refused)
   IsSettledOrRefused old (Some s) _ new = ⊥
 
-  -- a session that was answered settles what it asks for, or is refused for one of these reasons
+  -- a session settles that took the pack of a complete reply to its request (which `Deliver` marks as answered)
   abbrev pub SettlesAnswered : WorldState A → Event A → Outcome → WorldState A → Type 0
   SettlesAnswered w event.Settle outcome new =
       w.answered ≡ true → IsSettledOrRefused w.repo w.session outcome new.repo
-  SettlesAnswered w _ outcome new = ⊤
+  SettlesAnswered w event outcome new = ⊤
+
+  -- it is time for the session to settle, and it wanted nothing: the client held all that it asks for
+  pub record IsUpToDate (s : SessionState A) : Type 0 where
+    pub stage : s.stage ≡ Settling
+    pub none : s.wants ≡ []
+
+  -- a session that wanted nothing settles
+  abbrev pub SettlesUpToDate : WorldState A → Event A → Outcome → WorldState A → Type 0
+  SettlesUpToDate w event.Settle outcome new =
+      IfSome w.session (λ s. IsUpToDate s → IsSettledOrRefused w.repo w.session outcome new.repo)
+  SettlesUpToDate w event outcome new = ⊤
 
 module _ {A : Type 0} (tools : PackTools A) where
-  -- What a step does, and what it promises.
-  --   1. Whatever bytes came, and whatever packer and indexer do: each ref of the client is connected (`refs`), and the
-  --      session asked for objects at most once more than there are ids that its tips reach (`few`).
-  --   2. Where no bytes were forged: server and client hold each common id (`commons`).
-  -- Where no bytes were forged, and packer and indexer are faithful:
-  --   3. Once a pack is taken, the wants of its request are connected (`completes`).
-  --   4. A complete reply to the request that waits is taken (`takes`), and each request that was sent is served
-  --      (`serves`), but for the reasons named.
-  --   5. A session that was answered settles: each ref that may move does (`settles`), but for the reasons named.
+  -- what a step promises where no bytes were forged before it, and packer and indexer are faithful
+  pub record HonestPromises (w : WorldState A) (event : Event A) (outcome : Outcome) (new : WorldState A)
+      : Type 0 where
+    pub completes : CompletesWants w event outcome new
+    pub takes : TakesAnswers tools w event outcome
+    pub serves : ServesSent tools w event outcome
+    pub settles : SettlesAnswered w event outcome new
+
+  -- What a step does, and what it promises. Whatever bytes came, and whatever packer and indexer do: each ref of the
+  -- client is connected, a complete reply to ls-refs is taken, a session that wanted nothing settles, objects are asked
+  -- for seldom, and both ends are as their types keep them. Where no bytes were forged, server and client hold each
+  -- common id. Where packer and indexer are faithful, too, all the rest holds.
   pub record Promises (w : WorldState A) (event : Event A) (outcome : Outcome) (new : WorldState A) : Type 0 where
     pub step : Step tools w event outcome new
     pub refs : AreRefsWhole new
-    pub few : AreRequestsFew new
     pub commons : AreCommonsShared new
-    pub completes : IsUnforgedAndFaithful tools w → CompletesWants w event outcome new
-    pub takes : IsUnforgedAndFaithful tools w → TakesAnswers tools w event outcome
-    pub serves : IsUnforgedAndFaithful tools w → ServesSent tools w event outcome
-    pub settles : IsUnforgedAndFaithful tools w → SettlesAnswered w event outcome new
+    pub lists : ListsRefs w event outcome
+    pub up_to_date : SettlesUpToDate w event outcome new
+    pub few : AreRequestsFew new
+    pub ends : AreEndsWhole new
+    pub honest : IsUnforgedAndFaithful tools w → HonestPromises w event outcome new

@@ -1,7 +1,8 @@
 //! The laws of worlds: functions without effect, whose contracts they are.
 
 ghost use Rattle.std.specs.Prelude.{◌≡◌, false};
-ghost use Rattle.gworld.specs.Laws.{CommonsStayShared, PromisesAreRuns, RefsStayWhole, RequestsStayFew, StepsKeep};
+ghost use Rattle.gworld.specs.Fetching.{FetchesComplete};
+ghost use Rattle.gworld.specs.Laws.{CommonsStayShared, EndsStayWhole, FrontsAreRuns, FrontsKeepPromises, GraphsOnlyGrow, HonestRunsKeepAll, NewWorldsAreSound, OthersLeaveRefs, PromisesAreRuns, RefsAreAlwaysWhole, RefsStayWhole, RefusalsLeaveBothEnds, RequestsStayFew, RunsKeepPromises, StepsKeep};
 ghost use Rattle.gworld.specs.Sound.{IsUnforgedAndFaithful};
 ghost use Rattle.gworld.specs.Worlds.{WorldState, tools_of};
 
@@ -9,10 +10,14 @@ use ganswer::laws::{
     acks_are_common, fetch_answers_fit, held_wants_are_served, ls_answers_are_held, ls_answers_fit,
     packs_are_enough, servers_grow,
 };
-use gclientrepo::laws::{held_is_not_missing, refusals_change_nothing};
+use gclientrepo::laws::{
+    held_is_not_missing, refusals_change_nothing, setting_stays_whole, settling_stays_whole,
+    whole_stays,
+};
 use ggraph::graph_laws::{
-    agreeing_entries_fit, agreeing_stays, coming_grows, full_stays_full, growing_goes_on,
-    growing_keeps, keeping_has_all, keeping_holds, keeping_reaches,
+    agreeing_entries_fit, agreeing_stays, closed_stays, coming_grows, counts_stay, full_stays_full,
+    growing_goes_on, growing_keeps, keeping_has_all, keeping_holds, keeping_reaches,
+    reached_are_counted,
 };
 use ggraph::{Faithful, Indexer, Packer};
 use gmsg::laws::replies_differ;
@@ -24,7 +29,7 @@ use gsession::laws::{
 use std::alloc::Allocator;
 
 /// From a sound world each step leads to a sound world, and keeps its promises. The premise is that both ends are whole
-/// after the step, too, as the types of a server and of a client's repository keep them.
+/// after the step, too: [`ends_stay_whole`] has what follows of that from the step.
 pub fn steps_keep<A: Allocator + Copy, K: Packer<A> + Indexer<A>>()
     ensures { (k : K) → StepsKeep (tools_of (K.packs k) (K.pack_fails k) (K.indexes k)
         (K.index_fails k)) }
@@ -46,6 +51,7 @@ pub fn steps_keep<A: Allocator + Copy, K: Packer<A> + Indexer<A>>()
     glsreply::laws::canonical_says();
     glsreply::laws::one_meaning();
     glsreply::laws::prefix_free();
+    glsreply::laws::reads_exactly();
     replies_differ();
     fetch_answers_fit::<A, K>();
     ls_answers_fit::<A>();
@@ -83,21 +89,115 @@ pub fn promises_are_runs<A: Allocator + Copy, K: Packer<A> + Indexer<A>>()
         (K.index_fails k)) }
 {}
 
-/// Where each ref of the client is connected, so it is after any run.
+/// If each ref of the client is connected, it stays so over any run.
 pub fn refs_stay_whole<A: Allocator + Copy, K: Packer<A> + Indexer<A>>()
     ensures { (k : K) → RefsStayWhole (tools_of (K.packs k) (K.pack_fails k) (K.indexes k)
         (K.index_fails k)) }
 {}
 
-/// Where the client's session asked for objects at most once more than there are ids that its tips reach, so it is
-/// after any run. The tips are the ids at which the client's refs stood when the session began.
+/// Over any run the client's session asks for objects at most N + 1 times, if it did so before. N is how many ids its
+/// tips reach. The tips are the ids of the client's refs when the session began.
 pub fn requests_stay_few<A: Allocator + Copy, K: Packer<A> + Indexer<A>>()
     ensures { (k : K) → RequestsStayFew (tools_of (K.packs k) (K.pack_fails k) (K.indexes k)
         (K.index_fails k)) }
 {}
 
-/// Where no bytes were forged, and server and client hold each common id, so it is after any run that forges none.
+/// If no bytes were forged, and server and client hold each common id, this stays so over any run that forges none.
 pub fn commons_stay_shared<A: Allocator + Copy, K: Packer<A> + Indexer<A>>()
     ensures { (k : K) → CommonsStayShared (tools_of (K.packs k) (K.pack_fails k) (K.indexes k)
         (K.index_fails k)) }
 {}
+
+/// A front of a run is a run, whose steps keep their promises where those of the whole run do.
+pub fn fronts_are_runs<A: Allocator + Copy, K: Packer<A> + Indexer<A>>()
+    ensures runs { (k : K) → FrontsAreRuns (tools_of (K.packs k) (K.pack_fails k) (K.indexes k)
+        (K.index_fails k)) }
+    ensures promises { (k : K) → FrontsKeepPromises (tools_of (K.packs k) (K.pack_fails k) (K.indexes k)
+        (K.index_fails k)) }
+{}
+
+/// At all times the client's refs are connected: if they are when a run begins, they are in each of its worlds.
+pub fn refs_are_always_whole<A: Allocator + Copy, K: Packer<A> + Indexer<A>>()
+    ensures { (k : K) → RefsAreAlwaysWhole (tools_of (K.packs k) (K.pack_fails k) (K.indexes k)
+        (K.index_fails k)) }
+{}
+
+/// Over any run the graphs of both ends only grow: no object is lost or changed.
+pub fn graphs_only_grow<A: Allocator + Copy, K: Packer<A> + Indexer<A>>()
+    ensures { (k : K) → GraphsOnlyGrow (tools_of (K.packs k) (K.pack_fails k) (K.indexes k)
+        (K.index_fails k)) }
+{
+    taking_only_grows::<A, K>();
+    refusals_change_nothing::<A>();
+    servers_grow::<A>();
+}
+
+/// Only a settle or [`Event::ClientRef`](crate::Event::ClientRef) moves refs of the client; only an event of the
+/// server's own moves its refs, or changes it otherwise.
+pub fn others_leave_refs<A: Allocator + Copy, K: Packer<A> + Indexer<A>>()
+    ensures { (k : K) → OthersLeaveRefs (tools_of (K.packs k) (K.pack_fails k) (K.indexes k)
+        (K.index_fails k)) }
+{
+    taking_only_grows::<A, K>();
+    refusals_change_nothing::<A>();
+    servers_grow::<A>();
+}
+
+/// An event that is refused leaves the server and the client's repository as they were.
+pub fn refusals_leave_both_ends<A: Allocator + Copy, K: Packer<A> + Indexer<A>>()
+    ensures { (k : K) → RefusalsLeaveBothEnds (tools_of (K.packs k) (K.pack_fails k) (K.indexes k)
+        (K.index_fails k)) }
+{
+    taking_only_grows::<A, K>();
+    refusals_change_nothing::<A>();
+    servers_grow::<A>();
+}
+
+/// An honest run keeps all that is promised, with no premise left: no bytes were forged before it, none of its events
+/// forges any, and packer and indexer are faithful.
+pub fn honest_runs_keep_all<A: Allocator + Copy, K: Faithful<A>>(tools: &K)
+    ensures { HonestRunsKeepAll {A = A} (tools_of (K.packs tools.now) (K.pack_fails tools.now)
+        (K.indexes tools.now) (K.index_fails tools.now)) }
+{
+    faithful_lose_nothing::<A, K>(tools);
+}
+
+/// Each step leaves both ends whole: the server misses no object, and each ref of the client is connected. The premise
+/// is the order of lists alone, which the definition of a step leaves open.
+pub fn ends_stay_whole<A: Allocator + Copy, K: Packer<A> + Indexer<A>>()
+    ensures { (k : K) → EndsStayWhole (tools_of (K.packs k) (K.pack_fails k) (K.indexes k)
+        (K.index_fails k)) }
+{
+    taking_only_grows::<A, K>();
+    refusals_change_nothing::<A>();
+    servers_grow::<A>();
+    closed_stays::<A>();
+    whole_stays::<A>();
+    settling_stays_whole::<A>();
+    setting_stays_whole::<A>();
+}
+
+/// A world as it begins is sound. From a sound world whose ends are whole each run keeps its promises, and leads to
+/// such a world.
+pub fn runs_keep_promises<A: Allocator + Copy, K: Packer<A> + Indexer<A>>()
+    ensures begins { (k : K) → NewWorldsAreSound (tools_of (K.packs k) (K.pack_fails k) (K.indexes k)
+        (K.index_fails k)) }
+    ensures keeps { (k : K) → RunsKeepPromises (tools_of (K.packs k) (K.pack_fails k) (K.indexes k)
+        (K.index_fails k)) }
+{
+    steps_keep::<A, K>();
+    ends_stay_whole::<A, K>();
+}
+
+/// A fetch completes: a session that just began can settle after at most N + 2 rounds, and each ref then moves that may.
+/// In a round each reply arrives whole, and nothing is refused. N is how many ids the session's tips reach.
+pub fn fetches_complete<A: Allocator + Copy, K: Packer<A> + Indexer<A>>()
+    ensures { (k : K) → FetchesComplete (tools_of (K.packs k) (K.pack_fails k) (K.indexes k)
+        (K.index_fails k)) }
+{
+    steps_keep::<A, K>();
+    graphs_only_grow::<A, K>();
+    rounds_are_few::<A>();
+    counts_stay::<A>();
+    reached_are_counted::<A>();
+}

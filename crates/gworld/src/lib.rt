@@ -22,8 +22,20 @@
 //!   out of memory. A session that took the pack of a complete reply to its request settles, and each ref that may
 //!   move does, unless there would be too many refs or the client is out of memory. (`Promises`,
 //!   specs/Promises.antt, has a definition for each of these.)
-//! - A run whose steps keep their promises is a run; what is promised of the world after each step holds after any
-//!   run; and a packer and an indexer that are faithful are so in each world ([`laws`]).
+//! - Whatever bytes came before, a complete reply to ls-refs that answers the request that waits is taken, unless a ref
+//!   can't have its name, too much is wanted, or the client has no memory. A session that wants nothing settles.
+//! - **At all times** ([`laws::fronts_are_runs`], [`laws::refs_are_always_whole`]): a front of a run is a run, and in
+//!   each of its worlds the refs are connected.
+//! - **Nothing is lost** ([`laws::graphs_only_grow`], [`laws::others_leave_refs`],
+//!   [`laws::refusals_leave_both_ends`]): both graphs only grow. Only a settle or an event of the client's own moves its
+//!   refs. Only the server's events change the server. An event that is refused changes neither end.
+//! - **Honest runs** ([`laws::honest_runs_keep_all`]): each step keeps all of this, with no premise left, if no event
+//!   forges bytes, and packer and indexer are faithful.
+//! - **A fetch completes** ([`laws::fetches_complete`]): a session asks at most N + 2 times, N being how many ids its
+//!   tips reach, and can then settle. Each ref that may move does. The premise is that each reply arrives whole, and
+//!   nothing is refused.
+//! - The promises follow from the definition of a step ([`laws::runs_keep_promises`]), and a packer and an indexer that
+//!   are faithful are so in each world.
 //! - Each fault has the number, the name and the text of the tables (specs/Faults.antt). No call panics, overflows
 //!   or reads out of bounds, and each returns.
 //!

@@ -48,4 +48,5 @@ returns g c = λ k.
       any_limit = c.other_readings.ensures.any_limit;
       over_limit = c.other_readings.ensures.over_limit;
       fit = c.agreeing_entries_fit.ensures;
+      refs_exactly = c.reads_exactly-2.ensures;
     }) c.held_is_not_missing.ensures c.rounds_are_few.ensures

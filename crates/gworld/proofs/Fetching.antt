@@ -1,0 +1,373 @@
+-- Rounds of a fetch, up to its settle.
+use Rattle.std.proofs.Common.{[], ◌∷◌, ◌++◌, ◌≡◌, ◌⊎◌, ◌∙◌, ℕ, ◌+◌, ◌≤◌, zero, suc, true, List, length}
+use Rattle.std.proofs.Common.{Option, Some, None, inl, inr, refl, sym, ap, subst, arith, take}
+use Rattle.std.specs.Prelude.{IfSome, slice_get}
+use Rattle.std.proofs.lemmas.List.Elements.{All-cons, All-nil}
+use Rattle.gobject.specs.declared.node.Entry.{Entry}
+use Rattle.gdag.specs.Laws.{CountsStay, ReachedAreCounted}
+use Rattle.gdag.specs.Walks.{CountsReached}
+use Rattle.grequest.specs.Asked.{Asked, Empty, Ls, Fetches}
+use Rattle.gclientrepo.specs.Repos.{RepoState}
+use Rattle.gsession.specs.Bounds.{RoundsAreFew}
+use Rattle.gsession.specs.Requesting.{MakesNext}
+use Rattle.gsession.specs.Sessions.{IsBegun, IsSession, SessionState}
+use Rattle.gsession.specs.TakingRefs.{stage_for}
+use Rattle.gsession.specs.declared.stage.Stage.TheVariants.{Fetching, Listing, Settling}
+use Rattle.ganswer.specs.Answers.{Reply}
+use Rattle.gworld.specs.Events.{AsksNext, Delivers, ServesRequest, waiting, waits_for}
+use Rattle.gworld.specs.Fetching.{CanSettle, HasFetched, IsDone, IsRound, Rounds}
+use Rattle.gworld.specs.Laws.{GraphsOnlyGrow, IsNoForge, StepsKeep}
+use Rattle.gworld.specs.Promises.{IsSettledOrRefused, IsUpToDate, Promises}
+use Rattle.gworld.specs.Runs.{RunWith}
+use Rattle.gworld.specs.Sound.{AreEndsWhole, IsSound, IsSoundSession, IsUnforgedAndFaithful}
+use Rattle.gworld.specs.Taking.{IsPackTaken, TakesBytes}
+use Rattle.gworld.specs.Worlds.{Kept, PackTools, WorldState, reply_bytes}
+use Rattle.gscenario.specs.declared.event.Event.{Event}
+use Rattle.gscenario.specs.declared.event.Event.TheVariants as event
+use Rattle.gworld.specs.declared.outcome.Outcome.{Outcome}
+use Rattle.gworld.specs.declared.outcome.Outcome.TheVariants.{Asked as Asks, Served, LsTaken, Round, PackTaken, Fault}
+use Rattle.gworld.proofs.Runs.{is_run, unforged_on}
+use Rattle.gworld.proofs.Sessions.{IsSoundIn}
+
+-- what comes last stands at the end
+at_end : {X : Type 0} (xs : List X) (x : X) → slice_get (xs ++ x ∷ []) (length xs) ≡ Some x
+at_end [] x = refl
+at_end (first ∷ xs) x = at_end xs x
+
+-- a run keeps a sound world sound, whose ends are whole
+pub leads_soundly : {A : Type 0} (tools : PackTools A) → StepsKeep tools
+    → (w v : WorldState A) (events : List (Event A)) (outcomes : List Outcome) → AreEndsWhole w → IsSound tools w
+    → RunWith (Promises tools) w events outcomes v → AreEndsWhole v × IsSound tools v
+leads_soundly {A} tools keep w v [] [] ends sound run =
+    (subst AreEndsWhole (sym run) ends, subst (IsSound tools) (sym run) sound)
+leads_soundly tools keep w v (first ∷ events) (told ∷ outcomes) ends sound (next, here, rest) =
+    leads_soundly tools keep next v events outcomes here.ends (keep w next first told ends here.ends sound here.step).0
+    rest
+leads_soundly tools keep w v _ _ ends sound run = absurd run
+
+module _ {A : Type 0} where
+  -- ---- how far a session is
+
+  -- refs are to be asked for; or objects are; or it is time to settle, and nothing is wanted or the session is answered
+  abbrev Lists : ℕ → SessionState A → Type 0
+  Lists n s = (s.stage ≡ Listing) × (s.pending ≡ None) × (n ≡ 0) × (s.rounds ≡ 0)
+
+  abbrev Fetches_on : ℕ → SessionState A → Type 0
+  Fetches_on n s = (s.stage ≡ Fetching) × (s.pending ≡ None) × (n ≡ s.rounds + 1)
+
+  abbrev Settles_next : ℕ → WorldState A → SessionState A → Type 0
+  Settles_next n w s =
+      (s.stage ≡ Settling) × (n ≤ s.rounds + 1) × ((s.wants ≡ []) ⊎ (w.answered ≡ true))
+
+  abbrev IsAt : ℕ → WorldState A → SessionState A → Type 0
+  IsAt n w s = Lists n s ⊎ Fetches_on n s ⊎ Settles_next n w s
+
+  -- ---- a reply came to a request that the session made
+
+  -- a session to which refs were told
+  told_at : (n : ℕ) (w : WorldState A) (s after : SessionState A) (wants : List (List ℕ)) → s.rounds ≡ 0 → n ≡ 0
+      → after.stage ≡ stage_for wants → after.pending ≡ None → after.wants ≡ wants → after.rounds ≡ s.rounds
+      → IsAt (n + 1) w after
+  told_at n w s after [] none is stage pending same rounds =
+      inr (inr (stage, omega (arith, is, rounds, none), inl same))
+  told_at n w s after (want ∷ wants) none is stage pending same rounds =
+      inr (inl (stage, pending, omega (arith, is, rounds, none)))
+
+  -- what is known of a session by its stage
+  abbrev Counts : ℕ → SessionState A → Type 0
+  Counts n s = (s.stage ≡ Listing → (n ≡ 0) × (s.rounds ≡ 0)) × (s.stage ≡ Fetching → n ≡ s.rounds + 1)
+
+  counts_of : (n : ℕ) (w : WorldState A) (s : SessionState A) → IsAt n w s → Counts n s
+  counts_of n w s (inl lists) = (
+    λ listing. (lists.2, lists.3),
+    λ fetching. (let wrong : Listing ≡ Fetching = sym lists.0 ∙ fetching in absurd (cc)),
+  )
+  counts_of n w s (inr (inl fetches)) = (
+    λ listing. (let wrong : Listing ≡ Fetching = sym listing ∙ fetches.0 in absurd (cc)),
+    λ fetching. fetches.2,
+  )
+  counts_of n w s (inr (inr settles)) = (
+    λ listing. (let wrong : Listing ≡ Settling = sym listing ∙ settles.0 in absurd (cc)),
+    λ fetching. (let wrong : Fetching ≡ Settling = sym fetching ∙ settles.0 in absurd (cc)),
+  )
+
+  made_tips : (g : List (Entry A)) (s after : SessionState A) (asked : Asked) → MakesNext s g after asked
+      → after.tips ≡ s.tips
+  made_tips g s after (Ls asked) made = ap (λ (x : SessionState A). x.tips) made.2
+  made_tips g s after (Fetches asked) made = ap (λ (x : SessionState A). x.tips) made.2
+  made_tips g s after Empty made = absurd made.1
+
+  made_waits : (g : List (Entry A)) (s after : SessionState A) (asked : Asked) → MakesNext s g after asked
+      → after.pending ≡ Some asked
+  made_waits g s after (Ls asked) made = ap (λ (x : SessionState A). x.pending) made.2
+  made_waits g s after (Fetches asked) made = ap (λ (x : SessionState A). x.pending) made.2
+  made_waits g s after Empty made = absurd made.1
+
+module _ {A : Type 0} (tools : PackTools A) where
+  -- bytes came to the request that the session made, and were taken
+  bytes_at : (n : ℕ) (g : List (Entry A)) (s after later : SessionState A) (w : WorldState A) (asked : Asked)
+      (before repo : RepoState A) (bytes : List ℕ) (outcome : Outcome) → Counts n s → MakesNext s g after asked
+      → TakesBytes tools.indexes tools.index_fails asked after before bytes outcome later repo → IsDone outcome
+      → (IsPackTaken outcome → w.answered ≡ true) → IsAt (n + 1) w later × (later.tips ≡ after.tips)
+  bytes_at n g s after later w (Ls asked) before repo bytes (LsTaken asks wants) counts made takes done marked =
+      let lines = takes.2.1.2 in
+      let zero_is = counts.0 made.1.0 in (
+        told_at n w s later lines.wants zero_is.1 zero_is.0 (ap (λ (x : SessionState A). x.stage) lines.after)
+            (ap (λ (x : SessionState A). x.pending) lines.after) (ap (λ (x : SessionState A). x.wants) lines.after)
+            (ap (λ (x : SessionState A). x.rounds) lines.after ∙ ap (λ (x : SessionState A). x.rounds) made.2),
+        ap (λ (x : SessionState A). x.tips) lines.after,
+      )
+  bytes_at n g s after later w (Fetches asked) before repo bytes (Round common) counts made takes done marked =
+      let is = takes.1.2.2.1.1 in
+      let rounds : later.rounds ≡ s.rounds + 1 =
+      ap (λ (x : SessionState A). x.rounds) is ∙ ap (λ (x : SessionState A). x.rounds) made.2 in
+      let many = counts.1 made.1.0 in (
+        inr (inl (
+          ap (λ (x : SessionState A). x.stage) is,
+          ap (λ (x : SessionState A). x.pending) is,
+          omega (arith, rounds, many),
+        )),
+        ap (λ (x : SessionState A). x.tips) is,
+      )
+  bytes_at n g s after later w (Fetches asked) before repo bytes (PackTaken added) counts made takes done marked =
+      let is = takes.1.2.2.1.1 in
+      let rounds : later.rounds ≡ s.rounds + 1 =
+      ap (λ (x : SessionState A). x.rounds) is ∙ ap (λ (x : SessionState A). x.rounds) made.2 in
+      let many = counts.1 made.1.0 in (
+        inr (inr (ap (λ (x : SessionState A). x.stage) is, omega (arith, rounds, many), inr (marked tt))),
+        ap (λ (x : SessionState A). x.tips) is,
+      )
+  bytes_at n g s after later w asked before repo bytes (Fault number) counts made takes done marked = absurd done
+  bytes_at n g s after later w asked before repo bytes _ counts made takes done marked = absurd takes
+
+  -- ---- the three events of a round
+
+  -- the session made its next request
+  pub record HasAsked (w v : WorldState A) (s : SessionState A) : Type 0 where
+    pub after : SessionState A
+    pub request : Asked
+    pub made : MakesNext s w.repo.graph.entries after request
+    pub session : v.session ≡ Some after
+    pub sent : v.sent ≡ w.sent ++ request ∷ []
+    pub kept : v.kept ≡ w.kept
+
+  has_asked : (w v : WorldState A) (s : SessionState A) (outcome : Outcome) → AsksNext w (Some s) outcome v
+      → IsDone outcome → HasAsked w v s
+  has_asked w v s (Asks number) step done = record {
+    after = step.0;
+    request = step.1;
+    made = step.2.1;
+    session = ap (λ (x : WorldState A). x.session) step.4;
+    sent = ap (λ (x : WorldState A). x.sent) step.4;
+    kept = ap (λ (x : WorldState A). x.kept) step.4;
+  }
+  has_asked w v s (Fault number) step done = absurd done
+  has_asked w v s _ step done = absurd step
+
+  -- the server kept a reply to it
+  pub record HasServed (w v : WorldState A) (request : Asked) : Type 0 where
+    pub reply : Reply
+    pub session : v.session ≡ w.session
+    pub kept : v.kept ≡ w.kept ++ record { asked = request; reply = reply } ∷ []
+
+  has_served : (w v : WorldState A) (request : Asked) (outcome : Outcome)
+      → ServesRequest tools.packs tools.pack_fails w (Some request) outcome v → IsDone outcome
+      → HasServed w v request
+  has_served w v request (Served number) step done = record {
+    reply = step.0;
+    session = ap (λ (x : WorldState A). x.session) step.3;
+    kept = ap (λ (x : WorldState A). x.kept) step.3;
+  }
+  has_served w v request (Fault number) step done = absurd done
+  has_served w v request _ step done = absurd step
+
+  -- how a session stands after a round
+  pub record Stands_at (n : ℕ) (s : SessionState A) (v : WorldState A) : Type 0 where
+    pub after : SessionState A
+    pub goes_on : v.session ≡ Some after
+    pub at : IsAt n v after
+    pub tips : after.tips ≡ s.tips
+
+  -- all bytes of the reply to the request that waits came
+  has_brought : (n count : ℕ) (g : List (Entry A)) (w v : WorldState A) (s after : SessionState A) (request : Asked)
+      (reply : Reply) (outcome : Outcome) → Counts n s → MakesNext s g after request
+      → Delivers tools.indexes tools.index_fails w (Some (record { asked = request; reply = reply })) count
+      (Some (after, request)) outcome v
+      → IsDone outcome → length (reply_bytes reply) ≤ count → Stands_at (n + 1) s v
+  has_brought n count g w v s after request reply outcome counts made step done all =
+      let came = step.2 in
+      let marked : IsPackTaken outcome → v.answered ≡ true = λ pack.
+      ap (λ (x : WorldState A). x.answered) came.is ∙ step.1.1 (record { same = refl; all = all; pack = pack }) in
+      let next = bytes_at n g s after came.after v request w.repo came.repo (take count (reply_bytes reply)) outcome
+      counts made came.takes done marked in record {
+        after = came.after;
+        goes_on = ap (λ (x : WorldState A). x.session) came.is;
+        at = next.0;
+        tips = next.1 ∙ made_tips g s after request made;
+      }
+
+  -- a round
+  round_at : (n : ℕ) (w v : WorldState A) (s : SessionState A) → w.session ≡ Some s → IsAt n w s → IsRound tools w v
+      → Stands_at (n + 1) s v
+  round_at n w v s is at round =
+      let one = round.run.0 in
+      let two = round.run.2.0 in
+      let three = round.run.2.2.0 in
+      let last : v ≡ three = round.run.2.2.2 in
+      let count = round.count in
+      let asked = has_asked w one s round.asked
+      (subst (λ (o : Option (SessionState A)). AsksNext w o round.asked one) is round.run.1.step) round.is_asked in
+      let request = asked.request in
+      let found : slice_get one.sent (length w.sent) ≡ Some request =
+      ap (λ (l : List Asked). slice_get l (length w.sent)) asked.sent ∙ at_end w.sent request in
+      let served = has_served one two request round.served
+      (subst (λ (o : Option Asked). ServesRequest tools.packs tools.pack_fails one o round.served two) found
+      round.run.2.1.step) round.is_served in
+      let kept : Kept = record { asked = request; reply = served.reply } in
+      let all_kept : two.kept ≡ w.kept ++ kept ∷ [] =
+      served.kept ∙ ap (λ (l : List Kept). l ++ kept ∷ []) asked.kept in
+      let held : slice_get two.kept (length w.kept) ≡ Some kept =
+      ap (λ (l : List Kept). slice_get l (length w.kept)) all_kept ∙ at_end w.kept kept in
+      let session : two.session ≡ Some asked.after = served.session ∙ asked.session in
+      let waits : waiting two.session ≡ Some (asked.after, request) =
+      ap waiting session
+      ∙ ap (waits_for asked.after) (made_waits w.repo.graph.entries s asked.after request asked.made) in
+      let Comes = Delivers tools.indexes tools.index_fails two in
+      let comes : Comes (Some kept) count (Some (asked.after, request)) round.brought three =
+      subst (λ (o : Option (SessionState A × Asked)). Comes (Some kept) count o round.brought three) waits
+      (subst (λ (o : Option Kept). Comes o count (waiting two.session) round.brought three) held
+      round.run.2.2.1.step) in
+      let kept_last : v.kept ≡ two.kept =
+      ap (λ (x : WorldState A). x.kept) last ∙ ap (λ (x : WorldState A). x.kept) comes.2.is in
+      let all = round.whole kept (ap (λ (l : List Kept). slice_get l (length w.kept)) kept_last ∙ held) in
+      subst (Stands_at (n + 1) s) (sym last)
+      (has_brought n count w.repo.graph.entries two three s asked.after request served.reply round.brought
+      (counts_of n w s at) asked.made comes round.is_brought all)
+
+-- ---- rounds
+
+module _ {A : Type 0} (tools : PackTools A) (keep : StepsKeep tools) (grow : GraphsOnlyGrow tools)
+    (few : RoundsAreFew A) (stay : CountsStay A) (counted : ReachedAreCounted A) (reached parents : ℕ) where
+  -- a world after so many rounds of a session
+  pub record Stands (n : ℕ) (w : WorldState A) : Type 0 where
+    pub honest : IsUnforgedAndFaithful tools w
+    pub ends : AreEndsWhole w
+    pub sound : IsSound tools w
+    pub session : SessionState A
+    pub goes_on : w.session ≡ Some session
+    pub at : IsAt n w session
+    pub counts : CountsReached w.repo.graph.entries session.tips reached parents
+
+  sound_session : (n : ℕ) (w : WorldState A) (stands : Stands n w) → IsSoundSession w stands.session
+  sound_session n w stands = subst (IsSoundIn w) stands.goes_on stands.sound.session
+
+  typed_session : (n : ℕ) (w : WorldState A) (stands : Stands n w) → IsSession stands.session
+  typed_session n w stands =
+      subst (λ (o : Option (SessionState A)). IfSome o IsSession) stands.goes_on stands.ends.session
+
+  next_stands : (n : ℕ) (w v : WorldState A) → Stands n w → IsRound tools w v → Stands (n + 1) v
+  next_stands n w v stands round =
+      let s = stands.session in
+      let serve : Event A = event.Serve (length w.sent) in
+      let deliver : Event A = event.Deliver (length w.kept) round.count in
+      let events : List (Event A) = event.Ask ∷ serve ∷ deliver ∷ [] in
+      let outcomes = round.asked ∷ round.served ∷ round.brought ∷ [] in
+      let led = leads_soundly tools keep w v events outcomes stands.ends stands.sound round.run in
+      let next = round_at tools n w v s stands.goes_on stands.at round in
+      let g = w.repo.graph.entries in
+      let h = v.repo.graph.entries in
+      let grows = (grow w v events outcomes (is_run tools w v events outcomes round.run)).1 in record {
+        honest = record {
+          image = stands.honest.image;
+          faithful = stands.honest.faithful;
+          unforged = unforged_on tools w v events outcomes
+              (All-cons IsNoForge event.Ask (serve ∷ deliver ∷ []) tt
+              (All-cons IsNoForge serve (deliver ∷ []) tt (All-cons IsNoForge deliver [] tt (All-nil IsNoForge))))
+              round.run ∙ stands.honest.unforged;
+        };
+        ends = led.0;
+        sound = led.1;
+        session = next.after;
+        goes_on = next.goes_on;
+        at = next.at;
+        counts = subst (λ (tips : List (List ℕ)). CountsReached h tips reached parents) (sym next.tips)
+            (stay g h s.tips reached parents grows led.0.graph.differ (sound_session n w stands).began.full
+            stands.counts);
+      }
+
+  all_stand : (n m : ℕ) (w v : WorldState A) → Stands m w → Rounds tools n w v → Stands (m + n) v
+  all_stand zero m w v stands rounds =
+      let none : m ≡ m + zero = omega arith in
+      subst (λ (k : ℕ). Stands k v) none (subst (Stands m) (sym rounds) stands)
+  all_stand (suc n) m w v stands (next, round, rest) =
+      let one : m + 1 + n ≡ m + suc n = omega arith in
+      subst (λ (k : ℕ). Stands k v) one
+      (all_stand n (m + 1) next v (next_stands m w next stands round) rest)
+
+  -- ---- how it stands then
+
+  -- no more ids were offered than the tips reach
+  offered_few : (n : ℕ) (w : WorldState A) (stands : Stands n w) → length stands.session.sent ≤ reached
+  offered_few n w stands =
+      let s = stands.session in
+      counted w.repo.graph.entries s.tips s.sent reached parents stands.counts (typed_session n w stands).sent
+      (sound_session n w stands).began.sent
+
+  can_settle : (n : ℕ) (w : WorldState A) (stands : Stands n w) → stands.session.stage ≡ Settling
+      → (stands.session.wants ≡ []) ⊎ (w.answered ≡ true) → CanSettle tools w
+  can_settle n w stands stage (inl none) = λ outcome new promised.
+      subst (λ (o : Option (SessionState A)).
+      IfSome o (λ s. IsUpToDate s → IsSettledOrRefused w.repo w.session outcome new.repo)) stands.goes_on
+      promised.up_to_date (record { stage = stage; none = none })
+  can_settle n w stands stage (inr answered) = λ outcome new promised.
+      (promised.honest stands.honest).settles answered
+
+  has_fetched : (n : ℕ) (w : WorldState A) → (stands : Stands n w) → IsAt n w stands.session
+      → HasFetched tools n reached w
+  has_fetched n w stands (inl lists) = record {
+    session = stands.session;
+    goes_on = stands.goes_on;
+    either = inl (rw (lists.0, lists.1) refl, (let none = lists.2 in omega (arith, none)));
+  }
+  has_fetched n w stands (inr (inl fetches)) =
+      let s = stands.session in
+      let rounds : s.rounds ≤ length s.sent = rw (fetches.0, fetches.1) at (typed_session n w stands).stage in
+      let offered = offered_few n w stands in
+      let many = fetches.2 in record {
+        session = s;
+        goes_on = stands.goes_on;
+        either = inl (rw (fetches.0, fetches.1) refl, omega (arith, rounds, offered, many));
+      }
+  has_fetched n w stands (inr (inr settles)) =
+      let s = stands.session in
+      let rounds = few w.repo.graph.entries s reached parents (typed_session n w stands)
+      (sound_session n w stands).began stands.counts in
+      let many = settles.1 in record {
+        session = s;
+        goes_on = stands.goes_on;
+        either = inr (can_settle n w stands settles.0 settles.2, omega (arith, rounds, many));
+      }
+
+  begins_to_stand : (w : WorldState A) (s : SessionState A) → IsUnforgedAndFaithful tools w → AreEndsWhole w
+      → IsSound tools w → w.session ≡ Some s → IsBegun s
+      → CountsReached w.repo.graph.entries s.tips reached parents → Stands 0 w
+  begins_to_stand w s honest ends sound is begun counts =
+      let typed : IsSession s = subst (λ (o : Option (SessionState A)). IfSome o IsSession) is ends.session in
+      let none : s.rounds ≡ 0 = rw (begun.0, begun.1) at typed.stage in record {
+        honest = honest;
+        ends = ends;
+        sound = sound;
+        session = s;
+        goes_on = is;
+        at = inl (begun.0, begun.1, refl, none);
+        counts = counts;
+      }
+
+  pub completed : (w v : WorldState A) (s : SessionState A) (n : ℕ) → IsUnforgedAndFaithful tools w → AreEndsWhole w
+      → IsSound tools w → w.session ≡ Some s → IsBegun s
+      → CountsReached w.repo.graph.entries s.tips reached parents → Rounds tools n w v → HasFetched tools n reached v
+  completed w v s n honest ends sound is begun counts rounds =
+      let same : 0 + n ≡ n = omega arith in
+      let stands = subst (λ (k : ℕ). Stands k v) same
+      (all_stand n 0 w v (begins_to_stand w s honest ends sound is begun counts) rounds) in
+      has_fetched n v stands stands.at

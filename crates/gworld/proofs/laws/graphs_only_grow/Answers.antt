@@ -1,0 +1,9 @@
+use Rattle.gworld.specs.Worlds.{tools_of}
+use Rattle.gworld.proofs.Kept.{graphs_grow}
+use Rattle.gworld.proofs.laws.graphs_only_grow.Goals as goal
+
+pub returns : goal.returns
+returns g c = λ k.
+    let tools = tools_of (g.K.Packer.packs k) (g.K.Packer.pack_fails k) (g.K.Indexer.indexes k)
+    (g.K.Indexer.index_fails k) in
+    graphs_grow tools (c.taking_only_grows.ensures k) c.refusals_change_nothing.ensures c.servers_grow.ensures
