@@ -146,10 +146,9 @@ fn url<'a>(words: &ArgMatches<'a>) -> Result<GitUrl<'a>, WordFault<'a>> {
 }
 
 fn verbosity(words: &ArgMatches<'_>) -> Verbosity {
-    match (words.get_flag("quiet"), words.get_flag("progress")) {
-        (true, _) => Verbosity::Quiet,
-        (false, true) => Verbosity::Progress,
-        (false, false) => Verbosity::Normal,
+    Verbosity {
+        quiet: words.get_flag("quiet"),
+        progress: words.get_flag("progress"),
     }
 }
 
