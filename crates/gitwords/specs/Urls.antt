@@ -15,9 +15,13 @@ is_name_byte b =
     (nat_le 65 b && nat_le b 90) || (nat_le 97 b && nat_le b 122) || (nat_le 48 b && nat_le b 57)
     || b == 45 || b == 46 || b == 95
 
+-- the most bytes of a host, as of one in the first line of a connection
+abbrev pub max_host : ℕ
+max_host = 255
+
 -- a name, or an IPv4 address
 abbrev pub is_host_name : List ℕ → Bool
-is_host_name host = not (length host == 0) && list_all is_name_byte host
+is_host_name host = nat_le 1 (length host) && nat_le (length host) max_host && list_all is_name_byte host
 
 -- an IPv6 address in brackets
 abbrev pub IsBracketed : List ℕ → Type 0
@@ -44,15 +48,33 @@ IsAuthority text host port =
     IsHost host
     × (((text ≡ host) × (port ≡ default_port)) ⊎ ((digits : List ℕ) × IsPort digits port × (text ≡ host ++ 58 ∷ digits)))
 
+-- HOST:PORT of a listening socket: the system picks the port if it is 0
+pub record IsListenAddress (text : List ℕ) : Type 0 where
+  pub host : List ℕ
+  pub digits : List ℕ
+  pub port : ℕ
+  pub parts : text ≡ host ++ 58 ∷ digits
+  pub names : IsHost host
+  pub number : IsNumber 10 digits port
+  pub most : port ≤ 65_535
+
 -- ---- paths
 
--- neither a control character nor a percent sign
+-- printable ASCII without the percent sign
 abbrev pub is_path_byte : ℕ → Bool
-is_path_byte b = nat_le 32 b && nat_le b 36 || nat_le 38 b && nat_le b 126 || nat_le 128 b
+is_path_byte b = nat_le 32 b && nat_le b 126 && not (b == 37)
+
+-- the most bytes of a path, as of one in the first line of a connection
+abbrev pub max_path : ℕ
+max_path = 1000
+
+-- at most 1,000 such bytes
+abbrev pub is_path_text : List ℕ → Bool
+is_path_text text = nat_le (length text) max_path && list_all is_path_byte text
 
 -- a slash and more
 abbrev pub IsPath : List ℕ → Type 0
-IsPath path = ((rest : List ℕ) × (path ≡ 47 ∷ rest)) × IsTrue (list_all is_path_byte path)
+IsPath path = ((rest : List ℕ) × (path ≡ 47 ∷ rest)) × IsTrue (is_path_text path)
 
 -- ---- URLs
 
@@ -69,19 +91,31 @@ pub record IsGitUrl (text host : List ℕ) (port : ℕ) (path : List ℕ) : Type
   pub names : IsAuthority authority host port
   pub is_path : IsPath path
 
+-- no HOST[:PORT]
+abbrev pub IsNoAuthority : List ℕ → Type 0
+IsNoAuthority text = (host : List ℕ) (port : ℕ) → ¬ (IsAuthority text host port)
+
+-- a host and a colon, and no port after them
+pub record HasBadPort (text : List ℕ) : Type 0 where
+  pub host : List ℕ
+  pub digits : List ℕ
+  pub parts : text ≡ host ++ 58 ∷ digits
+  pub names : IsHost host
+  pub bad : (port : ℕ) → ¬ (IsPort digits port)
+
 -- Why a text is refused: it does not begin with git:// ; or it has no further slash; or the path is malformed; or
--- what comes before the path is no HOST[:PORT].
+-- what comes before the path is no HOST[:PORT], for its port or for another reason.
 abbrev pub IsCause : List ℕ → Cause → Type 0
 IsCause text (Transport transport) = (rest : List ℕ) → ¬ (text ≡ codes "git://" ++ rest)
 IsCause text NoPath = (rest : List ℕ) × (text ≡ codes "git://" ++ rest) × All (λ b. b ≢ 47) rest
 IsCause text BadPath = (authority path : List ℕ) × IsCut text authority path × ¬ (IsPath path)
-IsCause text BadHost = (authority path : List ℕ) × IsCut text authority path × ((host : List ℕ) (port : ℕ) → ¬ (IsAuthority authority host port))
-IsCause text BadPort = (authority path : List ℕ) × IsCut text authority path × ((host : List ℕ) (port : ℕ) → ¬ (IsAuthority authority host port))
+IsCause text BadHost = (authority path : List ℕ) × IsCut text authority path × IsNoAuthority authority
+IsCause text BadPort = (authority path : List ℕ) × IsCut text authority path × HasBadPort authority
 
--- the cause of a text that is no HOST[:PORT]
+-- the cause for which a text is no HOST[:PORT]
 abbrev pub IsAuthorityCause : List ℕ → Cause → Type 0
-IsAuthorityCause text BadHost = (host : List ℕ) (port : ℕ) → ¬ (IsAuthority text host port)
-IsAuthorityCause text BadPort = (host : List ℕ) (port : ℕ) → ¬ (IsAuthority text host port)
+IsAuthorityCause text BadHost = IsNoAuthority text
+IsAuthorityCause text BadPort = IsNoAuthority text × HasBadPort text
 IsAuthorityCause text (Transport transport) = ⊥
 IsAuthorityCause text NoPath = ⊥
 IsAuthorityCause text BadPath = ⊥

@@ -3,8 +3,8 @@
 ghost use Rattle.std.specs.Prelude.{◌≡◌, ◌&&◌, ◌||◌, not};
 
 use crate::url::GitUrl;
-use grefspec::Spec;
 use gname::Prefix;
+use grefspec::Spec;
 
 /// A command that the arguments ask for. Texts are lent from the arguments.
 #[derive(Debug, Drop)]

@@ -65,8 +65,7 @@ fn answer_of(alloc: Global, name: &str, fault: WordFault<'_>) -> Answer {
         return Answer::Memory;
     }
     let usage = usage_of(name);
-    let text = format!(
-        in alloc;
+    let text = format!(in alloc;
         "error: {fault}\n\nUsage: {usage}\n\nFor more information, try '--help'.\n"
     );
     match text {
@@ -103,10 +102,7 @@ fn clone_command<'a>(words: &ArgMatches<'a>) -> Result<Command<'a>, WordFault<'a
     }))
 }
 
-fn fetch_command<'a>(
-    alloc: Global,
-    words: &ArgMatches<'a>,
-) -> Result<Command<'a>, WordFault<'a>> {
+fn fetch_command<'a>(alloc: Global, words: &ArgMatches<'a>) -> Result<Command<'a>, WordFault<'a>> {
     Ok(Command::Fetch(FetchArgs {
         verbosity: verbosity(words),
         dir: word(words, "DIR")?,
@@ -194,10 +190,16 @@ impl fmt::Display for WordFault<'_> {
             WordFault::Missing(name) => write!(f, "the argument {name} is missing"),
             WordFault::Url(fault) => write!(f, "{fault}"),
             WordFault::Spec(text) => {
-                write!(f, "'{text}' is no refspec: write [+]SOURCE:DESTINATION, both as full names")
+                write!(
+                    f,
+                    "'{text}' is no refspec: write [+]SOURCE:DESTINATION, both as full names"
+                )
             }
             WordFault::Prefix(text) => {
-                write!(f, "'{text}' begins no ref: write the first bytes of a ref's name")
+                write!(
+                    f,
+                    "'{text}' begins no ref: write the first bytes of a ref's name"
+                )
             }
             WordFault::Memory => f.write_str("out of memory"),
         }

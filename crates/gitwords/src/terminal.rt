@@ -34,7 +34,10 @@ pub fn clean<A: Allocator + Copy>(
 ) -> Result<Vec<u8, A>, AllocError>
     ensures { IfOk result (λ text. text.items ≡ clean_text shown bytes.now) }
 {
-    bytes.iter().map(|byte| clean_byte(*byte, shown)).collect(alloc)
+    bytes
+        .iter()
+        .map(|byte| clean_byte(*byte, shown))
+        .collect(alloc)
 }
 
 /// Adds the bytes of a peer to a text, each one cleaned. It fails only when out of memory, and has
@@ -56,5 +59,4 @@ pub fn push_clean<A: Allocator + Copy>(
 /// bytes that are shown.
 pub fn pieces_are_clean()
     ensures { PiecesAreClean }
-{
-}
+{}

@@ -37,7 +37,10 @@ const QUIET: Word = Word::Flag("quiet", "Print only faults");
 
 const PROGRESS: Word = Word::Flag("progress", "Print the progress that the server sends");
 
-const URL: Word = Word::One("URL", "The repository of the server, git://HOST[:PORT]/PATH");
+const URL: Word = Word::One(
+    "URL",
+    "The repository of the server, git://HOST[:PORT]/PATH",
+);
 
 const DIR: Word = Word::One("DIR", "The directory of the repository");
 
@@ -52,7 +55,12 @@ const COMMANDS: &[Row] = &[
         name: "clone",
         about: "Clone a repository's branches and tags into a new bare one",
         usage: "gitrepo clone [--quiet] [--progress] URL DIR",
-        words: &[QUIET, PROGRESS, URL, Word::One("DIR", "The directory that is made")],
+        words: &[
+            QUIET,
+            PROGRESS,
+            URL,
+            Word::One("DIR", "The directory that is made"),
+        ],
     },
     Row {
         name: "fetch",
@@ -70,16 +78,26 @@ const COMMANDS: &[Row] = &[
         name: "ls",
         about: "List the refs of a server",
         usage: "gitrepo ls URL [PREFIX]...",
-        words: &[URL, Word::Any("PREFIX", "List only the names that begin with one of these")],
+        words: &[
+            URL,
+            Word::Any("PREFIX", "List only the names that begin with one of these"),
+        ],
     },
     Row {
         name: "serve",
         about: "Serve every repository below a directory",
         usage: "gitrepo serve --listen ADDR [--connections N] [--export-all] BASE",
         words: &[
-            Word::Valued("listen", "ADDR", "Accept connections at this address, HOST:PORT"),
+            Word::Valued(
+                "listen",
+                "ADDR",
+                "Accept connections at this address, HOST:PORT",
+            ),
             Word::Number("connections", "End after so many connections"),
-            Word::Flag("export-all", "Serve repositories that have no git-daemon-export-ok"),
+            Word::Flag(
+                "export-all",
+                "Serve repositories that have no git-daemon-export-ok",
+            ),
             Word::One("BASE", "The base directory"),
         ],
     },
