@@ -1,12 +1,17 @@
 -- Texts that are cut at a byte.
-use Rattle.std.proofs.Common.{◌≡◌, ◌≢◌, ℕ, ◌+◌, ◌<◌, refl, List, [], ◌∷◌, ◌++◌, length, take, drop, get_or, All, Option, None, Some, MatchOption, sym, ap, subst, ◌∙◌, lit<, arith}
+use Rattle.std.proofs.Common.{◌≡◌, ◌≢◌, ℕ, ◌+◌, ◌<◌, ◌&&◌, true, inl, inr, refl, List, [], ◌∷◌, ◌++◌, length, take, drop, get_or, All, Option, None, Some, MatchOption, sym, ap, subst, ◌∙◌, lit<, arith}
 use Rattle.std.specs.Borrow.{Bor}
 use Rattle.std.specs.Char.{digit_value}
-use Rattle.std.specs.Str.Parse.{AllDigits}
+use Rattle.std.specs.Str.Parse.{AllDigits, IsNumeral}
+use Rattle.std.specs.List.{list_all}
+use Rattle.std.specs.Prelude.{nat_le}
 use Rattle.std.specs.Str.Pattern.{RFindsChar, SplitsAroundMatch}
-use Rattle.std.proofs.lemmas.List.{drop_more, get_or-take, length-take, take-append-drop}
+use Rattle.std.proofs.lemmas.Bool.{and_parts, false≢true}
+use Rattle.std.proofs.lemmas.List.{drop_more, get_or-take, length-append, length-take, take-append-drop}
 use Rattle.std.proofs.lemmas.List.Elements.{All-cons, All-from_get_or, All-head, All-nil, All-tail}
+use Rattle.std.proofs.lemmas.List.Folds.{list_all-append}
 use Rattle.std.proofs.lemmas.Str.Pattern.{NoCharPasses-char, drop_at_char}
+use Rattle.gitwords.specs.Urls.{IsHost, is_name_byte, max_host}
 
 -- ---- one cut
 
@@ -88,3 +93,27 @@ pub numeral_clean : (digits : List ℕ) → AllDigits 10 digits → All (λ b. b
 numeral_clean [] all = All-nil (λ b. b ≢ 58)
 numeral_clean (b ∷ digits) all =
     All-cons (λ b. b ≢ 58) b digits (λ e. (let low : digit_value 58 < 10 = subst (λ d. digit_value d < 10) e all.0 in absurd (omega arith))) (numeral_clean digits all.1)
+
+-- ---- hosts and ports
+
+digits_end : (front : List ℕ) → ¬ (AllDigits 10 (front ++ 93 ∷ []))
+digits_end [] digits = let low = digits.0 in absurd (omega (arith, low))
+digits_end (b ∷ front) digits = digits_end front digits.1
+
+-- decimal digits end in no bracket
+pub no_numeral : (front host digits : List ℕ) → IsNumeral 10 digits → ¬ (front ++ 93 ∷ [] ≡ host ++ 58 ∷ digits)
+no_numeral [] [] digits numeral is = let same : ◌≡◌ {A = ℕ} 93 58 = cc in absurd (omega (arith, same))
+no_numeral [] (c ∷ host) digits numeral is = absurd (omega (arith, ap length is, length-append host (58 ∷ digits)))
+no_numeral (b ∷ front) [] digits numeral is =
+    let tails : front ++ 93 ∷ [] ≡ digits = cc in digits_end front (subst (AllDigits 10) (sym tails) numeral.1)
+no_numeral (b ∷ front) (c ∷ host) digits numeral is =
+    let tails : front ++ 93 ∷ [] ≡ host ++ 58 ∷ digits = cc in no_numeral front host digits numeral tails
+
+-- a text with a colon and decimal digits after it is no host
+pub no_host : (text host digits : List ℕ) → text ≡ host ++ 58 ∷ digits → IsNumeral 10 digits → ¬ (IsHost text)
+no_host text host digits parts numeral (inl name) =
+    let both = and_parts (nat_le 1 (length text) && nat_le (length text) max_host) (list_all is_name_byte text) name in
+    let all : list_all is_name_byte (host ++ 58 ∷ digits) ≡ true = subst (λ l. list_all is_name_byte l ≡ true) parts both.1 in
+    let last = and_parts (list_all is_name_byte host) (list_all is_name_byte (58 ∷ digits)) (sym (list_all-append is_name_byte host (58 ∷ digits)) ∙ all) in
+    false≢true last.1
+no_host text host digits parts numeral (inr (inner, address, is, spells)) = no_numeral (91 ∷ inner) host digits numeral (sym is ∙ parts)

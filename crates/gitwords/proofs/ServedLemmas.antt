@@ -5,7 +5,7 @@ use Rattle.std.specs.List.{list_all, onto_first, starts_with}
 use Rattle.std.proofs.lemmas.Bool.{and_from, and_parts, and_right, both_ways, eqb-false, false≢true, ne_eqb}
 use Rattle.std.proofs.lemmas.List.{append-nil, append_cancel_right}
 use Rattle.std.proofs.lemmas.List.Splits.{length-slice_split}
-use Rattle.gitwords.specs.Served.{IsServedPath, StaysBelow, components, ending_text, is_name, is_slash, leads_down}
+use Rattle.gitwords.specs.Served.{IsServedPath, PathsHaveOneReading, StaysBelow, components, ending_text, is_name, is_slash, leads_down}
 use Rattle.gitwords.specs.declared.served.Ending.{Ending}
 use Rattle.gitwords.specs.declared.served.Ending.TheVariants.{DotGit, Itself, BareDotGit, Bare}
 
@@ -136,3 +136,21 @@ unslashed path other none (inr is) = none (other ++ 47 ∷ []) is
 
 pub not_slashed : (path : List ℕ) → ((rest : List ℕ) → path ≢ 47 ∷ rest) → (other : List ℕ) → ¬ (IsServedPath path other)
 not_slashed path none other served = unslashed path other none served.parts
+
+-- ---- one reading
+
+same_rest : (path rest other : List ℕ) → list_all is_name (components rest) ≡ true → list_all is_name (components other) ≡ true
+    → (path ≡ 47 ∷ rest) ⊎ (path ≡ 47 ∷ (rest ++ 47 ∷ [])) → (path ≡ 47 ∷ other) ⊎ (path ≡ 47 ∷ (other ++ 47 ∷ [])) → rest ≡ other
+same_rest path rest other named names (inl is) (inl same) = let both : 47 ∷ rest ≡ 47 ∷ other = sym is ∙ same in cc
+same_rest path rest other named names (inl is) (inr same) =
+    let both : 47 ∷ rest ≡ 47 ∷ (other ++ 47 ∷ []) = sym is ∙ same in
+    let tails : other ++ 47 ∷ [] ≡ rest = cc in absurd (differ (other ++ 47 ∷ []) rest tails (no_names_before_slash other) named)
+same_rest path rest other named names (inr is) (inl same) =
+    let both : 47 ∷ (rest ++ 47 ∷ []) ≡ 47 ∷ other = sym is ∙ same in
+    let tails : rest ++ 47 ∷ [] ≡ other = cc in absurd (differ (rest ++ 47 ∷ []) other tails (no_names_before_slash rest) names)
+same_rest path rest other named names (inr is) (inr same) =
+    let both : 47 ∷ (rest ++ 47 ∷ []) ≡ 47 ∷ (other ++ 47 ∷ []) = sym is ∙ same in
+    let tails : rest ++ 47 ∷ [] ≡ other ++ 47 ∷ [] = cc in append_cancel_right rest other (47 ∷ []) tails
+
+pub paths_have_one_reading : PathsHaveOneReading
+paths_have_one_reading path rest other one two = same_rest path rest other one.names two.names one.parts two.parts

@@ -1,16 +1,17 @@
 -- The parts of URLs and addresses.
-use Rattle.std.proofs.Common.{◌≡◌, ◌≢◌, ℕ, Bool, false, ◌<◌, ◌^◌, inl, inr, List, [], ◌∷◌, ◌++◌, All, Option, None, Some, Result, Ok, Err, MatchBool, MatchOption, codes, sym, ap, subst, ◌∙◌, arith}
-use Rattle.std.specs.Prelude.{is_some}
+use Rattle.std.proofs.Common.{◌≡◌, ◌≢◌, ℕ, Bool, true, false, ◌≤◌, inl, inr, List, [], ◌∷◌, ◌++◌, All, Result, Ok, Err, MatchBool, codes, sym, ap, subst, ◌∙◌}
 use Rattle.std.specs.Result.{is_ok}
 use Rattle.std.specs.Net.Grammar.{IsIpv6Text, IsNumber, Parses}
+use Rattle.std.specs.Str.Parse.{digits_value}
 use Rattle.std.specs.Str.Pattern.{FindsTextPrefix, StripsPrefix}
 use Rattle.std.specs.declared.net.ipv6_addr.Ipv6Addr.{Ipv6Addr}
 use Rattle.std.proofs.lemmas.Bool.{both_ways}
 use Rattle.std.proofs.lemmas.List.{append_cancel_left, append_cancel_right}
-use Rattle.gitwords.specs.Urls.{HasBadPort, IsAuthority, IsAuthorityCause, IsBracketed, IsCut, IsGitUrl, IsHost, IsListenAddress, IsNoAuthority, IsPath, IsPort, is_path_text}
+use Rattle.gitwords.specs.Numbers.{IsPort}
+use Rattle.gitwords.specs.Urls.{HasBadPort, IsAuthority, IsAuthorityCause, IsBracketed, IsCut, IsGitUrl, IsHost, IsListenAddress, IsNoAuthority, IsPath, UrlsHaveOneReading, is_path_text}
 use Rattle.gitwords.specs.declared.fault.Cause.{Cause}
 use Rattle.gitwords.specs.declared.fault.Cause.TheVariants.{Transport, NoPath, BadHost, BadPort, BadPath}
-use Rattle.gitwords.proofs.CutLemmas.{cut_first, cut_last, no_in, numeral_clean}
+use Rattle.gitwords.proofs.CutLemmas.{cut_first, cut_last, no_host, no_in, numeral_clean}
 
 -- ---- texts that are no URL
 
@@ -107,18 +108,29 @@ module _ (text front back : List ℕ) (parts : text ≡ front ++ 58 ∷ back) (c
   pub no_listen_host : ¬ (IsHost front) → ¬ (IsListenAddress text)
   no_listen_host bad address = bad (subst IsHost (sym (address_parts address).0) address.names)
 
-  no_listen_number : ((number : ℕ) → number < 2 ^ 16 → ¬ (IsNumber 10 back number)) → ¬ (IsListenAddress text)
-  no_listen_number bad address =
-      bad address.port (omega (arith, address.most)) (subst (λ l. IsNumber 10 l address.port) (sym (address_parts address).1) address.number)
-
-  numbered : (r : Option ℕ) → IsHost front → MatchOption r ((number : ℕ) → number < 2 ^ 16 → ¬ (IsNumber 10 back number)) (λ number. IsNumber 10 back number × (number < 2 ^ 16))
-      → MatchBool (is_some r) (IsListenAddress text) (¬ (IsListenAddress text))
-  numbered None named none = no_listen_number none
-  numbered (Some port) named is = record { host = front; digits = back; port = port; parts = parts; names = named; number = is.0; most = omega (arith, is.1) }
-
-  pub listens : (r : Option ℕ) (b : Bool) → IsHost front → MatchOption r ((number : ℕ) → number < 2 ^ 16 → ¬ (IsNumber 10 back number)) (λ number. IsNumber 10 back number × (number < 2 ^ 16))
-      → b ≡ is_some r → MatchBool b (IsListenAddress text) (¬ (IsListenAddress text))
-  listens r b named is same = subst (λ t. MatchBool t (IsListenAddress text) (¬ (IsListenAddress text))) (sym same) (numbered r named is)
+  -- the digits after the colon say a port, or none
+  pub listens : (b : Bool) → IsHost front → MatchBool b ((port : ℕ) × IsNumber 10 back port × (port ≤ 65_535)) ((port : ℕ) → port ≤ 65_535 → ¬ (IsNumber 10 back port))
+      → MatchBool b (IsListenAddress text) (¬ (IsListenAddress text))
+  listens true named (port, number, most) = record { host = front; digits = back; port = port; parts = parts; names = named; number = number; most = most }
+  listens false named none = λ address. none address.port address.most (subst (λ l. IsNumber 10 l address.port) (sym (address_parts address).1) address.number)
 
 pub no_listen_colon : (text : List ℕ) → All (λ b. b ≢ 58) text → ¬ (IsListenAddress text)
 no_listen_colon text none address = no_in 58 address.host address.digits (subst (All (λ b. b ≢ 58)) address.parts none)
+
+-- ---- one reading
+
+same_authority : (text host other : List ℕ) (port number : ℕ) → IsAuthority text host port → IsAuthority text other number → (host ≡ other) × (port ≡ number)
+same_authority text host other port number (named, inl (is, default)) (names, inl (same, standard)) = (sym is ∙ same, default ∙ sym standard)
+same_authority text host other port number (named, inl (is, default)) (names, inr (digits, is_port, parts)) =
+    absurd (no_host text other digits parts is_port.number.0 (subst IsHost (sym is) named))
+same_authority text host other port number (named, inr (digits, is_port, parts)) (names, inl (same, standard)) =
+    absurd (no_host text host digits parts is_port.number.0 (subst IsHost (sym same) names))
+same_authority text host other port number (named, inr (digits, is_port, parts)) (names, inr (others, is_number, same)) =
+    let both = cut_last 58 host other digits others (numeral_clean digits is_port.number.0.1) (numeral_clean others is_number.number.0.1) (sym parts ∙ same) in
+    (both.0, sym is_port.number.1 ∙ ap (digits_value 10) both.1 ∙ is_number.number.1)
+
+pub urls_have_one_reading : UrlsHaveOneReading
+urls_have_one_reading text host other port number path rest one two =
+    let cuts = cut_once text one.authority path two.authority rest one.cut two.cut in
+    let parts = same_authority one.authority host other port number one.names (subst (λ l. IsAuthority l other number) (sym cuts.0) two.names) in
+    (parts.0, parts.1, cuts.1)

@@ -21,6 +21,10 @@ pub record IsServedPath (path rest : List ℕ) : Type 0 where
   pub parts : (path ≡ 47 ∷ rest) ⊎ (path ≡ 47 ∷ (rest ++ 47 ∷ []))
   pub names : IsTrue (list_all is_name (components rest))
 
+-- a path is that of one directory
+abbrev pub PathsHaveOneReading : Type 0
+PathsHaveOneReading = (path rest other : List ℕ) → IsServedPath path rest → IsServedPath path other → rest ≡ other
+
 -- What is tried for a path, in Git's order: the `.git` in it, the directory itself, and the same with `.git` at the
 -- end of its name.
 abbrev pub ending_text : Ending → List ℕ

@@ -4,6 +4,7 @@ use Rattle.std.specs.Prelude.{length, nat_le, not}
 use Rattle.std.specs.List.{list_all}
 use Rattle.std.specs.Net.Grammar.{IsIpv6Text, IsNumber}
 use Rattle.std.specs.declared.net.ipv6_addr.Ipv6Addr.{Ipv6Addr}
+use Rattle.gitwords.specs.Numbers.{IsPort}
 use Rattle.gitwords.specs.declared.fault.Cause.{Cause}
 use Rattle.gitwords.specs.declared.fault.Cause.TheVariants.{Transport, NoPath, BadHost, BadPort, BadPath}
 
@@ -30,13 +31,7 @@ IsBracketed host = (inner : List ℕ) × (address : Ipv6Addr) × (host ≡ 91 �
 abbrev pub IsHost : List ℕ → Type 0
 IsHost host = IsTrue (is_host_name host) ⊎ IsBracketed host
 
--- ---- ports
-
--- decimal digits that say a number from 1 to 65,535
-pub record IsPort (digits : List ℕ) (port : ℕ) : Type 0 where
-  pub number : IsNumber 10 digits port
-  pub least : 1 ≤ port
-  pub most : port ≤ 65_535
+-- ---- addresses
 
 -- the port of the Git transport
 abbrev pub default_port : ℕ
@@ -90,6 +85,11 @@ pub record IsGitUrl (text host : List ℕ) (port : ℕ) (path : List ℕ) : Type
   pub cut : IsCut text authority path
   pub names : IsAuthority authority host port
   pub is_path : IsPath path
+
+-- a text is the URL of one host, port and path
+abbrev pub UrlsHaveOneReading : Type 0
+UrlsHaveOneReading = (text host other : List ℕ) (port number : ℕ) (path rest : List ℕ)
+    → IsGitUrl text host port path → IsGitUrl text other number rest → (host ≡ other) × (port ≡ number) × (path ≡ rest)
 
 -- no HOST[:PORT]
 abbrev pub IsNoAuthority : List ℕ → Type 0

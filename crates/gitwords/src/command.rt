@@ -83,7 +83,7 @@ pub struct LsArgs<'a> {
 /// Repositories that are served.
 #[derive(Clone, Copy, Debug, Drop)]
 pub struct ServeArgs<'a> {
-    /// The address where connections are accepted, HOST:PORT. It is not read here.
+    /// The address where connections are accepted, HOST:PORT. The system picks a port in place of 0.
     pub listen: &'a str,
     /// How many connections are served, from 1 to 1,000,000. `None` if there is no limit.
     pub connections: Option<u32>,

@@ -1,7 +1,7 @@
 //! Bytes of a peer, for a terminal.
 
 ghost use Rattle.std.specs.Prelude.{◌≡◌, ◌++◌, IfOk, OnOk};
-ghost use Rattle.gitwords.specs.Clean.{PiecesAreClean, clean_byte, clean_text};
+ghost use Rattle.gitwords.specs.Clean.{clean_byte, clean_text};
 
 use std::alloc::{AllocError, Allocator};
 
@@ -54,9 +54,3 @@ pub fn push_clean<A: Allocator + Copy>(
     }
     Ok(())
 }
-
-/// Laws: pieces that are cleaned one after the other give the whole, and a clean text has only
-/// bytes that are shown.
-pub fn pieces_are_clean()
-    ensures { PiecesAreClean }
-{}

@@ -1,11 +1,13 @@
 //! URLs of the Git transport, and addresses.
 
-ghost use Rattle.std.specs.Prelude.{◌≡◌, ◌≢◌, ◌++◌, ◌∷◌, ◌<◌, ◌^◌, [], All, IfErr, IfOk, List, MatchBool, MatchOption, MatchResult, codes, decimal, string_bytes, ℕ};
+ghost use Rattle.std.specs.Prelude.{◌≡◌, ◌≢◌, ◌++◌, ◌∷◌, ◌≤◌, [], All, IfErr, IfOk, List, MatchBool, MatchOption, MatchResult, codes, decimal, string_bytes, ℕ};
 ghost use Rattle.std.specs.Net.Grammar.{IsNumber};
 ghost use Rattle.std.specs.List.{list_all};
-ghost use Rattle.gitwords.specs.Urls.{IsAuthority, IsAuthorityCause, IsBracketed, IsCause, IsGitUrl, IsHost, IsListenAddress, IsPort, is_host_name, is_name_byte, is_path_byte, is_path_text};
+ghost use Rattle.gitwords.specs.Numbers.{IsPort};
+ghost use Rattle.gitwords.specs.Urls.{IsAuthority, IsAuthorityCause, IsBracketed, IsCause, IsGitUrl, IsHost, IsListenAddress, is_host_name, is_name_byte, is_path_byte, is_path_text};
 
 use crate::fault::{Cause, Transport, UrlFault};
+use crate::number::number_of;
 use std::alloc::{AllocError, Allocator};
 use std::net::Ipv6Addr;
 
@@ -16,6 +18,9 @@ pub const DEFAULT_PORT: u16 = 9418;
 const MAX_HOST: usize = 255;
 
 const MAX_PATH: usize = 1_000;
+
+// The highest port.
+const MAX_PORT: u32 = 65_535;
 
 // How a URL of the Git transport begins.
 const SCHEME: &str = "git://";
@@ -64,7 +69,18 @@ pub(crate) fn is_listen_address(text: &str) -> bool
     ensures { MatchBool result (IsListenAddress text.now) (¬ (IsListenAddress text.now)) }
 {
     match split_port(text) {
-        Some((host, digits)) => is_host(host) && number_of(digits).is_some(),
+        Some((host, digits)) => is_host(host) && is_port_or_zero(digits),
+        None => false,
+    }
+}
+
+// Whether decimal digits say a number up to 65,535.
+fn is_port_or_zero(digits: &str) -> bool
+    ensures { MatchBool result ((port : ℕ) × IsNumber 10 digits.now port × (port ≤ 65_535))
+        ((port : ℕ) → port ≤ 65_535 → ¬ (IsNumber 10 digits.now port)) }
+{
+    match number_of(digits) {
+        Some(number) => number <= MAX_PORT,
         None => false,
     }
 }
@@ -155,21 +171,9 @@ fn port_of(digits: &str) -> Option<u16>
     ensures { MatchOption result ((port : ℕ) → ¬ (IsPort digits.now port)) (IsPort digits.now) }
 {
     match number_of(digits) {
-        Some(port) if port > 0 => Some(port),
+        Some(number) if (1..=MAX_PORT).contains(&number) => Some(number as u16),
         _ => None,
     }
-}
-
-// The number that decimal digits say, up to 65,535. `parse` takes a `+` before them, too.
-fn number_of(digits: &str) -> Option<u16>
-    ensures { MatchOption result
-        ((number : ℕ) → number < 2 ^ 16 → ¬ (IsNumber 10 digits.now number))
-        (λ number. IsNumber 10 digits.now number × (number < 2 ^ 16)) }
-{
-    if digits.as_bytes().first() == Some(&b'+') {
-        return None;
-    }
-    digits.parse::<u16>().ok()
 }
 
 fn is_host(text: &str) -> bool

@@ -3,8 +3,8 @@ use Rattle.gitwords.proofs.url.is_listen_address.Goals as goal
 
 pub returns-then-is_host : goal.returns-then-is_host
 returns-then-is_host c =
-    listens c.args.text.now c.in-Some.host.now c.in-Some.digits.now c.in-Some.ensures.0 c.in-Some.ensures.1 c.number_of.result c.is_some.result
-    c.if-is_host.ensures c.number_of.ensures c.is_some.ensures
+    listens c.args.text.now c.in-Some.host.now c.in-Some.digits.now c.in-Some.ensures.0 c.in-Some.ensures.1 c.is_port_or_zero.result
+    c.if-is_host.ensures c.is_port_or_zero.ensures
 
 pub returns-else-is_host : goal.returns-else-is_host
 returns-else-is_host c =
