@@ -23,5 +23,6 @@ clean_text shown = map (clean_byte shown)
 
 -- pieces that are cleaned one after the other give the whole, and a clean text has only bytes that are shown
 pub record PiecesAreClean : Type 0 where
-  pub whole : (shown : Shown) (front back : List ℕ) → clean_text shown (front ++ back) ≡ clean_text shown front ++ clean_text shown back
+  pub whole : (shown : Shown) (front back : List ℕ)
+      → clean_text shown (front ++ back) ≡ clean_text shown front ++ clean_text shown back
   pub shown : (shown : Shown) (text : List ℕ) → All (λ b. IsTrue (is_shown shown b)) (clean_text shown text)

@@ -41,7 +41,8 @@ default_port = 9418
 abbrev pub IsAuthority : List ℕ → List ℕ → ℕ → Type 0
 IsAuthority text host port =
     IsHost host
-    × (((text ≡ host) × (port ≡ default_port)) ⊎ ((digits : List ℕ) × IsPort digits port × (text ≡ host ++ 58 ∷ digits)))
+    × (((text ≡ host) × (port ≡ default_port))
+    ⊎ ((digits : List ℕ) × IsPort digits port × (text ≡ host ++ 58 ∷ digits)))
 
 -- HOST:PORT of a listening socket: the system picks the port if it is 0
 pub record IsListenAddress (text : List ℕ) : Type 0 where
