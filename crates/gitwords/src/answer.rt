@@ -1,7 +1,7 @@
 //! Answers that are printed in place of a command.
 
 ghost use Rattle.std.specs.Prelude.{◌≡◌};
-ghost use Rattle.gitwords.specs.Answers.{answer_status, answer_stream};
+ghost use Rattle.gitwords.specs.Answers.{answer_status, answer_stream, answer_text};
 
 use gname::OUT_OF_MEMORY_TEXT;
 
@@ -27,7 +27,9 @@ pub enum Stream {
 
 impl Answer {
     /// The text to print. A line feed ends it, except out of memory.
-    pub fn text(&self) -> &str {
+    pub fn text(&self) -> &str
+        ensures { result.now ≡ answer_text self.now }
+    {
         match self {
             Answer::Asked(text) | Answer::Usage(text) => text.as_str(),
             Answer::Memory => OUT_OF_MEMORY_TEXT,

@@ -1,5 +1,8 @@
 //! Why a text is no URL.
 
+ghost use Rattle.std.specs.Prelude.{◌≡◌, Some};
+ghost use Rattle.gitwords.specs.Faults.{cause_text, transport_text, url_fault_text};
+
 use std::error::Error;
 use std::fmt;
 
@@ -43,7 +46,9 @@ pub enum Transport {
 
 impl Cause {
     // The rest of the sentence, after the URL.
-    fn phrase(self) -> &'static str {
+    fn phrase(self) -> &'static str
+        ensures { result.now ≡ cause_text self }
+    {
         match self {
             Cause::Transport(transport) => transport.phrase(),
             Cause::NoPath => "names no repository: write git://HOST[:PORT]/PATH",
@@ -77,7 +82,9 @@ impl Transport {
         }
     }
 
-    fn phrase(self) -> &'static str {
+    fn phrase(self) -> &'static str
+        ensures { result.now ≡ transport_text self }
+    {
         match self {
             Transport::Ssh => "is reached by ssh: use git, since gitrepo has no ssh",
             Transport::Http => "is reached by HTTP: use git, since gitrepo has no HTTP",
@@ -96,6 +103,8 @@ fn has_host(text: &str) -> bool {
 }
 
 impl fmt::Display for UrlFault<'_> {
+    ghost output = { λ fault. Some (url_fault_text fault) };
+
     fn fmt<W: fmt::Write>(&self, f: &mut fmt::Formatter<W>) -> fmt::Result {
         write!(f, "'{}' {}", self.url, self.cause.phrase())
     }

@@ -7,7 +7,8 @@
 //! - [`GitUrl::parse`] accepts exactly the texts `git://HOST[:PORT]/PATH` of `specs/Urls.antt`, and
 //!   returns their parts. A text has one host, port and path
 //!   ([`urls_have_one_reading`](laws::urls_have_one_reading)). Each other text is refused, and the
-//!   cause that the fault names is true of it.
+//!   cause that the fault names is true of it. A fault prints the sentence of its cause
+//!   (`specs/Faults.antt`).
 //! - [`ServedPath::parse`] accepts exactly the paths of `specs/Served.antt`. No component is empty
 //!   or begins with a dot, and one slash may end the path. A path is that of one directory
 //!   ([`paths_have_one_reading`](laws::paths_have_one_reading)).
@@ -39,9 +40,10 @@
 //! # What the contracts do not rule out
 //!
 //! [`read_words`] may refuse any arguments, and return any well-formed command for any arguments. No
-//! contract says which sentence an answer has, or which [`Transport`] a URL of another form has. A
-//! host may be reported as malformed where the port after it is, too. Any call that allocates may
-//! fail with out of memory. Symbolic links below the base directory are not looked at.
+//! contract says which text an answer to wrong arguments has, or which [`Transport`] a URL of
+//! another form has. A host may be reported as malformed where the port after it is, too. Any call
+//! that allocates may fail with out of memory. Symbolic links below the base directory are not
+//! looked at.
 //!
 //! There are no tests here.
 //!

@@ -12,7 +12,7 @@ use crate::url::{GitUrl, is_listen_address};
 use crate::usage::{program, usage_of};
 use clap::ArgMatches;
 use clap::error::ErrorKind;
-use gname::{NameFault, Prefix};
+use gname::{NameFault, OUT_OF_MEMORY_TEXT, Prefix};
 use grefspec::{Spec, SpecFault};
 use std::alloc::{AllocError, AllocFailed, Global};
 use std::fmt;
@@ -265,7 +265,7 @@ impl fmt::Display for WordFault<'_> {
                     "'{text}' is no number of connections: write one from 1 to 1000000"
                 )
             }
-            WordFault::Memory => f.write_str("out of memory"),
+            WordFault::Memory => f.write_str(OUT_OF_MEMORY_TEXT),
         }
     }
 }
