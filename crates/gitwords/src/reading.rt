@@ -256,7 +256,7 @@ impl fmt::Display for WordFault<'_> {
             WordFault::Address(text) => {
                 write!(
                     f,
-                    "'{text}' is no address: write HOST:PORT, and 0 for any free port"
+                    "'{text}' is no address: write HOST:PORT, with a port from 0 to 65535"
                 )
             }
             WordFault::Connections(text) => {

@@ -150,7 +150,7 @@ A line about each connection goes to standard error. SIGTERM ends the server.",
         usage: "gitrepo upload-pack DIR",
         words: &[DIR],
         notes: "\
-git runs it at the other end of ssh or file:// if its option -u names it:
+git clone runs it at the other end of ssh or file:// if the option -u names it:
   git clone -u 'gitrepo upload-pack' HOST:DIR
 It needs GIT_PROTOCOL=version=2 in its environment, which sshd has to accept.",
     },
