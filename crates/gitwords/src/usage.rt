@@ -159,7 +159,7 @@ It needs GIT_PROTOCOL=version=2 in its environment, which sshd has to accept.",
         about: "Check that all that the refs lead to is there",
         usage: "gitrepo check DIR",
         words: &[DIR],
-        notes: "Each object that is missing is named.",
+        notes: "An object that is missing is named, with the ref that leads to it.",
     },
 ];
 
