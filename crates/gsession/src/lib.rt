@@ -8,7 +8,8 @@
 //!   are more than 16 refspecs. [`Session::hear`] keeps whether the server reports an unborn `HEAD`.
 //! - [`Session::request`] makes the one request that is due. For refs it has the sources of the refspecs, each once,
 //!   and asks for an unborn `HEAD` exactly where the server offers to report it. For objects it has the wants, the
-//!   common ids, and a batch of ids that were not offered before; without a batch the client is done. The
+//!   common ids, and a batch of ids that were not offered before; without a batch the client is done. It has
+//!   `ofs-delta`, and lacks `no-progress`, exactly where the session's options say so ([`Session::begin_with`]). The
 //!   session and the graph decide the request, and the session that then waits for its reply ([`laws`]).
 //! - [`Session::take_ls`] reads one reply to its end, and nothing after it. Something is asked of each ref to which a
 //!   refspec takes a line, and one thing alone: what the first refspec and line ask for that lead there, refspec by
@@ -60,11 +61,13 @@ mod asks;
 mod fault;
 mod feed;
 pub mod laws;
+mod options;
 mod requests;
 mod session;
 mod stage;
 mod taken;
 
 pub use crate::fault::ClientFault;
+pub use crate::options::{FetchPlan, PackOptions};
 pub use crate::session::{MAX_SPECS, Session};
 pub use crate::taken::{LsTaken, Settled, Taken};
