@@ -53,6 +53,7 @@ mod entry;
 mod fault;
 mod files;
 mod limits;
+mod listed;
 mod listing;
 mod memory;
 mod object;
@@ -67,7 +68,7 @@ mod window;
 
 pub use crate::entry::RawEntry;
 pub use crate::fault::{Cause, FileFault, StoreFault};
-pub use crate::files::{ObjectFiles, OpenPack};
+pub use crate::files::{FolderTime, ObjectFiles, OpenPack};
 pub use crate::limits::{
     MAX_ALTERNATES, MAX_BASE, MAX_DEPTH, MAX_FOLDERS, MAX_INDEX, MAX_KEPT, MAX_NAMES, MAX_OBJECT,
     MAX_STREAM,

@@ -3,7 +3,7 @@
 ghost use Rattle.std.specs.Prelude.{◌≡◌, Some};
 
 use crate::fault::Cause;
-use crate::files::{ObjectFiles, OpenPack};
+use crate::files::{FolderTime, ObjectFiles, OpenPack};
 use std::alloc::{AllocError, Allocator};
 use std::io::ErrorKind;
 
@@ -123,6 +123,19 @@ impl<A: Allocator + Copy> ObjectFiles for MemoryFiles<A> {
                 Ok(Some((MemoryPack { bytes }, length)))
             }
             None => Ok(None),
+        }
+    }
+
+    // The seconds are the number of all files, which is another one once a file is added.
+    fn changed(&self, path: &str) -> Result<Option<FolderTime>, Cause> {
+        if self.exists(path)? {
+            Ok(Some(FolderTime {
+                seconds: i64::try_from(self.files.len()).unwrap_or(i64::MAX),
+                nanoseconds: 0,
+                folder: 0,
+            }))
+        } else {
+            Ok(None)
         }
     }
 

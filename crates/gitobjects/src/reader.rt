@@ -50,18 +50,29 @@ impl<'f, F: ObjectFiles, A: Allocator + Copy> ObjectReader<'f, F, A> {
     /// The object with this id, as the files have it. Its id is not computed: see
     /// [`ObjectReader::read_checked`].
     ///
-    /// If the object is not found, the packs are listed once more, as Git may have packed it
-    /// meanwhile. It fails with `Missing` if the object is not there, with `Memory`, and otherwise
-    /// names the file and the cause. The reader can be used again after each fault.
+    /// If the object is not found, the packs are listed again, as Git may have packed it meanwhile.
+    /// A folder of packs is listed at most twice for each time at which its names changed, however
+    /// many objects are not found. [`ObjectReader::refresh`] lists all folders.
+    ///
+    /// It fails with `Missing` if the object is not there, with `Memory`, and otherwise names the
+    /// file and the cause. The reader can be used again after each fault.
     pub fn read(&mut self, id: &Oid) -> Result<Object<A>, StoreFault<A>> {
         if let Some(object) = self.read_listed(id)? {
             return Ok(object);
         }
-        self.store.reload()?;
-        match self.read_listed(id)? {
-            Some(object) => Ok(object),
-            None => Err(StoreFault::Missing(*id)),
+        if self.store.list_stale()? {
+            if let Some(object) = self.read_listed(id)? {
+                return Ok(object);
+            }
         }
+        Err(StoreFault::Missing(*id))
+    }
+
+    /// Looks for alternates and packs that came, whenever their folders changed.
+    ///
+    /// At an error the reader still has all packs that it had.
+    pub fn refresh(&mut self) -> Result<(), StoreFault<A>> {
+        self.store.reload()
     }
 
     /// The object with this id. Its id is computed, and is the one that was asked for.

@@ -4,7 +4,7 @@ use crate::alternates::{Folder, object_folders};
 use crate::cache::Spot;
 use crate::entry::{Inflated, RawEntry, inflate_entry};
 use crate::fault::{Cause, StoreFault, fault_at};
-use crate::files::ObjectFiles;
+use crate::files::{FolderTime, ObjectFiles};
 use crate::limits::MAX_STREAM;
 use crate::listing::index_stems;
 use crate::object::{Object, read_loose};
@@ -63,46 +63,26 @@ impl<'f, F: ObjectFiles, A: Allocator + Copy> ObjectStore<'f, F, A> {
     ///
     /// At an error the store still has all packs that it had.
     pub fn reload(&mut self) -> Result<(), StoreFault<A>> {
-        let folders = object_folders(self.files, self.alloc, self.own.as_str())?;
-        for folder in &folders {
-            let packs = join(self.alloc, folder.path.as_str(), "pack")?;
-            self.add_packs(packs.as_str())?;
-        }
-        self.folders = folders;
+        self.folders = object_folders(self.files, self.alloc, self.own.as_str())?;
+        self.list_stale()?;
         Ok(())
     }
 
-    // Opens the packs of a folder that are not open yet.
-    fn add_packs(&mut self, folder: &str) -> Result<(), StoreFault<A>> {
-        let stems = match self.stems_in(folder) {
-            Ok(stems) => stems,
-            Err(cause) => return Err(fault_at(self.alloc, folder, cause)),
-        };
-        for stem in &stems {
-            self.add_pack(folder, stem.as_str())?;
+    /// Lists the folders of packs that may have other packs than when they were listed, and answers
+    /// whether there is such a folder. A folder is listed at most twice while its names stay.
+    ///
+    /// It fails as `reload` does.
+    pub(crate) fn list_stale(&mut self) -> Result<bool, StoreFault<A>> {
+        let mut is_listed = false;
+        for folder in self.folders.iter_mut() {
+            let now = pack_time(self.files, self.alloc, folder.packs.as_str())?;
+            if folder.listed.is_stale(now) {
+                add_packs(self.files, self.alloc, &mut self.packs, folder.packs.as_str())?;
+                folder.listed = folder.listed.again(now);
+                is_listed = true;
+            }
         }
-        Ok(())
-    }
-
-    fn stems_in(&self, folder: &str) -> Result<Vec<String<A>, A>, Cause> {
-        let names = self.files.list(self.alloc, folder)?;
-        index_stems(self.alloc, names.as_slice())
-    }
-
-    // Opens a pack, if it is not open yet.
-    fn add_pack(&mut self, folder: &str, stem: &str) -> Result<(), StoreFault<A>> {
-        let path = pack_path(self.alloc, folder, stem, ".pack")?;
-        if self.is_open(path.as_str()) {
-            return Ok(());
-        }
-        if let Some(pack) = open_pack(self.files, self.alloc, folder, stem)? {
-            self.packs.push(pack)?;
-        }
-        Ok(())
-    }
-
-    fn is_open(&self, path: &str) -> bool {
-        self.packs.iter().any(|pack| pack.path() == path)
+        Ok(is_listed)
     }
 
     /// The allocator.
@@ -288,4 +268,60 @@ fn read_loose_file<F: ObjectFiles, A: Allocator + Copy>(
         Some(stream) => Ok(Some(read_loose(alloc, inflater, stream.as_slice())?)),
         None => Ok(None),
     }
+}
+
+// When the names in a folder of packs last changed; `None` if there is no such folder.
+fn pack_time<F: ObjectFiles, A: Allocator + Copy>(
+    files: &F,
+    alloc: A,
+    folder: &str,
+) -> Result<Option<FolderTime>, StoreFault<A>> {
+    match files.changed(folder) {
+        Ok(time) => Ok(time),
+        Err(cause) => Err(fault_at(alloc, folder, cause)),
+    }
+}
+
+// Opens the packs of a folder that are not open yet.
+fn add_packs<F: ObjectFiles, A: Allocator + Copy>(
+    files: &F,
+    alloc: A,
+    packs: &mut Vec<PackFile<F::Pack, A>, A>,
+    folder: &str,
+) -> Result<(), StoreFault<A>> {
+    let stems = match stems_in(files, alloc, folder) {
+        Ok(stems) => stems,
+        Err(cause) => return Err(fault_at(alloc, folder, cause)),
+    };
+    for stem in &stems {
+        add_pack(files, alloc, packs, folder, stem.as_str())?;
+    }
+    Ok(())
+}
+
+fn stems_in<F: ObjectFiles, A: Allocator + Copy>(
+    files: &F,
+    alloc: A,
+    folder: &str,
+) -> Result<Vec<String<A>, A>, Cause> {
+    let names = files.list(alloc, folder)?;
+    index_stems(alloc, names.as_slice())
+}
+
+// Opens a pack, if it is not open yet.
+fn add_pack<F: ObjectFiles, A: Allocator + Copy>(
+    files: &F,
+    alloc: A,
+    packs: &mut Vec<PackFile<F::Pack, A>, A>,
+    folder: &str,
+    stem: &str,
+) -> Result<(), StoreFault<A>> {
+    let path = pack_path(alloc, folder, stem, ".pack")?;
+    if packs.iter().any(|pack| pack.path() == path.as_str()) {
+        return Ok(());
+    }
+    if let Some(pack) = open_pack(files, alloc, folder, stem)? {
+        packs.push(pack)?;
+    }
+    Ok(())
 }
