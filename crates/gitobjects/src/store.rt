@@ -11,6 +11,7 @@ use crate::object::{Object, read_loose};
 use crate::order::Start;
 use crate::pack::{PackFile, open_pack};
 use crate::paths::{join, loose_path, pack_path};
+use crate::window::Window;
 use gitpack::PackIndex;
 use gname::Oid;
 use gzlib::Inflater;
@@ -33,7 +34,8 @@ pub struct ObjectStore<'f, F: ObjectFiles, A: Allocator + Copy> {
     alloc: A,
     own: String<A>,
     folders: Vec<Folder<A>, A>,
-    packs: Vec<PackFile<F::Pack, A>, A>,
+    packs: Vec<PackFile<A>, A>,
+    window: Window<F::Pack, A>,
 }
 
 impl<'f, F: ObjectFiles, A: Allocator + Copy> ObjectStore<'f, F, A> {
@@ -53,6 +55,7 @@ impl<'f, F: ObjectFiles, A: Allocator + Copy> ObjectStore<'f, F, A> {
             own,
             folders: Vec::new(alloc),
             packs: Vec::new(alloc),
+            window: Window::new(alloc),
         };
         store.reload()?;
         Ok(store)
@@ -77,7 +80,13 @@ impl<'f, F: ObjectFiles, A: Allocator + Copy> ObjectStore<'f, F, A> {
         for folder in self.folders.iter_mut() {
             let now = pack_time(self.files, self.alloc, folder.packs.as_str())?;
             if folder.listed.is_stale(now) {
-                add_packs(self.files, self.alloc, &mut self.packs, folder.packs.as_str())?;
+                let mut opening = Opening {
+                    files: self.files,
+                    alloc: self.alloc,
+                    packs: &mut self.packs,
+                    window: &mut self.window,
+                };
+                opening.add_packs(folder.packs.as_str())?;
                 folder.listed = folder.listed.again(now);
                 is_listed = true;
             }
@@ -159,10 +168,10 @@ impl<'f, F: ObjectFiles, A: Allocator + Copy> ObjectStore<'f, F, A> {
         pack: usize,
         place: usize,
     ) -> Result<Option<RawEntry<A>>, StoreFault<A>> {
-        let Some(file) = self.packs.get_mut(pack) else {
+        let Some(file) = self.packs.get(pack) else {
             return Ok(None);
         };
-        match file.raw_entry(place) {
+        match file.raw_entry(&mut self.window, place) {
             Ok(entry) => Ok(entry),
             Err(cause) => Err(fault_at(self.alloc, file.path(), cause)),
         }
@@ -185,16 +194,16 @@ impl<'f, F: ObjectFiles, A: Allocator + Copy> ObjectStore<'f, F, A> {
     }
 
     fn bytes_at(&mut self, spot: Spot) -> Result<Vec<u8, A>, Cause> {
-        match self.packs.get_mut(spot.pack) {
-            Some(file) => file.bytes_at(spot.start),
+        match self.packs.get(spot.pack) {
+            Some(file) => file.bytes_at(&mut self.window, spot.start),
             None => Err(Cause::Base),
         }
     }
 
     /// The offset of the base of the entry that begins here; `None` if the entry is a whole object.
     pub(crate) fn base_at(&mut self, spot: Spot) -> Result<Option<usize>, Cause> {
-        match self.packs.get_mut(spot.pack) {
-            Some(file) => file.base_at(spot.start),
+        match self.packs.get(spot.pack) {
+            Some(file) => file.base_at(&mut self.window, spot.start),
             None => Err(Cause::Base),
         }
     }
@@ -282,46 +291,46 @@ fn pack_time<F: ObjectFiles, A: Allocator + Copy>(
     }
 }
 
-// Opens the packs of a folder that are not open yet.
-fn add_packs<F: ObjectFiles, A: Allocator + Copy>(
-    files: &F,
+// The packs of a store, while others are opened.
+#[derive(Drop)]
+struct Opening<'s, F: ObjectFiles, A: Allocator + Copy> {
+    files: &'s F,
     alloc: A,
-    packs: &mut Vec<PackFile<F::Pack, A>, A>,
-    folder: &str,
-) -> Result<(), StoreFault<A>> {
-    let stems = match stems_in(files, alloc, folder) {
-        Ok(stems) => stems,
-        Err(cause) => return Err(fault_at(alloc, folder, cause)),
-    };
-    for stem in &stems {
-        add_pack(files, alloc, packs, folder, stem.as_str())?;
-    }
-    Ok(())
+    packs: &'s mut Vec<PackFile<A>, A>,
+    window: &'s mut Window<F::Pack, A>,
 }
 
-fn stems_in<F: ObjectFiles, A: Allocator + Copy>(
-    files: &F,
-    alloc: A,
-    folder: &str,
-) -> Result<Vec<String<A>, A>, Cause> {
-    let names = files.list(alloc, folder)?;
-    index_stems(alloc, names.as_slice())
-}
+impl<F: ObjectFiles, A: Allocator + Copy> Opening<'_, F, A> {
+    // Opens the packs of a folder that are not open yet.
+    fn add_packs(&mut self, folder: &str) -> Result<(), StoreFault<A>> {
+        let stems = match self.stems_in(folder) {
+            Ok(stems) => stems,
+            Err(cause) => return Err(fault_at(self.alloc, folder, cause)),
+        };
+        for stem in &stems {
+            self.add_pack(folder, stem.as_str())?;
+        }
+        Ok(())
+    }
 
-// Opens a pack, if it is not open yet.
-fn add_pack<F: ObjectFiles, A: Allocator + Copy>(
-    files: &F,
-    alloc: A,
-    packs: &mut Vec<PackFile<F::Pack, A>, A>,
-    folder: &str,
-    stem: &str,
-) -> Result<(), StoreFault<A>> {
-    let path = pack_path(alloc, folder, stem, ".pack")?;
-    if packs.iter().any(|pack| pack.path() == path.as_str()) {
-        return Ok(());
+    fn stems_in(&self, folder: &str) -> Result<Vec<String<A>, A>, Cause> {
+        let names = self.files.list(self.alloc, folder)?;
+        index_stems(self.alloc, names.as_slice())
     }
-    if let Some(pack) = open_pack(files, alloc, folder, stem)? {
-        packs.push(pack)?;
+
+    // Opens a pack, if it is not open yet.
+    fn add_pack(&mut self, folder: &str, stem: &str) -> Result<(), StoreFault<A>> {
+        let path = pack_path(self.alloc, folder, stem, ".pack")?;
+        if self.is_open(path.as_str()) {
+            return Ok(());
+        }
+        if let Some(pack) = open_pack(self.files, self.alloc, self.window, folder, stem)? {
+            self.packs.push(pack)?;
+        }
+        Ok(())
     }
-    Ok(())
+
+    fn is_open(&self, path: &str) -> bool {
+        self.packs.iter().any(|pack| pack.path() == path)
+    }
 }
