@@ -4,3 +4,4 @@ pub mod Parts
 pub mod Alternates
 pub mod Listings
 pub mod Listed
+pub mod Heads

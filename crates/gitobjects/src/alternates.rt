@@ -4,7 +4,7 @@
 ghost use Rattle.std.specs.Prelude.{◌≡◌, ◌++◌, ◌∷◌, [], IfOk, OnOk, filter, map, string_bytes};
 ghost use Rattle.gitobjects.specs.Alternates.{NamesFolders, names_folder};
 
-use crate::fault::{Cause, StoreFault, fault_at};
+use crate::fault::{Cause, FileFault, StoreFault, fault_at};
 use crate::files::ObjectFiles;
 use crate::limits::{MAX_ALTERNATES, MAX_DEPTH, MAX_FOLDERS};
 use crate::listed::Listed;
@@ -19,6 +19,8 @@ pub(crate) struct Folder<A: Allocator + Copy> {
     pub(crate) path: String<A>,
     pub(crate) packs: String<A>,
     pub(crate) listed: Listed,
+    // The faults of the packs that are left out.
+    pub(crate) left_out: Vec<FileFault<A>, A>,
     // How many alternates lead to it.
     depth: usize,
 }
@@ -31,6 +33,7 @@ impl<A: Allocator + Copy> Folder<A> {
             path,
             packs,
             listed: Listed::Never,
+            left_out: Vec::new(alloc),
             depth,
         })
     }

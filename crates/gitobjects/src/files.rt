@@ -49,6 +49,15 @@ pub trait ObjectFiles {
         most: usize,
     ) -> Result<Option<Vec<u8, A>>, Cause>;
 
+    /// The first bytes of a file, `most` of them, or all if it has fewer; `None` if there is no such
+    /// file. It fails with `Open` and `Read`.
+    fn read_front<A: Allocator + Copy>(
+        &self,
+        alloc: A,
+        path: &str,
+        most: usize,
+    ) -> Result<Option<Vec<u8, A>>, Cause>;
+
     /// Whether there is a file with this path. It fails with `Open`.
     fn exists(&self, path: &str) -> Result<bool, Cause>;
 

@@ -93,6 +93,21 @@ impl<A: Allocator + Copy> ObjectFiles for MemoryFiles<A> {
         }
     }
 
+    fn read_front<B: Allocator + Copy>(
+        &self,
+        alloc: B,
+        path: &str,
+        most: usize,
+    ) -> Result<Option<Vec<u8, B>>, Cause> {
+        match self.bytes_of(path) {
+            Some(bytes) => {
+                let count = bytes.len().min(most);
+                Ok(Some(bytes[..count].to_vec(alloc)?))
+            }
+            None => Ok(None),
+        }
+    }
+
     fn exists(&self, path: &str) -> Result<bool, Cause> {
         for file in &self.files {
             let own = file.path.as_str();

@@ -7,6 +7,7 @@ use crate::limits::{MAX_INDEX, MAX_STREAM};
 use crate::order::{EntryOrder, HEADER, Start};
 use crate::paths::pack_path;
 use crate::window::Window;
+use gitobject::ObjectType;
 use gitpack::{EntryForm, MAX_HEAD, PackIndex, read_head};
 use gname::Oid;
 use gzlib::crc32_of;
@@ -23,6 +24,15 @@ pub(crate) struct PackFile<A: Allocator + Copy> {
     order: EntryOrder<A>,
     // Its number in the window.
     number: usize,
+}
+
+/// The form of an entry.
+#[derive(Clone, Copy, Debug, PartialEq, Eq)]
+pub(crate) enum LocalForm {
+    /// A whole object of this type.
+    Whole(ObjectType),
+    /// A delta of the entry that begins at this offset of the same pack.
+    Delta(usize),
 }
 
 /// Opens the pack that has this name in a folder, without its extension, and adds it to the window;
@@ -141,18 +151,17 @@ impl<A: Allocator + Copy> PackFile<A> {
         usize::try_from(self.index.offset(place)?).ok()
     }
 
-    /// The offset of the base of the entry that begins here; `None` if the entry is a whole object.
-    /// It fails with `Head`, and with `Base` if no entry begins here or the base is not in the
-    /// pack.
-    pub(crate) fn base_at<P: OpenPack + Drop>(
+    /// The form of the entry that begins here. It fails with `Head`, and with `Base` if no entry
+    /// begins here or the base is not in the pack.
+    pub(crate) fn form_at<P: OpenPack + Drop>(
         &self,
         window: &mut Window<P, A>,
         start: usize,
-    ) -> Result<Option<usize>, Cause> {
+    ) -> Result<LocalForm, Cause> {
         let length = self.length_of(start)?;
         let bytes = window.read(self.number, start, length.min(MAX_HEAD))?;
         match read_head(bytes.as_slice()) {
-            Some(head) => self.base_of(start, head.form),
+            Some(head) => self.local_form(start, head.form),
             None => Err(Cause::Head),
         }
     }
@@ -195,12 +204,12 @@ impl<A: Allocator + Copy> PackFile<A> {
 
     // The place in the index of the base of a delta; `None` if the entry is a whole object.
     fn base_place(&self, start: usize, form: EntryForm) -> Result<Option<usize>, Cause> {
-        match self.base_of(start, form)? {
-            Some(base) => match self.order.place_of(base) {
+        match self.local_form(start, form)? {
+            LocalForm::Delta(base) => match self.order.place_of(base) {
                 Some(place) => Ok(Some(place)),
                 None => Err(Cause::Base),
             },
-            None => Ok(None),
+            LocalForm::Whole(_) => Ok(None),
         }
     }
 
@@ -211,21 +220,27 @@ impl<A: Allocator + Copy> PackFile<A> {
         }
     }
 
-    // The offset of the base of an entry that begins here; `None` of a whole object.
-    fn base_of(&self, start: usize, form: EntryForm) -> Result<Option<usize>, Cause> {
+    // The form of an entry that begins here.
+    fn local_form(&self, start: usize, form: EntryForm) -> Result<LocalForm, Cause> {
         let base = match form {
-            EntryForm::Whole(_) => return Ok(None),
+            EntryForm::Whole(kind) => return Ok(LocalForm::Whole(kind)),
             EntryForm::OffsetDelta(back) if back > 0 => start.checked_sub(back),
             EntryForm::OffsetDelta(_) => None,
             EntryForm::RefDelta(id) => self.start_of_id(&id),
         };
         match base {
-            Some(base) => Ok(Some(base)),
+            Some(base) => Ok(LocalForm::Delta(base)),
             None => Err(Cause::Base),
         }
     }
 
-    fn start_of_id(&self, id: &Oid) -> Option<usize> {
+    /// The offset of the entry of the object with this id; `None` if it is not in the pack.
+    pub(crate) fn start_of_id(&self, id: &Oid) -> Option<usize> {
         self.start_of(self.index.find(id)?)
+    }
+
+    /// The id of the object whose entry begins here; `None` if none does.
+    pub(crate) fn id_at(&self, start: usize) -> Option<Oid> {
+        self.index.id(self.order.place_of(start)?)
     }
 }

@@ -125,6 +125,18 @@ impl<R: Files> ObjectFiles for StoredFiles<'_, R> {
         Ok(Some(read_bytes(alloc, &mut file, length)?))
     }
 
+    fn read_front<A: Allocator + Copy>(
+        &self,
+        alloc: A,
+        path: &str,
+        most: usize,
+    ) -> Result<Option<Vec<u8, A>>, Cause> {
+        let Some((mut file, length)) = open_file(self.files, path)? else {
+            return Ok(None);
+        };
+        Ok(Some(read_bytes(alloc, &mut file, length.min(most))?))
+    }
+
     fn exists(&self, path: &str) -> Result<bool, Cause> {
         match self.files.metadata(path) {
             Ok(_) => Ok(true),
