@@ -8,7 +8,7 @@ use crate::object::Object;
 use crate::pack::LocalForm;
 use crate::reader::ObjectReader;
 use gitobject::ObjectType;
-use gitpack::{EntryForm, apply_delta};
+use gitpack::{EntryForm, apply_delta, made_size};
 use gname::Oid;
 use std::alloc::Allocator;
 
@@ -32,6 +32,14 @@ fn at<T: Drop>(start: usize, outcome: Result<T, Cause>) -> Result<T, Broken> {
     match outcome {
         Ok(value) => Ok(value),
         Err(cause) => Err(Broken { start, cause }),
+    }
+}
+
+// Why a delta makes no object of its base.
+fn refusal(delta: &[u8]) -> Cause {
+    match made_size(delta) {
+        Some(size) if size > MAX_OBJECT => Cause::ObjectSize,
+        _ => Cause::Delta,
     }
 }
 
@@ -202,7 +210,7 @@ impl<F: ObjectFiles, A: Allocator + Copy> ObjectReader<'_, F, A> {
                 kind: base.kind,
                 body,
             }),
-            None => Err(Cause::Delta),
+            None => Err(refusal(text)),
         }
     }
 
