@@ -72,7 +72,7 @@ mod scanning;
 mod streams;
 mod writing;
 
-pub use crate::delta::apply_delta;
+pub use crate::delta::{apply_delta, made_size};
 pub use crate::entry::{EntryForm, EntryHead, MAX_HEAD, read_head};
 pub use crate::fault::PackFileFault;
 pub use crate::index::{IndexEntry, PackIndex};
