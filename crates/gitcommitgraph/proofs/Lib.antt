@@ -1,0 +1,4 @@
+pub mod OrderLemmas
+pub mod ParentLemmas
+pub mod RowLemmas
+pub mod TextLemmas

@@ -1,5 +1,9 @@
 //! The file `commit-graph-chain`.
 
+ghost use Rattle.std.specs.Prelude.{◌≡◌, ◌≢◌, List, IfOk, MatchOption, take, drop};
+ghost use Rattle.gname.specs.Ids.{Id};
+ghost use Rattle.gitcommitgraph.specs.Chains.{IsChainText, IsLine};
+
 use gname::Oid;
 use std::alloc::{AllocError, Allocator};
 
@@ -9,29 +13,39 @@ const DIGITS: usize = 40;
 // The bytes of a line: an id and LF.
 const LINE: usize = 41;
 
-/// The checksums of the files of a chain.
+/// The checksums of the files of a chain, the lowest file first, in the text of the file
+/// `commit-graph-chain`; `None` of any other text. It fails only out of memory.
 pub fn parse_chain<A: Allocator + Copy>(
     alloc: A,
     text: &[u8],
-) -> Result<Option<Vec<Oid, A>>, AllocError> {
-    let (lines, rest) = text.as_chunks::<LINE>();
-    if !rest.is_empty() {
-        return Ok(None);
-    }
+) -> Result<Option<Vec<Oid, A>>, AllocError>
+    ensures { IfOk result (λ found. MatchOption found ((ids : List Id) → ¬ IsChainText ids text.now)
+        (λ ids. IsChainText ids.items text.now)) }
+{
     let mut ids = Vec::new(alloc);
+    let (lines, rest) = text.as_chunks::<LINE>();
     for line in lines {
         let Some(id) = read_line(line) else {
             return Ok(None);
         };
         ids.push(id)?;
     }
-    Ok(Some(ids))
+    if rest.is_empty() {
+        Ok(Some(ids))
+    } else {
+        Ok(None)
+    }
 }
 
 // The id in a line.
-fn read_line(line: &[u8; LINE]) -> Option<Oid> {
+fn read_line(line: &[u8; LINE]) -> Option<Oid>
+    ensures { MatchOption result ((id : Id) → ¬ IsLine id line.now) (λ id. IsLine id line.now) }
+{
     if line[DIGITS] != b'\n' {
         return None;
     }
-    Oid::from_hex(&line[..DIGITS]).ok()
+    match Oid::from_hex(&line[..DIGITS]) {
+        Ok(id) => Some(id),
+        Err(_) => None,
+    }
 }

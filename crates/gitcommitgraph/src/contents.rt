@@ -1,7 +1,11 @@
 //! The header and the table of contents of a file (gitformat-commit-graph(5), "HEADER" and "CHUNK
 //! LOOKUP"; gitformat-chunk(5)).
 
-/// The bytes of the header.
+ghost use Rattle.std.specs.Prelude.{◌≡◌, ◌-◌, ◌+◌, ◌<◌, ◌≤◌, ◌++◌, ◌*◌, List, ℕ, IfSome, IsTrue, MatchOption, length, slice_index_or};
+ghost use Rattle.gitcommitgraph.specs.Texts.{header};
+ghost use Rattle.gitcommitgraph.specs.steps.Rows.{AreDistinct, AreRows, IsRising, IsSpan, IsTable, LacksName, row_name, row_offset};
+
+// The bytes of the header.
 const HEADER_BYTES: usize = 8;
 
 // The signature, version 1, and the number of SHA-1.
@@ -9,7 +13,7 @@ const SIGNATURE: &[u8; 6] = b"CGPH\x01\x01";
 
 /// The bytes of a row of the table of contents: the name of a chunk, and the offset at which it
 /// begins.
-const ROW_BYTES: usize = 12;
+pub(crate) const ENTRY_BYTES: usize = 12;
 
 // The name in the last row.
 const NO_NAME: &[u8; 4] = b"\0\0\0\0";
@@ -17,7 +21,7 @@ const NO_NAME: &[u8; 4] = b"\0\0\0\0";
 /// What the header says: the number of chunks, and of base graphs.
 #[derive(Clone, Copy, Drop)]
 pub(crate) struct Header {
-    chunks: u8,
+    pub(crate) chunks: u8,
     pub(crate) bases: u8,
 }
 
@@ -28,33 +32,27 @@ pub(crate) struct Span {
     pub(crate) end: usize,
 }
 
-impl Span {
-    /// The number of its bytes.
-    pub(crate) fn len(&self) -> usize {
-        self.end - self.start
-    }
-}
-
-/// No byte.
-pub(crate) const NOWHERE: Span = Span { start: 0, end: 0 };
-
-/// The header with which some bytes begin, and the bytes after it.
-pub(crate) fn split_header(bytes: &[u8]) -> Option<(Header, &[u8])> {
+/// The header with which some bytes begin.
+pub(crate) fn read_header(bytes: &[u8]) -> Option<Header>
+    ensures { IfSome result (λ head. (rest : List ℕ) × (bytes.now ≡ header head.chunks head.bases ++ rest)) }
+{
     let after = bytes.strip_prefix(SIGNATURE)?;
-    let (counts, rest) = after.split_first_chunk::<2>()?;
-    let [chunks, bases] = *counts;
-    Some((Header { chunks, bases }, rest))
+    let counts = after.first_chunk::<2>()?;
+    Some(Header {
+        chunks: counts[0],
+        bases: counts[1],
+    })
 }
 
-/// The rows of the table of contents, of which the bytes after the header are the table and the
-/// chunks. It is `None` if the chunks do not lie one after the other up to the end, or if two have
-/// the same name.
-pub(crate) fn read_rows<'a>(header: &Header, rest: &'a [u8]) -> Option<&'a [[u8; ROW_BYTES]]> {
-    let count = usize::from(header.chunks) + 1;
-    let (table, chunks) = rest.split_at_checked(count * ROW_BYTES)?;
-    let (rows, _none) = table.as_chunks::<ROW_BYTES>();
-    let start = HEADER_BYTES + count * ROW_BYTES;
-    if are_rows(rows, start as u64, (start + chunks.len()) as u64) {
+/// The rows of the table of contents of so many chunks, in a file without its trailer. It is `None`
+/// if the chunks do not lie one after the other up to the end, or if two have the same name.
+pub(crate) fn read_rows(chunks: u8, body: &[u8]) -> Option<&[[u8; ENTRY_BYTES]]>
+    ensures { IfSome result (λ rows. IsTable chunks body.now rows.now) }
+{
+    let start = HEADER_BYTES + (usize::from(chunks) + 1) * ENTRY_BYTES;
+    let table = body.get(HEADER_BYTES..start)?;
+    let (rows, _rest) = table.as_chunks::<ENTRY_BYTES>();
+    if are_rows(rows, start as u64, body.len() as u64) {
         Some(rows)
     } else {
         None
@@ -62,19 +60,35 @@ pub(crate) fn read_rows<'a>(header: &Header, rest: &'a [u8]) -> Option<&'a [[u8;
 }
 
 // Whether rows are those of chunks between these offsets.
-fn are_rows(rows: &[[u8; ROW_BYTES]], start: u64, end: u64) -> bool {
+fn are_rows(rows: &[[u8; ENTRY_BYTES]], start: u64, end: u64) -> bool
+    ensures { IsTrue result → AreRows start end rows.now }
+{
     let (Some(first), Some(last)) = (rows.first(), rows.last()) else {
         return false;
     };
-    offset_of(first) == start
-        && offset_of(last) == end
-        && name_of(last) == NO_NAME
-        && rows.is_sorted_by(|one, other| offset_of(one) <= offset_of(other))
-        && are_distinct(rows)
+    if offset_of(first) != start {
+        return false;
+    }
+    if offset_of(last) != end {
+        return false;
+    }
+    if name_of(last) != NO_NAME {
+        return false;
+    }
+    is_rising(rows) && are_distinct(rows)
+}
+
+// Whether no row has a lower offset than the one before.
+fn is_rising(rows: &[[u8; ENTRY_BYTES]]) -> bool
+    ensures { IsTrue result → IsRising rows.now }
+{
+    rows.is_sorted_by(|one, other| offset_of(one) <= offset_of(other))
 }
 
 // Whether no two rows have the same name.
-fn are_distinct(rows: &[[u8; ROW_BYTES]]) -> bool {
+fn are_distinct(rows: &[[u8; ENTRY_BYTES]]) -> bool
+    ensures { IsTrue result → AreDistinct rows.now }
+{
     for (place, row) in rows.iter().enumerate() {
         if place_of(&rows[..place], name_of(row)).is_some() {
             return false;
@@ -84,22 +98,40 @@ fn are_distinct(rows: &[[u8; ROW_BYTES]]) -> bool {
 }
 
 // The place of the first row with this name.
-fn place_of(rows: &[[u8; ROW_BYTES]], name: &[u8; 4]) -> Option<usize> {
-    rows.iter().position(|row| name_of(row) == name)
+fn place_of(rows: &[[u8; ENTRY_BYTES]], name: &[u8; 4]) -> Option<usize>
+    ensures { MatchOption result
+        ((k : ℕ) (d : List ℕ) → k < length rows.now → ¬ (row_name (slice_index_or rows.now k d) ≡ name.now))
+        (λ place. (place < length rows.now)
+        × ((d : List ℕ) → row_name (slice_index_or rows.now place d) ≡ name.now)
+        × ((k : ℕ) (d : List ℕ) → k < place → ¬ (row_name (slice_index_or rows.now k d) ≡ name.now))) }
+{
+    for (place, row) in rows.iter().enumerate() {
+        if name_of(row) == name {
+            return Some(place);
+        }
+    }
+    None
 }
 
 // The name in a row.
-fn name_of(row: &[u8; ROW_BYTES]) -> &[u8; 4] {
+fn name_of(row: &[u8; ENTRY_BYTES]) -> &[u8; 4]
+    ensures { result.now ≡ row_name row.now }
+{
     row.first_chunk::<4>().unwrap()
 }
 
 // The offset in a row.
-fn offset_of(row: &[u8; ROW_BYTES]) -> u64 {
+#[tactic(auto, unfolding(crate::specs::steps::Rows::row_offset))]
+fn offset_of(row: &[u8; ENTRY_BYTES]) -> u64
+    ensures { result ≡ row_offset row.now }
+{
     u64::from_be_bytes(*row.last_chunk::<8>().unwrap())
 }
 
 /// Where the chunk with this name lies; `None` if there is none.
-pub(crate) fn span_of(rows: &[[u8; ROW_BYTES]], name: &[u8; 4]) -> Option<Span> {
+pub(crate) fn span_of(rows: &[[u8; ENTRY_BYTES]], name: &[u8; 4]) -> Option<Span>
+    ensures { MatchOption result (LacksName rows.now name.now) (IsSpan rows.now name.now) }
+{
     let place = place_of(rows, name)?;
     let start = offset_of(rows.get(place)?) as usize;
     let end = offset_of(rows.get(place + 1)?) as usize;

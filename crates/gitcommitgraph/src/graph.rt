@@ -1,15 +1,25 @@
 //! Commit-graphs of one file or several.
 
+ghost use Rattle.std.specs.Prelude.{◌≡◌, ◌≢◌, ◌==◌, ◌<◌, ◌≤◌, [], ℕ, All, IfOk, IfSome, MatchOption, OnErr, OnOk, length};
+ghost use Rattle.std.specs.List.{HoldsAt};
+ghost use Rattle.gname.specs.Ids.{IsIdOf};
+ghost use Rattle.gname.specs.declared.formats.Format.TheVariants.{Sha1};
+ghost use Rattle.gitcommitgraph.specs.Chains.{AddsFile, graph_commits};
+ghost use Rattle.gitcommitgraph.specs.Files.{Commit, file_commits};
+ghost use Rattle.gitcommitgraph.specs.steps.Chains.{IsIn};
+
 use crate::fault::CommitGraphFault;
 use crate::layer::Layer;
 use crate::position::Position;
+use crate::tables::ID_BYTES;
 use gname::Oid;
 use std::alloc::{AllocError, Allocator};
+use std::marker::Model;
 
-// The most commits, as the next position says that there is no parent.
+// The most commits. The next number says that there is no parent.
 const MAX_COMMITS: usize = 0x7000_0000;
 
-/// A commit-graph: one file, or the files of a chain.
+/// A commit-graph: a file, or the files of a chain.
 #[derive(Drop)]
 pub struct CommitGraph<A: Allocator + Copy> {
     alloc: A,
@@ -17,9 +27,23 @@ pub struct CommitGraph<A: Allocator + Copy> {
     count: usize,
 }
 
+impl<A: Allocator + Copy> Model for CommitGraph<A> {
+    ghost use Rattle.std.specs.Prelude.{List};
+    ghost use Rattle.gitcommitgraph.specs.Files.{GraphFile};
+    ghost use Rattle.gitcommitgraph.specs.steps.Chains.{IsGraph};
+
+    ghost Value = { List GraphFile };
+
+    ghost view = { λ graph. graph.layers.items };
+
+    ghost invariant = { λ graph. IsGraph graph.count graph.layers.items };
+}
+
 impl<A: Allocator + Copy> CommitGraph<A> {
-    /// A commit-graph of no file, which has no commit.
-    pub fn new(alloc: A) -> CommitGraph<A> {
+    /// A commit-graph of no file. It takes no memory.
+    pub fn new(alloc: A) -> CommitGraph<A>
+        ensures { result ≡ [] }
+    {
         CommitGraph {
             alloc,
             layers: Vec::new(alloc),
@@ -27,8 +51,16 @@ impl<A: Allocator + Copy> CommitGraph<A> {
         }
     }
 
-    /// Adds the next file of a chain, or the only one.
-    pub fn add(&mut self, bytes: Vec<u8, A>) -> Result<(), CommitGraphFault> {
+    /// Adds the next file of a chain, of which the lowest comes first, or a file alone. The bytes are
+    /// kept as they are. Their checksum is not tested.
+    ///
+    /// It fails if the bytes have not the form of a file, if its base graphs are not the files
+    /// before, if a parent is not in the commit-graph, or out of memory. The commit-graph is then as
+    /// it was.
+    pub fn add(&mut self, bytes: Vec<u8, A>) -> Result<(), CommitGraphFault>
+        ensures ok { OnOk result (AddsFile self.old bytes.items self.new) }
+        ensures err { OnErr result (self.new ≡ self.old) }
+    {
         let layer = Layer::read(bytes)?;
         if !layer.is_above(self.layers.as_slice()) {
             return Err(CommitGraphFault::Bases);
@@ -37,7 +69,7 @@ impl<A: Allocator + Copy> CommitGraph<A> {
         if count > MAX_COMMITS {
             return Err(CommitGraphFault::TooMany);
         }
-        if !layer.tables().parents_are_before(count) {
+        if !layer.parents_are_before(count) {
             return Err(CommitGraphFault::Parents);
         }
         self.layers.push(layer)?;
@@ -46,18 +78,26 @@ impl<A: Allocator + Copy> CommitGraph<A> {
     }
 
     /// The number of commits.
-    pub fn len(&self) -> usize {
+    pub fn len(&self) -> usize
+        ensures { result ≡ length (graph_commits self.now) }
+    {
         self.count
     }
 
     /// Whether there is no commit.
-    pub fn is_empty(&self) -> bool {
+    pub fn is_empty(&self) -> bool
+        ensures { result ≡ (length (graph_commits self.now) == 0) }
+    {
         self.count == 0
     }
 
-    /// The position of the commit with this id.
-    pub fn find(&self, id: &Oid) -> Option<Position> {
-        let id = id.as_bytes().as_array::<20>()?;
+    /// The position of a commit with this id; `None` if there is none.
+    pub fn find(&self, id: &Oid) -> Option<Position>
+        ensures { MatchOption result (All (λ commit. commit.id ≢ id.now) (graph_commits self.now))
+            (λ position. (position < length (graph_commits self.now))
+            × HoldsAt (λ commit. commit.id ≡ id.now) (graph_commits self.now) position) }
+    {
+        let id = id.as_bytes().as_array::<ID_BYTES>()?;
         let mut start = 0;
         for layer in &self.layers {
             if let Some(place) = layer.find(id) {
@@ -69,23 +109,38 @@ impl<A: Allocator + Copy> CommitGraph<A> {
     }
 
     /// The id of the commit at this position.
-    pub fn id(&self, position: Position) -> Oid {
+    pub fn id(&self, position: Position) -> Oid
+        requires { position < length (graph_commits self.now) }
+        ensures id { HoldsAt (λ commit. commit.id ≡ result) (graph_commits self.now) position }
+        ensures format { IsIdOf Sha1 result }
+    {
         let (layer, place) = self.at(position).unwrap();
         layer.id(place)
     }
 
-    /// The positions of the parents of the commit at this position.
+    /// The positions of the parents of the commit at this position, in order; `None` if there are
+    /// more than so many. It fails only out of memory.
     pub fn parents_of(
         &self,
         position: Position,
         most: usize,
-    ) -> Result<Option<Vec<Position, A>>, AllocError> {
+    ) -> Result<Option<Vec<Position, A>>, AllocError>
+        requires { position < length (graph_commits self.now) }
+        ensures parents { IfOk result (λ found. HoldsAt (λ commit. MatchOption found
+            (most < length commit.parents) (λ list. (list.items ≡ commit.parents) × (length commit.parents ≤ most)))
+            (graph_commits self.now) position) }
+        ensures inside { IfOk result (λ found. IfSome found (λ list.
+            All (λ parent. parent < length (graph_commits self.now)) list.items)) }
+    {
         let (layer, place) = self.at(position).unwrap();
         layer.parents_of(self.alloc, place, most)
     }
 
     // The file in which the commit at this position is, and its place there.
-    fn at(&self, position: Position) -> Option<(&Layer<A>, usize)> {
+    fn at(&self, position: Position) -> Option<(&Layer<A>, usize)>
+        ensures { MatchOption result (length (graph_commits self.now) ≤ position)
+            (λ found. IsIn self.now position found.0.now found.1) }
+    {
         let mut place = position.index();
         for layer in &self.layers {
             if place < layer.len() {

@@ -1,16 +1,34 @@
 //! A file of a commit-graph.
 
-use crate::contents::{NOWHERE, Span, read_rows, span_of, split_header};
+ghost use Rattle.std.specs.Prelude.{◌≡◌, ◌*◌, ◌<◌, ◌≤◌, All, IfOk, IfSome, IsTrue, MatchOption, length, map};
+ghost use Rattle.std.specs.List.{HoldsAt};
+ghost use Rattle.gname.specs.Ids.{IsIdOf};
+ghost use Rattle.gname.specs.declared.formats.Format.TheVariants.{Sha1};
+ghost use Rattle.gitcommitgraph.specs.Chains.{HasParentsBelow, checksum_of};
+ghost use Rattle.gitcommitgraph.specs.Files.{IsGraphFile, file_commits};
+ghost use Rattle.gitcommitgraph.specs.Texts.{IsGraphText};
+ghost use Rattle.gitcommitgraph.specs.steps.Layers.{ArePlaces, AreWithin, HaveLengths, IsCut, IsWithin, MayBeSpan, size, table};
+ghost use Rattle.gitcommitgraph.specs.steps.Tables.{IsFanOut, IsPlaceOf};
+
+use crate::contents::{ENTRY_BYTES, Span, read_header, read_rows, span_of};
 use crate::fault::CommitGraphFault;
 use crate::position::Position;
 use crate::tables::{ID_BYTES, ROW_BYTES, Tables};
 use gname::Oid;
+use gname::laws::ids_have_one_format;
 use std::alloc::{AllocError, Allocator};
+use std::marker::Model;
 
-// The rows of the fan-out table.
-const FAN_OUT: usize = 256;
+// The bytes of the fan-out table.
+const FAN_OUT_BYTES: usize = 1_024;
 
-// Where the chunks lie.
+// The bytes of an edge.
+const EDGE_BYTES: usize = 4;
+
+// No byte.
+const NOWHERE: Span = Span { start: 0, end: 0 };
+
+// Where the chunks of a file lie.
 #[derive(Clone, Copy, Drop)]
 struct Places {
     fan_out: Span,
@@ -27,9 +45,23 @@ pub(crate) struct Layer<A: Allocator + Copy> {
     places: Places,
 }
 
+impl<A: Allocator + Copy> Model for Layer<A> {
+    ghost use Rattle.gitcommitgraph.specs.Files.{GraphFile};
+
+    ghost Value = { GraphFile };
+
+    ghost use Rattle.gitcommitgraph.specs.steps.Layers.{IsFileAt, file_at};
+
+    ghost view = { λ layer. file_at layer.bytes.items layer.places };
+
+    ghost invariant = { λ layer. IsFileAt layer.bytes.items layer.places };
+}
+
 impl<A: Allocator + Copy> Layer<A> {
     /// The file with these bytes.
-    pub(crate) fn read(bytes: Vec<u8, A>) -> Result<Layer<A>, CommitGraphFault> {
+    pub(crate) fn read(bytes: Vec<u8, A>) -> Result<Layer<A>, CommitGraphFault>
+        ensures { IfOk result (λ file. IsGraphText file bytes.items) }
+    {
         let places = read_places(bytes.as_slice())?;
         let tables = tables_of(bytes.as_slice(), &places);
         if !tables.are_ascending() {
@@ -44,39 +76,59 @@ impl<A: Allocator + Copy> Layer<A> {
         Ok(Layer { bytes, places })
     }
 
-    /// Its tables.
-    pub(crate) fn tables(&self) -> Tables<'_> {
-        tables_of(self.bytes.as_slice(), &self.places)
-    }
-
     /// The number of commits.
-    pub(crate) fn len(&self) -> usize {
+    pub(crate) fn len(&self) -> usize
+        ensures { result ≡ length (file_commits self.now) }
+    {
         self.tables().ids.len()
     }
 
     /// The place of the commit with this id.
-    pub(crate) fn find(&self, id: &[u8; ID_BYTES]) -> Option<usize> {
+    pub(crate) fn find(&self, id: &[u8; ID_BYTES]) -> Option<usize>
+        ensures { IsPlaceOf self.now.ids id.now result }
+    {
         self.tables().find(id)
     }
 
     /// The id of the commit at this place.
-    pub(crate) fn id(&self, place: usize) -> Oid {
+    pub(crate) fn id(&self, place: usize) -> Oid
+        requires { place < length (file_commits self.now) }
+        ensures id { HoldsAt (λ commit. commit.id ≡ result) (file_commits self.now) place }
+        ensures format { IsIdOf Sha1 result }
+    {
+        // Law.
+        ids_have_one_format();
         Oid::from_bytes(&self.tables().ids[place]).unwrap()
     }
 
-    /// The parents of the commit at this place.
+    /// The parents of the commit at this place; `None` if there are more than so many. It fails only
+    /// out of memory.
     pub(crate) fn parents_of(
         &self,
         alloc: A,
         place: usize,
         most: usize,
-    ) -> Result<Option<Vec<Position, A>>, AllocError> {
+    ) -> Result<Option<Vec<Position, A>>, AllocError>
+        requires { place < length (file_commits self.now) }
+        ensures { IfOk result (λ found. HoldsAt (λ commit. MatchOption found (most < length commit.parents)
+            (λ list. (list.items ≡ commit.parents) × (length commit.parents ≤ most)))
+            (file_commits self.now) place) }
+    {
         self.tables().parents_of(alloc, place, most)
     }
 
+    /// Whether each parent of a commit is before this position.
+    pub(crate) fn parents_are_before(&self, end: usize) -> bool
+        ensures { IsTrue result → All (HasParentsBelow end) (file_commits self.now) }
+    {
+        self.tables().parents_are_before(end)
+    }
+
     /// Whether its base graphs are these files.
-    pub(crate) fn is_above(&self, layers: &[Layer<A>]) -> bool {
-        let bases = cut_rows::<ID_BYTES>(self.bytes.as_slice(), &self.places.bases);
+    pub(crate) fn is_above(&self, layers: &[Layer<A>]) -> bool
+        ensures { IsTrue result → (self.now.bases ≡ map checksum_of layers.now) }
+    {
+        let bases = self.bases();
         if bases.len() != layers.len() {
             return false;
         }
@@ -88,56 +140,105 @@ impl<A: Allocator + Copy> Layer<A> {
         true
     }
 
+    // The checksums of its base graphs.
+    fn bases(&self) -> &[[u8; ID_BYTES]]
+        ensures { result.now ≡ self.now.bases }
+    {
+        cut_rows(self.bytes.as_slice(), &self.places.bases)
+    }
+
     // The trailer.
-    fn checksum(&self) -> &[u8; ID_BYTES] {
+    fn checksum(&self) -> &[u8; ID_BYTES]
+        ensures { result.now ≡ self.now.checksum }
+    {
         self.bytes.as_slice().last_chunk::<ID_BYTES>().unwrap()
+    }
+
+    // The tables.
+    fn tables(&self) -> Tables<'_>
+        ensures ids { result.ids.now ≡ self.now.ids }
+        ensures rows { result.rows.now ≡ self.now.rows }
+        ensures edges { result.edges.now ≡ self.now.edges }
+        ensures fan_out { IsFanOut result.fan_out.now self.now.ids }
+        ensures formed { IsGraphFile self.now }
+    {
+        tables_of(self.bytes.as_slice(), &self.places)
     }
 }
 
 // Where the chunks of a file lie. They have the right lengths.
-fn read_places(bytes: &[u8]) -> Result<Places, CommitGraphFault> {
+fn read_places(bytes: &[u8]) -> Result<Places, CommitGraphFault>
+    ensures { IfOk result (IsCut bytes.now) }
+{
     let Some((body, _checksum)) = bytes.split_last_chunk::<ID_BYTES>() else {
         return Err(CommitGraphFault::Header);
     };
-    let Some((header, rest)) = split_header(body) else {
+    let Some(header) = read_header(body) else {
         return Err(CommitGraphFault::Header);
     };
-    let Some(rows) = read_rows(&header, rest) else {
+    let Some(rows) = read_rows(header.chunks, body) else {
         return Err(CommitGraphFault::Contents);
     };
     let Some(places) = find_places(rows) else {
         return Err(CommitGraphFault::Chunk);
     };
-    if have_lengths(&places, usize::from(header.bases)) {
-        Ok(places)
-    } else {
-        Err(CommitGraphFault::Chunk)
+    if !have_lengths(&places, usize::from(header.bases)) {
+        return Err(CommitGraphFault::Chunk);
     }
+    Ok(places)
 }
 
-fn find_places(rows: &[[u8; 12]]) -> Option<Places> {
+// Where the chunks of these rows lie.
+fn find_places(rows: &[[u8; ENTRY_BYTES]]) -> Option<Places>
+    ensures { IfSome result (ArePlaces rows.now) }
+{
     Some(Places {
         fan_out: span_of(rows, b"OIDF")?,
         ids: span_of(rows, b"OIDL")?,
         rows: span_of(rows, b"CDAT")?,
-        edges: span_of(rows, b"EDGE").unwrap_or(NOWHERE),
-        bases: span_of(rows, b"BASE").unwrap_or(NOWHERE),
+        edges: optional_span_of(rows, b"EDGE"),
+        bases: optional_span_of(rows, b"BASE"),
     })
 }
 
-fn have_lengths(places: &Places, bases: usize) -> bool {
-    let ids = places.ids.len();
-    let commits = ids / ID_BYTES;
-    places.fan_out.len() == 4 * FAN_OUT
-        && ids == commits * ID_BYTES
-        && places.rows.len() / ROW_BYTES == commits
-        && places.rows.len() % ROW_BYTES == 0
-        && places.edges.len() % 4 == 0
-        && places.bases.len() == bases * ID_BYTES
+// Where a chunk lies that may not be there.
+fn optional_span_of(rows: &[[u8; ENTRY_BYTES]], name: &[u8; 4]) -> Span
+    ensures { MayBeSpan rows.now name.now result }
+{
+    match span_of(rows, name) {
+        Some(span) => span,
+        None => NOWHERE,
+    }
+}
+
+// Whether the chunks of a file with so many base graphs have their lengths.
+fn have_lengths(places: &Places, bases: usize) -> bool
+    requires { bases < 256 }
+    ensures { IsTrue result → HaveLengths places.now bases }
+{
+    size_of(&places.fan_out) == FAN_OUT_BYTES
+        && size_of(&places.ids) % ID_BYTES == 0
+        && size_of(&places.rows) % ROW_BYTES == 0
+        && size_of(&places.rows) / ROW_BYTES == size_of(&places.ids) / ID_BYTES
+        && size_of(&places.edges) % EDGE_BYTES == 0
+        && size_of(&places.bases) == bases * ID_BYTES
+}
+
+// How many bytes lie there.
+fn size_of(span: &Span) -> usize
+    ensures { result ≡ size span.now }
+{
+    span.end.saturating_sub(span.start)
 }
 
 // The tables at these places.
-fn tables_of<'a>(bytes: &'a [u8], places: &Places) -> Tables<'a> {
+fn tables_of<'a>(bytes: &'a [u8], places: &Places) -> Tables<'a>
+    requires { AreWithin bytes.now places.now }
+    ensures fan_out { result.fan_out.now ≡ table 4 bytes.now places.now.fan_out }
+    ensures ids { result.ids.now ≡ table 20 bytes.now places.now.ids }
+    ensures rows { result.rows.now ≡ table 36 bytes.now places.now.rows }
+    ensures edges { result.edges.now ≡ table 4 bytes.now places.now.edges }
+{
     Tables {
         fan_out: cut_rows(bytes, &places.fan_out),
         ids: cut_rows(bytes, &places.ids),
@@ -146,8 +247,12 @@ fn tables_of<'a>(bytes: &'a [u8], places: &Places) -> Tables<'a> {
     }
 }
 
-// The rows of a table.
-fn cut_rows<'a, const N: usize>(bytes: &'a [u8], place: &Span) -> &'a [[u8; N]] {
-    let (rows, _rest) = bytes[place.start..place.end].as_chunks::<N>();
+// The rows of the table that lies there.
+fn cut_rows<'a, const N: usize>(bytes: &'a [u8], span: &Span) -> &'a [[u8; N]]
+    requires some { 0 < N }
+    requires within { IsWithin bytes.now span.now }
+    ensures { result.now ≡ table N bytes.now span.now }
+{
+    let (rows, _rest) = bytes[span.start..span.end].as_chunks::<N>();
     rows
 }

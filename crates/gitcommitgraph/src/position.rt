@@ -1,5 +1,7 @@
 //! Positions of commits.
 
+ghost use Rattle.std.specs.Prelude.{◌≡◌};
+
 use std::marker::Model;
 
 /// The position of a commit in a commit-graph: how many commits are before it. The positions of a
@@ -10,7 +12,7 @@ pub struct Position {
 }
 
 impl Model for Position {
-    ghost use Rattle.std.specs.Prelude.{ℕ, refl};
+    ghost use Rattle.std.specs.Prelude.{ℕ};
 
     ghost Value = { ℕ };
 
@@ -20,12 +22,17 @@ impl Model for Position {
 }
 
 impl Position {
-    pub(crate) fn new(number: u32) -> Position {
+    /// The position with this number.
+    pub(crate) fn new(number: u32) -> Position
+        ensures { result ≡ number }
+    {
         Position { number }
     }
 
-    /// The position as an index.
-    pub fn index(self) -> usize {
+    /// The number of commits before it.
+    pub fn index(self) -> usize
+        ensures { result ≡ self }
+    {
         self.number as usize
     }
 }

@@ -1,8 +1,13 @@
 //! The tables of a file (gitformat-commit-graph(5), "CHUNK DATA").
 
+ghost use Rattle.std.specs.Prelude.{◌≡◌, ◌≢◌, ◌-◌, ◌+◌, ◌<◌, ◌≤◌, ◌++◌, ◌↔◌, [], All, IfOk, IsTrue, MatchOption, count_by, drop, length, slice_index, slice_index_or};
+ghost use Rattle.gitcommitgraph.specs.Chains.{HasParentsBelow};
+ghost use Rattle.gitcommitgraph.specs.Files.{HasEnd, IsAscending, commits_of, edge_list, first_parent, number, row_parents, second_parent};
+ghost use Rattle.gitcommitgraph.specs.Texts.{begins_within};
+ghost use Rattle.gitcommitgraph.specs.steps.Tables.{AreBetween, IsBefore, IsEdgeBefore, IsFanOut, IsPlaceOf, IsRowBefore, LastIsMarked, NamesEdge};
+
 use crate::position::Position;
 use std::alloc::{AllocError, Allocator};
-use std::cmp::Ordering;
 
 /// The bytes of an id.
 pub(crate) const ID_BYTES: usize = 20;
@@ -10,14 +15,18 @@ pub(crate) const ID_BYTES: usize = 20;
 /// The bytes of a row of the commit data.
 pub(crate) const ROW_BYTES: usize = 36;
 
-// The number in the place of a parent that is not there.
+// Where the numbers of the two parents begin in a row.
+const FIRST_PARENT: usize = 20;
+
+const SECOND_PARENT: usize = 24;
+
+// The number where there is no parent.
 const NO_PARENT: u32 = 0x7000_0000;
 
-// The bit of the last edge of a list, and of a second parent that names a list.
-const MARK: u32 = 1 << 31;
+// The bit of the last edge of a list, and of a second parent that names the place of a list.
+const MARK: u32 = 0x8000_0000;
 
-/// The tables of a file: for each byte, how many ids begin with it or a lower one; the ids; a row of
-/// commit data for each; and the edges.
+/// The tables of a file: the fan-out table, the ids, a row of commit data for each, and the edges.
 #[derive(Clone, Copy)]
 pub(crate) struct Tables<'a> {
     pub(crate) fan_out: &'a [[u8; 4]],
@@ -28,16 +37,24 @@ pub(crate) struct Tables<'a> {
 
 impl Tables<'_> {
     /// The place of an id; `None` if it is not there.
-    pub(crate) fn find(&self, id: &[u8; ID_BYTES]) -> Option<usize> {
+    pub(crate) fn find(&self, id: &[u8; ID_BYTES]) -> Option<usize>
+        requires ascending { IsAscending self.now.ids.now }
+        requires fan_out { IsFanOut self.now.fan_out.now self.now.ids.now }
+        ensures { IsPlaceOf self.now.ids.now id.now result }
+    {
         let (start, end) = self.places_of(id[0]);
-        match self.ids[start..end].binary_search_by(|other| other.cmp(id)) {
-            Ok(place) => Some(start + place),
-            Err(_) => None,
+        match search(&self.ids[start..end], id) {
+            Some(place) => Some(start + place),
+            None => None,
         }
     }
 
-    // The places of the ids that begin with this byte.
-    fn places_of(&self, byte: u8) -> (usize, usize) {
+    // The places between which the ids begin with this byte.
+    fn places_of(&self, byte: u8) -> (usize, usize)
+        requires ascending { IsAscending self.now.ids.now }
+        requires fan_out { IsFanOut self.now.fan_out.now self.now.ids.now }
+        ensures { AreBetween byte self.now.ids.now result.0 result.1 }
+    {
         let end = self.ids_within(byte);
         if byte == 0 {
             return (0, end);
@@ -46,7 +63,10 @@ impl Tables<'_> {
     }
 
     // How many ids begin with this byte or a lower one.
-    fn ids_within(&self, byte: u8) -> usize {
+    fn ids_within(&self, byte: u8) -> usize
+        requires { IsFanOut self.now.fan_out.now self.now.ids.now }
+        ensures { result ≡ count_by (begins_within byte) self.now.ids.now }
+    {
         number(&self.fan_out[usize::from(byte)]) as usize
     }
 
@@ -57,7 +77,14 @@ impl Tables<'_> {
         alloc: A,
         place: usize,
         most: usize,
-    ) -> Result<Option<Vec<Position, A>>, AllocError> {
+    ) -> Result<Option<Vec<Position, A>>, AllocError>
+        requires inside { place < length self.now.rows.now }
+        requires ended { All (HasEnd self.now.edges.now) self.now.rows.now }
+        ensures { IfOk result (λ found. MatchOption found
+            (most < length (row_parents self.now.edges.now (slice_index_or self.now.rows.now place [])))
+            (λ list. (list.items ≡ row_parents self.now.edges.now (slice_index_or self.now.rows.now place []))
+            × (length list.items ≤ most))) }
+    {
         let (first, second) = parents(&self.rows[place]);
         let mut list = Vec::new(alloc);
         if first == NO_PARENT {
@@ -71,40 +98,24 @@ impl Tables<'_> {
             list.push(Position::new(second))?;
             return Ok(within(list, most));
         }
-        self.follow((second - MARK) as usize, list, most)
-    }
-
-    // The list with the edges from this place on.
-    fn follow<A: Allocator + Copy>(
-        &self,
-        place: usize,
-        mut list: Vec<Position, A>,
-        most: usize,
-    ) -> Result<Option<Vec<Position, A>>, AllocError> {
-        for edge in &self.edges[place..] {
-            if list.len() >= most {
-                return Ok(None);
-            }
-            let edge = number(edge);
-            if edge >= MARK {
-                list.push(Position::new(edge - MARK))?;
-                return Ok(Some(list));
-            }
-            list.push(Position::new(edge))?;
-        }
-        Ok(Some(list))
+        follow(&self.edges[(second - MARK) as usize..], list, most)
     }
 
     /// Whether the ids ascend.
-    pub(crate) fn are_ascending(&self) -> bool {
+    pub(crate) fn are_ascending(&self) -> bool
+        ensures { IsTrue result → IsAscending self.now.ids.now }
+    {
         self.ids.is_sorted_by(|one, other| one.cmp(other).is_lt())
     }
 
     /// Whether the fan-out table is that of the ids, which ascend.
-    pub(crate) fn is_fan_out(&self) -> bool {
+    pub(crate) fn is_fan_out(&self) -> bool
+        requires ascending { IsAscending self.now.ids.now }
+        requires long { length self.now.fan_out.now ≡ 256 }
+        ensures { IsTrue result → IsFanOut self.now.fan_out.now self.now.ids.now }
+    {
         for (byte, row) in self.fan_out.iter().enumerate() {
-            let within = self.ids.partition_point(|id| usize::from(id[0]) <= byte);
-            if number(row) as usize != within {
+            if number(row) as usize != ids_within(self.ids, byte) {
                 return false;
             }
         }
@@ -112,65 +123,153 @@ impl Tables<'_> {
     }
 
     /// Whether each edge list that a row names has an end.
-    pub(crate) fn lists_end(&self) -> bool {
-        let are_marked = match self.edges.last() {
-            Some(last) => number(last) >= MARK,
-            None => true,
-        };
-        are_marked && self.rows.iter().all(|row| self.names_list(row))
-    }
-
-    // Whether the edges hold what a row names.
-    fn names_list(&self, row: &[u8; ROW_BYTES]) -> bool {
-        let (_first, second) = parents(row);
-        second < MARK || ((second - MARK) as usize) < self.edges.len()
+    pub(crate) fn lists_end(&self) -> bool
+        ensures { IsTrue result → All (HasEnd self.now.edges.now) self.now.rows.now }
+    {
+        last_is_marked(self.edges)
+            && self
+                .rows
+                .iter()
+                .all(|row| names_edge(row, self.edges.len()))
     }
 
     /// Whether each parent is before this position.
-    pub(crate) fn parents_are_before(&self, end: usize) -> bool {
-        self.rows.iter().all(|row| are_before(row, end))
-            && self
-                .edges
-                .iter()
-                .all(|edge| is_edge_before(number(edge), end))
+    pub(crate) fn parents_are_before(&self, end: usize) -> bool
+        ensures { IsTrue result → All (HasParentsBelow end)
+            (commits_of self.now.edges.now self.now.ids.now self.now.rows.now) }
+    {
+        rows_are_before(self.rows, end) && edges_are_before(self.edges, end)
     }
 }
 
+// The place of an id among ids that ascend.
+fn search(ids: &[[u8; ID_BYTES]], id: &[u8; ID_BYTES]) -> Option<usize>
+    requires { IsAscending ids.now }
+    ensures { IsPlaceOf ids.now id.now result }
+{
+    match ids.binary_search_by(|other| other.cmp(id)) {
+        Ok(place) => Some(place),
+        Err(_) => None,
+    }
+}
+
+// How many of the ids, which ascend, begin with this byte or a lower one.
+fn ids_within(ids: &[[u8; ID_BYTES]], byte: usize) -> usize
+    requires { IsAscending ids.now }
+    ensures { result ≡ count_by (begins_within byte) ids.now }
+{
+    ids.partition_point(|id| usize::from(id[0]) <= byte)
+}
+
+// The list and the parents that the edges list after it; `None` if there are more than so many.
+fn follow<A: Allocator + Copy>(
+    edges: &[[u8; 4]],
+    mut list: Vec<Position, A>,
+    most: usize,
+) -> Result<Option<Vec<Position, A>>, AllocError>
+    ensures { IfOk result (λ found. MatchOption found (most < length (list.items ++ edge_list edges.now))
+        (λ all. (all.items ≡ list.items ++ edge_list edges.now) × (length all.items ≤ most))) }
+{
+    for edge in edges {
+        if list.len() >= most {
+            return Ok(None);
+        }
+        let edge = number(edge);
+        if edge >= MARK {
+            list.push(Position::new(edge - MARK))?;
+            return Ok(Some(list));
+        }
+        list.push(Position::new(edge))?;
+    }
+    Ok(within(list, most))
+}
+
 // The list, unless it is longer than this.
-fn within<A: Allocator + Copy>(list: Vec<Position, A>, most: usize) -> Option<Vec<Position, A>> {
+fn within<A: Allocator + Copy>(list: Vec<Position, A>, most: usize) -> Option<Vec<Position, A>>
+    ensures { MatchOption result (most < length list.items)
+        (λ all. (all.items ≡ list.items) × (length all.items ≤ most)) }
+{
     if list.len() <= most { Some(list) } else { None }
 }
 
-// Whether the parents in a row are before this position.
-fn are_before(row: &[u8; ROW_BYTES], end: usize) -> bool {
+// Whether the last edge ends a list.
+fn last_is_marked(edges: &[[u8; 4]]) -> bool
+    ensures { IsTrue result → LastIsMarked edges.now }
+{
+    match edges.last() {
+        Some(last) => number(last) >= MARK,
+        None => true,
+    }
+}
+
+// Whether each place of an edge that a row names is one of so many.
+fn name_edges(rows: &[[u8; ROW_BYTES]], count: usize) -> bool
+    ensures { IsTrue result ↔ All (NamesEdge count) rows.now }
+{
+    rows.iter().all(|row| names_edge(row, count))
+}
+
+// Whether the place of an edge that a row names is one of so many.
+fn names_edge(row: &[u8; ROW_BYTES], count: usize) -> bool
+    ensures { IsTrue result ↔ NamesEdge count row.now }
+{
+    let (_first, second) = parents(row);
+    second < MARK || ((second - MARK) as usize) < count
+}
+
+// Whether the parents that rows name themselves are before this position.
+fn rows_are_before(rows: &[[u8; ROW_BYTES]], end: usize) -> bool
+    ensures { IsTrue result ↔ All (IsRowBefore end) rows.now }
+{
+    rows.iter().all(|row| is_row_before(row, end))
+}
+
+// Whether the parents that a row names itself are before this position.
+fn is_row_before(row: &[u8; ROW_BYTES], end: usize) -> bool
+    ensures { IsTrue result ↔ IsRowBefore end row.now }
+{
     let (first, second) = parents(row);
     is_before(first, end) && (second >= MARK || is_before(second, end))
 }
 
-// Whether a parent is before this position, or is not there.
-fn is_before(number: u32, end: usize) -> bool {
-    number == NO_PARENT || (number as usize) < end
+// Whether a parent is before this position, or there is none.
+fn is_before(parent: u32, end: usize) -> bool
+    ensures { IsTrue result ↔ IsBefore end parent }
+{
+    parent == NO_PARENT || (parent as usize) < end
 }
 
-// Whether the position of an edge is before this one.
-fn is_edge_before(edge: u32, end: usize) -> bool {
-    let position = if edge < MARK { edge } else { edge - MARK };
-    (position as usize) < end
+// Whether the parents that edges name are before this position.
+fn edges_are_before(edges: &[[u8; 4]], end: usize) -> bool
+    ensures { IsTrue result ↔ All (IsEdgeBefore end) edges.now }
+{
+    edges.iter().all(|edge| is_edge_before(edge, end))
+}
+
+// Whether the parent that an edge names is before this position.
+fn is_edge_before(edge: &[u8; 4], end: usize) -> bool
+    ensures { IsTrue result ↔ IsEdgeBefore end edge.now }
+{
+    let edge = number(edge);
+    let parent = if edge < MARK { edge } else { edge - MARK };
+    (parent as usize) < end
 }
 
 // The two numbers of a row that name parents.
-fn parents(row: &[u8; ROW_BYTES]) -> (u32, u32) {
-    let first = number(row[20..].first_chunk::<4>().unwrap());
-    let second = number(row[24..].first_chunk::<4>().unwrap());
-    (first, second)
+fn parents(row: &[u8; ROW_BYTES]) -> (u32, u32)
+    ensures first { result.0 ≡ first_parent row.now }
+    ensures second { result.1 ≡ second_parent row.now }
+{
+    (
+        number(row[FIRST_PARENT..].first_chunk::<4>().unwrap()),
+        number(row[SECOND_PARENT..].first_chunk::<4>().unwrap()),
+    )
 }
 
 // The number with these bytes, the highest first.
-fn number(bytes: &[u8; 4]) -> u32 {
+#[tactic(auto, unfolding(crate::specs::Files::number))]
+fn number(bytes: &[u8; 4]) -> u32
+    ensures { result ≡ number bytes.now }
+{
     u32::from_be_bytes(*bytes)
-}
-
-/// How ids are ordered.
-pub(crate) fn order(one: &[u8; ID_BYTES], other: &[u8; ID_BYTES]) -> Ordering {
-    one.cmp(other)
 }
