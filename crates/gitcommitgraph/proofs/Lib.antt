@@ -2,3 +2,4 @@ pub mod OrderLemmas
 pub mod ParentLemmas
 pub mod RowLemmas
 pub mod TextLemmas
+pub mod ChainLemmas

@@ -13,19 +13,21 @@ use Rattle.gitcommitgraph.specs.declared.contents.Span.{Span}
 
 -- ---- parts of bytes
 
+take_nil : (k : ℕ) → take {A = ℕ} k [] ≡ []
+take_nil zero = refl
+take_nil (suc k) = refl
+
 -- a front, and what comes after it
 pub take_joins : (m n : ℕ) (l : List ℕ) → take m l ++ take n (drop m l) ≡ take (m + n) l
-take_joins zero n l = ap (λ k. take k l) (omega arith)
-take_joins (suc m) n [] = sym (take_nil (suc m + n)) where
-  take_nil : (k : ℕ) → take {A = ℕ} k [] ≡ []
-  take_nil zero = refl
-  take_nil (suc k) = refl
-take_joins (suc m) n (x ∷ l) = ap (λ t. x ∷ t) (take_joins m n l) ∙ ap (λ k. take k (x ∷ l)) (omega arith)
+take_joins zero n l = let same : n ≡ zero + n = omega arith in ap (λ k. take k l) same
+take_joins (suc m) n [] = take_nil n ∙ sym (take_nil (suc m + n))
+take_joins (suc m) n (x ∷ l) = let same : suc (m + n) ≡ suc m + n = omega arith in ap (λ t. x ∷ t) (take_joins m n l) ∙ ap (λ k. take k (x ∷ l)) same
 
 -- bytes from one place to another, and on to a third
 pub range_joins : (a b c : ℕ) (l : List ℕ) → a ≤ b → b ≤ c → slice_range l a b ++ slice_range l b c ≡ slice_range l a c
 range_joins a b c l low high =
-    let rest : drop b l ≡ drop (b - a) (drop a l) = ap (λ n. drop n l) (omega (arith, low)) ∙ sym (drop-drop (b - a) a l) in
+    let at : b ≡ a + (b - a) = omega (arith, low) in
+    let rest : drop b l ≡ drop (b - a) (drop a l) = ap (λ n. drop n l) at ∙ sym (drop-drop (b - a) a l) in
     let long : c - a ≡ (b - a) + (c - b) = omega (arith, low, high) in
     ap (λ r. take (b - a) (drop a l) ++ take (c - b) r) rest ∙ take_joins (b - a) (c - b) (drop a l) ∙ ap (λ n. take n (drop a l)) (sym long)
 
@@ -96,9 +98,17 @@ pub chunk_at : (bytes row : List ℕ) (rows : List (List ℕ)) (k : ℕ) (c : Ch
     → get_or (chunks_from bytes row rows) k c ≡ chunk_from bytes (get_or (row ∷ rows) k d) (get_or (row ∷ rows) (k + 1) d)
 chunk_at bytes row [] k c d inside = absurd (omega (arith, inside))
 chunk_at bytes row (next ∷ rows) zero c d inside = refl
-chunk_at bytes row (next ∷ rows) (suc k) c d inside = chunk_at bytes next rows k c d (omega (arith, inside))
+chunk_at bytes row (next ∷ rows) (suc k) c d inside =
+    let on : suc (k + 1) ≡ suc k + 1 = omega arith in
+    chunk_at bytes next rows k c d (omega (arith, inside))
+    ∙ ap (λ n. chunk_from bytes (get_or (next ∷ rows) k d) (get_or (row ∷ next ∷ rows) n d)) on
 
 -- ---- from what is tested of the rows
+
+rising_rest : (row : List ℕ) (rows : List (List ℕ)) → IsRising (row ∷ rows) → IsRising rows
+rising_rest row rows up k d h =
+    let on : suc k + 1 ≡ suc (k + 1) = omega arith in
+    subst (λ n. row_offset (get_or rows k d) ≤ row_offset (get_or (row ∷ rows) n d)) on (up (suc k) d (omega (arith, h)))
 
 leads : (end : ℕ) (row : List ℕ) (rows : List (List ℕ)) → All IsRow (row ∷ rows) → IsRising (row ∷ rows)
     → ((d : List ℕ) → row_offset (get_or (row ∷ rows) (length rows) d) ≡ end) → ((d : List ℕ) → row_name (get_or (row ∷ rows) (length rows) d) ≡ no_name)
@@ -107,7 +117,7 @@ leads end row [] each up last unnamed = (each 0 [] (omega arith), unnamed [], la
 leads end row (next ∷ rows) each up last unnamed = (
   each 0 [] (omega arith),
   up 0 [] (omega arith),
-  leads end next rows (λ k d h. each (suc k) d (omega (arith, h))) (λ k d h. up (suc k) d (omega (arith, h))) last unnamed,
+  leads end next rows (λ k d h. each (suc k) d (omega (arith, h))) (rising_rest row (next ∷ rows) up) last unnamed,
 )
 
 module _ (start end : ℕ) (row : List ℕ) (rows : List (List ℕ)) (are : AreRows start end (row ∷ rows)) where

@@ -13,7 +13,7 @@ use Rattle.gitcommitgraph.specs.steps.Tables.{IsFanOut}
 use Rattle.gitcommitgraph.specs.steps.Layers.{ArePlaces, AreWithin, HaveLengths, IsCut, IsFileAt, IsWithin, MayBeSpan, file_at, part, size, table}
 use Rattle.gitcommitgraph.specs.declared.contents.Span.{Span}
 use Rattle.gitcommitgraph.specs.declared.layer.Places.{Places}
-use Rattle.gitcommitgraph.proofs.RowLemmas.{IsRow, are_named, bytes_are, chunks_from, contents_are, drop_small, has_chunk, lacks_chunk, lead, length-chunks, length-range, pieces_joined, pieces_long, pieces_many, pieces_small, range_joins, span_within, take_small}
+use Rattle.gitcommitgraph.proofs.RowLemmas.{IsRow, are_named, bytes_are, chunks_from, contents_are, drop_small, has_chunk, lacks_chunk, lead, length-chunks, length-range, pieces_joined, pieces_long, pieces_many, pieces_small, range_joins, span_within, take_joins, take_small}
 
 -- ---- the bytes of a file, part by part
 
@@ -27,7 +27,8 @@ range_take a b n l low high =
 -- the header, the table and the chunks, and the trailer
 four_parts : (a b n : ℕ) (l : List ℕ) → a ≤ b → b ≤ n → take a l ++ (slice_range l a b ++ (slice_range l b n ++ drop n l)) ≡ l
 four_parts a b n l low high =
-    let first : take a l ++ slice_range l a n ≡ take n l = range_joins 0 a n l (omega arith) (omega (arith, low, high)) in
+    let long : a + (n - a) ≡ n = omega (arith, low, high) in
+    let first : take a l ++ slice_range l a n ≡ take n l = take_joins a (n - a) l ∙ ap (λ m. take m l) long in
     ap (λ r. take a l ++ r) (sym (append_assoc (slice_range l a b) (slice_range l b n) (drop n l)))
     ∙ ap (λ r. take a l ++ (r ++ drop n l)) (range_joins a b n l low high)
     ∙ sym (append_assoc (take a l) (slice_range l a n) (drop n l))
@@ -82,6 +83,7 @@ module _ (bytes : List ℕ) (chunks bases : ℕ) (rest : List ℕ) (places : Pla
             ∙ ap (λ l. header chunks bases ++ (contents start found ++ (l ++ drop end bytes))) (sym filled)
             ∙ ap (λ n. header n bases ++ (contents (8 + 12 * (n + 1)) found ++ (flat_map chunk_bytes found ++ drop end bytes))) (sym many);
         long = long;
+        small = small;
         named = are_named start end row rows are bytes each;
         within = record {
           fan_out = in_bytes _ places.fan_out at.fan_out;
@@ -209,14 +211,14 @@ module _ (bytes : List ℕ) (places : Places) (cut : IsCut bytes places) where
       let m = cut.lengths.bases_at in
       omega (arith, n, m)
 
-  pub text_is : ((i : ℕ) → get_or bytes i 0 < 256) → IsAscending (table 20 bytes places.ids) → IsFanOut (table 4 bytes places.fan_out) (table 20 bytes places.ids)
+  pub text_is : IsAscending (table 20 bytes places.ids) → IsFanOut (table 4 bytes places.fan_out) (table 20 bytes places.ids)
       → All (HasEnd (table 4 bytes places.edges)) (table 36 bytes places.rows) → IsGraphText (file_at bytes places) bytes
-  text_is small up fan ended =
+  text_is up fan ended =
       let fan_out_bytes =
       rows_joined 4 bytes places.fan_out cut.within.fan_out fan_out_even in
       let fan_out_text =
       fan_out_is (table 4 bytes places.fan_out) (table 20 bytes places.ids)
-      (rows_long 4 bytes places.fan_out cut.within.fan_out fan_out_even) (rows_small 4 bytes places.fan_out cut.within.fan_out fan_out_even small) fan in
+      (rows_long 4 bytes places.fan_out cut.within.fan_out fan_out_even) (rows_small 4 bytes places.fan_out cut.within.fan_out fan_out_even cut.small) fan in
       record {
         chunks = cut.chunks;
         parts = cut.parts

@@ -1,6 +1,7 @@
 -- Chains of commit-graph files (gitformat-commit-graph(5), "Base Graphs List"; git-commit-graph(1), "--split").
-use Rattle.std.specs.Prelude.{◌≡◌, ℕ, ◌<◌, ◌≤◌, List, [], ◌∷◌, ◌++◌, All, length, map}
-use Rattle.std.specs.List.{flat_map}
+use Rattle.std.specs.Prelude.{◌≡◌, ◌≢◌, ℕ, ◌<◌, ◌≤◌, List, [], ◌∷◌, ◌++◌, All, Option, MatchOption, length, map}
+use Rattle.std.specs.List.{HoldsAt, flat_map}
+use Rattle.std.specs.declared.vec.Vec.{Vec}
 use Rattle.gname.specs.Ids.{Id, IsIdTextOf}
 use Rattle.gname.specs.declared.formats.Format.TheVariants.{Sha1}
 use Rattle.gitcommitgraph.specs.Files.{Commit, GraphFile, file_commits, no_parent}
@@ -13,6 +14,17 @@ checksum_of file = file.checksum
 -- The commits of a chain of files, the lowest file first. The position of a commit is its place here.
 abbrev pub graph_commits : List GraphFile → List Commit
 graph_commits files = flat_map file_commits files
+
+-- a position at which a commit has this id; or none has it
+abbrev pub FindsCommit : List Commit → Id → Option ℕ → Type 0
+FindsCommit commits id result =
+    MatchOption result (All (λ c. c.id ≢ id) commits)
+    (λ position. (position < length commits) × HoldsAt (λ c. c.id ≡ id) commits position)
+
+-- a list of some parents; none if they are more than so many
+abbrev pub ListsParents : {A : Type 0} → ℕ → List ℕ → Option (Vec ℕ A) → Type 0
+ListsParents most parents found =
+    MatchOption found (most < length parents) (λ list. (list.items ≡ parents) × (length parents ≤ most))
 
 -- each parent of a commit has a position before this one
 abbrev pub HasParentsBelow : ℕ → Commit → Type 0

@@ -1,11 +1,11 @@
 //! Commit-graphs of one file or several.
 
-ghost use Rattle.std.specs.Prelude.{◌≡◌, ◌≢◌, ◌==◌, ◌<◌, ◌≤◌, [], ℕ, All, IfOk, IfSome, MatchOption, OnErr, OnOk, length};
+ghost use Rattle.std.specs.Prelude.{◌≡◌, ◌==◌, ◌<◌, ◌≤◌, [], All, IfOk, IfSome, MatchOption, OnErr, OnOk, length};
 ghost use Rattle.std.specs.List.{HoldsAt};
 ghost use Rattle.gname.specs.Ids.{IsIdOf};
 ghost use Rattle.gname.specs.declared.formats.Format.TheVariants.{Sha1};
-ghost use Rattle.gitcommitgraph.specs.Chains.{AddsFile, graph_commits};
-ghost use Rattle.gitcommitgraph.specs.Files.{Commit, file_commits};
+ghost use Rattle.gitcommitgraph.specs.Chains.{AddsFile, FindsCommit, ListsParents, graph_commits};
+ghost use Rattle.gitcommitgraph.specs.Files.{no_parent};
 ghost use Rattle.gitcommitgraph.specs.steps.Chains.{IsIn};
 
 use crate::fault::CommitGraphFault;
@@ -93,19 +93,15 @@ impl<A: Allocator + Copy> CommitGraph<A> {
 
     /// The position of a commit with this id; `None` if there is none.
     pub fn find(&self, id: &Oid) -> Option<Position>
-        ensures { MatchOption result (All (λ commit. commit.id ≢ id.now) (graph_commits self.now))
-            (λ position. (position < length (graph_commits self.now))
-            × HoldsAt (λ commit. commit.id ≡ id.now) (graph_commits self.now) position) }
+        ensures { FindsCommit (graph_commits self.now) id.now result }
     {
-        let id = id.as_bytes().as_array::<ID_BYTES>()?;
-        let mut start = 0;
-        for layer in &self.layers {
-            if let Some(place) = layer.find(id) {
-                return Some(Position::new((start + place) as u32));
-            }
-            start += layer.len();
+        let Some(bytes) = id.as_bytes().as_array::<ID_BYTES>() else {
+            return None;
+        };
+        match find_commit(self.layers.as_slice(), bytes) {
+            Some(position) => Some(Position::new(position as u32)),
+            None => None,
         }
-        None
     }
 
     /// The id of the commit at this position.
@@ -114,7 +110,7 @@ impl<A: Allocator + Copy> CommitGraph<A> {
         ensures id { HoldsAt (λ commit. commit.id ≡ result) (graph_commits self.now) position }
         ensures format { IsIdOf Sha1 result }
     {
-        let (layer, place) = self.at(position).unwrap();
+        let (layer, place) = layer_at(self.layers.as_slice(), position.index());
         layer.id(place)
     }
 
@@ -126,28 +122,54 @@ impl<A: Allocator + Copy> CommitGraph<A> {
         most: usize,
     ) -> Result<Option<Vec<Position, A>>, AllocError>
         requires { position < length (graph_commits self.now) }
-        ensures parents { IfOk result (λ found. HoldsAt (λ commit. MatchOption found
-            (most < length commit.parents) (λ list. (list.items ≡ commit.parents) × (length commit.parents ≤ most)))
-            (graph_commits self.now) position) }
+        ensures parents { IfOk result (λ found.
+            HoldsAt (λ commit. ListsParents most commit.parents found) (graph_commits self.now) position) }
         ensures inside { IfOk result (λ found. IfSome found (λ list.
             All (λ parent. parent < length (graph_commits self.now)) list.items)) }
     {
-        let (layer, place) = self.at(position).unwrap();
+        let (layer, place) = layer_at(self.layers.as_slice(), position.index());
         layer.parents_of(self.alloc, place, most)
     }
+}
 
-    // The file in which the commit at this position is, and its place there.
-    fn at(&self, position: Position) -> Option<(&Layer<A>, usize)>
-        ensures { MatchOption result (length (graph_commits self.now) ≤ position)
-            (λ found. IsIn self.now position found.0.now found.1) }
-    {
-        let mut place = position.index();
-        for layer in &self.layers {
-            if place < layer.len() {
-                return Some((layer, place));
-            }
-            place -= layer.len();
+// The position of a commit with this id.
+fn find_commit<A: Allocator + Copy>(layers: &[Layer<A>], id: &[u8; ID_BYTES]) -> Option<usize>
+    requires { length (graph_commits layers.now) ≤ no_parent }
+    ensures { FindsCommit (graph_commits layers.now) id.now result }
+{
+    let mut start = 0;
+    for layer in layers {
+        if let Some(place) = layer.find(id) {
+            return Some(start + place);
         }
-        None
+        start += layer.len();
     }
+    None
+}
+
+// The file in which the commit at this position is, and its place there.
+fn layer_at<A: Allocator + Copy>(layers: &[Layer<A>], position: usize) -> (&Layer<A>, usize)
+    requires { position < length (graph_commits layers.now) }
+    ensures { IsIn layers.now position result.0.now result.1 }
+{
+    find_layer(layers, position).unwrap()
+}
+
+// The file in which the commit at this position is, and its place there; `None` past the end.
+fn find_layer<A: Allocator + Copy>(
+    layers: &[Layer<A>],
+    position: usize,
+) -> Option<(&Layer<A>, usize)>
+    ensures { MatchOption result (length (graph_commits layers.now) ≤ position)
+        (λ found. IsIn layers.now position found.0.now found.1) }
+{
+    let mut place = position;
+    for layer in layers {
+        let count = layer.len();
+        if place < count {
+            return Some((layer, place));
+        }
+        place -= count;
+    }
+    None
 }

@@ -1,14 +1,14 @@
 //! A file of a commit-graph.
 
-ghost use Rattle.std.specs.Prelude.{◌≡◌, ◌*◌, ◌<◌, ◌≤◌, All, IfOk, IfSome, IsTrue, MatchOption, length, map};
+ghost use Rattle.std.specs.Prelude.{◌≡◌, ◌↔◌, ◌*◌, ◌<◌, All, IfOk, IfSome, IsTrue, OnOk, length, map};
 ghost use Rattle.std.specs.List.{HoldsAt};
 ghost use Rattle.gname.specs.Ids.{IsIdOf};
 ghost use Rattle.gname.specs.declared.formats.Format.TheVariants.{Sha1};
-ghost use Rattle.gitcommitgraph.specs.Chains.{HasParentsBelow, checksum_of};
+ghost use Rattle.gitcommitgraph.specs.Chains.{FindsCommit, HasParentsBelow, ListsParents, checksum_of};
 ghost use Rattle.gitcommitgraph.specs.Files.{IsGraphFile, file_commits};
 ghost use Rattle.gitcommitgraph.specs.Texts.{IsGraphText};
-ghost use Rattle.gitcommitgraph.specs.steps.Layers.{ArePlaces, AreWithin, HaveLengths, IsCut, IsWithin, MayBeSpan, size, table};
-ghost use Rattle.gitcommitgraph.specs.steps.Tables.{IsFanOut, IsPlaceOf};
+ghost use Rattle.gitcommitgraph.specs.steps.Layers.{ArePlaces, AreTested, AreWithin, HaveLengths, IsCut, IsWithin, MayBeSpan, size, table};
+ghost use Rattle.gitcommitgraph.specs.steps.Tables.{IsFanOut};
 
 use crate::contents::{ENTRY_BYTES, Span, read_header, read_rows, span_of};
 use crate::fault::CommitGraphFault;
@@ -59,20 +59,15 @@ impl<A: Allocator + Copy> Model for Layer<A> {
 
 impl<A: Allocator + Copy> Layer<A> {
     /// The file with these bytes.
+    ///
+    /// It fails with `Header`, `Contents` or `Chunk` if the parts of the file are not such, with `Order`
+    /// if its ids do not ascend, with `FanOut` if its fan-out table is not theirs, and with `Edges` if
+    /// a list of edges has no end.
     pub(crate) fn read(bytes: Vec<u8, A>) -> Result<Layer<A>, CommitGraphFault>
         ensures { IfOk result (λ file. IsGraphText file bytes.items) }
     {
         let places = read_places(bytes.as_slice())?;
-        let tables = tables_of(bytes.as_slice(), &places);
-        if !tables.are_ascending() {
-            return Err(CommitGraphFault::Order);
-        }
-        if !tables.is_fan_out() {
-            return Err(CommitGraphFault::FanOut);
-        }
-        if !tables.lists_end() {
-            return Err(CommitGraphFault::Edges);
-        }
+        test_tables(bytes.as_slice(), &places)?;
         Ok(Layer { bytes, places })
     }
 
@@ -85,7 +80,7 @@ impl<A: Allocator + Copy> Layer<A> {
 
     /// The place of the commit with this id.
     pub(crate) fn find(&self, id: &[u8; ID_BYTES]) -> Option<usize>
-        ensures { IsPlaceOf self.now.ids id.now result }
+        ensures { FindsCommit (file_commits self.now) id.now result }
     {
         self.tables().find(id)
     }
@@ -96,9 +91,7 @@ impl<A: Allocator + Copy> Layer<A> {
         ensures id { HoldsAt (λ commit. commit.id ≡ result) (file_commits self.now) place }
         ensures format { IsIdOf Sha1 result }
     {
-        // Law.
-        ids_have_one_format();
-        Oid::from_bytes(&self.tables().ids[place]).unwrap()
+        id_of_bytes(&self.tables().ids[place])
     }
 
     /// The parents of the commit at this place; `None` if there are more than so many. It fails only
@@ -110,9 +103,8 @@ impl<A: Allocator + Copy> Layer<A> {
         most: usize,
     ) -> Result<Option<Vec<Position, A>>, AllocError>
         requires { place < length (file_commits self.now) }
-        ensures { IfOk result (λ found. HoldsAt (λ commit. MatchOption found (most < length commit.parents)
-            (λ list. (list.items ≡ commit.parents) × (length commit.parents ≤ most)))
-            (file_commits self.now) place) }
+        ensures { IfOk result (λ found.
+            HoldsAt (λ commit. ListsParents most commit.parents found) (file_commits self.now) place) }
     {
         self.tables().parents_of(alloc, place, most)
     }
@@ -133,7 +125,7 @@ impl<A: Allocator + Copy> Layer<A> {
             return false;
         }
         for (place, layer) in layers.iter().enumerate() {
-            if bases[place] != *layer.checksum() {
+            if !is_same(&bases[place], layer.checksum()) {
                 return false;
             }
         }
@@ -161,6 +153,8 @@ impl<A: Allocator + Copy> Layer<A> {
         ensures edges { result.edges.now ≡ self.now.edges }
         ensures fan_out { IsFanOut result.fan_out.now self.now.ids }
         ensures formed { IsGraphFile self.now }
+        ensures ids_long { length result.ids.now ≡ length (file_commits self.now) }
+        ensures rows_long { length result.rows.now ≡ length (file_commits self.now) }
     {
         tables_of(self.bytes.as_slice(), &self.places)
     }
@@ -186,6 +180,24 @@ fn read_places(bytes: &[u8]) -> Result<Places, CommitGraphFault>
         return Err(CommitGraphFault::Chunk);
     }
     Ok(places)
+}
+
+// Tests the tables that lie at these places. It fails with `Order`, `FanOut` or `Edges`.
+fn test_tables(bytes: &[u8], places: &Places) -> Result<(), CommitGraphFault>
+    requires { IsCut bytes.now places.now }
+    ensures { OnOk result (AreTested bytes.now places.now) }
+{
+    let tables = tables_of(bytes, places);
+    if !tables.are_ascending() {
+        return Err(CommitGraphFault::Order);
+    }
+    if !tables.is_fan_out() {
+        return Err(CommitGraphFault::FanOut);
+    }
+    if !tables.lists_end() {
+        return Err(CommitGraphFault::Edges);
+    }
+    Ok(())
 }
 
 // Where the chunks of these rows lie.
@@ -245,6 +257,23 @@ fn tables_of<'a>(bytes: &'a [u8], places: &Places) -> Tables<'a>
         rows: cut_rows(bytes, &places.rows),
         edges: cut_rows(bytes, &places.edges),
     }
+}
+
+// The SHA-1 id with these bytes.
+fn id_of_bytes(bytes: &[u8; ID_BYTES]) -> Oid
+    ensures bytes { result ≡ bytes.now }
+    ensures format { IsIdOf Sha1 result }
+{
+    // Law.
+    ids_have_one_format();
+    Oid::from_bytes(bytes).unwrap()
+}
+
+// Whether two checksums are the same.
+fn is_same(one: &[u8; ID_BYTES], other: &[u8; ID_BYTES]) -> bool
+    ensures { IsTrue result ↔ (one.now ≡ other.now) }
+{
+    one == other
 }
 
 // The rows of the table that lies there.

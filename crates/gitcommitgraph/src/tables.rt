@@ -1,7 +1,7 @@
 //! The tables of a file (gitformat-commit-graph(5), "CHUNK DATA").
 
-ghost use Rattle.std.specs.Prelude.{◌≡◌, ◌≢◌, ◌-◌, ◌+◌, ◌<◌, ◌≤◌, ◌++◌, ◌↔◌, [], All, IfOk, IsTrue, MatchOption, count_by, drop, length, slice_index, slice_index_or};
-ghost use Rattle.gitcommitgraph.specs.Chains.{HasParentsBelow};
+ghost use Rattle.std.specs.Prelude.{◌≡◌, ◌≢◌, ◌-◌, ◌+◌, ◌<◌, ◌≤◌, ◌++◌, ◌↔◌, [], All, IfOk, IsTrue, count_by, drop, length, slice_index, slice_index_or};
+ghost use Rattle.gitcommitgraph.specs.Chains.{HasParentsBelow, ListsParents};
 ghost use Rattle.gitcommitgraph.specs.Files.{HasEnd, IsAscending, commits_of, edge_list, first_parent, number, row_parents, second_parent};
 ghost use Rattle.gitcommitgraph.specs.Texts.{begins_within};
 ghost use Rattle.gitcommitgraph.specs.steps.Tables.{AreBetween, IsBefore, IsEdgeBefore, IsFanOut, IsPlaceOf, IsRowBefore, LastIsMarked, NamesEdge};
@@ -80,10 +80,8 @@ impl Tables<'_> {
     ) -> Result<Option<Vec<Position, A>>, AllocError>
         requires inside { place < length self.now.rows.now }
         requires ended { All (HasEnd self.now.edges.now) self.now.rows.now }
-        ensures { IfOk result (λ found. MatchOption found
-            (most < length (row_parents self.now.edges.now (slice_index_or self.now.rows.now place [])))
-            (λ list. (list.items ≡ row_parents self.now.edges.now (slice_index_or self.now.rows.now place []))
-            × (length list.items ≤ most))) }
+        ensures { IfOk result (ListsParents most
+            (row_parents self.now.edges.now (slice_index_or self.now.rows.now place []))) }
     {
         let (first, second) = parents(&self.rows[place]);
         let mut list = Vec::new(alloc);
@@ -126,11 +124,7 @@ impl Tables<'_> {
     pub(crate) fn lists_end(&self) -> bool
         ensures { IsTrue result → All (HasEnd self.now.edges.now) self.now.rows.now }
     {
-        last_is_marked(self.edges)
-            && self
-                .rows
-                .iter()
-                .all(|row| names_edge(row, self.edges.len()))
+        last_is_marked(self.edges) && name_edges(self.rows, self.edges.len())
     }
 
     /// Whether each parent is before this position.
@@ -167,8 +161,7 @@ fn follow<A: Allocator + Copy>(
     mut list: Vec<Position, A>,
     most: usize,
 ) -> Result<Option<Vec<Position, A>>, AllocError>
-    ensures { IfOk result (λ found. MatchOption found (most < length (list.items ++ edge_list edges.now))
-        (λ all. (all.items ≡ list.items ++ edge_list edges.now) × (length all.items ≤ most))) }
+    ensures { IfOk result (ListsParents most (list.items ++ edge_list edges.now)) }
 {
     for edge in edges {
         if list.len() >= most {
@@ -186,8 +179,7 @@ fn follow<A: Allocator + Copy>(
 
 // The list, unless it is longer than this.
 fn within<A: Allocator + Copy>(list: Vec<Position, A>, most: usize) -> Option<Vec<Position, A>>
-    ensures { MatchOption result (most < length list.items)
-        (λ all. (all.items ≡ list.items) × (length all.items ≤ most)) }
+    ensures { ListsParents most list.items result }
 {
     if list.len() <= most { Some(list) } else { None }
 }

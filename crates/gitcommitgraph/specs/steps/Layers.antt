@@ -1,7 +1,7 @@
 -- The steps of a file in memory: where its chunks lie.
-use Rattle.std.specs.Prelude.{◌≡◌, ℕ, ◌+◌, ◌-◌, ◌*◌, ◌/◌, ◌%◌, ◌≤◌, ◌⊎◌, List, ◌++◌, codes, length, drop, slice_range}
+use Rattle.std.specs.Prelude.{◌≡◌, ℕ, ◌+◌, ◌-◌, ◌*◌, ◌/◌, ◌%◌, ◌<◌, ◌≤◌, ◌⊎◌, List, All, ◌++◌, codes, length, drop, slice_index, slice_range}
 use Rattle.std.specs.List.{flat_map}
-use Rattle.gitcommitgraph.specs.Files.{GraphFile, IsGraphFile}
+use Rattle.gitcommitgraph.specs.Files.{GraphFile, HasEnd, IsAscending, IsGraphFile}
 use Rattle.gitcommitgraph.specs.Texts.{Chunk, chunk_bytes, header, contents, AreNamed, HasChunk, MayHaveChunk}
 use Rattle.gitcommitgraph.specs.steps.Rows.{pieces, IsSpan, LacksName}
 use Rattle.gitcommitgraph.specs.steps.Tables.{IsFanOut}
@@ -73,6 +73,7 @@ pub record IsCut (bytes : List ℕ) (places : Places) : Type 0 where
   pub parts : bytes ≡ header (length chunks) bases_count
       ++ (contents (8 + 12 * (length chunks + 1)) chunks ++ (flat_map chunk_bytes chunks ++ drop (length bytes - 20) bytes))
   pub long : 20 ≤ length bytes
+  pub small : (i : ℕ) → slice_index bytes i < 256
   pub named : AreNamed chunks
   pub within : AreWithin bytes places
   pub fan_out : HasChunk chunks (codes "OIDF") (part bytes places.fan_out)
@@ -81,6 +82,12 @@ pub record IsCut (bytes : List ℕ) (places : Places) : Type 0 where
   pub edges : MayHaveChunk chunks (codes "EDGE") (part bytes places.edges)
   pub bases : MayHaveChunk chunks (codes "BASE") (part bytes places.bases)
   pub lengths : HaveLengths places bases_count
+
+-- the tables that lie there have their form
+pub record AreTested (bytes : List ℕ) (places : Places) : Type 0 where
+  pub ascending : IsAscending (table 20 bytes places.ids)
+  pub fan_out : IsFanOut (table 4 bytes places.fan_out) (table 20 bytes places.ids)
+  pub ended : All (HasEnd (table 4 bytes places.edges)) (table 36 bytes places.rows)
 
 -- a file whose form was tested
 pub record IsFileAt (bytes : List ℕ) (places : Places) : Type 0 where
