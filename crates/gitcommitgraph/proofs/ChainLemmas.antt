@@ -1,17 +1,18 @@
 -- Commits of files, and of files of a chain, by their positions.
-use Rattle.std.proofs.Common.{◌≡◌, ◌≢◌, ℕ, zero, suc, ◌+◌, ◌-◌, ◌<◌, ◌≤◌, List, [], ◌∷◌, ◌++◌, Option, Some, None, IsSome, MatchOption, length, take, drop, get_or, map, All, refl, sym, ap, subst, ◌∙◌, length-append, arith}
+use Rattle.std.proofs.Common.{◌≡◌, ◌≢◌, ℕ, zero, suc, ◌+◌, ◌-◌, ◌<◌, ◌≤◌, List, [], ◌∷◌, ◌++◌, Option, Some, None, IfSome, IsSome, MatchOption, length, take, drop, get_or, map, All, refl, sym, ap, subst, ◌∙◌, length-append, arith}
 use Rattle.std.specs.List.{HoldsAt, flat_map}
+use Rattle.std.specs.declared.vec.Vec.{Vec}
 use Rattle.std.proofs.lemmas.Grind.{flat_map-append}
 use Rattle.std.proofs.lemmas.List.{append-nil, get_or_default, map_more, take_all, take_more}
 use Rattle.std.proofs.lemmas.List.Concat.{get_or-flat_map}
-use Rattle.std.proofs.lemmas.List.Elements.{All-append, All-weaker}
+use Rattle.std.proofs.lemmas.List.Elements.{All-append, All-cons, All-head, All-nil, All-push, All-tail, All-weaker}
 use Rattle.std.proofs.lemmas.List.Folds.{length-flat_map-take}
 use Rattle.gname.specs.Formats.{id_length}
 use Rattle.gname.specs.Ids.{Id, IsId}
 use Rattle.gname.specs.declared.formats.Format.{Format}
 use Rattle.gname.specs.declared.formats.Format.TheVariants.{Sha1}
-use Rattle.gitcommitgraph.specs.Chains.{AddsFile, AreClosed, FindsCommit, HasParentsBelow, checksum_of, graph_commits}
-use Rattle.gitcommitgraph.specs.Files.{Commit, GraphFile, IsGraphFile, file_commits, no_parent, row_parents}
+use Rattle.gitcommitgraph.specs.Chains.{AddsFile, AreClosed, FindsCommit, HasParentsBelow, ListsParents, checksum_of, graph_commits}
+use Rattle.gitcommitgraph.specs.Files.{AreLong, Commit, GraphFile, IsGraphFile, commits_of, file_commits, no_parent, row_parents}
 use Rattle.gitcommitgraph.specs.Texts.{IsGraphText}
 use Rattle.gitcommitgraph.specs.steps.Chains.{IsGraph, IsIn}
 use Rattle.gitcommitgraph.specs.steps.Tables.{IsPlaceOf}
@@ -92,7 +93,7 @@ below_more : (n m : ℕ) → n ≤ m → (c : Commit) → HasParentsBelow n c �
 below_more n m low c h k d inside = let p = h k d inside in omega (arith, p, low)
 
 module _ (old : List GraphFile) (file : GraphFile) (count new_count : ℕ) (graph : IsGraph count old)
-    (counted : new_count ≡ count + length (file_commits file)) (few : new_count ≤ no_parent) (before : All (HasParentsBelow new_count) (file_commits file)) where
+    (counted : new_count ≡ count + length (file_commits file)) (few : new_count ≤ no_parent) (formed : IsGraphFile file) (before : All (HasParentsBelow new_count) (file_commits file)) where
   commits_are : graph_commits (old ++ file ∷ []) ≡ graph_commits old ++ file_commits file
   commits_are = flat_map-append file_commits old (file ∷ []) ∙ ap (λ l. graph_commits old ++ l) (append-nil (file_commits file))
 
@@ -110,7 +111,7 @@ module _ (old : List GraphFile) (file : GraphFile) (count new_count : ℕ) (grap
       (subst (All (HasParentsBelow new_count)) (sym commits_are) (All-append (HasParentsBelow new_count) (graph_commits old) (file_commits file) first before))
 
   pub is_graph : IsGraph new_count (old ++ file ∷ [])
-  is_graph = record { counted = count_is; few = few; closed = closed }
+  is_graph = record { counted = count_is; few = few; closed = closed; formed = All-push IsGraphFile old file graph.formed formed }
 
   pub adds_file : (text : List ℕ) (new : List GraphFile) → IsGraphText file text → file.bases ≡ map checksum_of old → new ≡ old ++ file ∷ [] → AddsFile old text new
   adds_file text new is bases after = record {
@@ -121,3 +122,26 @@ module _ (old : List GraphFile) (file : GraphFile) (count new_count : ℕ) (grap
     few = subst (λ (n : List GraphFile). length (graph_commits n) ≤ no_parent) (sym after) (subst (λ n. n ≤ no_parent) count_is few);
     closed = subst (λ (n : List GraphFile). AreClosed (graph_commits n)) (sym after) closed;
   }
+
+-- ---- what is known of all commits
+
+ids_long : (edges : List (List ℕ)) (ids : List Id) (rows : List (List ℕ)) → AreLong 20 ids → All (λ (c : Commit). length c.id ≡ 20) (commits_of edges ids rows)
+ids_long edges [] rows long = All-nil (λ (c : Commit). length c.id ≡ 20)
+ids_long edges (id ∷ ids) [] long = All-nil (λ (c : Commit). length c.id ≡ 20)
+ids_long edges (id ∷ ids) (row ∷ rows) long =
+    All-cons (λ (c : Commit). length c.id ≡ 20) (record { id = id; parents = row_parents edges row }) (commits_of edges ids rows) (All-head (λ i. length i ≡ 20) id ids long)
+    (ids_long edges ids rows (All-tail (λ i. length i ≡ 20) id ids long))
+
+all_long : (files : List GraphFile) → All IsGraphFile files → All (λ (c : Commit). length c.id ≡ 20) (graph_commits files)
+all_long [] formed = All-nil (λ (c : Commit). length c.id ≡ 20)
+all_long (file ∷ files) formed =
+    All-append (λ (c : Commit). length c.id ≡ 20) (file_commits file) (graph_commits files)
+    (ids_long file.edges file.ids file.rows (All-head IsGraphFile file files formed).ids) (all_long files (All-tail IsGraphFile file files formed))
+
+-- an id of another length is that of no commit
+pub other_id : (files : List GraphFile) (id : Id) → All IsGraphFile files → length id ≢ 20 → All (λ (c : Commit). c.id ≢ id) (graph_commits files)
+other_id files id formed other k c inside same = other (ap length (sym same) ∙ all_long files formed k c inside)
+
+pub lists_inside : {A : Type 0} (n most : ℕ) (parents : List ℕ) (found : Option (Vec ℕ A)) → All (λ p. p < n) parents → ListsParents most parents found → IfSome found (λ list. All (λ p. p < n) list.items)
+lists_inside n most parents None all h = tt
+lists_inside n most parents (Some list) all h = subst (All (λ p. p < n)) (sym h.0) all

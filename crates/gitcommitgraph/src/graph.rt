@@ -65,7 +65,7 @@ impl<A: Allocator + Copy> CommitGraph<A> {
         if !layer.is_above(self.layers.as_slice()) {
             return Err(CommitGraphFault::Bases);
         }
-        let count = self.count + layer.len();
+        let count = self.count.saturating_add(layer.len());
         if count > MAX_COMMITS {
             return Err(CommitGraphFault::TooMany);
         }
@@ -95,10 +95,11 @@ impl<A: Allocator + Copy> CommitGraph<A> {
     pub fn find(&self, id: &Oid) -> Option<Position>
         ensures { FindsCommit (graph_commits self.now) id.now result }
     {
+        let layers = self.layers.as_slice();
         let Some(bytes) = id.as_bytes().as_array::<ID_BYTES>() else {
             return None;
         };
-        match find_commit(self.layers.as_slice(), bytes) {
+        match find_commit(layers, bytes) {
             Some(position) => Some(Position::new(position as u32)),
             None => None,
         }
@@ -139,10 +140,10 @@ fn find_commit<A: Allocator + Copy>(layers: &[Layer<A>], id: &[u8; ID_BYTES]) ->
 {
     let mut start = 0;
     for layer in layers {
-        if let Some(place) = layer.find(id) {
-            return Some(start + place);
+        match layer.find(id) {
+            Some(place) => return Some(start + place),
+            None => start += layer.len(),
         }
-        start += layer.len();
     }
     None
 }
