@@ -3,3 +3,4 @@ pub mod ParentLemmas
 pub mod RowLemmas
 pub mod TextLemmas
 pub mod ChainLemmas
+pub mod LineLemmas

@@ -5,6 +5,7 @@ ghost use Rattle.gname.specs.Ids.{Id};
 ghost use Rattle.gitcommitgraph.specs.Chains.{IsChainText, IsLine};
 
 use gname::Oid;
+use gname::laws::texts_have_one_reading;
 use std::alloc::{AllocError, Allocator};
 
 // The digits of an id.
@@ -41,6 +42,8 @@ pub fn parse_chain<A: Allocator + Copy>(
 fn read_line(line: &[u8; LINE]) -> Option<Oid>
     ensures { MatchOption result ((id : Id) → ¬ IsLine id line.now) (λ id. IsLine id line.now) }
 {
+    // Law.
+    texts_have_one_reading();
     if line[DIGITS] != b'\n' {
         return None;
     }
