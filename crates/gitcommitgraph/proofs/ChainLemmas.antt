@@ -1,9 +1,8 @@
 -- Commits of files, and of files of a chain, by their positions.
-use Rattle.std.proofs.Common.{◌≡◌, ◌≢◌, ℕ, zero, suc, ◌+◌, ◌-◌, ◌<◌, ◌≤◌, List, [], ◌∷◌, ◌++◌, Option, Some, None, IfSome, IsSome, MatchOption, length, take, drop, get_or, map, All, refl, sym, ap, subst, ◌∙◌, length-append, arith}
-use Rattle.std.specs.List.{HoldsAt, flat_map}
+use Rattle.std.proofs.Common.{◌≡◌, ◌≢◌, ℕ, ◌+◌, ◌<◌, ◌≤◌, List, [], ◌∷◌, ◌++◌, Option, Some, None, IfSome, IsSome, MatchOption, length, take, get_or, map, All, refl, sym, ap, subst, ◌∙◌, length-append, arith}
 use Rattle.std.specs.declared.vec.Vec.{Vec}
 use Rattle.std.proofs.lemmas.Grind.{flat_map-append}
-use Rattle.std.proofs.lemmas.List.{append-nil, get_or_default, map_more, take_all, take_more}
+use Rattle.std.proofs.lemmas.List.{append-nil, map_more, take_more}
 use Rattle.std.proofs.lemmas.List.Concat.{get_or-flat_map}
 use Rattle.std.proofs.lemmas.List.Elements.{All-append, All-cons, All-head, All-nil, All-push, All-tail, All-weaker}
 use Rattle.std.proofs.lemmas.List.Folds.{length-flat_map-take}
@@ -14,7 +13,7 @@ use Rattle.gname.specs.declared.formats.Format.TheVariants.{Sha1}
 use Rattle.gitcommitgraph.specs.Chains.{AddsFile, AreClosed, FindsCommit, HasParentsBelow, ListsParents, checksum_of, graph_commits}
 use Rattle.gitcommitgraph.specs.Files.{AreLong, Commit, GraphFile, IsGraphFile, commits_of, file_commits, no_parent, row_parents}
 use Rattle.gitcommitgraph.specs.Texts.{IsGraphText}
-use Rattle.gitcommitgraph.specs.steps.Chains.{IsGraph, IsIn}
+use Rattle.gitcommitgraph.specs.steps.Chains.{IsGraph}
 use Rattle.gitcommitgraph.specs.steps.Tables.{IsPlaceOf}
 use Rattle.gitcommitgraph.proofs.ParentLemmas.{commit_at, length-commits}
 

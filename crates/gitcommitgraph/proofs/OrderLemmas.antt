@@ -1,8 +1,8 @@
 -- Ids that ascend, and the fan-out table.
-use Rattle.std.proofs.Common.{◌≡◌, ◌≢◌, ℕ, zero, suc, ◌+◌, ◌-◌, ◌<◌, ◌≤◌, true, false, Bool, cond, IsTrue, List, [], ◌∷◌, length, drop, get_or, nat_le, All, Err, ◌⊎◌, inl, inr, refl, sym, ap, subst, ◌∙◌, count_by, slice_range, arith, rules}
-use Rattle.std.specs.List.{AllWithin, HoldsAt, IsAllAdjacentAnswer}
-use Rattle.std.specs.List.Sorted.{IsBinarySearchResult, IsNonDecreasingBy, IsPartitionedBy, IsPartitionPoint, IsSortedBy}
-use Rattle.std.specs.Ordering.{is_lt, nat_cmp, ordering_index, ordering_reverse, ordering_then}
+use Rattle.std.proofs.Common.{◌≡◌, ◌≢◌, ℕ, zero, suc, ◌+◌, ◌-◌, ◌<◌, ◌≤◌, true, false, Bool, cond, IsTrue, List, [], ◌∷◌, length, drop, get_or, nat_le, All, Err, inl, inr, refl, sym, ap, subst, ◌∙◌, count_by, slice_range, arith}
+use Rattle.std.specs.List.{HoldsAt, IsAllAdjacentAnswer}
+use Rattle.std.specs.List.Sorted.{IsBinarySearchResult, IsPartitionedBy, IsPartitionPoint, IsSortedBy}
+use Rattle.std.specs.Ordering.{is_lt, nat_cmp, ordering_reverse, ordering_then}
 use Rattle.std.specs.Cmp.Lexicographic.{slice_cmp}
 use Rattle.std.specs.declared.cmp.Ordering.{Ordering}
 use Rattle.std.specs.declared.cmp.Ordering.TheVariants.{Less, Equal, Greater}

@@ -1,14 +1,14 @@
 -- The table of contents, and the chunks that it names.
-use Rattle.std.proofs.Common.{◌≡◌, ◌≢◌, ℕ, zero, suc, ◌+◌, ◌-◌, ◌*◌, ◌/◌, ◌<◌, ◌≤◌, List, [], ◌∷◌, ◌++◌, length, take, drop, get_or, slice_range, All, AllPairs, refl, sym, ap, subst, ◌∙◌, add-one, arith}
-use Rattle.std.specs.List.{AllAdjacentBelow, concat, flat_map}
+use Rattle.std.proofs.Common.{◌≡◌, ◌≢◌, ℕ, zero, suc, ◌+◌, ◌-◌, ◌*◌, ◌<◌, ◌≤◌, List, [], ◌∷◌, ◌++◌, length, take, drop, get_or, slice_range, All, refl, sym, ap, subst, ◌∙◌, arith}
+use Rattle.std.specs.List.{concat, flat_map}
 use Rattle.std.specs.List.Sorted.{IsNonDecreasingBy}
-use Rattle.std.specs.Int.{w64, to_be_bytes, from_be_bytes}
+use Rattle.std.specs.Int.{w64, to_be_bytes}
 use Rattle.std.specs.Simd.{first_chunks}
-use Rattle.std.proofs.lemmas.List.{append_assoc, append-nil, drop-drop, drop_all, get_or-drop, get_or_default, length-drop, length-take-le, take-append-drop, take_all, take_rest}
+use Rattle.std.proofs.lemmas.List.{append_assoc, append-nil, drop-drop, get_or-drop, length-drop, length-take-le, take-append-drop}
 use Rattle.std.proofs.lemmas.List.Sorted.{IsNonDecreasingBy-from_all_adjacent}
 use Rattle.std.proofs.lemmas.Nat.{be_bytes_8}
-use Rattle.gitcommitgraph.specs.Texts.{AreNamed, Chunk, HasChunk, MayHaveChunk, chunk_bytes, contents, no_name}
-use Rattle.gitcommitgraph.specs.steps.Rows.{AreDistinct, AreRows, IsRising, IsSpan, LacksName, row_name, row_offset}
+use Rattle.gitcommitgraph.specs.Texts.{AreNamed, Chunk, HasChunk, chunk_bytes, contents, no_name}
+use Rattle.gitcommitgraph.specs.steps.Rows.{AreRows, IsRising, IsSpan, LacksName, row_name, row_offset}
 use Rattle.gitcommitgraph.specs.declared.contents.Span.{Span}
 
 -- ---- parts of bytes

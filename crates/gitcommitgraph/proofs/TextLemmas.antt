@@ -1,16 +1,16 @@
 -- The text of a file, from what is tested of it.
-use Rattle.std.proofs.Common.{◌≡◌, ◌≢◌, ℕ, zero, suc, ◌+◌, ◌-◌, ◌*◌, ◌/◌, ◌%◌, ◌<◌, ◌≤◌, ◌⊎◌, inl, inr, List, [], ◌∷◌, ◌++◌, codes, length, take, drop, get_or, slice_range, All, count_by, refl, sym, ap, subst, ◌∙◌, add-one, arith}
+use Rattle.std.proofs.Common.{◌≡◌, ℕ, zero, suc, ◌+◌, ◌-◌, ◌*◌, ◌/◌, ◌%◌, ◌<◌, ◌≤◌, inl, inr, List, [], ◌∷◌, ◌++◌, codes, length, take, drop, get_or, slice_range, All, count_by, refl, sym, ap, subst, ◌∙◌, add-one, arith}
 use Rattle.std.specs.List.{concat, flat_map}
 use Rattle.std.specs.Int.{w32, to_be_bytes}
 use Rattle.std.specs.Simd.{first_chunks}
 use Rattle.std.proofs.lemmas.List.{append_assoc, append-nil, drop-take, length-drop, length-take-le, take-append-drop, take-take, take_all, take_more}
 use Rattle.std.proofs.lemmas.Nat.{be_bytes_4, div-add-mod'}
 use Rattle.gname.specs.Ids.{Id}
-use Rattle.gitcommitgraph.specs.Files.{AreLong, GraphFile, HasEnd, IsAscending, IsGraphFile, number}
-use Rattle.gitcommitgraph.specs.Texts.{AreNamed, Chunk, HasChunk, IsGraphText, MayHaveChunk, begins_within, chunk_bytes, contents, fan_out, header}
-use Rattle.gitcommitgraph.specs.steps.Rows.{AreRows, IsSpan, IsTable, LacksName, pieces, row_offset}
+use Rattle.gitcommitgraph.specs.Files.{AreLong, HasEnd, IsAscending, IsGraphFile, number}
+use Rattle.gitcommitgraph.specs.Texts.{Chunk, HasChunk, IsGraphText, MayHaveChunk, begins_within, chunk_bytes, contents, fan_out, header}
+use Rattle.gitcommitgraph.specs.steps.Rows.{AreRows, IsSpan, IsTable, pieces, row_offset}
 use Rattle.gitcommitgraph.specs.steps.Tables.{IsFanOut}
-use Rattle.gitcommitgraph.specs.steps.Layers.{ArePlaces, AreWithin, HaveLengths, IsCut, IsFileAt, IsWithin, MayBeSpan, file_at, part, size, table}
+use Rattle.gitcommitgraph.specs.steps.Layers.{ArePlaces, HaveLengths, IsCut, IsFileAt, IsWithin, MayBeSpan, file_at, part, size, table}
 use Rattle.gitcommitgraph.specs.declared.contents.Span.{Span}
 use Rattle.gitcommitgraph.specs.declared.layer.Places.{Places}
 use Rattle.gitcommitgraph.proofs.RowLemmas.{IsRow, are_named, bytes_are, chunks_from, contents_are, drop_small, has_chunk, lacks_chunk, lead, length-chunks, length-range, pieces_joined, pieces_long, pieces_many, pieces_small, range_joins, span_within, take_joins, take_small}

@@ -1,9 +1,8 @@
 -- What a commit-graph file says (gitformat-commit-graph(5), "CHUNK DATA").
-use Rattle.std.specs.Prelude.{◌≡◌, ℕ, ◌-◌, ◌<◌, ◌≤◌, ◌==◌, if◌then◌else◌, nat_lt, List, [], ◌∷◌, All, Any, length, drop, slice_range}
+use Rattle.std.specs.Prelude.{◌≡◌, ℕ, ◌-◌, ◌≤◌, ◌==◌, if◌then◌else◌, nat_lt, List, [], ◌∷◌, All, Any, length, drop, slice_range}
 use Rattle.std.specs.List.{AllAdjacentBelow}
 use Rattle.std.specs.Int.{w32, from_be_bytes}
 use Rattle.std.specs.Ordering.{nat_cmp}
-use Rattle.std.specs.declared.cmp.Ordering.{Ordering}
 use Rattle.std.specs.declared.cmp.Ordering.TheVariants.{Less}
 use Rattle.std.specs.Cmp.Lexicographic.{slice_cmp}
 use Rattle.gname.specs.Ids.{Id}

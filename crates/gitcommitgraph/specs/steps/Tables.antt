@@ -1,5 +1,5 @@
 -- The steps of looking in the tables of a file, and of testing them.
-use Rattle.std.specs.Prelude.{◌≡◌, ◌≢◌, ℕ, ◌+◌, ◌-◌, ◌<◌, ◌≤◌, ◌⊎◌, List, All, Option, MatchOption, length, slice_index, slice_index_or, count_by}
+use Rattle.std.specs.Prelude.{◌≡◌, ◌≢◌, ℕ, ◌-◌, ◌<◌, ◌≤◌, ◌⊎◌, List, All, Option, MatchOption, length, slice_index, slice_index_or, count_by}
 use Rattle.std.specs.List.{HoldsAt}
 use Rattle.gname.specs.Ids.{Id}
 use Rattle.gitcommitgraph.specs.Files.{number, first_parent, second_parent, no_parent, mark}

@@ -1,4 +1,4 @@
-use Rattle.std.proofs.Common.{◌+◌, ◌*◌, ◌/◌, ◌++◌, ◌∷◌, ◌∙◌, ℕ, List, [], All, ap, length, subst, sym, take, arith}
+use Rattle.std.proofs.Common.{◌+◌, ◌/◌, ◌++◌, ◌∷◌, ◌∙◌, [], All, ap, length, subst, sym, take, arith}
 use Rattle.std.specs.List.{AllZip, concat}
 use Rattle.std.proofs.lemmas.Bool.{eqb-false, eqb-true}
 use Rattle.std.proofs.lemmas.List.{take_all, take_more}

@@ -1,6 +1,6 @@
 use Rattle.std.proofs.Common.{◌≢◌, ◌∙◌, All, ap, length, subst}
 use Rattle.gitcommitgraph.specs.Chains.{graph_commits}
-use Rattle.gitcommitgraph.specs.Files.{Commit, GraphFile}
+use Rattle.gitcommitgraph.specs.Files.{Commit}
 use Rattle.gitcommitgraph.proofs.ChainLemmas.{other_id}
 use Rattle.gitcommitgraph.proofs.graph.CommitGraph.find.Goals as goal
 
