@@ -11,11 +11,11 @@ use Rattle.gname.specs.Ids.{Id, IsId}
 use Rattle.gname.specs.declared.formats.Format.{Format}
 use Rattle.gname.specs.declared.formats.Format.TheVariants.{Sha1}
 use Rattle.gitcommitgraph.specs.Chains.{AddsFile, AreClosed, FindsCommit, HasParentsBelow, ListsParents, checksum_of, graph_commits}
-use Rattle.gitcommitgraph.specs.Files.{AreLong, Commit, GraphFile, IsGraphFile, commits_of, file_commits, no_parent, row_parents}
+use Rattle.gitcommitgraph.specs.Files.{AreLong, Commit, GraphFile, HasPositionsBefore, IsGraphFile, commits_of, file_commits, no_parent, row_parents}
 use Rattle.gitcommitgraph.specs.Texts.{IsGraphText}
 use Rattle.gitcommitgraph.specs.steps.Chains.{IsGraph}
 use Rattle.gitcommitgraph.specs.steps.Tables.{IsPlaceOf}
-use Rattle.gitcommitgraph.proofs.ParentLemmas.{commit_at, length-commits}
+use Rattle.gitcommitgraph.proofs.ParentLemmas.{commit_at, commits_before, length-commits}
 
 -- ---- one file
 
@@ -92,7 +92,7 @@ below_more : (n m : ℕ) → n ≤ m → (c : Commit) → HasParentsBelow n c �
 below_more n m low c h k d inside = let p = h k d inside in omega (arith, p, low)
 
 module _ (old : List GraphFile) (file : GraphFile) (count new_count : ℕ) (graph : IsGraph count old)
-    (counted : new_count ≡ count + length (file_commits file)) (few : new_count ≤ no_parent) (formed : IsGraphFile file) (before : All (HasParentsBelow new_count) (file_commits file)) where
+    (counted : new_count ≡ count + length (file_commits file)) (few : new_count ≤ no_parent) (formed : IsGraphFile file) (within : HasPositionsBefore new_count file) where
   commits_are : graph_commits (old ++ file ∷ []) ≡ graph_commits old ++ file_commits file
   commits_are = flat_map-append file_commits old (file ∷ []) ∙ ap (λ l. graph_commits old ++ l) (append-nil (file_commits file))
 
@@ -101,6 +101,9 @@ module _ (old : List GraphFile) (file : GraphFile) (count new_count : ℕ) (grap
       let n = ap length commits_are ∙ length-append (graph_commits old) (file_commits file) in
       let m = graph.counted in
       omega (arith, n, m, counted)
+
+  before : All (HasParentsBelow new_count) (file_commits file)
+  before = commits_before new_count file.edges file.ids file.rows within.edges within.rows
 
   closed : AreClosed (graph_commits (old ++ file ∷ []))
   closed =
@@ -119,7 +122,7 @@ module _ (old : List GraphFile) (file : GraphFile) (count new_count : ℕ) (grap
     after = after;
     bases = bases;
     few = subst (λ (n : List GraphFile). length (graph_commits n) ≤ no_parent) (sym after) (subst (λ n. n ≤ no_parent) count_is few);
-    closed = subst (λ (n : List GraphFile). AreClosed (graph_commits n)) (sym after) closed;
+    within = subst (λ (n : List GraphFile). HasPositionsBefore (length (graph_commits n)) file) (sym after) (subst (λ n. HasPositionsBefore n file) count_is within);
   }
 
 -- ---- what is known of all commits

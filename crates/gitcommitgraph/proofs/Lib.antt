@@ -4,3 +4,5 @@ pub mod RowLemmas
 pub mod TextLemmas
 pub mod ChainLemmas
 pub mod LineLemmas
+pub mod FrameLemmas
+pub mod ExactLemmas

@@ -1,12 +1,12 @@
 -- Ids that ascend, and the fan-out table.
-use Rattle.std.proofs.Common.{◌≡◌, ◌≢◌, ℕ, zero, suc, ◌+◌, ◌-◌, ◌<◌, ◌≤◌, true, false, Bool, cond, IsTrue, List, [], ◌∷◌, length, drop, get_or, nat_le, All, Err, inl, inr, refl, sym, ap, subst, ◌∙◌, count_by, slice_range, arith}
+use Rattle.std.proofs.Common.{◌≡◌, ◌≢◌, ℕ, zero, suc, ◌+◌, ◌-◌, ◌<◌, ◌≤◌, true, false, Bool, cond, IsTrue, List, [], ◌∷◌, length, drop, get_or, nat_le, All, Err, inl, inr, refl, sym, ap, subst, ◌∙◌, count_by, slice_range, arith, ◌↔◌}
 use Rattle.std.specs.List.{HoldsAt, IsAllAdjacentAnswer}
 use Rattle.std.specs.List.Sorted.{IsBinarySearchResult, IsPartitionedBy, IsPartitionPoint, IsSortedBy}
 use Rattle.std.specs.Ordering.{is_lt, nat_cmp, ordering_reverse, ordering_then}
 use Rattle.std.specs.Cmp.Lexicographic.{slice_cmp}
 use Rattle.std.specs.declared.cmp.Ordering.{Ordering}
 use Rattle.std.specs.declared.cmp.Ordering.TheVariants.{Less, Equal, Greater}
-use Rattle.std.proofs.lemmas.Bool.{cases_lt, false≢true, leb-true}
+use Rattle.std.proofs.lemmas.Bool.{cases_lt, false≢true, le-leb, leb-true}
 use Rattle.std.proofs.lemmas.Bool.Decides.{nat_tests}
 use Rattle.std.proofs.lemmas.Cmp.{by_ranked, nat_list_cmp_total, ranked, tied_itself}
 use Rattle.std.proofs.lemmas.List.{get_or-drop, get_or-take, get_or_default, length-drop, length-take-le}
@@ -21,18 +21,18 @@ use Rattle.gitcommitgraph.specs.steps.Tables.{AreBetween}
 
 -- ---- what `is_sorted_by` answers
 
-pub rising_from_adjacent : (rows : List (List ℕ)) (r : Bool) → IsTrue r → IsAllAdjacentAnswer (λ x y b. b ≡ nat_le (row_offset x) (row_offset y)) rows r → IsRising rows
-rising_from_adjacent rows true is h = λ k d inside. leb-true _ _ (sym (h k d inside))
-rising_from_adjacent rows false is h = cc
+pub rising_decides : (rows : List (List ℕ)) (r : Bool) → IsAllAdjacentAnswer (λ x y b. b ≡ nat_le (row_offset x) (row_offset y)) rows r → IsTrue r ↔ IsRising rows
+rising_decides rows true h = (λ _. λ k d inside. leb-true (row_offset (get_or rows k d)) (row_offset (get_or rows (k + 1) d)) (sym (h k d inside)), λ _. refl)
+rising_decides rows false h = (λ is. absurd (false≢true is), λ up. absurd (false≢true (h.2 [] ∙ le-leb (row_offset (get_or rows h.0 [])) (row_offset (get_or rows (h.0 + 1) [])) (up h.0 [] h.1))))
 
 lt_is_less : (o : Ordering) → is_lt o ≡ true → o ≡ Less
 lt_is_less Less h = refl
 lt_is_less Equal h = cc
 lt_is_less Greater h = cc
 
-pub ascending_from_adjacent : (ids : List Id) (r : Bool) → IsTrue r → IsAllAdjacentAnswer (λ x y b. b ≡ is_lt (slice_cmp nat_cmp x y)) ids r → IsAscending ids
-ascending_from_adjacent ids true is h = λ k d inside. lt_is_less _ (sym (h k d inside))
-ascending_from_adjacent ids false is h = cc
+pub ascending_decides : (ids : List Id) (r : Bool) → IsAllAdjacentAnswer (λ x y b. b ≡ is_lt (slice_cmp nat_cmp x y)) ids r → IsTrue r ↔ IsAscending ids
+ascending_decides ids true h = (λ _. λ k d inside. lt_is_less (slice_cmp nat_cmp (get_or ids k d) (get_or ids (k + 1) d)) (sym (h k d inside)), λ _. refl)
+ascending_decides ids false h = (λ is. absurd (false≢true is), λ up. absurd (false≢true (h.2 [] ∙ ap is_lt (up h.0 [] h.1))))
 
 -- ---- the first bytes of ids that ascend
 

@@ -5,8 +5,7 @@ use Rattle.std.proofs.lemmas.List.{append_assoc, drop_more, get_or-drop, get_or_
 use Rattle.std.proofs.lemmas.List.Elements.{All-cons, All-drop, All-head, All-nil, All-tail}
 use Rattle.gname.specs.Ids.{Id}
 use Rattle.gitcommitgraph.specs.Chains.{HasParentsBelow}
-use Rattle.gitcommitgraph.specs.Files.{Commit, HasEnd, commits_of, edge_list, first_parent, mark, no_parent, number, parents_by, row_parents, second_parent}
-use Rattle.gitcommitgraph.specs.steps.Tables.{IsBefore, IsEdgeBefore, IsRowBefore, LastIsMarked, NamesEdge}
+use Rattle.gitcommitgraph.specs.Files.{Commit, IsBefore, IsEdgeBefore, IsRowBefore, commits_of, edge_list, first_parent, mark, no_parent, number, parents_by, row_parents, second_parent}
 
 -- ---- the parents that two numbers spell
 
@@ -77,34 +76,6 @@ module _ (start list : List ℕ) (edges : List (List ℕ)) (i p : ℕ) (d : List
       let m = length-append list (edge_list (drop i edges)) in
       let some = edges_some edges i d inside in
       omega (arith, n, m, some)
-
--- ---- lists that have an end
-
-pub has_end : (edges : List (List ℕ)) (row : List ℕ) → LastIsMarked edges → NamesEdge (length edges) row → HasEnd edges row
-has_end edges row marked names high =
-    let place = second_parent row - mark in
-    let inside : place < length edges = names high in
-    let k = length edges - 1 - place in
-    let last = get_or edges (length edges - 1) [] in
-    let long = length-drop place edges in
-    let at : place + k ≡ length edges - 1 = omega (arith, inside) in (
-      k,
-      last,
-      omega (arith, long, inside),
-      get_or-drop place edges k last ∙ ap (λ n. get_or edges n last) at ∙ get_or_default edges (length edges - 1) last [] (omega (arith, inside)),
-      marked [] (omega (arith, inside)),
-    )
-
-pub have_ends : (edges rows : List (List ℕ)) → LastIsMarked edges → All (NamesEdge (length edges)) rows → All (HasEnd edges) rows
-have_ends edges rows marked names k d inside = has_end edges (get_or rows k d) marked (names k d inside)
-
--- the place at which a list begins is that of an edge
-pub end_inside : (edges : List (List ℕ)) (row : List ℕ) → HasEnd edges row → mark ≤ second_parent row → second_parent row - mark < length edges
-end_inside edges row ended high =
-    let found = ended high in
-    let within = found.2 in
-    let long = length-drop (second_parent row - mark) edges in
-    omega (arith, within, long)
 
 -- ---- parents before a position
 

@@ -4,7 +4,7 @@ use Rattle.std.specs.List.{concat, flat_map}
 use Rattle.std.specs.List.Sorted.{IsNonDecreasingBy}
 use Rattle.std.specs.Int.{w64, to_be_bytes}
 use Rattle.std.specs.Simd.{first_chunks}
-use Rattle.std.proofs.lemmas.List.{append_assoc, append-nil, drop-drop, get_or-drop, length-drop, length-take-le, take-append-drop}
+use Rattle.std.proofs.lemmas.List.{append_assoc, append-nil, drop-drop, drop-take, get_or-drop, length-drop, length-take-le, take-append-drop, take-take}
 use Rattle.std.proofs.lemmas.List.Sorted.{IsNonDecreasingBy-from_all_adjacent}
 use Rattle.std.proofs.lemmas.Nat.{be_bytes_8}
 use Rattle.gitcommitgraph.specs.Texts.{AreNamed, Chunk, HasChunk, chunk_bytes, contents, no_name}
@@ -30,6 +30,13 @@ range_joins a b c l low high =
     let rest : drop b l ≡ drop (b - a) (drop a l) = ap (λ n. drop n l) at ∙ sym (drop-drop (b - a) a l) in
     let long : c - a ≡ (b - a) + (c - b) = omega (arith, low, high) in
     ap (λ r. take (b - a) (drop a l) ++ take (c - b) r) rest ∙ take_joins (b - a) (c - b) (drop a l) ∙ ap (λ n. take n (drop a l)) (sym long)
+
+-- a part of a front
+pub range_take : (a b n : ℕ) (l : List ℕ) → a ≤ b → b ≤ n → slice_range (take n l) a b ≡ slice_range l a b
+range_take a b n l low high =
+    let m : a + (n - a) ≡ n = omega (arith, low, high) in
+    ap (λ k. take (b - a) (drop a (take k l))) (sym m) ∙ ap (take (b - a)) (drop-take a (n - a) l)
+    ∙ take-take (b - a) (n - a) (drop a l) (omega (arith, low, high))
 
 pub length-range : (a b : ℕ) (l : List ℕ) → a ≤ b → b ≤ length l → length (slice_range l a b) ≡ b - a
 length-range a b l low high = let rest = length-drop a l in length-take-le (b - a) (drop a l) (omega (arith, rest, low, high))
@@ -102,6 +109,11 @@ chunk_at bytes row (next ∷ rows) (suc k) c d inside =
     let on : suc (k + 1) ≡ suc k + 1 = omega arith in
     chunk_at bytes next rows k c d (omega (arith, inside))
     ∙ ap (λ n. chunk_from bytes (get_or (next ∷ rows) k d) (get_or (row ∷ next ∷ rows) n d)) on
+
+-- the chunks that a list of rows names
+abbrev pub chunks_of : List ℕ → List (List ℕ) → List Chunk
+chunks_of bytes [] = []
+chunks_of bytes (row ∷ rows) = chunks_from bytes row rows
 
 -- ---- from what is tested of the rows
 

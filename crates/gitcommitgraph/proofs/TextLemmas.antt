@@ -3,26 +3,19 @@ use Rattle.std.proofs.Common.{◌≡◌, ℕ, zero, suc, ◌+◌, ◌-◌, ◌*�
 use Rattle.std.specs.List.{concat, flat_map}
 use Rattle.std.specs.Int.{w32, to_be_bytes}
 use Rattle.std.specs.Simd.{first_chunks}
-use Rattle.std.proofs.lemmas.List.{append_assoc, append-nil, drop-take, length-drop, length-take-le, take-append-drop, take-take, take_all, take_more}
+use Rattle.std.proofs.lemmas.List.{append_assoc, append-nil, length-drop, length-take-le, take-append-drop, take-take, take_all, take_more}
 use Rattle.std.proofs.lemmas.Nat.{be_bytes_4, div-add-mod'}
 use Rattle.gname.specs.Ids.{Id}
-use Rattle.gitcommitgraph.specs.Files.{AreLong, HasEnd, IsAscending, IsGraphFile, number}
-use Rattle.gitcommitgraph.specs.Texts.{Chunk, HasChunk, IsGraphText, MayHaveChunk, begins_within, chunk_bytes, contents, fan_out, header}
+use Rattle.gitcommitgraph.specs.Files.{AreLong, HaveEnds, IsAscending, IsGraphFile, no_parent, number}
+use Rattle.gitcommitgraph.specs.Texts.{Chunk, HasChunk, IsFramed, IsGraphText, MayHaveChunk, begins_within, chunk_bytes, contents, fan_out, header}
 use Rattle.gitcommitgraph.specs.steps.Rows.{AreRows, IsSpan, IsTable, pieces, row_offset}
 use Rattle.gitcommitgraph.specs.steps.Tables.{IsFanOut}
 use Rattle.gitcommitgraph.specs.steps.Layers.{ArePlaces, HaveLengths, IsCut, IsFileAt, IsWithin, MayBeSpan, file_at, part, size, table}
 use Rattle.gitcommitgraph.specs.declared.contents.Span.{Span}
 use Rattle.gitcommitgraph.specs.declared.layer.Places.{Places}
-use Rattle.gitcommitgraph.proofs.RowLemmas.{IsRow, are_named, bytes_are, chunks_from, contents_are, drop_small, has_chunk, lacks_chunk, lead, length-chunks, length-range, pieces_joined, pieces_long, pieces_many, pieces_small, range_joins, span_within, take_joins, take_small}
+use Rattle.gitcommitgraph.proofs.RowLemmas.{IsRow, are_named, bytes_are, chunks_from, contents_are, drop_small, has_chunk, lacks_chunk, lead, length-chunks, length-range, pieces_joined, pieces_long, pieces_many, pieces_small, range_joins, range_take, span_within, take_joins, take_small}
 
 -- ---- the bytes of a file, part by part
-
--- a part of a front
-range_take : (a b n : ℕ) (l : List ℕ) → a ≤ b → b ≤ n → slice_range (take n l) a b ≡ slice_range l a b
-range_take a b n l low high =
-    let m : a + (n - a) ≡ n = omega (arith, low, high) in
-    ap (λ k. take (b - a) (drop a (take k l))) (sym m) ∙ ap (take (b - a)) (drop-take a (n - a) l)
-    ∙ take-take (b - a) (n - a) (drop a l) (omega (arith, low, high))
 
 -- the header, the table and the chunks, and the trailer
 four_parts : (a b n : ℕ) (l : List ℕ) → a ≤ b → b ≤ n → take a l ++ (slice_range l a b ++ (slice_range l b n ++ drop n l)) ≡ l
@@ -77,14 +70,16 @@ module _ (bytes : List ℕ) (chunks bases : ℕ) (rest : List ℕ) (places : Pla
       record {
         bases_count = bases;
         chunks = found;
-        parts = sym (four_parts 8 start end bytes (omega arith) inside)
-            ∙ ap (λ l. l ++ (slice_range bytes 8 start ++ (slice_range bytes start end ++ drop end bytes))) front
-            ∙ ap (λ l. header chunks bases ++ (l ++ (slice_range bytes start end ++ drop end bytes))) (sym listed)
-            ∙ ap (λ l. header chunks bases ++ (contents start found ++ (l ++ drop end bytes))) (sym filled)
-            ∙ ap (λ n. header n bases ++ (contents (8 + 12 * (n + 1)) found ++ (flat_map chunk_bytes found ++ drop end bytes))) (sym many);
-        long = long;
+        framed = record {
+          parts = sym (four_parts 8 start end bytes (omega arith) inside)
+              ∙ ap (λ l. l ++ (slice_range bytes 8 start ++ (slice_range bytes start end ++ drop end bytes))) front
+              ∙ ap (λ l. header chunks bases ++ (l ++ (slice_range bytes start end ++ drop end bytes))) (sym listed)
+              ∙ ap (λ l. header chunks bases ++ (contents start found ++ (l ++ drop end bytes))) (sym filled)
+              ∙ ap (λ n. header n bases ++ (contents (8 + 12 * (n + 1)) found ++ (flat_map chunk_bytes found ++ drop end bytes))) (sym many);
+          named = are_named start end row rows are bytes each;
+          long = let n = length-drop end bytes in omega (arith, n);
+        };
         small = small;
-        named = are_named start end row rows are bytes each;
         within = record {
           fan_out = in_bytes _ places.fan_out at.fan_out;
           ids = in_bytes _ places.ids at.ids;
@@ -189,19 +184,20 @@ module _ (bytes : List ℕ) (places : Places) (cut : IsCut bytes places) where
   pub fan_out_long : length (table 4 bytes places.fan_out) ≡ 256
   fan_out_long = let n = rows_many 4 bytes places.fan_out cut.within.fan_out fan_out_even in let m = cut.lengths.fan_out in omega (arith, n, m)
 
-  pub formed : IsAscending (table 20 bytes places.ids) → All (HasEnd (table 4 bytes places.edges)) (table 36 bytes places.rows) → IsGraphFile (file_at bytes places)
+  pub formed : IsAscending (table 20 bytes places.ids) → HaveEnds (table 4 bytes places.edges) (table 36 bytes places.rows) → IsGraphFile (file_at bytes places)
   formed up ended = record {
     bases = rows_long 20 bytes places.bases cut.within.bases bases_even;
     ids = rows_long 20 bytes places.ids cut.within.ids cut.lengths.ids;
     rows = rows_long 36 bytes places.rows cut.within.rows cut.lengths.rows;
     edges = rows_long 4 bytes places.edges cut.within.edges cut.lengths.edges;
-    checksum = let n = length-drop (length bytes - 20) bytes in let l = cut.long in omega (arith, n, l);
+    checksum = cut.framed.long;
+    few = subst (λ n. n ≤ no_parent) (sym (rows_many 20 bytes places.ids cut.within.ids cut.lengths.ids)) cut.lengths.few;
     each = rows_many 36 bytes places.rows cut.within.rows cut.lengths.rows ∙ cut.lengths.each ∙ sym (rows_many 20 bytes places.ids cut.within.ids cut.lengths.ids);
     ascending = up;
     ended = ended;
   }
 
-  pub file_is : IsAscending (table 20 bytes places.ids) → IsFanOut (table 4 bytes places.fan_out) (table 20 bytes places.ids) → All (HasEnd (table 4 bytes places.edges)) (table 36 bytes places.rows)
+  pub file_is : IsAscending (table 20 bytes places.ids) → IsFanOut (table 4 bytes places.fan_out) (table 20 bytes places.ids) → HaveEnds (table 4 bytes places.edges) (table 36 bytes places.rows)
       → IsFileAt bytes places
   file_is up fan ended = record { within = cut.within; formed = formed up ended; fan_out = fan }
 
@@ -212,7 +208,7 @@ module _ (bytes : List ℕ) (places : Places) (cut : IsCut bytes places) where
       omega (arith, n, m)
 
   pub text_is : IsAscending (table 20 bytes places.ids) → IsFanOut (table 4 bytes places.fan_out) (table 20 bytes places.ids)
-      → All (HasEnd (table 4 bytes places.edges)) (table 36 bytes places.rows) → IsGraphText (file_at bytes places) bytes
+      → HaveEnds (table 4 bytes places.edges) (table 36 bytes places.rows) → IsGraphText (file_at bytes places) bytes
   text_is up fan ended =
       let fan_out_bytes =
       rows_joined 4 bytes places.fan_out cut.within.fan_out fan_out_even in
@@ -221,9 +217,7 @@ module _ (bytes : List ℕ) (places : Places) (cut : IsCut bytes places) where
       (rows_long 4 bytes places.fan_out cut.within.fan_out fan_out_even) (rows_small 4 bytes places.fan_out cut.within.fan_out fan_out_even cut.small) fan in
       record {
         chunks = cut.chunks;
-        parts = cut.parts
-            ∙ ap (λ n. header (length cut.chunks) n ++ (contents (8 + 12 * (length cut.chunks + 1)) cut.chunks ++ (flat_map chunk_bytes cut.chunks ++ drop (length bytes - 20) bytes))) (sym bases_many);
-        named = cut.named;
+        framed = subst (λ n. IsFramed n cut.chunks (drop (length bytes - 20) bytes) bytes) (sym bases_many) cut.framed;
         fan_out = subst (HasChunk cut.chunks (codes "OIDF")) (sym (fan_out_text ∙ fan_out_bytes)) cut.fan_out;
         ids = subst (HasChunk cut.chunks (codes "OIDL")) (sym (rows_joined 20 bytes places.ids cut.within.ids cut.lengths.ids)) cut.ids;
         rows = subst (HasChunk cut.chunks (codes "CDAT")) (sym (rows_joined 36 bytes places.rows cut.within.rows cut.lengths.rows)) cut.rows;

@@ -4,7 +4,7 @@ use Rattle.std.specs.List.{HoldsAt, flat_map}
 use Rattle.std.specs.declared.vec.Vec.{Vec}
 use Rattle.gname.specs.Ids.{Id, IsIdTextOf}
 use Rattle.gname.specs.declared.formats.Format.TheVariants.{Sha1}
-use Rattle.gitcommitgraph.specs.Files.{Commit, GraphFile, file_commits, no_parent}
+use Rattle.gitcommitgraph.specs.Files.{Commit, GraphFile, HasPositionsBefore, file_commits, no_parent}
 use Rattle.gitcommitgraph.specs.Texts.{IsGraphText}
 
 -- the checksum of a file
@@ -34,15 +34,15 @@ HasParentsBelow end commit = All (λ position. position < end) commit.parents
 abbrev pub AreClosed : List Commit → Type 0
 AreClosed commits = All (HasParentsBelow (length commits)) commits
 
--- A chain with one more file on top. Its base graphs are the files before; each parent is in the chain; and each position
--- is less than the number where there is no parent.
+-- A chain with one more file on top. Its base graphs are the files before; each position that it names is that of a
+-- commit; and each is less than the number where there is no parent.
 pub record AddsFile (old : List GraphFile) (text : List ℕ) (new : List GraphFile) : Type 0 where
   pub file : GraphFile
   pub is : IsGraphText file text
   pub after : new ≡ old ++ file ∷ []
   pub bases : file.bases ≡ map checksum_of old
   pub few : length (graph_commits new) ≤ no_parent
-  pub closed : AreClosed (graph_commits new)
+  pub within : HasPositionsBefore (length (graph_commits new)) file
 
 -- ---- the file commit-graph-chain
 

@@ -1,5 +1,5 @@
 -- What a commit-graph file says (gitformat-commit-graph(5), "CHUNK DATA").
-use Rattle.std.specs.Prelude.{◌≡◌, ℕ, ◌-◌, ◌≤◌, ◌==◌, if◌then◌else◌, nat_lt, List, [], ◌∷◌, All, Any, length, drop, slice_range}
+use Rattle.std.specs.Prelude.{◌≡◌, ℕ, ◌-◌, ◌<◌, ◌≤◌, ◌==◌, ◌⊎◌, if◌then◌else◌, nat_lt, List, [], ◌∷◌, All, length, drop, slice_index_or, slice_range}
 use Rattle.std.specs.List.{AllAdjacentBelow}
 use Rattle.std.specs.Int.{w32, from_be_bytes}
 use Rattle.std.specs.Ordering.{nat_cmp}
@@ -84,19 +84,44 @@ AreLong n rows = All (λ row. length row ≡ n) rows
 abbrev pub IsAscending : List Id → Type 0
 IsAscending ids = AllAdjacentBelow (λ one other. slice_cmp nat_cmp one other ≡ Less) ids (length ids)
 
--- an edge list that a row names has an end
-abbrev pub HasEnd : List (List ℕ) → List ℕ → Type 0
-HasEnd edges row =
-    mark ≤ second_parent row → Any (λ edge. mark ≤ number edge) (drop (second_parent row - mark) edges)
+-- A row that names the place of a list names that of an edge. The last of the edges has the highest bit, so that each list
+-- has an end.
+abbrev pub NamesEdge : ℕ → List ℕ → Type 0
+NamesEdge count row = mark ≤ second_parent row → second_parent row - mark < count
 
--- The form of a file: ids of 20 bytes, which ascend; a row of 36 bytes for each; edges of 4 bytes, in which each list has
--- an end.
+pub record HaveEnds (edges rows : List (List ℕ)) : Type 0 where
+  pub last : (d : List ℕ) → 0 < length edges → mark ≤ number (slice_index_or edges (length edges - 1) d)
+  pub begins : All (NamesEdge (length edges)) rows
+
+-- The form of a file: ids of 20 bytes, which ascend; a row of 36 bytes for each; and edges of 4 bytes. Each place of an id is
+-- less than the number where there is no parent.
 pub record IsGraphFile (file : GraphFile) : Type 0 where
   pub bases : AreLong 20 file.bases
   pub ids : AreLong 20 file.ids
   pub rows : AreLong 36 file.rows
   pub edges : AreLong 4 file.edges
   pub checksum : length file.checksum ≡ 20
+  pub few : length file.ids ≤ no_parent
   pub each : length file.rows ≡ length file.ids
   pub ascending : IsAscending file.ids
-  pub ended : All (HasEnd file.edges) file.rows
+  pub ended : HaveEnds file.edges file.rows
+
+-- ---- the positions that a file names
+
+-- there is no parent, or it is before a position
+abbrev pub IsBefore : ℕ → ℕ → Type 0
+IsBefore end parent = (parent ≡ no_parent) ⊎ (parent < end)
+
+-- the parents that a row names itself are before a position
+pub record IsRowBefore (end : ℕ) (row : List ℕ) : Type 0 where
+  pub first : IsBefore end (first_parent row)
+  pub second : second_parent row < mark → IsBefore end (second_parent row)
+
+-- the parent that an edge names is before a position
+pub record IsEdgeBefore (end : ℕ) (edge : List ℕ) : Type 0 where
+  pub inner : number edge < mark → number edge < end
+  pub last : mark ≤ number edge → number edge - mark < end
+
+pub record HasPositionsBefore (end : ℕ) (file : GraphFile) : Type 0 where
+  pub rows : All (IsRowBefore end) file.rows
+  pub edges : All (IsEdgeBefore end) file.edges

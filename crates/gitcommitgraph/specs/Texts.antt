@@ -58,13 +58,17 @@ fan_out (suc byte) ids = fan_out byte ids ++ to_be_bytes w32 (count_by (begins_w
 
 -- ---- the whole text
 
--- The text of a file: the header; the table of contents; the chunks, one after the other; and the checksum. Chunks with
--- other names are not looked at.
+-- A text with the frame of a file: the header; the table of contents; the chunks, one after the other; and a checksum.
+pub record IsFramed (bases : ℕ) (chunks : List Chunk) (checksum : Id) (text : List ℕ) : Type 0 where
+  pub parts : text ≡ header (length chunks) bases
+      ++ (contents (8 + 12 * (length chunks + 1)) chunks ++ (flat_map chunk_bytes chunks ++ checksum))
+  pub named : AreNamed chunks
+  pub long : length checksum ≡ 20
+
+-- The text of a file. Chunks with other names are not looked at.
 pub record IsGraphText (file : GraphFile) (text : List ℕ) : Type 0 where
   pub chunks : List Chunk
-  pub parts : text ≡ header (length chunks) (length file.bases)
-      ++ (contents (8 + 12 * (length chunks + 1)) chunks ++ (flat_map chunk_bytes chunks ++ file.checksum))
-  pub named : AreNamed chunks
+  pub framed : IsFramed (length file.bases) chunks file.checksum text
   pub fan_out : HasChunk chunks (codes "OIDF") (fan_out 256 file.ids)
   pub ids : HasChunk chunks (codes "OIDL") (concat file.ids)
   pub rows : HasChunk chunks (codes "CDAT") (concat file.rows)

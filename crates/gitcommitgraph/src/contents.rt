@@ -1,7 +1,7 @@
 //! The header and the table of contents of a file (gitformat-commit-graph(5), "HEADER" and "CHUNK
 //! LOOKUP"; gitformat-chunk(5)).
 
-ghost use Rattle.std.specs.Prelude.{◌≡◌, ◌-◌, ◌+◌, ◌<◌, ◌≤◌, ◌++◌, ◌*◌, List, ℕ, IfSome, IsTrue, MatchOption, length, slice_index_or};
+ghost use Rattle.std.specs.Prelude.{◌≡◌, ◌<◌, ◌++◌, ◌↔◌, List, ℕ, IsTrue, MatchOption, length, slice_index_or};
 ghost use Rattle.gitcommitgraph.specs.Texts.{header};
 ghost use Rattle.gitcommitgraph.specs.steps.Rows.{AreDistinct, AreRows, IsRising, IsSpan, IsTable, LacksName, row_name, row_offset};
 
@@ -34,7 +34,9 @@ pub(crate) struct Span {
 
 /// The header with which some bytes begin.
 pub(crate) fn read_header(bytes: &[u8]) -> Option<Header>
-    ensures { IfSome result (λ head. (rest : List ℕ) × (bytes.now ≡ header head.chunks head.bases ++ rest)) }
+    ensures { MatchOption result
+        ((chunks bases : ℕ) (rest : List ℕ) → ¬ (bytes.now ≡ header chunks bases ++ rest))
+        (λ head. (rest : List ℕ) × (bytes.now ≡ header head.chunks head.bases ++ rest)) }
 {
     let after = bytes.strip_prefix(SIGNATURE)?;
     let counts = after.first_chunk::<2>()?;
@@ -47,7 +49,8 @@ pub(crate) fn read_header(bytes: &[u8]) -> Option<Header>
 /// The rows of the table of contents of so many chunks, in a file without its trailer. It is `None`
 /// if the chunks do not lie one after the other up to the end, or if two have the same name.
 pub(crate) fn read_rows(chunks: u8, body: &[u8]) -> Option<&[[u8; ENTRY_BYTES]]>
-    ensures { IfSome result (λ rows. IsTable chunks body.now rows.now) }
+    ensures { MatchOption result ((rows : List (List ℕ)) → ¬ IsTable chunks body.now rows)
+        (λ rows. IsTable chunks body.now rows.now) }
 {
     let start = HEADER_BYTES + (usize::from(chunks) + 1) * ENTRY_BYTES;
     let table = body.get(HEADER_BYTES..start)?;
@@ -61,7 +64,7 @@ pub(crate) fn read_rows(chunks: u8, body: &[u8]) -> Option<&[[u8; ENTRY_BYTES]]>
 
 // Whether rows are those of chunks between these offsets.
 fn are_rows(rows: &[[u8; ENTRY_BYTES]], start: u64, end: u64) -> bool
-    ensures { IsTrue result → AreRows start end rows.now }
+    ensures { IsTrue result ↔ AreRows start end rows.now }
 {
     let (Some(first), Some(last)) = (rows.first(), rows.last()) else {
         return false;
@@ -80,14 +83,14 @@ fn are_rows(rows: &[[u8; ENTRY_BYTES]], start: u64, end: u64) -> bool
 
 // Whether no row has a lower offset than the one before.
 fn is_rising(rows: &[[u8; ENTRY_BYTES]]) -> bool
-    ensures { IsTrue result → IsRising rows.now }
+    ensures { IsTrue result ↔ IsRising rows.now }
 {
     rows.is_sorted_by(|one, other| offset_of(one) <= offset_of(other))
 }
 
 // Whether no two rows have the same name.
 fn are_distinct(rows: &[[u8; ENTRY_BYTES]]) -> bool
-    ensures { IsTrue result → AreDistinct rows.now }
+    ensures { IsTrue result ↔ AreDistinct rows.now }
 {
     for (place, row) in rows.iter().enumerate() {
         if place_of(&rows[..place], name_of(row)).is_some() {

@@ -1,23 +1,21 @@
 //! Commit-graphs of one file or several.
 
-ghost use Rattle.std.specs.Prelude.{◌≡◌, ◌==◌, ◌<◌, ◌≤◌, [], All, IfOk, IfSome, MatchOption, OnErr, OnOk, length};
+ghost use Rattle.std.specs.Prelude.{◌≡◌, ◌==◌, ◌<◌, ◌≤◌, ◌⊎◌, [], List, All, IfErr, IfOk, IfSome, MatchOption, OnErr, OnOk, length};
 ghost use Rattle.std.specs.List.{HoldsAt};
 ghost use Rattle.gname.specs.Ids.{IsIdOf};
 ghost use Rattle.gname.specs.declared.formats.Format.TheVariants.{Sha1};
-ghost use Rattle.gitcommitgraph.specs.Chains.{AddsFile, FindsCommit, ListsParents, graph_commits};
-ghost use Rattle.gitcommitgraph.specs.Files.{no_parent};
+ghost use Rattle.gitcommitgraph.specs.Chains.{AddsFile, AreClosed, FindsCommit, ListsParents, graph_commits};
+ghost use Rattle.gitcommitgraph.specs.Files.{GraphFile, no_parent};
+ghost use Rattle.gitcommitgraph.specs.declared.fault.CommitGraphFault.TheVariants.{Memory};
 ghost use Rattle.gitcommitgraph.specs.steps.Chains.{IsIn};
 
 use crate::fault::CommitGraphFault;
 use crate::layer::Layer;
-use crate::position::Position;
+use crate::position::{MAX_COMMITS, Position};
 use crate::tables::ID_BYTES;
 use gname::Oid;
 use std::alloc::{AllocError, Allocator};
 use std::marker::Model;
-
-// The most commits. The next number says that there is no parent.
-const MAX_COMMITS: usize = 0x7000_0000;
 
 /// A commit-graph: a file, or the files of a chain.
 #[derive(Drop)]
@@ -59,7 +57,9 @@ impl<A: Allocator + Copy> CommitGraph<A> {
     /// it was.
     pub fn add(&mut self, bytes: Vec<u8, A>) -> Result<(), CommitGraphFault>
         ensures ok { OnOk result (AddsFile self.old bytes.items self.new) }
-        ensures err { OnErr result (self.new ≡ self.old) }
+        ensures err { IfErr result (λ fault. (fault ≡ Memory)
+            ⊎ ((new : List GraphFile) → ¬ AddsFile self.old bytes.items new)) }
+        ensures same { OnErr result (self.new ≡ self.old) }
     {
         let layer = Layer::read(bytes)?;
         if !layer.is_above(self.layers.as_slice()) {
@@ -69,12 +69,20 @@ impl<A: Allocator + Copy> CommitGraph<A> {
         if count > MAX_COMMITS {
             return Err(CommitGraphFault::TooMany);
         }
-        if !layer.parents_are_before(count) {
+        if !layer.is_before(count) {
             return Err(CommitGraphFault::Parents);
         }
         self.layers.push(layer)?;
         self.count = count;
         Ok(())
+    }
+
+    /// A law: each parent of a commit is one of the commits, of which there are at most 0x7000_0000.
+    pub fn laws(&self)
+        ensures closed { AreClosed (graph_commits self.now) }
+        ensures few { length (graph_commits self.now) ≤ no_parent }
+    {
+        let _count = self.count;
     }
 
     /// The number of commits.

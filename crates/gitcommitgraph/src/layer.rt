@@ -1,18 +1,18 @@
 //! A file of a commit-graph.
 
-ghost use Rattle.std.specs.Prelude.{◌≡◌, ◌↔◌, ◌*◌, ◌<◌, All, IfOk, IfSome, IsTrue, OnOk, length, map};
+ghost use Rattle.std.specs.Prelude.{◌≡◌, ◌↔◌, ◌*◌, ◌<◌, IfOk, IsTrue, MatchOption, MatchResult, length, map};
 ghost use Rattle.std.specs.List.{HoldsAt};
 ghost use Rattle.gname.specs.Ids.{IsIdOf};
 ghost use Rattle.gname.specs.declared.formats.Format.TheVariants.{Sha1};
-ghost use Rattle.gitcommitgraph.specs.Chains.{FindsCommit, HasParentsBelow, ListsParents, checksum_of};
-ghost use Rattle.gitcommitgraph.specs.Files.{IsGraphFile, file_commits};
+ghost use Rattle.gitcommitgraph.specs.Chains.{FindsCommit, ListsParents, checksum_of};
+ghost use Rattle.gitcommitgraph.specs.Files.{GraphFile, HasPositionsBefore, IsGraphFile, file_commits};
 ghost use Rattle.gitcommitgraph.specs.Texts.{IsGraphText};
-ghost use Rattle.gitcommitgraph.specs.steps.Layers.{ArePlaces, AreTested, AreWithin, HaveLengths, IsCut, IsWithin, MayBeSpan, size, table};
+ghost use Rattle.gitcommitgraph.specs.steps.Layers.{ArePlaces, AreTested, AreWithin, HaveLengths, IsCut, IsWithin, LacksChunk, MayBeSpan, size, table};
 ghost use Rattle.gitcommitgraph.specs.steps.Tables.{IsFanOut};
 
 use crate::contents::{ENTRY_BYTES, Span, read_header, read_rows, span_of};
 use crate::fault::CommitGraphFault;
-use crate::position::Position;
+use crate::position::{MAX_COMMITS, Position};
 use crate::tables::{ID_BYTES, ROW_BYTES, Tables};
 use gname::Oid;
 use gname::laws::ids_have_one_format;
@@ -64,7 +64,8 @@ impl<A: Allocator + Copy> Layer<A> {
     /// if its ids do not ascend, with `FanOut` if its fan-out table is not theirs, and with `Edges` if
     /// a list of edges has no end.
     pub(crate) fn read(bytes: Vec<u8, A>) -> Result<Layer<A>, CommitGraphFault>
-        ensures { IfOk result (λ file. IsGraphText file bytes.items) }
+        ensures { MatchResult result (λ file. IsGraphText file bytes.items)
+            (λ _. (file : GraphFile) → ¬ IsGraphText file bytes.items) }
     {
         let places = read_places(bytes.as_slice())?;
         test_tables(bytes.as_slice(), &places)?;
@@ -109,16 +110,16 @@ impl<A: Allocator + Copy> Layer<A> {
         self.tables().parents_of(alloc, place, most)
     }
 
-    /// Whether each parent of a commit is before this position.
-    pub(crate) fn parents_are_before(&self, end: usize) -> bool
-        ensures { IsTrue result → All (HasParentsBelow end) (file_commits self.now) }
+    /// Whether each position that it names is before this one.
+    pub(crate) fn is_before(&self, end: usize) -> bool
+        ensures { IsTrue result ↔ HasPositionsBefore end self.now }
     {
-        self.tables().parents_are_before(end)
+        self.tables().are_before(end)
     }
 
     /// Whether its base graphs are these files.
     pub(crate) fn is_above(&self, layers: &[Layer<A>]) -> bool
-        ensures { IsTrue result → (self.now.bases ≡ map checksum_of layers.now) }
+        ensures { IsTrue result ↔ (self.now.bases ≡ map checksum_of layers.now) }
     {
         let bases = self.bases();
         if bases.len() != layers.len() {
@@ -162,7 +163,7 @@ impl<A: Allocator + Copy> Layer<A> {
 
 // Where the chunks of a file lie. They have the right lengths.
 fn read_places(bytes: &[u8]) -> Result<Places, CommitGraphFault>
-    ensures { IfOk result (IsCut bytes.now) }
+    ensures { MatchResult result (IsCut bytes.now) (λ _. (file : GraphFile) → ¬ IsGraphText file bytes.now) }
 {
     let Some((body, _checksum)) = bytes.split_last_chunk::<ID_BYTES>() else {
         return Err(CommitGraphFault::Header);
@@ -185,7 +186,8 @@ fn read_places(bytes: &[u8]) -> Result<Places, CommitGraphFault>
 // Tests the tables that lie at these places. It fails with `Order`, `FanOut` or `Edges`.
 fn test_tables(bytes: &[u8], places: &Places) -> Result<(), CommitGraphFault>
     requires { IsCut bytes.now places.now }
-    ensures { OnOk result (AreTested bytes.now places.now) }
+    ensures { MatchResult result (λ _. AreTested bytes.now places.now)
+        (λ _. (file : GraphFile) → ¬ IsGraphText file bytes.now) }
 {
     let tables = tables_of(bytes, places);
     if !tables.are_ascending() {
@@ -202,7 +204,7 @@ fn test_tables(bytes: &[u8], places: &Places) -> Result<(), CommitGraphFault>
 
 // Where the chunks of these rows lie.
 fn find_places(rows: &[[u8; ENTRY_BYTES]]) -> Option<Places>
-    ensures { IfSome result (ArePlaces rows.now) }
+    ensures { MatchOption result (LacksChunk rows.now) (ArePlaces rows.now) }
 {
     Some(Places {
         fan_out: span_of(rows, b"OIDF")?,
@@ -226,10 +228,11 @@ fn optional_span_of(rows: &[[u8; ENTRY_BYTES]], name: &[u8; 4]) -> Span
 // Whether the chunks of a file with so many base graphs have their lengths.
 fn have_lengths(places: &Places, bases: usize) -> bool
     requires { bases < 256 }
-    ensures { IsTrue result → HaveLengths places.now bases }
+    ensures { IsTrue result ↔ HaveLengths places.now bases }
 {
     size_of(&places.fan_out) == FAN_OUT_BYTES
         && size_of(&places.ids) % ID_BYTES == 0
+        && size_of(&places.ids) / ID_BYTES <= MAX_COMMITS
         && size_of(&places.rows) % ROW_BYTES == 0
         && size_of(&places.rows) / ROW_BYTES == size_of(&places.ids) / ID_BYTES
         && size_of(&places.edges) % EDGE_BYTES == 0

@@ -4,6 +4,9 @@ ghost use Rattle.std.specs.Prelude.{◌≡◌};
 
 use std::marker::Model;
 
+/// The most commits. The next number says that there is no parent.
+pub(crate) const MAX_COMMITS: usize = 0x7000_0000;
+
 /// The position of a commit in a commit-graph: how many commits are before it. The positions of a
 /// chain go on from one file to the next.
 #[derive(Clone, Copy, Debug, PartialEq, Eq, Drop)]

@@ -1,10 +1,10 @@
 //! The tables of a file (gitformat-commit-graph(5), "CHUNK DATA").
 
-ghost use Rattle.std.specs.Prelude.{◌≡◌, ◌≢◌, ◌-◌, ◌+◌, ◌<◌, ◌≤◌, ◌++◌, ◌↔◌, [], All, IfOk, IsTrue, count_by, drop, length, slice_index, slice_index_or};
-ghost use Rattle.gitcommitgraph.specs.Chains.{HasParentsBelow, ListsParents};
-ghost use Rattle.gitcommitgraph.specs.Files.{HasEnd, IsAscending, commits_of, edge_list, first_parent, number, row_parents, second_parent};
+ghost use Rattle.std.specs.Prelude.{◌≡◌, ◌-◌, ◌<◌, ◌≤◌, ◌++◌, ◌↔◌, [], List, ℕ, All, IfOk, IsTrue, count_by, length, slice_index_or};
+ghost use Rattle.gitcommitgraph.specs.Chains.{ListsParents};
+ghost use Rattle.gitcommitgraph.specs.Files.{HaveEnds, IsAscending, IsBefore, IsEdgeBefore, IsRowBefore, NamesEdge, edge_list, first_parent, mark, number, row_parents, second_parent};
 ghost use Rattle.gitcommitgraph.specs.Texts.{begins_within};
-ghost use Rattle.gitcommitgraph.specs.steps.Tables.{AreBetween, IsBefore, IsEdgeBefore, IsFanOut, IsPlaceOf, IsRowBefore, LastIsMarked, NamesEdge};
+ghost use Rattle.gitcommitgraph.specs.steps.Tables.{AreBetween, IsFanOut, IsPlaceOf};
 
 use crate::position::Position;
 use std::alloc::{AllocError, Allocator};
@@ -79,7 +79,7 @@ impl Tables<'_> {
         most: usize,
     ) -> Result<Option<Vec<Position, A>>, AllocError>
         requires inside { place < length self.now.rows.now }
-        requires ended { All (HasEnd self.now.edges.now) self.now.rows.now }
+        requires ended { All (NamesEdge (length self.now.edges.now)) self.now.rows.now }
         ensures { IfOk result (ListsParents most
             (row_parents self.now.edges.now (slice_index_or self.now.rows.now place []))) }
     {
@@ -101,7 +101,7 @@ impl Tables<'_> {
 
     /// Whether the ids ascend.
     pub(crate) fn are_ascending(&self) -> bool
-        ensures { IsTrue result → IsAscending self.now.ids.now }
+        ensures { IsTrue result ↔ IsAscending self.now.ids.now }
     {
         self.ids.is_sorted_by(|one, other| one.cmp(other).is_lt())
     }
@@ -110,7 +110,7 @@ impl Tables<'_> {
     pub(crate) fn is_fan_out(&self) -> bool
         requires ascending { IsAscending self.now.ids.now }
         requires long { length self.now.fan_out.now ≡ 256 }
-        ensures { IsTrue result → IsFanOut self.now.fan_out.now self.now.ids.now }
+        ensures { IsTrue result ↔ IsFanOut self.now.fan_out.now self.now.ids.now }
     {
         for (byte, row) in self.fan_out.iter().enumerate() {
             if number(row) as usize != ids_within(self.ids, byte) {
@@ -122,15 +122,15 @@ impl Tables<'_> {
 
     /// Whether each edge list that a row names has an end.
     pub(crate) fn lists_end(&self) -> bool
-        ensures { IsTrue result → All (HasEnd self.now.edges.now) self.now.rows.now }
+        ensures { IsTrue result ↔ HaveEnds self.now.edges.now self.now.rows.now }
     {
         last_is_marked(self.edges) && name_edges(self.rows, self.edges.len())
     }
 
-    /// Whether each parent is before this position.
-    pub(crate) fn parents_are_before(&self, end: usize) -> bool
-        ensures { IsTrue result → All (HasParentsBelow end)
-            (commits_of self.now.edges.now self.now.ids.now self.now.rows.now) }
+    /// Whether each position that rows and edges name is before this one.
+    pub(crate) fn are_before(&self, end: usize) -> bool
+        ensures { IsTrue result ↔
+            (All (IsRowBefore end) self.now.rows.now × All (IsEdgeBefore end) self.now.edges.now) }
     {
         rows_are_before(self.rows, end) && edges_are_before(self.edges, end)
     }
@@ -186,7 +186,8 @@ fn within<A: Allocator + Copy>(list: Vec<Position, A>, most: usize) -> Option<Ve
 
 // Whether the last edge ends a list.
 fn last_is_marked(edges: &[[u8; 4]]) -> bool
-    ensures { IsTrue result → LastIsMarked edges.now }
+    ensures { IsTrue result ↔
+        ((d : List ℕ) → 0 < length edges.now → mark ≤ number (slice_index_or edges.now (length edges.now - 1) d)) }
 {
     match edges.last() {
         Some(last) => number(last) >= MARK,

@@ -1,8 +1,7 @@
 -- The steps of a file in memory: where its chunks lie.
-use Rattle.std.specs.Prelude.{◌≡◌, ℕ, ◌+◌, ◌-◌, ◌*◌, ◌/◌, ◌%◌, ◌<◌, ◌≤◌, ◌⊎◌, List, All, ◌++◌, codes, length, drop, slice_index, slice_range}
-use Rattle.std.specs.List.{flat_map}
-use Rattle.gitcommitgraph.specs.Files.{GraphFile, HasEnd, IsAscending, IsGraphFile}
-use Rattle.gitcommitgraph.specs.Texts.{Chunk, chunk_bytes, header, contents, AreNamed, HasChunk, MayHaveChunk}
+use Rattle.std.specs.Prelude.{◌≡◌, ℕ, ◌-◌, ◌*◌, ◌/◌, ◌%◌, ◌<◌, ◌≤◌, ◌⊎◌, List, codes, length, drop, slice_index, slice_range}
+use Rattle.gitcommitgraph.specs.Files.{GraphFile, HaveEnds, IsAscending, IsGraphFile, no_parent}
+use Rattle.gitcommitgraph.specs.Texts.{Chunk, IsFramed, HasChunk, MayHaveChunk}
 use Rattle.gitcommitgraph.specs.steps.Rows.{pieces, IsSpan, LacksName}
 use Rattle.gitcommitgraph.specs.steps.Tables.{IsFanOut}
 use Rattle.gitcommitgraph.specs.declared.contents.Span.{Span}
@@ -39,6 +38,10 @@ pub record ArePlaces (rows : List (List ℕ)) (places : Places) : Type 0 where
   pub edges : MayBeSpan rows (codes "EDGE") places.edges
   pub bases : MayBeSpan rows (codes "BASE") places.bases
 
+-- one of the chunks that must be there is not
+pub record LacksChunk (rows : List (List ℕ)) : Type 0 where
+  pub cases : LacksName rows (codes "OIDF") ⊎ (LacksName rows (codes "OIDL") ⊎ LacksName rows (codes "CDAT"))
+
 -- how many bytes lie there
 abbrev pub size : Span → ℕ
 size span = span.end - span.start
@@ -47,6 +50,7 @@ size span = span.end - span.start
 pub record HaveLengths (places : Places) (bases : ℕ) : Type 0 where
   pub fan_out : size places.fan_out ≡ 1024
   pub ids : size places.ids % 20 ≡ 0
+  pub few : size places.ids / 20 ≤ no_parent
   pub rows : size places.rows % 36 ≡ 0
   pub each : size places.rows / 36 ≡ size places.ids / 20
   pub edges : size places.edges % 4 ≡ 0
@@ -66,15 +70,12 @@ pub record AreWithin (bytes : List ℕ) (places : Places) : Type 0 where
   pub edges : IsWithin bytes places.edges
   pub bases : IsWithin bytes places.bases
 
--- the text is that of a header, a table of contents and chunks, and the chunks lie there
+-- the text has the frame of a file, and the chunks lie there
 pub record IsCut (bytes : List ℕ) (places : Places) : Type 0 where
   pub bases_count : ℕ
   pub chunks : List Chunk
-  pub parts : bytes ≡ header (length chunks) bases_count
-      ++ (contents (8 + 12 * (length chunks + 1)) chunks ++ (flat_map chunk_bytes chunks ++ drop (length bytes - 20) bytes))
-  pub long : 20 ≤ length bytes
+  pub framed : IsFramed bases_count chunks (drop (length bytes - 20) bytes) bytes
   pub small : (i : ℕ) → slice_index bytes i < 256
-  pub named : AreNamed chunks
   pub within : AreWithin bytes places
   pub fan_out : HasChunk chunks (codes "OIDF") (part bytes places.fan_out)
   pub ids : HasChunk chunks (codes "OIDL") (part bytes places.ids)
@@ -87,7 +88,7 @@ pub record IsCut (bytes : List ℕ) (places : Places) : Type 0 where
 pub record AreTested (bytes : List ℕ) (places : Places) : Type 0 where
   pub ascending : IsAscending (table 20 bytes places.ids)
   pub fan_out : IsFanOut (table 4 bytes places.fan_out) (table 20 bytes places.ids)
-  pub ended : All (HasEnd (table 4 bytes places.edges)) (table 36 bytes places.rows)
+  pub ended : HaveEnds (table 4 bytes places.edges) (table 36 bytes places.rows)
 
 -- a file whose form was tested
 pub record IsFileAt (bytes : List ℕ) (places : Places) : Type 0 where

@@ -1,8 +1,8 @@
 -- The steps of looking in the tables of a file, and of testing them.
-use Rattle.std.specs.Prelude.{◌≡◌, ◌≢◌, ℕ, ◌-◌, ◌<◌, ◌≤◌, ◌⊎◌, List, All, Option, MatchOption, length, slice_index, slice_index_or, count_by}
+use Rattle.std.specs.Prelude.{◌≡◌, ◌≢◌, ℕ, ◌<◌, ◌≤◌, List, All, Option, MatchOption, length, slice_index, slice_index_or, count_by}
 use Rattle.std.specs.List.{HoldsAt}
 use Rattle.gname.specs.Ids.{Id}
-use Rattle.gitcommitgraph.specs.Files.{number, first_parent, second_parent, no_parent, mark}
+use Rattle.gitcommitgraph.specs.Files.{number}
 use Rattle.gitcommitgraph.specs.Texts.{begins_within}
 
 -- a table of 256 numbers: for each byte, how many ids begin with it or a lower one
@@ -22,26 +22,3 @@ abbrev pub IsPlaceOf : List Id → Id → Option ℕ → Type 0
 IsPlaceOf ids id result =
     MatchOption result (All (λ other. other ≢ id) ids)
     (λ place. (place < length ids) × HoldsAt (λ other. other ≡ id) ids place)
-
--- the last of the edges ends a list
-abbrev pub LastIsMarked : List (List ℕ) → Type 0
-LastIsMarked edges =
-    (d : List ℕ) → 0 < length edges → mark ≤ number (slice_index_or edges (length edges - 1) d)
-
--- the place that a row names is one of so many
-abbrev pub NamesEdge : ℕ → List ℕ → Type 0
-NamesEdge count row = mark ≤ second_parent row → second_parent row - mark < count
-
--- there is no parent, or it is before a position
-abbrev pub IsBefore : ℕ → ℕ → Type 0
-IsBefore end parent = (parent ≡ no_parent) ⊎ (parent < end)
-
--- the parents that a row names itself are before a position
-pub record IsRowBefore (end : ℕ) (row : List ℕ) : Type 0 where
-  pub first : IsBefore end (first_parent row)
-  pub second : second_parent row < mark → IsBefore end (second_parent row)
-
--- the parent that an edge names is before a position
-pub record IsEdgeBefore (end : ℕ) (edge : List ℕ) : Type 0 where
-  pub inner : number edge < mark → number edge < end
-  pub last : mark ≤ number edge → number edge - mark < end

@@ -11,7 +11,7 @@ invariant_of-self-2 g c =
     let few = c.if-count-gt-MAX_COMMITS.false in
     subst (IsGraph c.saturating_add-count.result) (sym c.in_ok-push.ensures.items)
     (is_graph c.self.inside.layers.items c.in_ok-layer.layer c.self.inside.count c.saturating_add-count.result c.self.invariant (omega (arith, count, more, few)) (omega (arith, few))
-    c.in_ok-layer.ensures.formed (c.if-not-parents_are_before.ensures refl))
+    c.in_ok-layer.ensures.formed (c.if-not-is_before.ensures refl))
 
 pub returns-clause-ok : goal.returns-clause-ok
 returns-clause-ok g c =
@@ -20,5 +20,5 @@ returns-clause-ok g c =
     let few = c.if-count-gt-MAX_COMMITS.false in
     subst (λ old. AddsFile old c.args.bytes.items c.push.new.self.items) c.self.view_is
     (adds_file c.self.inside.layers.items c.in_ok-layer.layer c.self.inside.count c.saturating_add-count.result c.self.invariant (omega (arith, count, more, few)) (omega (arith, few))
-    c.in_ok-layer.ensures.formed (c.if-not-parents_are_before.ensures refl) c.args.bytes.items c.push.new.self.items
+    c.in_ok-layer.ensures.formed (c.if-not-is_before.ensures refl) c.args.bytes.items c.push.new.self.items
     c.in_ok-layer.ensures (c.if-not-is_above.ensures refl ∙ ap (map checksum_of) c.as_slice.ensures.value) c.in_ok-push.ensures.items)
