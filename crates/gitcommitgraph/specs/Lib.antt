@@ -1,0 +1,4 @@
+pub mod Files
+pub mod Texts
+pub mod Chains
+pub mod steps
