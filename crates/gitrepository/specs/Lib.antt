@@ -1,0 +1,5 @@
+pub mod Entries
+pub mod Packs
+pub mod Repositories
+pub mod Installing
+pub mod MemoryFolders
