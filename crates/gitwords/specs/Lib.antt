@@ -1,0 +1,4 @@
+pub mod Clean
+pub mod Served
+pub mod Urls
+pub mod Answers
