@@ -1,16 +1,17 @@
 -- Texts that are cut at a byte.
-use Rattle.std.proofs.Common.{◌≡◌, ◌≢◌, ℕ, ◌+◌, ◌<◌, true, inl, inr, refl, List, [], ◌∷◌, ◌++◌, length, take, drop, get_or, All, Option, None, Some, MatchOption, sym, ap, subst, ◌∙◌, lit<, arith, append_assoc}
+use Rattle.std.proofs.Common.{◌≡◌, ◌≢◌, ℕ, ◌+◌, ◌<◌, ◌&&◌, true, inl, inr, refl, List, [], ◌∷◌, ◌++◌, length, take, drop, get_or, All, Option, None, Some, MatchOption, sym, ap, subst, ◌∙◌, lit<, arith}
 use Rattle.std.specs.Borrow.{Bor}
 use Rattle.std.specs.Char.{digit_value}
 use Rattle.std.specs.Str.Parse.{AllDigits, IsNumeral}
-use Rattle.std.specs.Str.Pattern.{RFindsChar, SplitsAroundMatch}
 use Rattle.std.specs.List.{list_all}
+use Rattle.std.specs.Prelude.{nat_le}
+use Rattle.std.specs.Str.Pattern.{RFindsChar, SplitsAroundMatch}
 use Rattle.std.proofs.lemmas.Bool.{and_parts, false≢true}
 use Rattle.std.proofs.lemmas.List.{drop_more, get_or-take, length-append, length-take, take-append-drop}
 use Rattle.std.proofs.lemmas.List.Elements.{All-cons, All-from_get_or, All-head, All-nil, All-tail}
 use Rattle.std.proofs.lemmas.List.Folds.{list_all-append}
 use Rattle.std.proofs.lemmas.Str.Pattern.{NoCharPasses-char, drop_at_char}
-use Rattle.gitwords.specs.Urls.{IsHost, is_name_byte}
+use Rattle.gitwords.specs.Urls.{IsHost, is_name_byte, max_host}
 
 -- ---- one cut
 
@@ -61,48 +62,58 @@ path_parts text front back at before after found = (
 
 -- ---- the last colon
 
+pub colon_parts : (text : List ℕ) (r : Option (Bor (List ℕ) × Bor (List ℕ)))
+    → MatchOption r (RFindsChar 58 text None) (λ x. SplitsAroundMatch (RFindsChar 58) text x.0.now x.1.now)
+    → MatchOption r (All (λ b. b ≢ 58) text) (λ x. (text ≡ x.0.now ++ 58 ∷ x.1.now) × All (λ b. b ≢ 58) x.1.now)
+colon_parts text None found = All-from_get_or (λ b. b ≢ 58) text 0 (λ i inside. NoCharPasses-char 58 text i found (lit< tt) inside)
+colon_parts text (Some (front, back)) (i, j, found, before, after, order, until, past) =
+    let parts : text ≡ front.now ++ 58 ∷ back.now =
+    sym (take-append-drop i text)
+    ∙ ap (λ rest. take i text ++ rest) (drop_at_char 58 text i j found.1 (lit< tt))
+    ∙ ap (λ rest. take i text ++ 58 ∷ rest) (sym after)
+    ∙ ap (λ start. start ++ 58 ∷ back.now) (sym before) in
+    let clean : All (λ b. b ≢ 58) (drop j text) = All-from_get_or (λ b. b ≢ 58) (drop j text) 0 (λ k inside. NoCharPasses-char 58 (drop j text) k found.0 (lit< tt) inside) in
+    (parts, subst (All (λ b. b ≢ 58)) (sym after) clean)
+
+-- ---- brackets
+
+pub no_bracket : (text : List ℕ) → ((rest : List ℕ) → text ≢ 91 ∷ rest) → (inner : List ℕ) → ¬ (text ≡ 91 ∷ (inner ++ 93 ∷ []))
+no_bracket text none inner is = none (inner ++ 93 ∷ []) is
+
+module _ (text rest : List ℕ) (begins : text ≡ 91 ∷ rest) where
+  pub bracket_parts : (r : Option (Bor (List ℕ))) → MatchOption r ((front : List ℕ) → rest ≢ front ++ 93 ∷ []) (λ x. rest ≡ x.now ++ 93 ∷ [])
+      → MatchOption r ((inner : List ℕ) → ¬ (text ≡ 91 ∷ (inner ++ 93 ∷ []))) (λ inner. text ≡ 91 ∷ (inner.now ++ 93 ∷ []))
+  bracket_parts None open_end = λ inner is. (let same : 91 ∷ rest ≡ 91 ∷ (inner ++ 93 ∷ []) = sym begins ∙ is in open_end inner cc)
+  bracket_parts (Some x) ends = begins ∙ ap (λ l. 91 ∷ l) ends
+
+-- ---- digits
+
+-- decimal digits have no colon
+pub numeral_clean : (digits : List ℕ) → AllDigits 10 digits → All (λ b. b ≢ 58) digits
+numeral_clean [] all = All-nil (λ b. b ≢ 58)
+numeral_clean (b ∷ digits) all =
+    All-cons (λ b. b ≢ 58) b digits (λ e. (let low : digit_value 58 < 10 = subst (λ d. digit_value d < 10) e all.0 in absurd (omega arith))) (numeral_clean digits all.1)
+
+-- ---- hosts and ports
+
 digits_end : (front : List ℕ) → ¬ (AllDigits 10 (front ++ 93 ∷ []))
 digits_end [] digits = let low = digits.0 in absurd (omega (arith, low))
 digits_end (b ∷ front) digits = digits_end front digits.1
 
 -- decimal digits end in no bracket
 pub no_numeral : (front host digits : List ℕ) → IsNumeral 10 digits → ¬ (front ++ 93 ∷ [] ≡ host ++ 58 ∷ digits)
-no_numeral [] [] digits numeral is = let same : 93 ≡ 58 = cc in absurd (omega (arith, same))
+no_numeral [] [] digits numeral is = let same : ◌≡◌ {A = ℕ} 93 58 = cc in absurd (omega (arith, same))
 no_numeral [] (c ∷ host) digits numeral is = absurd (omega (arith, ap length is, length-append host (58 ∷ digits)))
 no_numeral (b ∷ front) [] digits numeral is =
     let tails : front ++ 93 ∷ [] ≡ digits = cc in digits_end front (subst (AllDigits 10) (sym tails) numeral.1)
 no_numeral (b ∷ front) (c ∷ host) digits numeral is =
     let tails : front ++ 93 ∷ [] ≡ host ++ 58 ∷ digits = cc in no_numeral front host digits numeral tails
 
--- a text with a colon that ends in no bracket is no host
-pub no_host : (text front back : List ℕ) → text ≡ front ++ 58 ∷ back → ((inner : List ℕ) → text ≢ inner ++ 93 ∷ []) → ¬ (IsHost text)
-no_host text front back parts open (inl name) =
-    let both = and_parts _ _ name in
-    let all : list_all is_name_byte (front ++ 58 ∷ back) ≡ true = subst (λ l. list_all is_name_byte l ≡ true) parts both.1 in
-    let last = and_parts (list_all is_name_byte front) _ (sym (list_all-append is_name_byte front (58 ∷ back)) ∙ all) in
+-- a text with a colon and decimal digits after it is no host
+pub no_host : (text host digits : List ℕ) → text ≡ host ++ 58 ∷ digits → IsNumeral 10 digits → ¬ (IsHost text)
+no_host text host digits parts numeral (inl name) =
+    let both = and_parts (nat_le 1 (length text) && nat_le (length text) max_host) (list_all is_name_byte text) name in
+    let all : list_all is_name_byte (host ++ 58 ∷ digits) ≡ true = subst (λ l. list_all is_name_byte l ≡ true) parts both.1 in
+    let last = and_parts (list_all is_name_byte host) (list_all is_name_byte (58 ∷ digits)) (sym (list_all-append is_name_byte host (58 ∷ digits)) ∙ all) in
     false≢true last.1
-no_host text front back parts open (inr (inner, address, is, spells)) = open (91 ∷ inner) is
-
-pub port_cases : (text : List ℕ) (r : Option (Bor (List ℕ) × Bor (List ℕ))) → ((inner : List ℕ) → text ≢ inner ++ 93 ∷ [])
-    → MatchOption r (RFindsChar 58 text None) (λ x. SplitsAroundMatch (RFindsChar 58) text x.0.now x.1.now)
-    → MatchOption r ((host digits : List ℕ) → IsNumeral 10 digits → ¬ (text ≡ host ++ 58 ∷ digits))
-    (λ x. (text ≡ x.0.now ++ 58 ∷ x.1.now) × All (λ b. b ≢ 58) x.1.now × ¬ (IsHost text))
-port_cases text None open found = λ host digits numeral is.
-    no_in 58 host digits (subst (All (λ b. b ≢ 58)) is (All-from_get_or (λ b. b ≢ 58) text 0 (λ i inside. NoCharPasses-char 58 text i found (lit< tt) inside)))
-port_cases text (Some (front, back)) open (i, j, found, before, after, order, until, past) =
-    let parts : text ≡ front.now ++ 58 ∷ back.now =
-    sym (take-append-drop i text)
-    ∙ ap (λ rest. take i text ++ rest) (drop_at_char 58 text i j found.1 (lit< tt))
-    ∙ ap (λ rest. take i text ++ 58 ∷ rest) (sym after)
-    ∙ ap (λ start. start ++ 58 ∷ back.now) (sym before) in
-    let clean : All (λ b. b ≢ 58) (drop j text) = All-from_get_or (λ b. b ≢ 58) (drop j text) 0 (λ k inside. NoCharPasses-char 58 (drop j text) k found.0 (lit< tt) inside) in (
-      parts,
-      subst (All (λ b. b ≢ 58)) (sym after) clean,
-      no_host text front.now back.now parts open,
-    )
-
--- decimal digits have no colon
-pub numeral_clean : (digits : List ℕ) → AllDigits 10 digits → All (λ b. b ≢ 58) digits
-numeral_clean [] all = All-nil (λ b. b ≢ 58)
-numeral_clean (b ∷ digits) all =
-    All-cons (λ b. b ≢ 58) b digits (λ e. (let low : digit_value 58 < 10 = subst (λ d. digit_value d < 10) e all.0 in absurd (omega (arith, low)))) (numeral_clean digits all.1)
+no_host text host digits parts numeral (inr (inner, address, is, spells)) = no_numeral (91 ∷ inner) host digits numeral (sym is ∙ parts)

@@ -1,4 +1,6 @@
+pub mod Answers
 pub mod Clean
+pub mod Commands
+pub mod Numbers
 pub mod Served
 pub mod Urls
-pub mod Answers

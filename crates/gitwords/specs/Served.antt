@@ -1,5 +1,5 @@
 -- The directories that the path of a client may name (git-daemon(1), "--base-path").
-use Rattle.std.specs.Prelude.{◌≡◌, ℕ, Bool, ◌==◌, ◌&&◌, IsTrue, List, ◌∷◌, [], length, codes, nat_eq, not}
+use Rattle.std.specs.Prelude.{◌≡◌, ◌⊎◌, ℕ, Bool, ◌==◌, ◌&&◌, IsTrue, List, ◌∷◌, [], ◌++◌, length, codes, nat_eq, not}
 use Rattle.std.specs.List.{list_all, slice_split, starts_with}
 use Rattle.std.specs.Str.{bytes_eq}
 use Rattle.gitwords.specs.declared.served.Ending.{Ending}
@@ -16,10 +16,14 @@ components path = slice_split is_slash path
 abbrev pub is_name : List ℕ → Bool
 is_name part = not (length part == 0) && not (starts_with nat_eq part (codes "."))
 
--- a path is a slash, and components that a client may name with slashes between them
+-- A path is a slash, and components that a client may name with slashes between them. One more slash may end it.
 pub record IsServedPath (path rest : List ℕ) : Type 0 where
-  pub parts : path ≡ 47 ∷ rest
+  pub parts : (path ≡ 47 ∷ rest) ⊎ (path ≡ 47 ∷ (rest ++ 47 ∷ []))
   pub names : IsTrue (list_all is_name (components rest))
+
+-- a path is that of one directory
+abbrev pub PathsHaveOneReading : Type 0
+PathsHaveOneReading = (path rest other : List ℕ) → IsServedPath path rest → IsServedPath path other → rest ≡ other
 
 -- What is tried for a path, in Git's order: the `.git` in it, the directory itself, and the same with `.git` at the
 -- end of its name.

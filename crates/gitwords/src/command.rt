@@ -1,8 +1,10 @@
 //! The commands of a command line.
 
+ghost use Rattle.std.specs.Prelude.{◌≡◌, ◌&&◌, ◌||◌, not};
+
 use crate::url::GitUrl;
-use grefspec::Spec;
 use gname::Prefix;
+use grefspec::Spec;
 
 /// A command that the arguments ask for. Texts are lent from the arguments.
 #[derive(Debug, Drop)]
@@ -27,15 +29,22 @@ pub enum Command<'a> {
     },
 }
 
-/// How much is printed (git-fetch(1), "--quiet", "--progress").
+/// How much `clone` and `fetch` print on standard error (git-fetch(1), "--quiet", "--progress").
 #[derive(Clone, Copy, Debug, PartialEq, Eq, Drop)]
-pub enum Verbosity {
-    /// Only faults: `--quiet`, with `--progress` or without.
-    Quiet,
-    /// The report.
-    Normal,
-    /// The report, and the progress that the server sends: `--progress`.
-    Progress,
+pub struct Verbosity {
+    /// `--quiet`: print no report, and show progress only if `progress` is set.
+    pub quiet: bool,
+    /// `--progress`: show progress on a standard error that is no terminal, too.
+    pub progress: bool,
+}
+
+impl Verbosity {
+    /// Whether progress is shown on a standard error that is a terminal, or is none.
+    pub fn shows_progress(self, is_terminal: bool) -> bool
+        ensures { result ≡ (self.progress || (is_terminal && not self.quiet)) }
+    {
+        self.progress || (is_terminal && !self.quiet)
+    }
 }
 
 /// A repository that is cloned.
@@ -74,7 +83,7 @@ pub struct LsArgs<'a> {
 /// Repositories that are served.
 #[derive(Clone, Copy, Debug, Drop)]
 pub struct ServeArgs<'a> {
-    /// The address where connections are accepted, HOST:PORT. It is not read here.
+    /// The address where connections are accepted, HOST:PORT. The system picks a port in place of 0.
     pub listen: &'a str,
     /// How many connections are served, from 1 to 1,000,000. `None` if there is no limit.
     pub connections: Option<u32>,

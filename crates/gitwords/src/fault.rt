@@ -20,11 +20,11 @@ pub enum Cause {
     Transport(Transport),
     /// No slash follows the host.
     NoPath,
-    /// The host is no name, no IPv4 address, and no IPv6 address in brackets.
+    /// No host comes before the path: no name, no IPv4 address, and no IPv6 address in brackets.
     BadHost,
-    /// The port is no number from 1 to 65,535.
+    /// No number from 1 to 65,535 follows the host and its colon.
     BadPort,
-    /// The path has a control character or a percent sign.
+    /// The path has more than 1,000 bytes, a percent sign, or a byte that is no printable ASCII.
     BadPath,
 }
 
@@ -52,7 +52,7 @@ impl Cause {
             }
             Cause::BadPort => "has a malformed port: write a number from 1 to 65535",
             Cause::BadPath => {
-                "has a control character or a % in its path: write each character as it is"
+                "has a malformed path: write at most 1000 printable ASCII characters, and no %"
             }
         }
     }

@@ -1,9 +1,14 @@
 //! A command line, read.
 
+ghost use Rattle.std.specs.Prelude.{◌≤◌, IfOk, IfSome, length};
+ghost use Rattle.gitwords.specs.Commands.{IsCommand, IsServed, IsUrl};
+ghost use Rattle.gitwords.specs.Urls.{IsListenAddress};
+
 use crate::answer::Answer;
 use crate::command::{CloneArgs, Command, FetchArgs, LsArgs, ServeArgs, Verbosity};
 use crate::fault::UrlFault;
-use crate::url::GitUrl;
+use crate::number::connections_of;
+use crate::url::{GitUrl, is_listen_address};
 use crate::usage::{program, usage_of};
 use clap::ArgMatches;
 use clap::error::ErrorKind;
@@ -20,13 +25,19 @@ enum WordFault<'a> {
     Url(UrlFault<'a>),
     Spec(&'a str),
     Prefix(&'a str),
+    Address(&'a str),
+    Connections(&'a str),
     Memory,
 }
 
-/// The command that these arguments ask for, the first of which is the program's own name.
-/// Otherwise the answer that `gitrepo` prints before it ends: the help or the version that was
-/// asked for, what is wrong with the arguments, or out of memory.
-pub fn read_words<'a>(alloc: Global, words: &'a [String]) -> Result<Command<'a>, Answer> {
+/// The command that these arguments ask for, the first of which is the program's own name. The
+/// command is well-formed (`specs/Commands.antt`).
+///
+/// Otherwise it returns the answer that `gitrepo` prints before it ends: the help or the version that
+/// was asked for, the mistake in the arguments, or out of memory.
+pub fn read_words<'a>(alloc: Global, words: &'a [String]) -> Result<Command<'a>, Answer>
+    ensures { IfOk result IsCommand }
+{
     let matches = match parse(alloc, words) {
         Ok(matches) => matches,
         Err(error) => return Err(answer_of_clap(alloc, error)),
@@ -65,8 +76,7 @@ fn answer_of(alloc: Global, name: &str, fault: WordFault<'_>) -> Answer {
         return Answer::Memory;
     }
     let usage = usage_of(name);
-    let text = format!(
-        in alloc;
+    let text = format!(in alloc;
         "error: {fault}\n\nUsage: {usage}\n\nFor more information, try '--help'.\n"
     );
     match text {
@@ -79,7 +89,9 @@ fn read_command<'a>(
     alloc: Global,
     name: &str,
     words: &ArgMatches<'a>,
-) -> Result<Command<'a>, WordFault<'a>> {
+) -> Result<Command<'a>, WordFault<'a>>
+    ensures { IfOk result IsCommand }
+{
     match name {
         "clone" => clone_command(words),
         "fetch" => fetch_command(alloc, words),
@@ -95,7 +107,9 @@ fn read_command<'a>(
     }
 }
 
-fn clone_command<'a>(words: &ArgMatches<'a>) -> Result<Command<'a>, WordFault<'a>> {
+fn clone_command<'a>(words: &ArgMatches<'a>) -> Result<Command<'a>, WordFault<'a>>
+    ensures { IfOk result IsCommand }
+{
     Ok(Command::Clone(CloneArgs {
         verbosity: verbosity(words),
         url: url(words)?,
@@ -103,10 +117,9 @@ fn clone_command<'a>(words: &ArgMatches<'a>) -> Result<Command<'a>, WordFault<'a
     }))
 }
 
-fn fetch_command<'a>(
-    alloc: Global,
-    words: &ArgMatches<'a>,
-) -> Result<Command<'a>, WordFault<'a>> {
+fn fetch_command<'a>(alloc: Global, words: &ArgMatches<'a>) -> Result<Command<'a>, WordFault<'a>>
+    ensures { IfOk result IsCommand }
+{
     Ok(Command::Fetch(FetchArgs {
         verbosity: verbosity(words),
         dir: word(words, "DIR")?,
@@ -115,17 +128,21 @@ fn fetch_command<'a>(
     }))
 }
 
-fn ls_command<'a>(alloc: Global, words: &ArgMatches<'a>) -> Result<Command<'a>, WordFault<'a>> {
+fn ls_command<'a>(alloc: Global, words: &ArgMatches<'a>) -> Result<Command<'a>, WordFault<'a>>
+    ensures { IfOk result IsCommand }
+{
     Ok(Command::Ls(LsArgs {
         url: url(words)?,
         prefixes: prefixes(alloc, words)?,
     }))
 }
 
-fn serve_command<'a>(words: &ArgMatches<'a>) -> Result<Command<'a>, WordFault<'a>> {
+fn serve_command<'a>(words: &ArgMatches<'a>) -> Result<Command<'a>, WordFault<'a>>
+    ensures { IfOk result IsCommand }
+{
     Ok(Command::Serve(ServeArgs {
-        listen: word(words, "listen")?,
-        connections: words.get_one::<u32>("connections"),
+        listen: listen(words)?,
+        connections: connections(words)?,
         export_all: words.get_flag("export-all"),
         base: word(words, "BASE")?,
     }))
@@ -138,29 +155,59 @@ fn word<'a>(words: &ArgMatches<'a>, name: &'static str) -> Result<&'a str, WordF
     }
 }
 
-fn url<'a>(words: &ArgMatches<'a>) -> Result<GitUrl<'a>, WordFault<'a>> {
+fn url<'a>(words: &ArgMatches<'a>) -> Result<GitUrl<'a>, WordFault<'a>>
+    ensures { IfOk result IsUrl }
+{
     match GitUrl::parse(word(words, "URL")?) {
         Ok(url) => Ok(url),
         Err(fault) => Err(WordFault::Url(fault)),
     }
 }
 
-fn verbosity(words: &ArgMatches<'_>) -> Verbosity {
-    match (words.get_flag("quiet"), words.get_flag("progress")) {
-        (true, _) => Verbosity::Quiet,
-        (false, true) => Verbosity::Progress,
-        (false, false) => Verbosity::Normal,
+fn listen<'a>(words: &ArgMatches<'a>) -> Result<&'a str, WordFault<'a>>
+    ensures { IfOk result (λ address. IsListenAddress address.now) }
+{
+    let address = word(words, "listen")?;
+    if is_listen_address(address) {
+        Ok(address)
+    } else {
+        Err(WordFault::Address(address))
     }
 }
 
-fn specs<'a>(alloc: Global, words: &ArgMatches<'a>) -> Result<Vec<Spec>, WordFault<'a>> {
+fn connections<'a>(words: &ArgMatches<'a>) -> Result<Option<u32>, WordFault<'a>>
+    ensures { IfOk result (λ count. IfSome count IsServed) }
+{
+    let Some(text) = words.get_str("connections") else {
+        return Ok(None);
+    };
+    match connections_of(text) {
+        Some(count) => Ok(Some(count)),
+        None => Err(WordFault::Connections(text)),
+    }
+}
+
+fn verbosity(words: &ArgMatches<'_>) -> Verbosity {
+    Verbosity {
+        quiet: words.get_flag("quiet"),
+        progress: words.get_flag("progress"),
+    }
+}
+
+fn specs<'a>(alloc: Global, words: &ArgMatches<'a>) -> Result<Vec<Spec>, WordFault<'a>>
+    ensures { IfOk result (λ specs. 1 ≤ length specs.items) }
+{
     let mut specs = Vec::new(alloc);
     if let Some(texts) = words.get_strs("SPEC") {
         for text in texts {
             specs.push(read_spec(alloc, text)?)?;
         }
     }
-    Ok(specs)
+    if specs.is_empty() {
+        Err(WordFault::Missing("SPEC"))
+    } else {
+        Ok(specs)
+    }
 }
 
 fn read_spec<'a>(alloc: Global, text: &'a str) -> Result<Spec, WordFault<'a>> {
@@ -195,10 +242,28 @@ impl fmt::Display for WordFault<'_> {
             WordFault::Missing(name) => write!(f, "the argument {name} is missing"),
             WordFault::Url(fault) => write!(f, "{fault}"),
             WordFault::Spec(text) => {
-                write!(f, "'{text}' is no refspec: write [+]SOURCE:DESTINATION, both as full names")
+                write!(
+                    f,
+                    "'{text}' is no refspec: write [+]SOURCE:DESTINATION, both as full names"
+                )
             }
             WordFault::Prefix(text) => {
-                write!(f, "'{text}' begins no ref: write the first bytes of a ref's name")
+                write!(
+                    f,
+                    "'{text}' begins no ref: write the first bytes of a ref's name"
+                )
+            }
+            WordFault::Address(text) => {
+                write!(
+                    f,
+                    "'{text}' is no address: write HOST:PORT, and 0 for any free port"
+                )
+            }
+            WordFault::Connections(text) => {
+                write!(
+                    f,
+                    "'{text}' is no number of connections: write one from 1 to 1000000"
+                )
             }
             WordFault::Memory => f.write_str("out of memory"),
         }

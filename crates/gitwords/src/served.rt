@@ -1,6 +1,6 @@
 //! The directories that a client's path may name.
 
-ghost use Rattle.std.specs.Prelude.{◌≡◌, ◌++◌, ◌∷◌, IfOk, List, ℕ, MatchOption, string_bytes};
+ghost use Rattle.std.specs.Prelude.{◌≡◌, ◌≢◌, ◌⊎◌, ◌++◌, ◌∷◌, [], IfOk, List, ℕ, MatchOption, string_bytes};
 ghost use Rattle.std.specs.List.{list_all};
 ghost use Rattle.gitwords.specs.Served.{IsServedPath, StaysBelow, components, ending_text, endings, is_name};
 
@@ -61,15 +61,17 @@ impl<'a> Model for ServedPath<'a> {
 }
 
 impl<'a> ServedPath<'a> {
-    /// The path of a client. `None` if it does not begin with a slash, or if a component is empty
-    /// or begins with a dot: then the path names no directory.
+    /// The path of a client, without its first slash, and without one at its end. `None` if it does
+    /// not begin with a slash, or if a component is empty or begins with a dot: then the path names no
+    /// directory.
     pub fn parse(path: &'a str) -> Option<ServedPath<'a>>
         ensures { MatchOption result ((rest : List ℕ) → ¬ (IsServedPath path.now rest))
             (IsServedPath path.now) }
     {
-        let Some(relative) = after_slash(path) else {
+        let Some(rest) = path.strip_prefix('/') else {
             return None;
         };
+        let relative = without_last_slash(rest);
         if has_names(relative) {
             Some(ServedPath { relative })
         } else {
@@ -92,19 +94,25 @@ impl<'a> ServedPath<'a> {
     }
 }
 
-// The path after the slash at its front; `None` if it does not begin with one.
-fn after_slash(path: &str) -> Option<&str>
-    ensures { MatchOption result ((rest : List ℕ) → ¬ (path.now ≡ 47 ∷ rest))
-        (λ rest. path.now ≡ 47 ∷ rest.now) }
+// The text without the slash at its end, if there is one.
+fn without_last_slash(text: &str) -> &str
+    ensures { (text.now ≡ result.now ++ 47 ∷ [])
+        ⊎ ((text.now ≡ result.now) × ((front : List ℕ) → text.now ≢ front ++ 47 ∷ [])) }
 {
-    path.strip_prefix('/')
+    match text.strip_suffix('/') {
+        Some(front) => front,
+        None => text,
+    }
 }
 
 // Whether each component may be the name of a directory.
 fn has_names(relative: &str) -> bool
     ensures { result ≡ list_all is_name (components relative.now) }
 {
-    relative.as_bytes().split(|byte| *byte == b'/').all(|part| is_name(part))
+    relative
+        .as_bytes()
+        .split(|byte| *byte == b'/')
+        .all(|part| is_name(part))
 }
 
 // Whether a component is not empty, and its first byte is no dot.

@@ -1,7 +1,7 @@
 //! Bytes of a peer, for a terminal.
 
 ghost use Rattle.std.specs.Prelude.{◌≡◌, ◌++◌, IfOk, OnOk};
-ghost use Rattle.gitwords.specs.Clean.{PiecesAreClean, clean_byte, clean_text};
+ghost use Rattle.gitwords.specs.Clean.{clean_byte, clean_text};
 
 use std::alloc::{AllocError, Allocator};
 
@@ -34,7 +34,10 @@ pub fn clean<A: Allocator + Copy>(
 ) -> Result<Vec<u8, A>, AllocError>
     ensures { IfOk result (λ text. text.items ≡ clean_text shown bytes.now) }
 {
-    bytes.iter().map(|byte| clean_byte(*byte, shown)).collect(alloc)
+    bytes
+        .iter()
+        .map(|byte| clean_byte(*byte, shown))
+        .collect(alloc)
 }
 
 /// Adds the bytes of a peer to a text, each one cleaned. It fails only when out of memory, and has
@@ -50,11 +53,4 @@ pub fn push_clean<A: Allocator + Copy>(
         text.push(clean_byte(*byte, shown))?;
     }
     Ok(())
-}
-
-/// Laws: pieces that are cleaned one after the other give the whole, and a clean text has only
-/// bytes that are shown.
-pub fn pieces_are_clean()
-    ensures { PiecesAreClean }
-{
 }

@@ -1,5 +1,5 @@
 use Rattle.gitwords.proofs.CleanLemmas.{pieces}
-use Rattle.gitwords.proofs.terminal.pieces_are_clean.Goals as goal
+use Rattle.gitwords.proofs.laws.pieces_are_clean.Goals as goal
 
 pub returns : goal.returns
 returns c = pieces
