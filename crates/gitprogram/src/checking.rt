@@ -23,6 +23,8 @@ where
     };
     let refs = repository.refs.len();
     let commits = repository.graph.len();
-    let line = format!(in rt.alloc(); "{refs} refs, {commits} commits and tags, {objects} objects\n")?;
+    let line = format!(in rt.alloc();
+        "{refs} refs, {commits} commits and tags, {objects} objects\n"
+    )?;
     print(rt, line.as_bytes())
 }

@@ -38,11 +38,7 @@ const MADE: [&str; 5] = ["HEAD", "config", "objects", "packed-refs", "refs"];
 const DEFAULT_BRANCH: &[u8] = b"refs/heads/main";
 
 /// Clones a repository of a server into a new bare one. If it fails, nothing of it is left.
-pub(crate) fn clone_remote<R, E>(
-    rt: &R,
-    asked: &CloneArgs<'_>,
-    errors: &mut E,
-) -> Result<(), Fault>
+pub(crate) fn clone_remote<R, E>(rt: &R, asked: &CloneArgs<'_>, errors: &mut E) -> Result<(), Fault>
 where
     R: Files + AllocGlobal + Net,
     E: Write + IsTerminal,
@@ -197,7 +193,12 @@ where
     keep(rt, dir, &fetch, &head)
 }
 
-fn make<R: Files + AllocGlobal>(rt: &R, dir: &str, remote: &Remote, head: &ClonedHead) -> Result<(), Fault> {
+fn make<R: Files + AllocGlobal>(
+    rt: &R,
+    dir: &str,
+    remote: &Remote,
+    head: &ClonedHead,
+) -> Result<(), Fault> {
     let alloc = rt.alloc();
     let directory = GitDirectory::new(alloc, rt, dir);
     let made = match head {
@@ -211,7 +212,9 @@ fn make<R: Files + AllocGlobal>(rt: &R, dir: &str, remote: &Remote, head: &Clone
         Ok(()) => {
             let path = below(alloc, dir, "config")?;
             let url = remote.url.as_str();
-            let text = format!(in alloc; "[core]\n\trepositoryformatversion = 0\n\tfilemode = true\n\tbare = true\n[remote \"origin\"]\n\turl = {url}\n")?;
+            let text = format!(in alloc;
+                "[core]\n\trepositoryformatversion = 0\n\tfilemode = true\n\tbare = true\n[remote \"origin\"]\n\turl = {url}\n"
+            )?;
             let _ = fs::write(rt, path.as_str(), text.as_bytes());
             Ok(())
         }
@@ -220,7 +223,12 @@ fn make<R: Files + AllocGlobal>(rt: &R, dir: &str, remote: &Remote, head: &Clone
 }
 
 // Installs the pack, and then writes the refs.
-fn keep<R: Files + AllocGlobal>(rt: &R, dir: &str, fetch: &Fetch, head: &ClonedHead) -> Result<(), Fault> {
+fn keep<R: Files + AllocGlobal>(
+    rt: &R,
+    dir: &str,
+    fetch: &Fetch,
+    head: &ClonedHead,
+) -> Result<(), Fault> {
     match install_and_write(rt, dir, fetch) {
         Ok(()) => {}
         Err(fault) => return Err(Fault::of(rt.alloc(), Sentence::Repository(&fault))),
@@ -231,7 +239,11 @@ fn keep<R: Files + AllocGlobal>(rt: &R, dir: &str, fetch: &Fetch, head: &ClonedH
     Ok(())
 }
 
-fn install_and_write<R: Files + AllocGlobal>(rt: &R, dir: &str, fetch: &Fetch) -> Result<(), RepositoryFault<Global>> {
+fn install_and_write<R: Files + AllocGlobal>(
+    rt: &R,
+    dir: &str,
+    fetch: &Fetch,
+) -> Result<(), RepositoryFault<Global>> {
     let alloc = rt.alloc();
     if let Some(received) = &fetch.received {
         install_pack(alloc, rt, dir, received)?;
@@ -266,6 +278,11 @@ fn detach<R: Files + AllocGlobal>(rt: &R, dir: &str, id: &Oid) -> Result<(), Fau
     match outcome {
         Ok(()) => Ok(()),
         Err(StorageFault::Memory) => Err(Fault::Memory),
-        Err(StorageFault::Failed) => Err(Fault::of(alloc, Sentence::Unwritten { path: path.as_str() })),
+        Err(StorageFault::Failed) => Err(Fault::of(
+            alloc,
+            Sentence::Unwritten {
+                path: path.as_str(),
+            },
+        )),
     }
 }

@@ -14,6 +14,7 @@ use gitobjects::StoredFiles;
 use gitrefs::{GitDirectory, RefUpdate};
 use gitrepository::{Received, RepositoryFault, StoreIndexer, install_pack};
 use gitwords::{FetchArgs, Verbosity};
+use glsreply::LsReply;
 use gname::{MAX_PACK, Oid};
 use gpkt::{FromRead, ToWrite};
 use gtcp::{Peer, Silence};
@@ -60,6 +61,7 @@ where
     let git_dir = git_directory(rt, asked.dir)?;
     let remote = Remote::new(alloc, &asked.url)?;
     let listed = remote.list(rt, alloc, &[])?;
+    check_sources(alloc, &remote, &listed, asked.specs.as_slice())?;
     let tips = tips_of(alloc, &listed)?;
     let wanted = Wanted {
         remote: &remote,
@@ -69,29 +71,60 @@ where
     let progress = progress_of(alloc, asked.verbosity, errors);
     let fetch = receive(rt, git_dir.as_str(), wanted, progress)?;
     keep(rt, git_dir.as_str(), &fetch)?;
-    if asked.verbosity == Verbosity::Quiet {
+    if asked.verbosity.quiet {
         return Ok(());
     }
     report(rt, &fetch.fetched)
 }
 
-/// The progress that is shown: if it was asked for, or if the errors are a terminal and nothing was
-/// asked for.
+/// The progress that is shown, if it is to be.
 pub(crate) fn progress_of<E: Write + IsTerminal>(
     alloc: Global,
     verbosity: Verbosity,
     errors: &mut E,
 ) -> Option<Progress<'_, E>> {
-    let is_shown = match verbosity {
-        Verbosity::Quiet => false,
-        Verbosity::Normal => errors.is_terminal(),
-        Verbosity::Progress => true,
-    };
-    if is_shown {
+    if verbosity.shows_progress(errors.is_terminal()) {
         Some(Progress::new(alloc, errors))
     } else {
         None
     }
+}
+
+// Fails at the first refspec of one ref that the server does not have (git-fetch(1)).
+fn check_sources(
+    alloc: Global,
+    remote: &Remote,
+    listed: &LsReply<Global>,
+    specs: &[Spec<Global>],
+) -> Result<(), Fault> {
+    for spec in specs {
+        if !is_pattern(spec) && !has_source(listed, spec) {
+            return Err(Fault::of(
+                alloc,
+                Sentence::NoRef {
+                    url: remote.url.as_str(),
+                    name: spec.prefix().as_bytes(),
+                },
+            ));
+        }
+    }
+    Ok(())
+}
+
+// Whether a refspec may take any number of refs.
+fn is_pattern(spec: &Spec<Global>) -> bool {
+    spec.prefix().as_bytes().ends_with(b"/")
+}
+
+// Whether the server has the source of a refspec, if only as a HEAD that is unborn.
+fn has_source(listed: &LsReply<Global>, spec: &Spec<Global>) -> bool {
+    if spec.is_head() && listed.unborn().is_some() {
+        return true;
+    }
+    (0..listed.len()).any(|place| match listed.at(place) {
+        Some(line) => spec.matches(&line.name),
+        None => false,
+    })
 }
 
 // Installs the pack, and then moves the refs.
@@ -163,7 +196,11 @@ where
 {
     let files = StoredFiles::new(rt);
     let (repository, reader) = open(rt.alloc(), rt, &files, git_dir)?;
-    let Repository { graph, refs, head: _ } = repository;
+    let Repository {
+        graph,
+        refs,
+        head: _,
+    } = repository;
     let before = refs.copy_in(rt.alloc())?;
     match Repo::new(graph, refs) {
         Ok(repo) => receive_into(rt, before, repo, reader, wanted, progress),

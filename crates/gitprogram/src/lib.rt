@@ -12,6 +12,7 @@ mod output;
 mod packets;
 mod program;
 mod progress;
+mod refusals;
 mod remote;
 mod sentences;
 mod serving;

@@ -51,7 +51,10 @@ fn reply_text(
 }
 
 fn begins_with_one(name: &[u8], prefixes: &[Prefix<Global>]) -> bool {
-    prefixes.is_empty() || prefixes.iter().any(|prefix| name.starts_with(prefix.as_bytes()))
+    prefixes.is_empty()
+        || prefixes
+            .iter()
+            .any(|prefix| name.starts_with(prefix.as_bytes()))
 }
 
 // The line of a ref, and that of the object to which it leads if it is at a tag.

@@ -112,7 +112,12 @@ impl Packets {
     }
 
     // Looks at bytes of a payload.
-    fn look_at_payload<'b>(&mut self, bytes: &'b [u8], before: u16, left: u16) -> (usize, Seen<'b>) {
+    fn look_at_payload<'b>(
+        &mut self,
+        bytes: &'b [u8],
+        before: u16,
+        left: u16,
+    ) -> (usize, Seen<'b>) {
         if self.has_bands && before == 0 {
             self.band = band_of(bytes);
             self.pass(0, left, 1);

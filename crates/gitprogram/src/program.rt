@@ -9,11 +9,10 @@ use crate::sentences::Sentence;
 use crate::serving::serve;
 use crate::uploading::upload_pack;
 use gitwords::{Answer, Command, Stream, read_words};
-use std::env;
-use std::io;
 use std::io::{ErrorKind, IsTerminal, Write};
 use std::net::Net;
 use std::rt::{Clock, Env, Files};
+use std::{env, io};
 
 // The exit statuses of a command that failed, and of wrong arguments.
 const FAILED: u8 = 1;

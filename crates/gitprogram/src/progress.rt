@@ -3,9 +3,8 @@
 use crate::packets::{Packets, Seen};
 use gitwords::{Shown, push_clean};
 use std::alloc::{AllocError, Global};
-use std::fmt;
-use std::io;
 use std::io::{Read, Write};
+use std::{fmt, io};
 
 // The bytes of the header of a pack (gitformat-pack(5)): `PACK`, the version, and how many objects
 // there are.
@@ -177,7 +176,9 @@ impl PackSeen {
             }
             self.bytes = self.bytes.saturating_add(1);
         }
-        self.bytes = self.bytes.saturating_add(bytes.len().saturating_sub(HEADER) as u64);
+        self.bytes = self
+            .bytes
+            .saturating_add(bytes.len().saturating_sub(HEADER) as u64);
     }
 }
 

@@ -60,7 +60,13 @@ impl Remote {
         prefixes: &[Prefix<Global>],
     ) -> Result<LsReply<Global>, Fault> {
         let stream = self.connect(net, alloc)?;
-        match ls_on(alloc, stream, self.hello.host(), self.hello.path(), prefixes) {
+        match ls_on(
+            alloc,
+            stream,
+            self.hello.host(),
+            self.hello.path(),
+            prefixes,
+        ) {
             Ok(reply) => Ok(reply),
             Err(fault) => Err(self.fault(alloc, &fault)),
         }

@@ -10,12 +10,11 @@ use gitrepository::RepositoryFault;
 use gitwords::{Shown, clean_byte};
 use gname::{MAX_ID_TEXT, MAX_PACK, OUT_OF_MEMORY_TEXT, Oid};
 use gpkt::LineFault;
-use grequest::{MAX_HAVES, MAX_WANTS};
+use grequest::{MAX_HAVES, MAX_PREFIXES, MAX_WANTS};
 use gtcp::MAX_SILENCE;
 use std::alloc::Global;
-use std::fmt;
-use std::io;
 use std::io::ErrorKind;
+use std::{fmt, io};
 
 /// A sentence, and what it names.
 #[derive(Clone, Copy)]
@@ -23,13 +22,22 @@ pub(crate) enum Sentence<'a> {
     /// An argument is not UTF-8.
     NotText,
     /// A path leads to no Git directory.
-    NoRepository { path: &'a str },
+    NoRepository {
+        path: &'a str,
+    },
     /// The directory of a clone is there, and is not empty.
-    Occupied { path: &'a str },
+    Occupied {
+        path: &'a str,
+    },
     /// The system does not open a file.
-    Open { path: &'a str, error: &'a io::Error },
+    Open {
+        path: &'a str,
+        error: &'a io::Error,
+    },
     /// A file cannot be written.
-    Unwritten { path: &'a str },
+    Unwritten {
+        path: &'a str,
+    },
     /// A file is refused, or an object.
     Repository(&'a RepositoryFault<Global>),
     /// A repository cannot be served.
@@ -43,13 +51,23 @@ pub(crate) enum Sentence<'a> {
         fault: &'a RepoFault<Global>,
     },
     /// The first line of a connection cannot name what the URL names.
-    Address { url: &'a str },
+    Address {
+        url: &'a str,
+    },
     /// No connection to the server.
-    Connect { url: &'a str, error: &'a io::Error },
+    Connect {
+        url: &'a str,
+        error: &'a io::Error,
+    },
     /// The conversation with the server failed.
     Fetch {
         url: &'a str,
         fault: &'a FetchFault<Global>,
+    },
+    /// The server does not have a ref that is fetched.
+    NoRef {
+        url: &'a str,
+        name: &'a [u8],
     },
     /// The pack that the server sent is refused.
     RefusedPack {
@@ -62,7 +80,9 @@ pub(crate) enum Sentence<'a> {
         error: &'a io::Error,
     },
     /// No more connections are accepted.
-    Accept { error: &'a io::Error },
+    Accept {
+        error: &'a io::Error,
+    },
     /// A client's path names no repository that is served.
     NotServed,
     /// A client's request is refused.
@@ -78,7 +98,9 @@ pub(crate) enum Sentence<'a> {
 impl fmt::Display for Sentence<'_> {
     fn fmt<W: fmt::Write>(&self, f: &mut fmt::Formatter<W>) -> fmt::Result {
         match self {
-            Sentence::NotText => f.write_str("an argument is not UTF-8: gitrepo takes no other names"),
+            Sentence::NotText => f.write_str(
+                "an argument is not UTF-8: gitrepo takes no other names",
+            ),
             Sentence::NoRepository { path } => write!(
                 f,
                 "{path} is not a Git repository: name a bare repository or a work tree"
@@ -97,6 +119,11 @@ impl fmt::Display for Sentence<'_> {
             ),
             Sentence::Connect { url, error } => write_refused("connect to ", url, error, f),
             Sentence::Fetch { url, fault } => write_fetch(url, fault, f),
+            Sentence::NoRef { url, name } => write!(
+                f,
+                "{url} has no ref {}: 'gitrepo ls {url}' lists those that it has",
+                Clean(name)
+            ),
             Sentence::RefusedPack { url, fault } => {
                 write!(f, "the pack from {url} is refused: ")?;
                 write_repository(fault, f)
@@ -148,10 +175,7 @@ fn write_repository<W: fmt::Write>(
     }
 }
 
-fn write_refs<W: fmt::Write>(
-    fault: &RefFault<Global>,
-    f: &mut fmt::Formatter<W>,
-) -> fmt::Result {
+fn write_refs<W: fmt::Write>(fault: &RefFault<Global>, f: &mut fmt::Formatter<W>) -> fmt::Result {
     let RefFault::File { path, cause } = fault else {
         return f.write_str(OUT_OF_MEMORY_TEXT);
     };
@@ -188,7 +212,10 @@ fn write_fetch<W: fmt::Write>(
         }
         FetchFault::NoBuffer => f.write_str(OUT_OF_MEMORY_TEXT),
         FetchFault::WriteFailed => {
-            write!(f, "cannot fetch from {url}: the connection was lost: try again")
+            write!(
+                f,
+                "cannot fetch from {url}: the connection was lost: try again"
+            )
         }
     }
 }
@@ -261,7 +288,10 @@ fn write_message<W: fmt::Write>(frame: u64, why: &Why, f: &mut fmt::Formatter<W>
             f.write_str("the server does not speak protocol version 2: use git")
         }
         Why::Memory | Why::Line(LineFault::Memory) => f.write_str(OUT_OF_MEMORY_TEXT),
-        _ => write!(f, "packet {frame} of the server's answer is malformed: {why}"),
+        _ => write!(
+            f,
+            "packet {frame} of the server's answer is malformed: {why}"
+        ),
     }
 }
 
@@ -298,7 +328,7 @@ fn write_request_message<W: fmt::Write>(
         }
         Why::Limit => write!(
             f,
-            "the request has more than {} wants or {} haves",
+            "the request has more than {} wants, {} haves or {MAX_PREFIXES} prefixes of ref names",
             Thousands(MAX_WANTS),
             Thousands(MAX_HAVES)
         ),

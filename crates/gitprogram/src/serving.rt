@@ -3,8 +3,9 @@
 use crate::directory::{Exports, served_directory};
 use crate::fault::Fault;
 use crate::output::print;
+use crate::refusals::{Worded, send_error};
 use crate::sentences::Sentence;
-use crate::uploading::{Conversation, REPLY_BUFFER, send_error, serve_directory};
+use crate::uploading::{Conversation, REPLY_BUFFER, serve_directory};
 use crate::visit::{Counted, Visit};
 use ganswer::ServeFault;
 use gconnect::hear;
@@ -162,7 +163,8 @@ where
     O: Write,
 {
     let mut source = FromRead::new(reader);
-    let mut sink = ToWrite::new(writer);
+    let mut worded = Worded::new(writer);
+    let mut sink = ToWrite::new(&mut worded);
     let hello = match hear(&mut source, rt.alloc()) {
         Ok(hello) => hello,
         Err(fault) => return refuse(rt, &fault, &mut sink),

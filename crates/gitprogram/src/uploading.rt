@@ -3,25 +3,26 @@
 use crate::directory::git_directory;
 use crate::fault::Fault;
 use crate::opening::{Opened, open_served};
+use crate::refusals::{Worded, send_error};
 use crate::sentences::Sentence;
 use ganswer::ServeFault;
+use ggrammar::Ends;
 use ggraph::PackFault;
 use gitobjects::StoredFiles;
 use gitrepository::StorePacker;
-use gpkt::{FromRead, LineWriter, Sink, Source, ToWrite, WriteFault};
+use gpkt::{FromRead, Sink, Source, ToWrite};
 use gserve::{End, Served, serve};
-use ggrammar::Ends;
 use std::alloc::Global;
-use std::env;
-use std::io;
 use std::io::{BufReader, BufWriter};
 use std::rt::{Env, Files};
+use std::{env, io};
 
 /// The bytes of a reply that go out in one write.
 pub(crate) const REPLY_BUFFER: usize = 65_536;
 
 // The error line for a client whose protocol is an older one.
-const NO_VERSION_2: &[u8] = b"gitrepo serves protocol version 2 alone: use git -c protocol.version=2";
+const NO_VERSION_2: &[u8] =
+    b"gitrepo serves protocol version 2 alone: use git -c protocol.version=2";
 
 // The error line for a client of a repository that is not there.
 const NOT_THERE: &[u8] = b"upload-pack: no such repository";
@@ -42,7 +43,8 @@ where
         return Err(Fault::Memory);
     };
     let mut source = FromRead::new(&mut reader);
-    let mut sink = ToWrite::new(&mut writer);
+    let mut worded = Worded::new(&mut writer);
+    let mut sink = ToWrite::new(&mut worded);
     let upload = upload_to(rt, dir, &mut source, &mut sink);
     // What could not be written is not tried again.
     let (_writer, _unwritten) = writer.into_parts();
@@ -148,17 +150,4 @@ fn request_fault<R: Files>(
         }
     }
     Fault::of(alloc, Sentence::Request(fault))
-}
-
-/// Writes the packet of an error (gitprotocol-pack(5), "error-line"), and passes it on.
-pub(crate) fn send_error<W: Sink>(text: &[u8], sink: &mut W) -> Result<(), WriteFault> {
-    let mut writer = LineWriter::new(sink);
-    let sent = send_text(text, &mut writer);
-    let _sink = writer.into_inner();
-    sent
-}
-
-fn send_text<W: Sink>(text: &[u8], writer: &mut LineWriter<W>) -> Result<(), WriteFault> {
-    writer.text2(b"ERR ", text)?;
-    writer.push()
 }

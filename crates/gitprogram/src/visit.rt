@@ -4,10 +4,9 @@ use crate::fault::Fault;
 use crate::sentences::Clean;
 use crate::uploading::Conversation;
 use std::alloc::Global;
-use std::fmt;
-use std::io;
 use std::io::Write;
 use std::time::Duration;
+use std::{fmt, io};
 
 /// A connection of the server.
 #[derive(Drop)]
@@ -43,7 +42,10 @@ impl fmt::Display for Visit {
         let bytes = self.bytes;
         let seconds = self.took.as_secs();
         let milliseconds = self.took.subsec_millis();
-        write!(f, "{path} {requests} requests {bytes} bytes {seconds}.{milliseconds:03} s")?;
+        write!(
+            f,
+            "{path} {requests} requests {bytes} bytes {seconds}.{milliseconds:03} s"
+        )?;
         match &self.conversation.outcome {
             Ok(()) => Ok(()),
             Err(fault) => write!(f, ": {fault}"),
