@@ -1,5 +1,5 @@
 -- A configuration (git-config(1), "CONFIGURATION FILE", "Syntax").
-use Rattle.std.specs.Prelude.{◌≡◌, ◌≢◌, ◌⊎◌, ℕ, Option, Some, None, true, List, [], ◌∷◌, ◌++◌, All, map}
+use Rattle.std.specs.Prelude.{◌≡◌, ◌≢◌, ◌⊎◌, ℕ, Option, Some, None, true, List, [], ◌∷◌, ◌++◌, All, codes, map}
 use Rattle.std.specs.Option.{option_map}
 use Rattle.std.specs.Char.{is_ascii_alphabetic}
 use Rattle.std.specs.Str.{str_to_ascii_lowercase}
@@ -121,3 +121,16 @@ setting_of s = record {
   name = s.name.items;
   value = option_map (λ value. value.items) s.value;
 }
+
+-- ---- the configuration of a bare repository (git-clone(1), `--bare`)
+
+abbrev pub set : List ℕ → List ℕ → List ℕ → Setting
+set section name value = record { section = section; name = name; value = Some value }
+
+-- its remote `origin` is at a URL
+abbrev pub bare_settings : List ℕ → List Setting
+bare_settings url =
+    set (codes "core") (codes "repositoryformatversion") (codes "0")
+    ∷ set (codes "core") (codes "filemode") (codes "true")
+    ∷ set (codes "core") (codes "bare") (codes "true")
+    ∷ set (codes "remote.origin") (codes "url") url ∷ []

@@ -31,7 +31,9 @@ mod fault;
 mod pieces;
 mod reading;
 mod setting;
+mod writing;
 
 pub use crate::fault::ConfigFault;
 pub use crate::reading::parse_config;
 pub use crate::setting::Setting;
+pub use crate::writing::bare_config;
