@@ -1,5 +1,5 @@
 -- The entries of a graph that objects have (gitglossary(7), "commit object", "tag object").
-use Rattle.std.specs.Prelude.{◌≡◌, ◌⊎◌, ⊥, ⊤, ℕ, List, [], ◌∷◌}
+use Rattle.std.specs.Prelude.{◌≡◌, ◌⊎◌, ⊤, ℕ, List, [], ◌∷◌}
 use Rattle.gname.specs.Ids.{Id}
 use Rattle.gitobject.specs.Links.{IsCommit, IsTag}
 use Rattle.gitobject.specs.Naming.{id_of}

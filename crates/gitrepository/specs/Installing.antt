@@ -1,5 +1,5 @@
 -- The files of a pack that is installed (gitrepository-layout(5), "objects/pack").
-use Rattle.std.specs.Prelude.{◌≡◌, ◌⊎◌, ⊤, ⊥, ℕ, List, [], ◌∷◌, ◌++◌, Option, None, Some, Result, Ok, Err}
+use Rattle.std.specs.Prelude.{◌≡◌, ◌⊎◌, ⊤, ℕ, List, [], ◌∷◌, ◌++◌, Option, None, Some, Result, Ok, Err}
 
 abbrev pub Bytes : Type 0
 Bytes = List ℕ

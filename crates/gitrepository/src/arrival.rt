@@ -1,15 +1,14 @@
 //! A visitor of the objects of a pack that comes.
 
-ghost use Rattle.std.specs.Prelude.{◌≡◌, All, OnOk};
-ghost use Rattle.gitobject.specs.Links.{IsTag};
+ghost use Rattle.std.specs.Prelude.{◌≡◌, All, IfOk, IfSome};
 ghost use Rattle.gitobject.specs.Naming.{id_of};
-ghost use Rattle.gitobject.specs.declared.types.ObjectType.TheVariants as types;
 ghost use Rattle.gitrepository.specs.Entries.{IsRead};
 
 use crate::fault::{ObjectCause, RepositoryFault};
 use crate::nodes::{entry_of, leaf};
+use crate::tips::Tips;
 use ggraph::{Entry, IdHasher};
-use gitobject::{Link, ObjectFault, ObjectType, links_of, tag_link};
+use gitobject::{Link, ObjectType, links_of, tag_link};
 use gitobjects::{ObjectFiles, ObjectReader};
 use gitpack::{IndexedPack, ObjectVisitor, PackFileFault};
 use gname::Oid;
@@ -20,36 +19,35 @@ use std::marker::Model;
 
 /// A visitor of the objects of a pack that comes. Contracts see the entries of its commits and tags.
 #[derive(Drop)]
-pub(crate) struct Arrival<'r, 'f, F: ObjectFiles, A: Allocator + Copy> {
+pub(crate) struct Arrival<'r, 't, 'f, F: ObjectFiles, A: Allocator + Copy> {
     alloc: A,
     reader: &'r mut ObjectReader<'f, F, A>,
-    // The ids at which the refs of the peer are, in order.
-    tips: &'r [Oid],
+    tips: &'t Tips<A>,
     entries: Vec<Entry<A>, A>,
-    // The trees and blobs that are named, and the objects that a tag names.
+    // The types of the objects that are named.
     needs: IndexMap<Oid, ObjectType, IdHasher, A>,
     fault: Option<RepositoryFault<A>>,
 }
 
-impl<'r, 'f, F: ObjectFiles, A: Allocator + Copy> Model for Arrival<'r, 'f, F, A> {
+impl<'r, 't, 'f, F: ObjectFiles, A: Allocator + Copy> Model for Arrival<'r, 't, 'f, F, A> {
     ghost use Rattle.std.specs.Prelude.{All, List};
-    ghost use Rattle.gobject.specs.declared.node.Entry as entries;
+    ghost use Rattle.gobject.specs.declared.node.Entry.{Entry};
     ghost use Rattle.gitrepository.specs.Entries.{IsRead};
 
-    ghost Value = { List (entries.Entry A) };
+    ghost Value = { List (Entry A) };
 
     ghost view = { λ a. a.entries.items };
 
     ghost invariant = { λ a. All IsRead a.entries.items };
 }
 
-impl<'r, 'f, F: ObjectFiles, A: Allocator + Copy> Arrival<'r, 'f, F, A> {
-    /// No object has come yet. The tips are in order.
+impl<'r, 't, 'f, F: ObjectFiles, A: Allocator + Copy> Arrival<'r, 't, 'f, F, A> {
+    /// No object has come yet.
     pub(crate) fn new(
         alloc: A,
         reader: &'r mut ObjectReader<'f, F, A>,
-        tips: &'r [Oid],
-    ) -> Arrival<'r, 'f, F, A> {
+        tips: &'t Tips<A>,
+    ) -> Arrival<'r, 't, 'f, F, A> {
         Arrival {
             alloc,
             reader,
@@ -65,17 +63,23 @@ impl<'r, 'f, F: ObjectFiles, A: Allocator + Copy> Arrival<'r, 'f, F, A> {
         self.fault
     }
 
-    /// The entries, once each object that is named is in the pack, as what it is named, or in the
-    /// store.
+    /// The entries, once each object that is named is in the pack or in the store, with the type by
+    /// which it is named.
     pub(crate) fn into_entries(
         self,
         pack: &IndexedPack<A>,
     ) -> Result<Vec<Entry<A>, A>, RepositoryFault<A>>
         ensures { IfOk result (λ entries. All IsRead entries.items) }
     {
-        for (id, kind) in &self.needs {
+        let Arrival {
+            reader,
+            entries,
+            needs,
+            ..
+        } = self;
+        for (id, kind) in &needs {
             check_need(
-                self.reader,
+                reader,
                 pack,
                 Link {
                     id: *id,
@@ -83,7 +87,7 @@ impl<'r, 'f, F: ObjectFiles, A: Allocator + Copy> Arrival<'r, 'f, F, A> {
                 },
             )?;
         }
-        Ok(self.entries)
+        Ok(entries)
     }
 
     // Learns of an object.
@@ -95,7 +99,7 @@ impl<'r, 'f, F: ObjectFiles, A: Allocator + Copy> Arrival<'r, 'f, F, A> {
         if kind == ObjectType::Tag {
             self.learn_target(body)?;
         }
-        if is_node(kind) || self.tips.binary_search(id).is_ok() {
+        if is_node(kind) || self.tips.contains(id) {
             self.push_object(id, kind, body)?;
         }
         Ok(())
@@ -119,8 +123,7 @@ impl<'r, 'f, F: ObjectFiles, A: Allocator + Copy> Arrival<'r, 'f, F, A> {
         }
     }
 
-    // Notes the trees and blobs to which an object links. A commit's parents are looked up later,
-    // by the graph.
+    // Notes the objects to which an object links.
     fn need_links(
         &mut self,
         id: &Oid,
@@ -132,9 +135,7 @@ impl<'r, 'f, F: ObjectFiles, A: Allocator + Copy> Arrival<'r, 'f, F, A> {
             Err(fault) => return Err(RepositoryFault::of_object(id, fault)),
         };
         for link in &links {
-            if !is_node(link.kind) {
-                self.need(*link)?;
-            }
+            self.need(*link)?;
         }
         Ok(())
     }
@@ -201,26 +202,25 @@ fn named_leaf<A: Allocator + Copy>(alloc: A, tag: &[u8]) -> Option<Entry<A>>
     }
 }
 
-// Whether an object that is named is in the pack, as what it is named, or in the store.
+// Whether an object that is named is in the pack or in the store, with the type by which it is
+// named.
 fn check_need<F: ObjectFiles, A: Allocator + Copy>(
     reader: &mut ObjectReader<'_, F, A>,
     pack: &IndexedPack<A>,
     need: Link,
 ) -> Result<(), RepositoryFault<A>> {
-    match pack.find(&need.id) {
-        Some(entry) if entry.kind == need.kind => return Ok(()),
-        Some(_) => return Err(RepositoryFault::refused(&need.id, ObjectCause::Type)),
-        None => {}
+    let kind = match pack.find(&need.id) {
+        Some(entry) => entry.kind,
+        None => reader.kind_of(&need.id)?,
+    };
+    if kind == need.kind {
+        Ok(())
+    } else {
+        Err(RepositoryFault::refused(&need.id, ObjectCause::Type))
     }
-    if reader.store().find(&need.id)?.is_some() {
-        return Ok(());
-    }
-    // The object may have been packed since the packs were listed.
-    reader.read(&need.id)?;
-    Ok(())
 }
 
-impl<F: ObjectFiles, A: Allocator + Copy> ObjectVisitor for Arrival<'_, '_, F, A> {
+impl<F: ObjectFiles, A: Allocator + Copy> ObjectVisitor for Arrival<'_, '_, '_, F, A> {
     fn visit(&mut self, id: &Oid, kind: ObjectType, body: &[u8]) -> Result<(), PackFileFault> {
         match self.learn(id, kind, body) {
             Ok(()) => Ok(()),

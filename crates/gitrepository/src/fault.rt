@@ -2,10 +2,10 @@
 
 use ggraph::{GraphFault, MAX_NODES, MAX_PARENTS, RefsFault};
 use gitobject::ObjectFault;
-use gitobjects::StoreFault;
+use gitobjects::{Cause, FileFault, StoreFault};
 use gitpack::PackFileFault;
 use gitrefs::RefFault;
-use gname::{MAX_ID_TEXT, OUT_OF_MEMORY_TEXT, Oid};
+use gname::{MAX_ID_TEXT, OUT_OF_MEMORY_TEXT, Oid, RefName};
 use std::alloc::{AllocError, AllocFailed, Allocator};
 use std::error::Error;
 use std::{fmt, io};
@@ -21,6 +21,26 @@ pub enum ObjectCause {
     Differs,
     /// It has more than [`MAX_PARENTS`] parents.
     Parents,
+}
+
+/// Why a repository of some form is not read (git-config(1), "core.repositoryFormatVersion",
+/// "extensions").
+#[derive(Clone, Copy, Debug, PartialEq, Eq)]
+pub enum FormFault {
+    /// It is shallow: some commits have parents that are left out.
+    Shallow,
+    /// Its ids are not SHA-1: `extensions.objectFormat`.
+    ObjectFormat,
+    /// Its refs are not in files: `extensions.refStorage`.
+    RefStorage,
+    /// It is a partial clone: objects that are named may be left out.
+    PartialClone,
+    /// Its version is neither 0 nor 1: `core.repositoryFormatVersion`.
+    Version,
+    /// It has an extension that is not known.
+    Extension,
+    /// Its configuration is malformed.
+    Config,
 }
 
 /// Why a repository is not read, packed or added to.
@@ -52,8 +72,47 @@ pub enum RepositoryFault<A: Allocator + Copy> {
         /// The system's error.
         error: io::Error,
     },
+    /// The repository has a form that is not read.
+    Form {
+        /// The path of the file that says so.
+        path: String<A>,
+        /// The form.
+        fault: FormFault,
+    },
     /// The packer or the indexer is at work already.
     Busy,
+}
+
+/// Why a repository is not whole.
+#[derive(Drop)]
+pub enum CheckFault<A: Allocator + Copy> {
+    /// The repository is not read, or out of memory.
+    Repository(RepositoryFault<A>),
+    /// An object that a ref or HEAD reaches is missing or refused.
+    Ref {
+        /// The name of the ref, or `HEAD`.
+        name: RefName<A>,
+        /// The fault, which names the object.
+        fault: RepositoryFault<A>,
+    },
+}
+
+impl<A: Allocator + Copy> CheckFault<A> {
+    /// The fault of an object that a ref reaches.
+    pub(crate) fn of_ref(alloc: A, name: &RefName<A>, fault: RepositoryFault<A>) -> CheckFault<A> {
+        match name.copy_in(alloc) {
+            Ok(name) => CheckFault::Ref { name, fault },
+            Err(_) => CheckFault::Repository(RepositoryFault::Memory),
+        }
+    }
+
+    /// The fault of an object that HEAD reaches.
+    pub(crate) fn of_head(alloc: A, fault: RepositoryFault<A>) -> CheckFault<A> {
+        match RefName::head(alloc) {
+            Ok(name) => CheckFault::Ref { name, fault },
+            Err(_) => CheckFault::Repository(RepositoryFault::Memory),
+        }
+    }
 }
 
 impl<A: Allocator + Copy> RepositoryFault<A> {
@@ -91,6 +150,54 @@ impl<A: Allocator + Copy> RepositoryFault<A> {
             Err(_) => RepositoryFault::Memory,
         }
     }
+
+    /// The fault of the file with this path, which is read as those of objects are.
+    pub(crate) fn of_cause(alloc: A, path: &str, cause: Cause) -> RepositoryFault<A> {
+        if cause == Cause::Memory {
+            return RepositoryFault::Memory;
+        }
+        match String::from_str(alloc, path) {
+            Ok(path) => RepositoryFault::Store(StoreFault::File(FileFault { path, cause })),
+            Err(_) => RepositoryFault::Memory,
+        }
+    }
+
+    /// The fault of a repository whose form the file with this path says.
+    pub(crate) fn of_form(alloc: A, path: &str, fault: FormFault) -> RepositoryFault<A> {
+        match String::from_str(alloc, path) {
+            Ok(path) => RepositoryFault::Form { path, fault },
+            Err(_) => RepositoryFault::Memory,
+        }
+    }
+}
+
+impl FormFault {
+    // The table of forms that are not read.
+    fn text(self) -> &'static str {
+        match self {
+            FormFault::Shallow => {
+                "the repository is shallow, which is not supported; `git fetch --unshallow` makes it whole"
+            }
+            FormFault::ObjectFormat => {
+                "the ids of the repository are not SHA-1 (extensions.objectFormat), which is not supported"
+            }
+            FormFault::RefStorage => {
+                "the refs of the repository are not in files (extensions.refStorage), which is not supported; `git refs migrate --ref-format=files` brings them there"
+            }
+            FormFault::PartialClone => {
+                "the repository is a partial clone, which is not supported; clone it without `--filter`"
+            }
+            FormFault::Version => "the version of the repository (core.repositoryFormatVersion) is not known",
+            FormFault::Extension => "the repository has an extension that is not known",
+            FormFault::Config => "the configuration is malformed",
+        }
+    }
+}
+
+impl fmt::Display for FormFault {
+    fn fmt<W: fmt::Write>(&self, f: &mut fmt::Formatter<W>) -> fmt::Result {
+        f.write_str(self.text())
+    }
 }
 
 impl fmt::Display for ObjectCause {
@@ -118,6 +225,7 @@ impl<A: Allocator + Copy> fmt::Display for RepositoryFault<A> {
             RepositoryFault::Pack(fault) => write_pack(*fault, f),
             RepositoryFault::Count => f.write_str("the pack has another number of objects"),
             RepositoryFault::File { path, error } => write!(f, "{path}: {error}"),
+            RepositoryFault::Form { path, fault } => write!(f, "{path}: {fault}"),
             RepositoryFault::Busy => f.write_str("the repository is in use"),
         }
     }
@@ -155,6 +263,26 @@ impl<A: Allocator + Copy> fmt::Debug for RepositoryFault<A> {
 }
 
 impl<A: Allocator + Copy> Error for RepositoryFault<A> {}
+
+impl<A: Allocator + Copy> fmt::Display for CheckFault<A> {
+    fn fmt<W: fmt::Write>(&self, f: &mut fmt::Formatter<W>) -> fmt::Result {
+        match self {
+            CheckFault::Repository(fault) => write!(f, "{fault}"),
+            CheckFault::Ref { name, fault } => {
+                f.write_str(str::from_utf8(name.as_bytes()).unwrap_or("a ref"))?;
+                write!(f, ": {fault}")
+            }
+        }
+    }
+}
+
+impl<A: Allocator + Copy> fmt::Debug for CheckFault<A> {
+    fn fmt<W: fmt::Write>(&self, f: &mut fmt::Formatter<W>) -> fmt::Result {
+        fmt::Display::fmt(self, f)
+    }
+}
+
+impl<A: Allocator + Copy> Error for CheckFault<A> {}
 
 impl<A: Allocator + Copy> From<AllocError> for RepositoryFault<A> {
     fn from(_refused: AllocError) -> RepositoryFault<A> {

@@ -2,7 +2,7 @@
 
 use crate::fates::{Fate, Fates};
 use crate::fault::{ObjectCause, RepositoryFault};
-use ggraph::{Entry, Graph};
+use ggraph::Entry;
 use gitobject::{Link, ObjectType, commit_links, tree_links};
 use gitobjects::{Found, Object, ObjectFiles, ObjectReader, StoreFault};
 use gname::Oid;
@@ -14,37 +14,11 @@ pub(crate) fn gather<F: ObjectFiles, A: Allocator + Copy>(
     reader: &mut ObjectReader<'_, F, A>,
     entries: &[Entry<A>],
 ) -> Result<Fates<A>, RepositoryFault<A>> {
-    let alloc = reader.store().allocator();
-    let fates = Fates::new(alloc);
-    let mut gathering = Gathering {
-        alloc,
-        reader,
-        fates,
-    };
+    let mut gathering = Gathering::new(reader, false);
     gathering.send_all(entries)?;
     gathering.leave_out_parents(entries)?;
     gathering.send_trees(entries)?;
     Ok(gathering.fates)
-}
-
-/// How many objects all commits and tags of a graph reach, these included.
-///
-/// It fails with `Store` if an object is missing or is not read, with `Object` if one is malformed
-/// or of another type than its name says, and with `Memory`.
-pub fn count_reached<F: ObjectFiles, A: Allocator + Copy>(
-    reader: &mut ObjectReader<'_, F, A>,
-    graph: &Graph<A>,
-) -> Result<u32, RepositoryFault<A>> {
-    let alloc = reader.store().allocator();
-    let mut entries = Vec::new(alloc);
-    for place in 0..graph.len() {
-        if let Some((id, node)) = graph.at(place) {
-            let node = node.copy_in(alloc)?;
-            entries.push(Entry { id: *id, node })?;
-        }
-    }
-    let fates = gather(reader, entries.as_slice())?;
-    Ok(fates.sent())
 }
 
 // A tree that was settled, and whose entries are not.
@@ -54,15 +28,46 @@ struct Tree {
     found: Found,
 }
 
-// The fates so far.
+/// The fates of objects so far.
 #[derive(Drop)]
-struct Gathering<'r, 'f, F: ObjectFiles, A: Allocator + Copy> {
+pub(crate) struct Gathering<'r, 'f, F: ObjectFiles, A: Allocator + Copy> {
     alloc: A,
-    reader: &'r mut ObjectReader<'f, F, A>,
+    pub(crate) reader: &'r mut ObjectReader<'f, F, A>,
     fates: Fates<A>,
+    // Whether the types of blobs are looked at.
+    checks_blobs: bool,
 }
 
-impl<F: ObjectFiles, A: Allocator + Copy> Gathering<'_, '_, F, A> {
+impl<'r, 'f, F: ObjectFiles, A: Allocator + Copy> Gathering<'r, 'f, F, A> {
+    /// No object is settled. If `checks_blobs` is set, an object that a tree names as a blob must be
+    /// one.
+    pub(crate) fn new(
+        reader: &'r mut ObjectReader<'f, F, A>,
+        checks_blobs: bool,
+    ) -> Gathering<'r, 'f, F, A> {
+        let alloc = reader.store().allocator();
+        let fates = Fates::new(alloc);
+        Gathering {
+            alloc,
+            reader,
+            fates,
+            checks_blobs,
+        }
+    }
+
+    /// How many objects are sent.
+    pub(crate) fn sent(&self) -> u32 {
+        self.fates.sent()
+    }
+
+    /// Sends an object and the trees and blobs that it reaches, unless it is settled.
+    pub(crate) fn send(&mut self, id: &Oid) -> Result<(), RepositoryFault<A>> {
+        match self.settle(id, Fate::Sent)? {
+            Some(_) => self.walk_from(id, Fate::Sent),
+            None => Ok(()),
+        }
+    }
+
     // Sends the commits and tags.
     fn send_all(&mut self, entries: &[Entry<A>]) -> Result<(), RepositoryFault<A>> {
         for entry in entries {
@@ -200,9 +205,15 @@ impl<F: ObjectFiles, A: Allocator + Copy> Gathering<'_, '_, F, A> {
         fate: Fate,
         trees: &mut Vec<Tree, A>,
     ) -> Result<(), RepositoryFault<A>> {
-        let found = self.settle(&link.id, fate)?;
-        if let (ObjectType::Tree, Some(found)) = (link.kind, found) {
+        let Some(found) = self.settle(&link.id, fate)? else {
+            return Ok(());
+        };
+        if link.kind == ObjectType::Tree {
             trees.push(Tree { id: link.id, found })?;
+            return Ok(());
+        }
+        if self.checks_blobs && self.reader.kind_of(&link.id)? != link.kind {
+            return Err(RepositoryFault::refused(&link.id, ObjectCause::Type));
         }
         Ok(())
     }

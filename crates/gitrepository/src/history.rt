@@ -1,6 +1,8 @@
 //! The commits and tags that some ids reach, parents first.
 
-ghost use Rattle.std.specs.Prelude.{◌≡◌, All, IfOk, OnOk};
+ghost use Rattle.std.specs.Prelude.{◌≡◌, IfOk, OnOk, length};
+ghost use Rattle.gdag.specs.Graphs.{Holds};
+ghost use Rattle.gdag.specs.Reach.{Keeps};
 ghost use Rattle.gitrepository.specs.Entries.{IsOfObject};
 ghost use Rattle.gitrepository.specs.Repositories.{IsHistory};
 
@@ -34,7 +36,7 @@ pub(crate) struct History<A: Allocator + Copy> {
 }
 
 impl<A: Allocator + Copy> Model for History<A> {
-    ghost use Rattle.std.specs.Prelude.{All, ◌×◌};
+    ghost use Rattle.std.specs.Prelude.{All};
     ghost use Rattle.gdag.specs.Graphs as graphs;
     ghost use Rattle.gitrepository.specs.Entries.{IsOfObject};
 
@@ -57,12 +59,30 @@ impl<A: Allocator + Copy> History<A> {
         }
     }
 
+    /// How many objects there are.
+    pub(crate) fn len(&self) -> usize
+        ensures { result ≡ length self.now.entries }
+    {
+        self.graph.len()
+    }
+
+    /// The id of the object that came as the one with this number, from 0; `None` past the last.
+    pub(crate) fn id_at(&self, place: usize) -> Option<Oid> {
+        match self.graph.at(place) {
+            Some((id, _node)) => Some(*id),
+            None => None,
+        }
+    }
+
     /// Adds the object with this id, and all that it reaches.
     pub(crate) fn add<F: ObjectFiles>(
         &mut self,
         reader: &mut ObjectReader<'_, F, A>,
         id: &Oid,
-    ) -> Result<(), RepositoryFault<A>> {
+    ) -> Result<(), RepositoryFault<A>>
+        ensures keeps { Keeps self.old.entries self.new.entries }
+        ensures held { OnOk result (Holds self.new.entries id.now) }
+    {
         self.reach(
             reader,
             Parent {
@@ -75,7 +95,11 @@ impl<A: Allocator + Copy> History<A> {
                 break;
             }
         }
-        Ok(())
+        if self.graph.contains(id) {
+            Ok(())
+        } else {
+            Err(RepositoryFault::Objects)
+        }
     }
 
     // Goes on to the next parent of the last object on the path. If there is none, the object
@@ -83,7 +107,9 @@ impl<A: Allocator + Copy> History<A> {
     fn step<F: ObjectFiles>(
         &mut self,
         reader: &mut ObjectReader<'_, F, A>,
-    ) -> Result<bool, RepositoryFault<A>> {
+    ) -> Result<bool, RepositoryFault<A>>
+        ensures { Keeps self.old.entries self.new.entries }
+    {
         if let Some(parent) = self.next_parent() {
             self.reach(reader, parent)?;
             return Ok(true);
@@ -102,6 +128,7 @@ impl<A: Allocator + Copy> History<A> {
     #[tactic(auto, using(crate::proofs::HistoryLemmas::objects_inserted))]
     fn insert(&mut self, entry: Entry<A>) -> Result<(), RepositoryFault<A>>
         requires { IsOfObject entry }
+        ensures { Keeps self.old.entries self.new.entries }
     {
         let id = entry.id;
         match self.graph.insert(entry) {
@@ -128,7 +155,9 @@ impl<A: Allocator + Copy> History<A> {
         &mut self,
         reader: &mut ObjectReader<'_, F, A>,
         parent: Parent,
-    ) -> Result<(), RepositoryFault<A>> {
+    ) -> Result<(), RepositoryFault<A>>
+        ensures { self.new ≡ self.old }
+    {
         if self.graph.contains(&parent.id) {
             return Ok(());
         }

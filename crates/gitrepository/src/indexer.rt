@@ -5,10 +5,10 @@ ghost use Rattle.gitrepository.specs.Packs.{IsIndexed};
 
 use crate::arrival::Arrival;
 use crate::fault::RepositoryFault;
+use crate::tips::Tips;
 use ggraph::{Entry, IndexFault, Indexer};
 use gitobjects::{ObjectFiles, ObjectReader};
 use gitpack::{IndexLimits, IndexedPack, index_pack};
-use gname::Oid;
 use std::alloc::Allocator;
 use std::cell::RefCell;
 
@@ -31,21 +31,21 @@ pub struct Received<A: Allocator + Copy> {
 
 /// An indexer of packs that come to a Git directory. It keeps the last pack as it came.
 ///
-/// Each object is inflated, and its id is computed. A tree or a blob that an object of the pack
-/// names is in the pack, as what it is named, or in the store. An object that the store has too has
-/// the same bytes there.
+/// Each object is inflated, and its id is computed. An object that an object of the pack names is
+/// in the pack or in the store, with the type by which it is named. An object that the store has
+/// too has the same bytes there.
 #[derive(Drop)]
 pub struct StoreIndexer<'t, 'f, F: ObjectFiles, A: Allocator + Copy> {
     reader: RefCell<ObjectReader<'f, F, A>>,
-    tips: &'t [Oid],
+    tips: &'t Tips<A>,
     received: RefCell<Option<Received<A>>>,
     fault: RefCell<Option<RepositoryFault<A>>>,
 }
 
 impl<'t, 'f, F: ObjectFiles, A: Allocator + Copy> StoreIndexer<'t, 'f, F, A> {
-    /// An indexer of packs that come to the store of the reader. The peer's refs are at these ids,
-    /// which are in order: trees and blobs among them are leaves of the graph.
-    pub fn new(reader: ObjectReader<'f, F, A>, tips: &'t [Oid]) -> StoreIndexer<'t, 'f, F, A> {
+    /// An indexer of packs that come to the store of the reader. Trees and blobs at which refs of
+    /// the peer are come as leaves of the graph.
+    pub fn new(reader: ObjectReader<'f, F, A>, tips: &'t Tips<A>) -> StoreIndexer<'t, 'f, F, A> {
         StoreIndexer {
             reader: RefCell::new(reader),
             tips,
@@ -100,7 +100,7 @@ impl<'t, 'f, F: ObjectFiles, A: Allocator + Copy> StoreIndexer<'t, 'f, F, A> {
 // The index of a pack, and the entries of its commits and tags.
 fn index_bytes<F: ObjectFiles, A: Allocator + Copy>(
     reader: &mut ObjectReader<'_, F, A>,
-    tips: &[Oid],
+    tips: &Tips<A>,
     bytes: &[u8],
 ) -> Result<(IndexedPack<A>, Vec<Entry<A>, A>), RepositoryFault<A>>
     ensures { IfOk result (λ read. IsIndexed bytes.now read.1.items) }

@@ -59,27 +59,36 @@
 #![tactic(auto)]
 
 mod arrival;
+mod checking;
 mod copying;
 mod fates;
 mod fault;
 mod folder;
+mod form;
 mod gather;
 mod history;
 mod indexer;
 mod install;
+mod leaves;
 mod memory_folder;
+mod new_repository;
 mod nodes;
 mod opening;
 mod outgoing;
 mod packer;
 mod stored_folder;
+mod tips;
 
+pub use crate::checking::{Checked, check_refs, check_repository};
 pub use crate::copying::PackCounts;
-pub use crate::fault::{ObjectCause, RepositoryFault};
+pub use crate::fault::{CheckFault, FormFault, ObjectCause, RepositoryFault};
 pub use crate::folder::{PackFolder, Stage};
-pub use crate::gather::count_reached;
+pub use crate::form::open_store;
 pub use crate::indexer::{Received, StoreIndexer};
 pub use crate::install::{install_files, install_pack};
+pub use crate::leaves::add_leaves;
 pub use crate::memory_folder::{MemoryFolder, PackFile};
+pub use crate::new_repository::NewRepository;
 pub use crate::opening::open_repository;
 pub use crate::packer::StorePacker;
+pub use crate::tips::Tips;

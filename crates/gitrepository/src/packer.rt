@@ -1,6 +1,6 @@
 //! A packer of the objects of a Git directory.
 
-ghost use Rattle.std.specs.Prelude.{◌≡◌, ⊤, MatchResult};
+ghost use Rattle.std.specs.Prelude.{⊤, IfOk};
 ghost use Rattle.gobject.specs.Packs.{MayPack};
 ghost use Rattle.gitrepository.specs.Packs.{IsWholePack};
 
