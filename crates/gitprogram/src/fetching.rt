@@ -2,7 +2,7 @@
 
 use crate::directory::git_directory;
 use crate::fault::Fault;
-use crate::opening::{Reader, open};
+use crate::opening::{Reader, open_client, repository_fault};
 use crate::progress::{Progress, Watched};
 use crate::remote::{Remote, tips_of};
 use crate::sentences::Sentence;
@@ -12,10 +12,10 @@ use gconnect::{GitFetch, fetch_git};
 use ggraph::{Refs, Repository};
 use gitobjects::StoredFiles;
 use gitrefs::{GitDirectory, RefUpdate};
-use gitrepository::{Received, RepositoryFault, StoreIndexer, install_pack};
+use gitrepository::{Received, RepositoryFault, StoreIndexer, Tips, install_pack};
 use gitwords::{FetchArgs, Verbosity};
 use glsreply::LsReply;
-use gname::{MAX_PACK, Oid};
+use gname::MAX_PACK;
 use gpkt::{FromRead, ToWrite};
 use gtcp::{Peer, Silence};
 use std::alloc::{AllocError, Global};
@@ -34,8 +34,8 @@ pub(crate) struct Wanted<'a> {
     pub(crate) remote: &'a Remote,
     /// The refspecs.
     pub(crate) specs: &'a [Spec<Global>],
-    /// The ids of the server's refs, in order.
-    pub(crate) tips: &'a [Oid],
+    /// The ids of the server's refs.
+    pub(crate) tips: &'a Tips<Global>,
 }
 
 /// A fetch whose pack is not installed yet, and whose refs have not moved.
@@ -66,7 +66,7 @@ where
     let wanted = Wanted {
         remote: &remote,
         specs: asked.specs.as_slice(),
-        tips: tips.as_slice(),
+        tips: &tips,
     };
     let progress = progress_of(alloc, asked.verbosity, errors);
     let fetch = receive(rt, git_dir.as_str(), wanted, progress)?;
@@ -131,7 +131,7 @@ fn has_source(listed: &LsReply<Global>, spec: &Spec<Global>) -> bool {
 fn keep<R: Files + AllocGlobal>(rt: &R, git_dir: &str, fetch: &Fetch) -> Result<(), Fault> {
     match install_and_move(rt, git_dir, fetch) {
         Ok(()) => Ok(()),
-        Err(fault) => Err(Fault::of(rt.alloc(), Sentence::Repository(&fault))),
+        Err(fault) => Err(repository_fault(rt.alloc(), git_dir, &fault)),
     }
 }
 
@@ -195,7 +195,7 @@ where
     E: Write,
 {
     let files = StoredFiles::new(rt);
-    let (repository, reader) = open(rt.alloc(), rt, &files, git_dir)?;
+    let (repository, reader) = open_client(rt.alloc(), rt, &files, git_dir, wanted.tips)?;
     let Repository {
         graph,
         refs,

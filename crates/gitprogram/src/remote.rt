@@ -4,9 +4,10 @@ use crate::fault::Fault;
 use crate::sentences::Sentence;
 use gclient::FetchFault;
 use ghello::Hello;
+use gitrepository::Tips;
 use gitwords::{DEFAULT_PORT, GitUrl};
 use glsreply::LsReply;
-use gname::{Oid, Prefix};
+use gname::Prefix;
 use gtcp::{connect_to, ls_on};
 use std::alloc::{AllocError, Global};
 use std::net::Net;
@@ -94,8 +95,8 @@ fn url_text(alloc: Global, url: &GitUrl<'_>) -> Result<String, AllocError> {
     }
 }
 
-/// The ids of the refs in a reply, and those to which tags lead, in order.
-pub(crate) fn tips_of(alloc: Global, reply: &LsReply<Global>) -> Result<Vec<Oid>, AllocError> {
+/// The ids of the refs in a reply, and those to which tags lead.
+pub(crate) fn tips_of(alloc: Global, reply: &LsReply<Global>) -> Result<Tips<Global>, AllocError> {
     let mut ids = Vec::new(alloc);
     for place in 0..reply.len() {
         if let Some(line) = reply.at(place) {
@@ -105,6 +106,5 @@ pub(crate) fn tips_of(alloc: Global, reply: &LsReply<Global>) -> Result<Vec<Oid>
             }
         }
     }
-    ids.sort_unstable();
-    Ok(ids)
+    Tips::new(alloc, ids.as_slice())
 }

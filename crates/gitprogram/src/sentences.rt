@@ -5,6 +5,7 @@ use ganswer::{BuildFault, ServeFault};
 use gclient::{ClientFault, FetchFault, MAX_SPECS, RepoFault};
 use ggrammar::Why;
 use ggraph::{GraphFault, MAX_NODES, MAX_REFS, PackFault};
+use gitobjects::StoreFault;
 use gitrefs::RefFault;
 use gitrepository::RepositoryFault;
 use gitwords::{Shown, clean_byte};
@@ -109,8 +110,10 @@ impl fmt::Display for Sentence<'_> {
                 write!(f, "{path} exists and is not empty: name a new directory")
             }
             Sentence::Open { path, error } => write_refused("open ", path, error, f),
-            Sentence::Unwritten { path } => write!(f, "cannot write {path}"),
-            Sentence::Repository(fault) => write_repository(fault, f),
+            Sentence::Repository { path, fault } => write_repository(path, fault, f),
+            Sentence::BrokenRef { path, name, fault } => {
+                write!(f, "{path}: {}: {fault}: 'git fsck' says more", Clean(name))
+            }
             Sentence::Build { path, fault } => write!(f, "cannot serve {path}: {fault}"),
             Sentence::Client { path, fault } => write_client_repo(path, fault, f),
             Sentence::Address { url } => write!(
@@ -125,8 +128,7 @@ impl fmt::Display for Sentence<'_> {
                 Clean(name)
             ),
             Sentence::RefusedPack { url, fault } => {
-                write!(f, "the pack from {url} is refused: ")?;
-                write_repository(fault, f)
+                write!(f, "the pack from {url} is refused: {fault}")
             }
             Sentence::Listen { address, error } => write_refused("listen at ", address, error, f),
             Sentence::Accept { error } => write_refused("accept ", "connections", error, f),
@@ -165,13 +167,17 @@ fn write_reason<W: fmt::Write>(error: &io::Error, f: &mut fmt::Formatter<W>) -> 
 // ---- a repository here
 
 fn write_repository<W: fmt::Write>(
+    path: &str,
     fault: &RepositoryFault<Global>,
     f: &mut fmt::Formatter<W>,
 ) -> fmt::Result {
     match fault {
+        RepositoryFault::Memory => f.write_str(OUT_OF_MEMORY_TEXT),
         RepositoryFault::Refs(fault) => write_refs(fault, f),
         RepositoryFault::File { path, error } => write_refused("write ", path.as_str(), error, f),
-        _ => fmt::Display::fmt(fault, f),
+        RepositoryFault::Store(StoreFault::File(fault)) => fmt::Display::fmt(fault, f),
+        RepositoryFault::Form { .. } => fmt::Display::fmt(fault, f),
+        _ => write!(f, "{path}: {fault}: 'git fsck' says more"),
     }
 }
 

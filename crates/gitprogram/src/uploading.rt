@@ -2,17 +2,17 @@
 
 use crate::directory::git_directory;
 use crate::fault::Fault;
-use crate::opening::{Opened, open_served};
+use crate::opening::{Opened, open_served, repository_fault};
 use crate::refusals::{Worded, send_error};
 use crate::sentences::Sentence;
 use ganswer::ServeFault;
 use ggrammar::Ends;
 use ggraph::PackFault;
 use gitobjects::StoredFiles;
-use gitrepository::StorePacker;
+use gitrepository::{FormFault, StorePacker};
 use gpkt::{FromRead, Sink, Source, ToWrite};
 use gserve::{End, Served, serve};
-use std::alloc::Global;
+use std::alloc::{AllocError, Global};
 use std::io::{BufReader, BufWriter};
 use std::rt::{Env, Files};
 use std::{env, io};
@@ -115,16 +115,35 @@ where
 {
     let files = StoredFiles::new(rt);
     match open_served(rt.alloc(), rt, &files, git_dir) {
-        Ok(opened) => serve_opened(rt.alloc(), &opened, source, sink),
-        Err(fault) => {
-            let _ = send_error(NOT_OPENED, sink);
-            Conversation::failed(fault)
+        Ok(opened) => serve_opened(rt.alloc(), git_dir, &opened, source, sink),
+        Err(cause) => {
+            let _ = send_not_opened(rt.alloc(), cause.form, sink);
+            Conversation::failed(cause.fault)
         }
     }
 }
 
+// Says to the client that the repository is not opened, and why if its form is not read.
+fn send_not_opened<W: Sink>(
+    alloc: Global,
+    form: Option<FormFault>,
+    sink: &mut W,
+) -> Result<(), AllocError> {
+    match form {
+        Some(form) => {
+            let text = format!(in alloc; "upload-pack: {form}")?;
+            let _ = send_error(text.as_bytes(), sink);
+        }
+        None => {
+            let _ = send_error(NOT_OPENED, sink);
+        }
+    }
+    Ok(())
+}
+
 fn serve_opened<R: Files, S: Source, W: Sink>(
     alloc: Global,
+    git_dir: &str,
     opened: &Opened<'_, '_, R>,
     source: &mut S,
     sink: &mut W,
@@ -133,7 +152,7 @@ fn serve_opened<R: Files, S: Source, W: Sink>(
     let outcome = match end {
         End::Closed | End::Ended => Ok(()),
         End::WriteFailed => Err(Fault::of(alloc, Sentence::ClientLost)),
-        End::Refused(fault) => Err(request_fault(alloc, &opened.packer, &fault)),
+        End::Refused(fault) => Err(request_fault(alloc, git_dir, &opened.packer, &fault)),
     };
     Conversation { requests, outcome }
 }
@@ -141,12 +160,13 @@ fn serve_opened<R: Files, S: Source, W: Sink>(
 // The fault of a request that was refused. The packer knows more of its own.
 fn request_fault<R: Files>(
     alloc: Global,
+    git_dir: &str,
     packer: &StorePacker<'_, StoredFiles<'_, R>, Global>,
     fault: &ServeFault,
 ) -> Fault {
     if let ServeFault::Pack(PackFault::Other) = fault {
         if let Some(cause) = packer.take_fault() {
-            return Fault::of(alloc, Sentence::Repository(&cause));
+            return repository_fault(alloc, git_dir, &cause);
         }
     }
     Fault::of(alloc, Sentence::Request(fault))
