@@ -35,12 +35,17 @@ pub(crate) enum Sentence<'a> {
         path: &'a str,
         error: &'a io::Error,
     },
-    /// A file cannot be written.
-    Unwritten {
+    /// A file of a repository is refused, or an object.
+    Repository {
         path: &'a str,
+        fault: &'a RepositoryFault<Global>,
     },
-    /// A file is refused, or an object.
-    Repository(&'a RepositoryFault<Global>),
+    /// Something is missing that a ref reaches, or refused.
+    BrokenRef {
+        path: &'a str,
+        name: &'a [u8],
+        fault: &'a RepositoryFault<Global>,
+    },
     /// A repository cannot be served.
     Build {
         path: &'a str,
