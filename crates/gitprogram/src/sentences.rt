@@ -7,7 +7,7 @@ use ggrammar::Why;
 use ggraph::{GraphFault, MAX_NODES, MAX_REFS, PackFault};
 use gitobjects::StoreFault;
 use gitrefs::RefFault;
-use gitrepository::RepositoryFault;
+use gitrepository::{FormFault, RepositoryFault};
 use gitwords::{Shown, clean_byte};
 use gname::{MAX_ID_TEXT, MAX_PACK, OUT_OF_MEMORY_TEXT, Oid};
 use gpkt::LineFault;
@@ -181,8 +181,23 @@ fn write_repository<W: fmt::Write>(
         RepositoryFault::Refs(fault) => write_refs(fault, f),
         RepositoryFault::File { path, error } => write_refused("write ", path.as_str(), error, f),
         RepositoryFault::Store(StoreFault::File(fault)) => fmt::Display::fmt(fault, f),
-        RepositoryFault::Form { .. } => fmt::Display::fmt(fault, f),
+        RepositoryFault::Form { fault, .. } => write!(f, "{path} {}", form_text(*fault)),
         _ => write!(f, "{path}: {fault}: 'git fsck' says more"),
+    }
+}
+
+/// The form of a repository that is not read, after its name.
+pub(crate) fn form_text(fault: FormFault) -> &'static str {
+    match fault {
+        FormFault::Shallow => "is shallow: 'git fetch --unshallow' makes it whole",
+        FormFault::ObjectFormat => "has SHA-256 ids: gitrepo reads SHA-1 ids alone",
+        FormFault::RefStorage =>
+            "has a reftable: 'git refs migrate --ref-format=files' makes files of it",
+        FormFault::PartialClone => "is a partial clone: clone it without --filter",
+        FormFault::Version =>
+            "has an unknown version, as core.repositoryFormatVersion says: use git",
+        FormFault::Extension => "has an unknown extension, as its config says: use git",
+        FormFault::Config => "has a malformed config: 'git config --list' says where",
     }
 }
 

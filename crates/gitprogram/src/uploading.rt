@@ -4,7 +4,7 @@ use crate::directory::git_directory;
 use crate::fault::Fault;
 use crate::opening::{Opened, open_served, repository_fault};
 use crate::refusals::{Worded, send_error};
-use crate::sentences::Sentence;
+use crate::sentences::{Sentence, form_text};
 use ganswer::ServeFault;
 use ggrammar::Ends;
 use ggraph::PackFault;
@@ -131,7 +131,8 @@ fn send_not_opened<W: Sink>(
 ) -> Result<(), AllocError> {
     match form {
         Some(form) => {
-            let text = format!(in alloc; "upload-pack: {form}")?;
+            let form = form_text(form);
+            let text = format!(in alloc; "upload-pack: the repository {form}")?;
             let _ = send_error(text.as_bytes(), sink);
         }
         None => {
