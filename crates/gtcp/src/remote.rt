@@ -230,7 +230,7 @@ where
         Ok(asked) => asked,
         Err(fault) => return Err(ProgramFault::Fetch(FetchFault::from(fault))),
     };
-    let Some(stream) = connect_to(net, listing.place.address()) else {
+    let Some(stream) = connect_to(net, listing.place.address()).ok() else {
         return Err(ProgramFault::Socket);
     };
     let peer = Peer::new(stream, Silence);
@@ -374,7 +374,7 @@ where
         fetched.settled.asks fetched.settled.updates.items repo.new.refs) }
     ensures grows { Grows repo.old.graph.entries repo.new.graph.entries }
 {
-    let Some(stream) = connect_to(net, fetch.place.address()) else {
+    let Some(stream) = connect_to(net, fetch.place.address()).ok() else {
         return Err(ProgramFault::Socket);
     };
     let peer = Peer::new(stream, Silence);
