@@ -84,7 +84,8 @@ fn push_value<A: Allocator + Copy>(text: &mut Vec<u8, A>, value: &[u8]) -> Resul
     ensures { OnOk result (AddsValue value.now text.old.items text.new.items) }
 {
     if is_plain(value) {
-        return text.extend_from_slice(value);
+        text.extend_from_slice(value)?;
+        return Ok(());
     }
     text.push(b'"')?;
     push_quoted(text, value)?;
