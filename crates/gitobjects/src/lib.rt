@@ -4,6 +4,7 @@
 //! - An [`ObjectStore`] opens the packs of a directory and finds objects.
 //! - An [`ObjectReader`] reads them. It applies deltas without recursion, and keeps some bases in a
 //!   bounded cache.
+//! - [`ObjectReader::kind_of`] answers the type of an object, without reading it if it is in a pack.
 //! - [`ObjectReader::raw_entry`] answers an entry of a pack as it lies, so that a packer can copy
 //!   it.
 //! - [`StoredFiles`] are the files of the system, and [`MemoryFiles`] are files in memory.

@@ -140,10 +140,17 @@ impl<P: OpenPack + Drop, A: Allocator + Copy> PackFile<P, A> {
     /// It fails with `Head`, and with `Base` if no entry begins here or the base is not in the
     /// pack.
     pub(crate) fn base_at(&mut self, start: usize) -> Result<Option<usize>, Cause> {
+        let form = self.form_at(start)?;
+        self.base_of(start, form)
+    }
+
+    /// The form of the entry that begins here. It fails with `Head`, and with `Base` if no entry
+    /// begins here.
+    pub(crate) fn form_at(&mut self, start: usize) -> Result<EntryForm, Cause> {
         let length = self.length_of(start)?;
         let bytes = self.window.read(start, length.min(MAX_HEAD))?;
         match read_head(bytes.as_slice()) {
-            Some(head) => self.base_of(start, head.form),
+            Some(head) => Ok(head.form),
             None => Err(Cause::Head),
         }
     }

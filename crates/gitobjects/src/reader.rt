@@ -10,6 +10,7 @@ use crate::files::ObjectFiles;
 use crate::limits::{MAX_ANSWER, MAX_OBJECT};
 use crate::object::Object;
 use crate::store::{Found, ObjectStore};
+use gitobject::ObjectType;
 use gitpack::{EntryForm, apply_delta};
 use gname::Oid;
 use gzlib::Inflater;
@@ -76,6 +77,66 @@ impl<'f, F: ObjectFiles, A: Allocator + Copy> ObjectReader<'f, F, A> {
             Ok(object)
         } else {
             Err(self.store.fault_of(id, Cause::Id))
+        }
+    }
+
+    /// The type of the object with this id, as the files have it. An object in a pack is not read:
+    /// the heads of its entry and of its bases tell its type.
+    ///
+    /// It fails as [`ObjectReader::read`] does.
+    pub fn kind_of(&mut self, id: &Oid) -> Result<ObjectType, StoreFault<A>> {
+        if let Some(kind) = self.kind_listed(id)? {
+            return Ok(kind);
+        }
+        self.store.reload()?;
+        match self.kind_listed(id)? {
+            Some(kind) => Ok(kind),
+            None => Err(StoreFault::Missing(*id)),
+        }
+    }
+
+    // The type of the object with this id; `None` if it is in no pack that is open, and not loose.
+    fn kind_listed(&mut self, id: &Oid) -> Result<Option<ObjectType>, StoreFault<A>> {
+        match self.store.find(id)? {
+            Some(found) => self.kind_found(id, found),
+            None => Ok(None),
+        }
+    }
+
+    // The type of the object that was found here; `None` if it is not there any more.
+    fn kind_found(
+        &mut self,
+        id: &Oid,
+        found: Found,
+    ) -> Result<Option<ObjectType>, StoreFault<A>> {
+        let Found::Packed { pack, place } = found else {
+            return match self.store.read_loose(id, &mut self.inflater)? {
+                Some(object) => Ok(Some(object.kind)),
+                None => Ok(None),
+            };
+        };
+        let Some(start) = self.store.start_of(pack, place) else {
+            return Ok(None);
+        };
+        match self.kind_at(pack, start) {
+            Ok(kind) => Ok(Some(kind)),
+            Err(cause) => Err(self.store.fault_in(pack, cause)),
+        }
+    }
+
+    // The type of the object whose entry begins here: that of the object to which its deltas lead.
+    fn kind_at(&mut self, pack: usize, start: usize) -> Result<ObjectType, Cause> {
+        let chain = self.trace(pack, start)?;
+        let spot = Spot {
+            pack,
+            start: chain.end,
+        };
+        if let Some(object) = self.cache.get(spot) {
+            return Ok(object.kind);
+        }
+        match self.store.form_at(spot)? {
+            EntryForm::Whole(kind) => Ok(kind),
+            _ => Err(Cause::Base),
         }
     }
 

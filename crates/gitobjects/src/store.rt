@@ -11,7 +11,7 @@ use crate::object::{Object, read_loose};
 use crate::order::Start;
 use crate::pack::{PackFile, open_pack};
 use crate::paths::{join, loose_path, pack_path};
-use gitpack::PackIndex;
+use gitpack::{EntryForm, PackIndex};
 use gname::Oid;
 use gzlib::Inflater;
 use std::alloc::Allocator;
@@ -215,6 +215,14 @@ impl<'f, F: ObjectFiles, A: Allocator + Copy> ObjectStore<'f, F, A> {
     pub(crate) fn base_at(&mut self, spot: Spot) -> Result<Option<usize>, Cause> {
         match self.packs.get_mut(spot.pack) {
             Some(file) => file.base_at(spot.start),
+            None => Err(Cause::Base),
+        }
+    }
+
+    /// The form of the entry that begins here.
+    pub(crate) fn form_at(&mut self, spot: Spot) -> Result<EntryForm, Cause> {
+        match self.packs.get_mut(spot.pack) {
+            Some(file) => file.form_at(spot.start),
             None => Err(Cause::Base),
         }
     }

@@ -75,6 +75,7 @@ mod packed;
 mod packed_text;
 mod path;
 mod reading;
+mod texts;
 mod update;
 mod values;
 mod words;
