@@ -68,6 +68,7 @@ mod directory;
 mod fault;
 mod git_file;
 pub mod laws;
+mod links;
 mod locked;
 mod loose;
 mod packed;
@@ -81,6 +82,7 @@ mod words;
 
 pub use crate::directory::GitDirectory;
 pub use crate::fault::{Cause, RefFault, TextFault};
+pub use crate::links::{parse_common_dir, parse_git_file};
 pub use crate::locked::replace_ref;
 pub use crate::loose::{LooseRef, parse_loose_ref};
 pub use crate::packed::{PackedRef, parse_packed_refs};
