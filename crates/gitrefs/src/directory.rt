@@ -2,10 +2,10 @@
 
 use crate::fault::{Cause, RefFault};
 use crate::git_file::{GitFile, sync_directory};
-use crate::locked::{LockedFile, ref_text};
+use crate::locked::LockedFile;
 use crate::packed_text::{packed_refs_text, peeled_refs_text};
 use crate::path::FilePath;
-use crate::texts::branch_text;
+use crate::texts::{branch_text, ref_text};
 use crate::update::first_conflict;
 use gname::RefName;
 use grefs::{Head, Refs, Target};
@@ -20,6 +20,8 @@ pub struct GitDirectory<'r, R: Files, A: Allocator + Copy = Global> {
     pub(crate) files: &'r R,
     pub(crate) alloc: A,
     pub(crate) path: &'r str,
+    // The directory of HEAD: that of a linked worktree, or the same.
+    head_path: &'r str,
 }
 
 // The directories of a new repository, each after the one in which it lies.
@@ -35,7 +37,37 @@ const DIRECTORIES: [&str; 6] = [
 impl<'r, R: Files, A: Allocator + Copy> GitDirectory<'r, R, A> {
     /// The git directory with this path. Nothing is opened yet.
     pub fn new(alloc: A, files: &'r R, path: &'r str) -> GitDirectory<'r, R, A> {
-        GitDirectory { files, alloc, path }
+        GitDirectory {
+            files,
+            alloc,
+            path,
+            head_path: path,
+        }
+    }
+
+    /// The git directory of a linked worktree (git-worktree(1)): HEAD lies in its own directory, and
+    /// all refs below `refs/` in the common one. Nothing is opened yet.
+    pub fn linked(
+        alloc: A,
+        files: &'r R,
+        common: &'r str,
+        own: &'r str,
+    ) -> GitDirectory<'r, R, A> {
+        GitDirectory {
+            files,
+            alloc,
+            path: common,
+            head_path: own,
+        }
+    }
+
+    /// The path of a ref's file, or of HEAD.
+    pub(crate) fn path_of(&self, name: &RefName<A>) -> Result<FilePath<A>, RefFault<A>> {
+        if name.is_head() {
+            FilePath::of_ref(self.alloc, self.head_path, name)
+        } else {
+            FilePath::of_ref(self.alloc, self.path, name)
+        }
     }
 
     /// Makes a repository with this configuration and without objects and refs, whose HEAD points at
@@ -50,7 +82,7 @@ impl<'r, R: Files, A: Allocator + Copy> GitDirectory<'r, R, A> {
         match self.fill(config, branch) {
             Ok(()) => Ok(()),
             Err(fault) => {
-                let _ = fs::remove_dir_all(self.files, self.path);
+                let _ = fs::remove_dir_all(&(self.files, &self.alloc), self.path);
                 Err(fault)
             }
         }
@@ -100,7 +132,7 @@ impl<'r, R: Files, A: Allocator + Copy> GitDirectory<'r, R, A> {
 
     fn write_head(&self, text: &Vec<u8, A>) -> Result<(), RefFault<A>> {
         let head = RefName::head(self.alloc)?;
-        let path = FilePath::of_ref(self.alloc, self.path, &head)?;
+        let path = self.path_of(&head)?;
         self.lock(path)?.replace(text.as_slice())
     }
 
@@ -133,7 +165,7 @@ impl<'r, R: Files, A: Allocator + Copy> GitDirectory<'r, R, A> {
 
     // There is a `HEAD`, as each git directory has one.
     pub(crate) fn check_repository(&self) -> Result<(), RefFault<A>> {
-        let path = FilePath::of_ref(self.alloc, self.path, &RefName::head(self.alloc)?)?;
+        let path = self.path_of(&RefName::head(self.alloc)?)?;
         match self.files.symlink_metadata(path.as_str()) {
             Ok(_) => Ok(()),
             Err(error) if error.kind() == ErrorKind::NotFound => {
@@ -145,7 +177,7 @@ impl<'r, R: Files, A: Allocator + Copy> GitDirectory<'r, R, A> {
 
     // The fault of a ref's file.
     pub(crate) fn fault_of(&self, name: &RefName<A>, cause: Cause) -> RefFault<A> {
-        match FilePath::of_ref(self.alloc, self.path, name) {
+        match self.path_of(name) {
             Ok(path) => RefFault::at(self.alloc, path.as_str(), cause),
             Err(fault) => fault,
         }

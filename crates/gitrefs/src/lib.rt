@@ -6,6 +6,8 @@
 //! - [`parse_loose_ref`] and [`parse_packed_refs`] accept exactly the texts of the form in
 //!   `specs/`, and refuse all others. They answer what the text says: an id or the name of another
 //!   ref; the refs of the lines, in their order, with the peeled ids.
+//! - [`parse_git_file`] and [`parse_common_dir`] accept exactly the texts that name a path in `specs/`,
+//!   and answer that path.
 //! - [`packed_refs_text`] and [`peeled_refs_text`] write a header and the line of each ref, in the
 //!   order of the names, since `Refs` are in that order. If all ids are SHA-1, the text reads back
 //!   as these refs: [`laws`].
@@ -38,8 +40,8 @@
 //! - Git follows a symbolic ref to a name outside `refs/`, as `ORIG_HEAD`. Here it is left out.
 //! - Git refuses a ref to an object that is missing, and a branch at no commit. This crate sees no
 //!   object.
-//! - The configuration is not read: no SHA-256, no reftable, no shared permissions. The git
-//!   directory of a linked worktree is not joined with its common one. Reflogs are left alone.
+//! - The configuration is not read: no SHA-256, no reftable, no shared permissions. Reflogs are
+//!   left alone. Of a linked worktree HEAD alone is its own; Git has `refs/bisect` and some more there, too.
 //!
 //! # What the contracts do not rule out
 //!
