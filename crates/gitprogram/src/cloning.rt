@@ -1,5 +1,6 @@
 //! `gitrepo clone`: a bare repository with the branches and tags of a server.
 
+use crate::directory::GitDir;
 use crate::fault::Fault;
 use crate::fetching::{Fetch, Wanted, progress_of, receive};
 use crate::opening::repository_fault;
@@ -211,7 +212,8 @@ where
     R: Files + AllocGlobal + Net,
     E: Write,
 {
-    match receive(rt, dir, wanted, progress) {
+    let git_dir = GitDir::whole(rt.alloc(), dir)?;
+    match receive(rt, &git_dir, wanted, progress) {
         Ok(fetch) => keep(rt.alloc(), dir, new, &fetch),
         Err(fault) => Err(fault),
     }

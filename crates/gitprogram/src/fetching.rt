@@ -1,17 +1,17 @@
 //! `gitrepo fetch`, and what it shares with a clone.
 
-use crate::directory::git_directory;
+use crate::directory::{GitDir, git_directory};
 use crate::fault::Fault;
 use crate::opening::{Reader, open_client, repository_fault};
 use crate::progress::{Progress, Watched};
 use crate::remote::{Remote, tips_of};
 use crate::sentences::Sentence;
-use gclient::{FetchFault, Fetched, Repo, Spec};
+use gclient::{FetchFault, Fetched, PackOptions, Repo, Spec};
 use gcmd::{Ends, PackLimit, ProgramFault, send_report};
 use gconnect::{GitFetch, fetch_git};
 use ggraph::{Refs, Repository};
 use gitobjects::StoredFiles;
-use gitrefs::{GitDirectory, RefUpdate};
+use gitrefs::RefUpdate;
 use gitrepository::{Received, RepositoryFault, StoreIndexer, Tips, install_pack};
 use gitwords::{FetchArgs, Verbosity};
 use glsreply::LsReply;
@@ -69,8 +69,8 @@ where
         tips: &tips,
     };
     let progress = progress_of(alloc, asked.verbosity, errors);
-    let fetch = receive(rt, git_dir.as_str(), wanted, progress)?;
-    keep(rt, git_dir.as_str(), &fetch)?;
+    let fetch = receive(rt, &git_dir, wanted, progress)?;
+    keep(rt, &git_dir, &fetch)?;
     if asked.verbosity.quiet {
         return Ok(());
     }
@@ -128,24 +128,24 @@ fn has_source(listed: &LsReply<Global>, spec: &Spec<Global>) -> bool {
 }
 
 // Installs the pack, and then moves the refs.
-fn keep<R: Files + AllocGlobal>(rt: &R, git_dir: &str, fetch: &Fetch) -> Result<(), Fault> {
+fn keep<R: Files + AllocGlobal>(rt: &R, git_dir: &GitDir, fetch: &Fetch) -> Result<(), Fault> {
     match install_and_move(rt, git_dir, fetch) {
         Ok(()) => Ok(()),
-        Err(fault) => Err(repository_fault(rt.alloc(), git_dir, &fault)),
+        Err(fault) => Err(repository_fault(rt.alloc(), git_dir.path(), &fault)),
     }
 }
 
 fn install_and_move<R: Files + AllocGlobal>(
     rt: &R,
-    git_dir: &str,
+    git_dir: &GitDir,
     fetch: &Fetch,
 ) -> Result<(), RepositoryFault<Global>> {
     let alloc = rt.alloc();
     if let Some(received) = &fetch.received {
-        install_pack(alloc, rt, git_dir, received)?;
+        install_pack(alloc, rt, git_dir.path(), received)?;
     }
     let updates = updates_of(alloc, &fetch.before, fetch.repo.refs())?;
-    GitDirectory::new(alloc, rt, git_dir).update_refs(updates.as_slice())?;
+    git_dir.refs(alloc, rt).update_refs(updates.as_slice())?;
     Ok(())
 }
 
@@ -186,7 +186,7 @@ fn report<R: Print + AllocGlobal>(rt: &R, fetched: &Fetched<Global>) -> Result<(
 /// Fetches into the repository of a Git directory. Nothing is written yet.
 pub(crate) fn receive<R, E>(
     rt: &R,
-    git_dir: &str,
+    git_dir: &GitDir,
     wanted: Wanted<'_>,
     progress: Option<Progress<'_, E>>,
 ) -> Result<Fetch, Fault>
@@ -207,7 +207,7 @@ where
         Err(fault) => Err(Fault::of(
             rt.alloc(),
             Sentence::Client {
-                path: git_dir,
+                path: git_dir.path(),
                 fault: &fault,
             },
         )),
@@ -266,6 +266,10 @@ where
     S: Read + Write + OpenStream,
     E: Write,
 {
+    let options = PackOptions {
+        ofs_delta: true,
+        progress: progress.is_some(),
+    };
     let (Ok(mut reader), Ok(mut writer)) = (
         BufReader::with_capacity(alloc, BUFFER, Watched::new(peer, progress)),
         BufWriter::with_capacity(alloc, BUFFER, peer),
@@ -277,6 +281,7 @@ where
         specs: wanted.specs,
         limit: PackLimit::new(MAX_PACK).unwrap_or_default(),
         ends: Ends::Plain,
+        options,
     };
     let mut source = FromRead::new(&mut reader);
     let mut sink = ToWrite::new(&mut writer);

@@ -1,11 +1,11 @@
 //! A repository that is opened.
 
+use crate::directory::GitDir;
 use crate::fault::Fault;
 use crate::sentences::Sentence;
 use ganswer::Server;
 use ggraph::Repository;
 use gitobjects::{ObjectReader, StoredFiles};
-use gitrefs::GitDirectory;
 use gitrepository::{
     FormFault, RepositoryFault, StorePacker, Tips, add_leaves, open_repository, open_store,
 };
@@ -38,13 +38,13 @@ pub(crate) fn open_served<'f, 'r, R: Files>(
     alloc: Global,
     rt: &R,
     files: &'f StoredFiles<'r, R>,
-    git_dir: &str,
+    git_dir: &GitDir,
 ) -> Result<Opened<'f, 'r, R>, NotOpened> {
     match open(alloc, rt, files, git_dir) {
-        Ok((repository, reader)) => make_server(alloc, git_dir, repository, reader),
+        Ok((repository, reader)) => make_server(alloc, git_dir.path(), repository, reader),
         Err(fault) => Err(NotOpened {
             form: form_of(&fault),
-            fault: repository_fault(alloc, git_dir, &fault),
+            fault: repository_fault(alloc, git_dir.path(), &fault),
         }),
     }
 }
@@ -78,12 +78,12 @@ pub(crate) fn open_client<'f, 'r, R: Files>(
     alloc: Global,
     rt: &R,
     files: &'f StoredFiles<'r, R>,
-    git_dir: &str,
+    git_dir: &GitDir,
     tips: &Tips<Global>,
 ) -> Result<(Repository<Global>, Reader<'f, 'r, R>), Fault> {
     match open_with_leaves(alloc, rt, files, git_dir, tips) {
         Ok(opened) => Ok(opened),
-        Err(fault) => Err(repository_fault(alloc, git_dir, &fault)),
+        Err(fault) => Err(repository_fault(alloc, git_dir.path(), &fault)),
     }
 }
 
@@ -91,7 +91,7 @@ fn open_with_leaves<'f, 'r, R: Files>(
     alloc: Global,
     rt: &R,
     files: &'f StoredFiles<'r, R>,
-    git_dir: &str,
+    git_dir: &GitDir,
     tips: &Tips<Global>,
 ) -> Result<(Repository<Global>, Reader<'f, 'r, R>), RepositoryFault<Global>> {
     let (mut repository, mut reader) = open(alloc, rt, files, git_dir)?;
@@ -104,10 +104,10 @@ fn open<'f, 'r, R: Files>(
     alloc: Global,
     rt: &R,
     files: &'f StoredFiles<'r, R>,
-    git_dir: &str,
+    git_dir: &GitDir,
 ) -> Result<(Repository<Global>, Reader<'f, 'r, R>), RepositoryFault<Global>> {
-    let mut reader = open_reader(alloc, files, git_dir)?;
-    let directory = GitDirectory::new(alloc, rt, git_dir);
+    let mut reader = open_reader(alloc, files, git_dir.path())?;
+    let directory = git_dir.refs(alloc, rt);
     let repository = open_repository(&directory, &mut reader)?;
     Ok((repository, reader))
 }

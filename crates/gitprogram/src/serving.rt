@@ -195,7 +195,7 @@ where
     R: Files + AllocGlobal,
 {
     match served_directory(rt, exports, path) {
-        Ok(Some(git_dir)) => serve_directory(rt, git_dir.as_str(), source, sink),
+        Ok(Some(git_dir)) => serve_directory(rt, &git_dir, source, sink),
         Ok(None) => {
             let _ = send_not_served(rt, path, sink);
             Conversation::failed(Fault::of(rt.alloc(), Sentence::NotServed))

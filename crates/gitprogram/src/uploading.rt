@@ -1,6 +1,6 @@
 //! A repository that is served from its advertisement on, and `gitrepo upload-pack`.
 
-use crate::directory::git_directory;
+use crate::directory::{GitDir, git_directory};
 use crate::fault::Fault;
 use crate::opening::{Opened, open_served, repository_fault};
 use crate::refusals::{Worded, send_error};
@@ -66,7 +66,7 @@ where
         return Err(Fault::of(rt.alloc(), Sentence::NoVersion2));
     }
     match git_directory(rt, dir) {
-        Ok(git_dir) => serve_directory(rt, git_dir.as_str(), source, sink).outcome,
+        Ok(git_dir) => serve_directory(rt, &git_dir, source, sink).outcome,
         Err(fault) => {
             let _ = send_error(NOT_THERE, sink);
             Err(fault)
@@ -106,7 +106,7 @@ impl Conversation {
 /// Opens a Git directory, and serves it from its advertisement on.
 pub(crate) fn serve_directory<R, S: Source, W: Sink>(
     rt: &R,
-    git_dir: &str,
+    git_dir: &GitDir,
     source: &mut S,
     sink: &mut W,
 ) -> Conversation
@@ -115,7 +115,7 @@ where
 {
     let files = StoredFiles::new(rt);
     match open_served(rt.alloc(), rt, &files, git_dir) {
-        Ok(opened) => serve_opened(rt.alloc(), git_dir, &opened, source, sink),
+        Ok(opened) => serve_opened(rt.alloc(), git_dir.path(), &opened, source, sink),
         Err(cause) => {
             let _ = send_not_opened(rt.alloc(), cause.form, sink);
             Conversation::failed(cause.fault)
