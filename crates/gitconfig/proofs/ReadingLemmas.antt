@@ -36,10 +36,10 @@ one_item section (Sets name value) more = refl
 pub settings_more : (done : List Item) (item : Item) (old_section new_section : List ℕ) (old new : List Setting) → ((more : List Item) → settings_of [] (done ++ more) ≡ old ++ settings_of old_section more) → new ≡ old ++ settings_of old_section (item ∷ []) → new_section ≡ section_after old_section item → (more : List Item) → settings_of [] ((done ++ item ∷ []) ++ more) ≡ new ++ settings_of new_section more
 settings_more done item old_section new_section old new so_far is section more =
     ap (settings_of []) (append_assoc done (item ∷ []) more) ∙ so_far (item ∷ more)
-        ∙ ap (λ l. old ++ l) (one_item old_section item more)
-        ∙ sym (append_assoc old (settings_of old_section (item ∷ [])) (settings_of (section_after old_section item) more))
-        ∙ ap (λ l. l ++ settings_of (section_after old_section item) more) (sym is)
-        ∙ ap (λ s. new ++ settings_of s more) (sym section)
+    ∙ ap (λ l. old ++ l) (one_item old_section item more)
+    ∙ sym (append_assoc old (settings_of old_section (item ∷ [])) (settings_of (section_after old_section item) more))
+    ∙ ap (λ l. l ++ settings_of (section_after old_section item) more) (sym is)
+    ∙ ap (λ s. new ++ settings_of s more) (sym section)
 
 pub settings_end : (done : List Item) (section : List ℕ) (sets : List Setting) → ((more : List Item) → settings_of [] (done ++ more) ≡ sets ++ settings_of section more) → sets ≡ settings_of [] done
 settings_end done section sets so_far = sym (ap (settings_of []) (sym (append-nil done)) ∙ so_far [] ∙ append-nil sets)
@@ -48,9 +48,15 @@ settings_end done section sets so_far = sym (ap (settings_of []) (sym (append-ni
 
 pub variable_read : (text spelt after_name blanks after rest : List ℕ) (value : Option (List ℕ)) → text ≡ spelt ++ after_name → after_name ≡ blanks ++ after → BeginsWithLetter spelt → All (λ b. is_name_byte b ≡ true) spelt → All (λ b. is_blank b ≡ true) blanks → HasValue after value rest → BeginsWithVariable text (str_to_ascii_lowercase spelt) value rest
 variable_read text spelt after_name blanks after rest value one two letter each blank has = record {
-  spelt = spelt; blanks = blanks; after = after;
+  spelt = spelt;
+  blanks = blanks;
+  after = after;
   parts = one ∙ ap (λ l. spelt ++ l) two;
-  letter = letter; each = each; named = refl; blank = blank; has = has;
+  letter = letter;
+  each = each;
+  named = refl;
+  blank = blank;
+  has = has;
 }
 
 pub pushed_setting : {A : Type 0} (old new : List (settings.Setting A)) (one : settings.Setting A) (set : Setting) → new ≡ old ++ one ∷ [] → setting_of one ≡ set → map setting_of new ≡ map setting_of old ++ set ∷ []

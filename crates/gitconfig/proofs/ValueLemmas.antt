@@ -52,8 +52,12 @@ reshaped marks more new is has = subst (λ m. IsValueSoFar m new) (sym is) has
 -- no bytes yet: neither kept ones nor blanks after them
 pub value_start : {A : Type 0} (value : ValueText A) → value.bytes.items ≡ [] → value.kept ≡ 0 → IsValueSoFar [] value
 value_start value none zero = record {
-  before = []; kept = []; after = [];
-  parts = refl; blank_before = All-nil is_marked; blank_after = All-nil is_marked;
+  before = [];
+  kept = [];
+  after = [];
+  parts = refl;
+  blank_before = All-nil is_marked;
+  blank_after = All-nil is_marked;
   first = λ b more is. cc;
   last = λ b more is. absurd (some_last more b is);
   started = λ is. refl;
@@ -78,9 +82,12 @@ push_byte marks b old new bytes count has =
     let all : List (ℕ × Bool) = has.kept ++ has.after ++ one in
     let is : new.bytes.items ≡ bytes_of all = bytes ∙ ap (λ l. l ++ b ∷ []) has.has ∙ sym (map-append (λ (x : ℕ × Bool). x.0) (has.kept ++ has.after) one) in
     record {
-      before = has.before; kept = all; after = [];
+      before = has.before;
+      kept = all;
+      after = [];
       parts = ap (λ l. l ++ one) has.parts ∙ append_assoc has.before (has.kept ++ has.after) one ∙ ap (λ l. has.before ++ l) (sym (append-nil all));
-      blank_before = has.blank_before; blank_after = All-nil is_marked;
+      blank_before = has.blank_before;
+      blank_after = All-nil is_marked;
       first = first_stays has.kept has.after b has.first has.started;
       last = λ x more same. subst (λ y. y.1 ≡ false) (last_once (has.kept ++ has.after) more (b, false) x same) refl;
       started = λ none. refl;
@@ -100,9 +107,12 @@ push_first_blank marks b value none has =
     let no : (has.kept ≡ []) × (has.after ≡ []) = none_kept has.kept has.after (sym none ∙ has.has) in
     let is : marks ≡ has.before = has.parts ∙ ap (λ l. has.before ++ (l ++ has.after)) no.0 ∙ ap (λ l. has.before ++ l) no.1 ∙ append-nil has.before in
     record {
-      before = has.before ++ one; kept = []; after = [];
+      before = has.before ++ one;
+      kept = [];
+      after = [];
       parts = ap (λ l. l ++ one) is ∙ sym (append-nil (has.before ++ one));
-      blank_before = All-push is_marked has.before (b, true) has.blank_before refl; blank_after = All-nil is_marked;
+      blank_before = All-push is_marked has.before (b, true) has.blank_before refl;
+      blank_after = All-nil is_marked;
       first = λ x more same. cc;
       last = λ x more same. absurd (some_last more x same);
       started = λ same. refl;
@@ -114,10 +124,14 @@ push_blank : {A : Type 0} (marks : List (ℕ × Bool)) (b : ℕ) (old new : Valu
 push_blank marks b old new some bytes count has =
     let one : List (ℕ × Bool) = (b, true) ∷ [] in
     record {
-      before = has.before; kept = has.kept; after = has.after ++ one;
+      before = has.before;
+      kept = has.kept;
+      after = has.after ++ one;
       parts = ap (λ l. l ++ one) has.parts ∙ append_assoc has.before (has.kept ++ has.after) one ∙ ap (λ l. has.before ++ l) (append_assoc has.kept has.after one);
-      blank_before = has.blank_before; blank_after = All-push is_marked has.after (b, true) has.blank_after refl;
-      first = has.first; last = has.last;
+      blank_before = has.blank_before;
+      blank_after = All-push is_marked has.after (b, true) has.blank_after refl;
+      first = has.first;
+      last = has.last;
       started = λ none. absurd (some (has.has ∙ ap (λ l. bytes_of (l ++ has.after)) none ∙ ap bytes_of (has.started none)));
       has = bytes ∙ ap (λ l. l ++ b ∷ []) has.has ∙ sym (map-append (λ (x : ℕ × Bool). x.0) (has.kept ++ has.after) one) ∙ ap bytes_of (append_assoc has.kept has.after one);
       count = count ∙ has.count;
@@ -125,9 +139,15 @@ push_blank marks b old new some bytes count has =
 
 push_none : {A : Type 0} (marks : List (ℕ × Bool)) (old new : ValueText A) → new.bytes.items ≡ old.bytes.items → new.kept ≡ old.kept → IsValueSoFar marks old → IsValueSoFar marks new
 push_none marks old new bytes count has = record {
-  before = has.before; kept = has.kept; after = has.after;
-  parts = has.parts; blank_before = has.blank_before; blank_after = has.blank_after;
-  first = has.first; last = has.last; started = has.started;
+  before = has.before;
+  kept = has.kept;
+  after = has.after;
+  parts = has.parts;
+  blank_before = has.blank_before;
+  blank_after = has.blank_after;
+  first = has.first;
+  last = has.last;
+  started = has.started;
   has = bytes ∙ has.has;
   count = count ∙ has.count;
 }
@@ -147,8 +167,13 @@ took (x ∷ kept) after = ap (λ l. x.0 ∷ l) (took kept after)
 
 pub value_end : {A : Type 0} (marks : List (ℕ × Bool)) (value : ValueText A) (text : List ℕ) → IsValueSoFar marks value → text ≡ take value.kept value.bytes.items → IsTrimmed marks text
 value_end marks value text has is = record {
-  before = has.before; kept = has.kept; after = has.after;
-  parts = has.parts; blank_before = has.blank_before; blank_after = has.blank_after;
-  first = has.first; last = has.last;
+  before = has.before;
+  kept = has.kept;
+  after = has.after;
+  parts = has.parts;
+  blank_before = has.blank_before;
+  blank_after = has.blank_after;
+  first = has.first;
+  last = has.last;
   is = is ∙ ap (λ n. take n value.bytes.items) has.count ∙ ap (λ l. take (length has.kept) l) has.has ∙ took has.kept has.after;
 }

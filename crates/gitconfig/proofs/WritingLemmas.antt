@@ -20,7 +20,7 @@ use Rattle.gitconfig.proofs.ValueLemmas.{marked_append}
 holds_both : (a b : List Item) (s t : List ℕ) → HoldsItems a s → HoldsItems b t → HoldsItems (a ++ b) (s ++ t)
 holds_both a b s t one two = λ rest more has.
     subst (λ l. HasItems l (a ++ b ++ more)) (sym (append_assoc s t rest))
-        (subst (λ l. HasItems (s ++ (t ++ rest)) l) (sym (append_assoc a b more)) (one (t ++ rest) (b ++ more) (two rest more has)))
+    (subst (λ l. HasItems (s ++ (t ++ rest)) l) (sym (append_assoc a b more)) (one (t ++ rest) (b ++ more) (two rest more has)))
 
 pub adds_both : (a b : List Item) (x y z : List ℕ) → AddsItems a x y → AddsItems b y z → AddsItems (a ++ b) x z
 adds_both a b x y z one two = record {
@@ -75,7 +75,8 @@ letter_first (b ∷ word) is =
 
 header_of : (word rest : List ℕ) → is_word word ≡ true → BeginsWithHeader (91 ∷ (word ++ 93 ∷ rest)) word rest
 header_of word rest is = record {
-  name = word; after = 93 ∷ rest;
+  name = word;
+  after = 93 ∷ rest;
   parts = refl;
   named = some_word word is;
   each = each_of is_ascii_lowercase is_section_byte is_section word (all_lower word is);
@@ -91,14 +92,16 @@ quoted_of (b ∷ word) rest all =
 
 subheader_of : (word sub rest : List ℕ) → is_word word ≡ true → is_word sub ≡ true → BeginsWithHeader (91 ∷ (word ++ 32 ∷ 34 ∷ (sub ++ 34 ∷ 93 ∷ rest))) (word ++ 46 ∷ sub) rest
 subheader_of word sub rest is subis = record {
-  name = word; after = 32 ∷ 34 ∷ (sub ++ 34 ∷ 93 ∷ rest);
+  name = word;
+  after = 32 ∷ 34 ∷ (sub ++ 34 ∷ 93 ∷ rest);
   parts = refl;
   named = some_word word is;
   each = each_of is_ascii_lowercase is_section_byte is_section word (all_lower word is);
   ends = inr (
     sub,
     record {
-      blanks = 32 ∷ []; quoted = sub ++ 34 ∷ 93 ∷ rest;
+      blanks = 32 ∷ [];
+      quoted = sub ++ 34 ∷ 93 ∷ rest;
       parts = refl;
       some = λ none. cc;
       blank = All-cons (λ b. is_blank b ≡ true) 32 [] refl (All-nil (λ b. is_blank b ≡ true));
@@ -164,7 +167,9 @@ plain_bytes (x ∷ value) = ap (λ l. x ∷ l) (plain_bytes value)
 
 trimmed : (value : List ℕ) → IsTrimmed ((32, true) ∷ plain_marks value) value
 trimmed value = record {
-  before = (32, true) ∷ []; kept = plain_marks value; after = [];
+  before = (32, true) ∷ [];
+  kept = plain_marks value;
+  after = [];
   parts = ap (λ l. (32, true) ∷ l) (sym (append-nil (plain_marks value)));
   blank_before = All-cons is_marked (32, true) [] refl (All-nil is_marked);
   blank_after = All-nil is_marked;
@@ -185,11 +190,15 @@ plain_pieces (b ∷ value) rest each ends =
     (value ++ rest, inl (refl, All-head (λ c. is_special false c ≡ false) b value each), plain_pieces value rest (All-tail (λ c. is_special false c ≡ false) b value each) ends)
 
 pub adds_plain : (value old new : List ℕ) → All (λ b. is_special false b ≡ false) value → new ≡ old ++ value → AddsValue value old new
-adds_plain value old new each is = (value, is, λ rest ends. (
-  Blank 32 ∷ map Byte value,
-  (value ++ rest, (refl, refl, refl), plain_pieces value rest each ends),
-  subst (λ m. IsTrimmed ((32, true) ∷ m) value) (sym (byte_marks value)) (trimmed value),
-))
+adds_plain value old new each is = (
+  value,
+  is,
+  λ rest ends. (
+    Blank 32 ∷ map Byte value,
+    (value ++ rest, (refl, refl, refl), plain_pieces value rest each ends),
+    subst (λ m. IsTrimmed ((32, true) ∷ m) value) (sym (byte_marks value)) (trimmed value),
+  ),
+)
 
 -- a value in quotes
 pub adds_in_quotes : (value old between new : List ℕ) → AddsQuoted value (old ++ 34 ∷ []) between → new ≡ between ++ 34 ∷ [] → AddsValue value old new
@@ -216,16 +225,18 @@ quoted_more done b old between new adds byte = (
   byte.1 ∙ ap (λ l. l ++ byte.0) adds.1 ∙ append_assoc old adds.0 byte.0,
   λ rest more end has.
       subst (λ l. HasPieces true l (map Byte (done ++ b ∷ []) ++ more) end) (sym (append_assoc adds.0 byte.0 rest))
-          (subst (λ p. HasPieces true (adds.0 ++ (byte.0 ++ rest)) p end)
-              (sym (ap (λ l. l ++ more) (map-append Byte done (b ∷ [])) ∙ append_assoc (map Byte done) (Byte b ∷ []) more))
-              (adds.2 (byte.0 ++ rest) (Byte b ∷ more) end (rest, byte.2 rest, has))),
+      (subst (λ p. HasPieces true (adds.0 ++ (byte.0 ++ rest)) p end)
+      (sym (ap (λ l. l ++ more) (map-append Byte done (b ∷ [])) ∙ append_assoc (map Byte done) (Byte b ∷ []) more))
+      (adds.2 (byte.0 ++ rest) (Byte b ∷ more) end (rest, byte.2 rest, has))),
 )
 
 -- ---- variables
 
 variable_of : (name value text rest : List ℕ) → is_word name ≡ true → ((after : List ℕ) → EndsValue after → BeginsWithValue (32 ∷ text ++ after) value after) → BeginsWithVariable (name ++ 32 ∷ 61 ∷ 32 ∷ (text ++ 10 ∷ rest)) name (Some value) (10 ∷ rest)
 variable_of name value text rest is valued = record {
-  spelt = name; blanks = 32 ∷ []; after = 61 ∷ 32 ∷ (text ++ 10 ∷ rest);
+  spelt = name;
+  blanks = 32 ∷ [];
+  after = 61 ∷ 32 ∷ (text ++ 10 ∷ rest);
   parts = refl;
   letter = letter_first name is;
   each = each_of is_ascii_lowercase is_name_byte is_name name (all_lower name is);
@@ -243,11 +254,13 @@ adds_setting name value old between new is adds same =
       holds = λ rest more has. (
         name ++ 32 ∷ 61 ∷ 32 ∷ (t ++ 10 ∷ []) ++ rest,
         inl (9, refl, refl),
-        (10 ∷ rest,
+        (
+          10 ∷ rest,
           subst (λ l. BeginsWithVariable l name (Some value) (10 ∷ rest))
               (ap (λ l. name ++ 32 ∷ 61 ∷ 32 ∷ l) (sym (append_assoc t (10 ∷ []) rest)) ∙ sym (append_assoc name (32 ∷ 61 ∷ 32 ∷ (t ++ 10 ∷ [])) rest))
               (variable_of name value t rest is adds.2),
-          space_item 10 rest more refl has),
+          space_item 10 rest more refl has,
+        ),
       );
     }
 

@@ -7,7 +7,10 @@ ghost use Rattle.gitconfig.specs.Configs.{BeginsWithHeader, BeginsWithLetter, Be
 ghost use Rattle.gitconfig.specs.Values.{BeginsWithValue, is_quoted_after};
 ghost use Rattle.gitconfig.specs.steps.Readings.{HasRead, Pushes};
 
-use crate::bytes::{ends_line, ends_value, is_over, is_space, split_blanks, split_line, split_name, split_section, strip};
+use crate::bytes::{
+    ends_line, ends_value, is_over, is_space, split_blanks, split_line, split_name, split_section,
+    strip,
+};
 use crate::fault::ConfigFault;
 use crate::pieces::{Piece, split_piece};
 use crate::setting::Setting;
@@ -192,7 +195,11 @@ fn split_quoted(text: &[u8]) -> Option<(u8, &[u8])>
         b'"' | b'\n' => None,
         b'\\' => {
             let (byte, rest) = after.split_first()?;
-            if *byte == b'\n' { None } else { Some((*byte, rest)) }
+            if *byte == b'\n' {
+                None
+            } else {
+                Some((*byte, rest))
+            }
         }
         byte => Some((byte, after)),
     }

@@ -5,10 +5,9 @@ use crate::sentences::Sentence;
 use gitrefs::{GitDirectory, parse_common_dir, parse_git_file};
 use gitwords::{Ending, ServedPath};
 use std::alloc::{AllocError, Global};
-use std::fs;
-use std::io;
 use std::io::ErrorKind;
 use std::rt::Files;
+use std::{fs, io};
 
 // The file without which git-daemon(1) serves no repository.
 const EXPORT_OK: &str = "git-daemon-export-ok";

@@ -47,12 +47,7 @@ impl<'r, R: Files, A: Allocator + Copy> GitDirectory<'r, R, A> {
 
     /// The git directory of a linked worktree (git-worktree(1)): HEAD lies in its own directory, and
     /// all refs below `refs/` in the common one. Nothing is opened yet.
-    pub fn linked(
-        alloc: A,
-        files: &'r R,
-        common: &'r str,
-        own: &'r str,
-    ) -> GitDirectory<'r, R, A> {
+    pub fn linked(alloc: A, files: &'r R, common: &'r str, own: &'r str) -> GitDirectory<'r, R, A> {
         GitDirectory {
             files,
             alloc,

@@ -187,7 +187,8 @@ impl FormFault {
             FormFault::PartialClone => {
                 "the repository is a partial clone, which is not supported; clone it without `--filter`"
             }
-            FormFault::Version => "the version of the repository (core.repositoryFormatVersion) is not known",
+            FormFault::Version =>
+                "the version of the repository (core.repositoryFormatVersion) is not known",
             FormFault::Extension => "the repository has an extension that is not known",
             FormFault::Config => "the configuration is malformed",
         }

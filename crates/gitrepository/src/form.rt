@@ -146,7 +146,8 @@ fn sets_version_1<A: Allocator + Copy>(setting: &Setting<A>) -> bool
 fn is_version<A: Allocator + Copy>(setting: &Setting<A>) -> bool
     ensures { result ≡ is_version (setting_of setting.now) }
 {
-    setting.section.as_slice() == b"core".as_slice() && setting.name.as_slice() == b"repositoryformatversion".as_slice()
+    setting.section.as_slice() == b"core".as_slice()
+        && setting.name.as_slice() == b"repositoryformatversion".as_slice()
 }
 
 fn has_value<A: Allocator + Copy>(setting: &Setting<A>, value: &[u8]) -> bool

@@ -7,7 +7,7 @@ invariant-loop-rest g l =
     (done : List Item)
     × ((more : List Item) → HasItems l.rest more → HasItems l.text (done ++ more))
     × ((more : List Item) → settings_of [] (done ++ more)
-        ≡ map setting_of l.reading.settings.items ++ settings_of l.reading.section.items more)
+    ≡ map setting_of l.reading.settings.items ++ settings_of l.reading.section.items more)
 
 abbrev pub decreases-loop-rest : goal.decreases-loop-rest
 decreases-loop-rest g l = length l.rest

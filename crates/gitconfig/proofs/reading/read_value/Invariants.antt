@@ -8,7 +8,7 @@ abbrev pub invariant-loop-piece : goal.invariant-loop-piece
 invariant-loop-piece g l =
     (done : List Piece) × IsValueSoFar (marked done) l.value
     × ((more : List Piece) (after : List ℕ) → HasPieces l.value.is_quoted l.rest more after
-        → HasPieces false l.text (done ++ more) after)
+    → HasPieces false l.text (done ++ more) after)
     × (length l.rest ≤ length l.text)
 
 abbrev pub decreases-loop-piece : goal.decreases-loop-piece

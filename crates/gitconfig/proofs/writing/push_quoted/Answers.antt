@@ -13,4 +13,4 @@ loop-byte-preserved g c =
     let value = c.args.value.now in
     let more : take (i + 1) value ≡ take i value ++ get_or value i 0 ∷ [] = take_more value i 0 c.loop-byte-test.true in
     subst (λ done. AddsQuoted done c.args.text.now.items c.push_byte.new.text.items) (sym more)
-        (quoted_more (take i value) (get_or value i 0) c.args.text.now.items c.loop-byte.text.items c.push_byte.new.text.items c.loop-byte.invariant c.in_ok-push_byte.ensures)
+    (quoted_more (take i value) (get_or value i 0) c.args.text.now.items c.loop-byte.text.items c.push_byte.new.text.items c.loop-byte.invariant c.in_ok-push_byte.ensures)
