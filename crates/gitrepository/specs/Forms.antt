@@ -1,6 +1,7 @@
 -- Which repositories are read, by their configuration (git-config(1), "core.repositoryFormatVersion", "extensions").
 use Rattle.std.specs.Prelude.{◌≡◌, ⊤, ℕ, ◌&&◌, ◌||◌, not, Bool, false, if◌then◌else◌, List, [], ◌∷◌, Option, None, Some}
-use Rattle.std.specs.Prelude.{All, Contains, codes, list_any}
+use Rattle.std.specs.Prelude.{All, Contains, codes}
+use Rattle.std.specs.List.{list_any}
 use Rattle.std.specs.Str.{bytes_eq}
 use Rattle.gitconfig.specs.Configs.{IsConfig, Setting}
 use Rattle.gitrepository.specs.declared.fault.FormFault.{FormFault}

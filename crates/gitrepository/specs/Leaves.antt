@@ -1,6 +1,5 @@
 -- Trees and blobs at which refs of a peer are.
-use Rattle.std.specs.Prelude.{◌≡◌, ℕ, List, ◌++◌, All, Contains}
-use Rattle.std.specs.List.Sorted.{IsStrictlySortedBy}
+use Rattle.std.specs.Prelude.{◌≡◌, ℕ, List, ◌++◌, All, Contains, IsSorted}
 use Rattle.gname.specs.Ids.{Id, id_cmp}
 use Rattle.gobject.specs.declared.node.Entry.{Entry}
 use Rattle.gdag.specs.Graphs.{History}
@@ -8,9 +7,9 @@ use Rattle.gitobject.specs.Naming.{id_of}
 use Rattle.gitobject.specs.declared.types.ObjectType.{ObjectType}
 use Rattle.gitrepository.specs.Entries.{IsLeafType, leaf}
 
--- ids in order, each once
+-- ids in order
 abbrev pub AreInOrder : List Id → Type 0
-AreInOrder ids = IsStrictlySortedBy id_cmp ids
+AreInOrder ids = IsSorted id_cmp ids
 
 -- an entry is the leaf of a tree or a blob, whose id is among these
 pub record IsLeafAt {A : Type 0} (tips : List Id) (entry : Entry A) : Type 0 where

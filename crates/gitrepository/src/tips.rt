@@ -8,7 +8,7 @@ use gname::Oid;
 use std::alloc::{AllocError, Allocator};
 use std::marker::Model;
 
-/// The ids at which the refs of a peer are, in order, each once.
+/// The ids at which the refs of a peer are, in order.
 #[derive(Drop)]
 pub struct Tips<A: Allocator + Copy> {
     ids: Vec<Oid, A>,
@@ -27,13 +27,13 @@ impl<A: Allocator + Copy> Model for Tips<A> {
 }
 
 impl<A: Allocator + Copy> Tips<A> {
-    /// These ids, which may come in any order and more than once. It fails where out of memory.
+    /// These ids, which may come in any order. It fails out of memory.
+    #[tactic(auto, using(crate::proofs::TipLemmas::same_tips))]
     pub fn new(alloc: A, ids: &[Oid]) -> Result<Tips<A>, AllocError>
         ensures { IfOk result (λ tips. (id : Id) → Contains tips id ↔ Contains ids.now id) }
     {
         let mut ids = ids.to_vec(alloc)?;
         ids.sort_unstable();
-        ids.dedup();
         Ok(Tips { ids })
     }
 
