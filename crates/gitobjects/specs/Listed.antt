@@ -16,4 +16,5 @@ IsListedAt time (listed.Twice earlier) = earlier ≡ time
 
 -- one listing more: it is the second if the names have not changed since the last one, and otherwise the first
 abbrev pub ListsAgain : Option FolderTime → Listed → Listed → Type 0
-ListsAgain time old new = (IsListedAt time old × (new ≡ listed.Twice time)) ⊎ (¬ (IsListedAt time old) × (new ≡ listed.Once time))
+ListsAgain time old new =
+    (IsListedAt time old × (new ≡ listed.Twice time)) ⊎ (¬ (IsListedAt time old) × (new ≡ listed.Once time))

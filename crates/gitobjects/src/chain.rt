@@ -137,7 +137,7 @@ impl<F: ObjectFiles, A: Allocator + Copy> ObjectReader<'_, F, A> {
     }
 
     // The chain of deltas that begins here. It ends in a whole object, in one that is kept, or in an
-    // entry that is broken: reading that one tells the cause.
+    // entry that is broken: reading that one finds the cause.
     fn trace(&mut self, pack: usize, start: usize) -> Result<Chain<A>, Cause> {
         let mut deltas = Vec::new(self.store.allocator());
         let mut end = start;

@@ -2,8 +2,8 @@
 //! loose objects, and alternates. This crate knows nothing of refs, graphs or the protocol.
 //!
 //! - An [`ObjectStore`] opens the packs of a directory and finds objects.
-//! - An [`ObjectReader`] reads them, and tells their types. It applies deltas without recursion, and
-//!   keeps some bases in a bounded cache.
+//! - An [`ObjectReader`] reads them, and answers their types. It applies deltas without recursion,
+//!   and keeps some bases in a bounded cache.
 //! - [`ObjectReader::raw_entry`] answers an entry of a pack as it lies, so that a packer can copy
 //!   it.
 //! - [`StoredFiles`] are the files of the system, and [`MemoryFiles`] are files in memory.
@@ -12,7 +12,7 @@
 //!
 //! - [`ObjectReader::read_checked`] answers an object only if its id is the one that was asked for.
 //!   The SHA-1 is computed.
-//! - A private part of a read inflates the stream of an entry to as many bytes as it was told, and
+//! - A private part of a read inflates the stream of an entry to as many bytes as its head has, and
 //!   splits the text of a loose object exactly.
 //! - The window on the packs answers the bytes of a pack, where they are known, whatever blocks it
 //!   holds. The blocks of all packs together are 64 at most, of 1 MiB at most.

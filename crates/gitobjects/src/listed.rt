@@ -30,8 +30,7 @@ impl Listed {
         }
     }
 
-    /// What is known of the folder once it was listed again. Its names had changed at this time
-    /// before.
+    /// The state of the folder once it is listed again, after its names changed at this time.
     pub(crate) fn again(&self, now: Option<FolderTime>) -> Listed
         ensures { ListsAgain now self.now result }
     {

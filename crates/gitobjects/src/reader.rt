@@ -182,8 +182,8 @@ impl<'f, F: ObjectFiles, A: Allocator + Copy> ObjectReader<'f, F, A> {
         }
     }
 
-    // The type of the object with this id, by heads alone; `None` if no head tells it. It fails with
-    // `Memory`, and otherwise no head tells it either.
+    // The type of the object with this id, by heads alone; `None` if no head has it. At any fault
+    // but `Memory` no head has it either.
     fn kind_listed(&mut self, id: &Oid) -> Result<Option<ObjectType>, Cause> {
         for pack in 0..self.store.pack_count() {
             if let Some(start) = self.store.start_in(pack, id) {

@@ -289,7 +289,8 @@ impl<'f, F: ObjectFiles, A: Allocator + Copy> ObjectStore<'f, F, A> {
         }
     }
 
-    /// The type of the loose object with this id, by its beginning; `None` if no folder tells.
+    /// The type of the loose object with this id, by its beginning; `None` if no folder has one with a
+    /// type.
     ///
     /// It fails with `Memory` alone.
     pub(crate) fn kind_of_loose(

@@ -20,8 +20,8 @@ const SIZE_BYTES: u32 = 3;
 // The size of a copy whose number is 0.
 const FULL_COPY: usize = 0x10000;
 
-/// The number of bytes of the body that a delta makes, as the delta has it; `None` if the bytes are no
-/// delta, since they do not begin with two sizes.
+/// The number of bytes of the body that a delta makes, as the delta has it. It is `None` if the bytes
+/// do not begin with two sizes, and so are no delta.
 pub fn made_size(delta: &[u8]) -> Option<usize>
     ensures { MatchOption result
         ((base body : List ℕ) → ¬ (IsDelta base delta.now body))
