@@ -147,3 +147,9 @@ other_id files id formed other k c inside same = other (ap length (sym same) ∙
 pub lists_inside : {A : Type 0} (n most : ℕ) (parents : List ℕ) (found : Option (Vec ℕ A)) → All (λ p. p < n) parents → ListsParents most parents found → IfSome found (λ list. All (λ p. p < n) list.items)
 lists_inside n most parents None all h = tt
 lists_inside n most parents (Some list) all h = subst (All (λ p. p < n)) (sym h.0) all
+
+-- how many commits there are with a file more
+pub length-one_more : (old : List GraphFile) (file : GraphFile) → length (graph_commits (old ++ file ∷ [])) ≡ length (graph_commits old) + length (file_commits file)
+length-one_more old file =
+    ap length (flat_map-append file_commits old (file ∷ []) ∙ ap (λ l. graph_commits old ++ l) (append-nil (file_commits file)))
+    ∙ length-append (graph_commits old) (file_commits file)

@@ -1,19 +1,18 @@
 -- A text is that of one file, and what is found in it is that file's.
-use Rattle.std.proofs.Common.{◌≡◌, ◌≢◌, ℕ, zero, suc, ◌+◌, ◌-◌, ◌*◌, ◌/◌, ◌%◌, ◌<◌, ◌≤◌, ◌^◌, inl, inr, List, [], ◌∷◌, ◌++◌, codes, length, take, drop, get_or, slice_range, All, count_by, refl, sym, ap, subst, ◌∙◌, add-one, length-append, arith}
-use Rattle.std.specs.List.{concat, flat_map}
+use Rattle.std.proofs.Common.{◌≡◌, ◌≢◌, ℕ, zero, suc, ◌+◌, ◌-◌, ◌*◌, ◌<◌, ◌≤◌, ◌^◌, inl, inr, List, [], ◌∷◌, ◌++◌, codes, length, take, drop, get_or, slice_range, All, count_by, refl, sym, ap, subst, ◌∙◌, length-append, arith}
+use Rattle.std.specs.List.{concat}
 use Rattle.std.specs.Int.{w32, to_be_bytes}
-use Rattle.std.specs.Simd.{first_chunks}
 use Rattle.std.proofs.lemmas.List.{append_assoc, append-nil, get_or_append_left, get_or_at, length-take}
 use Rattle.std.proofs.lemmas.Bool.{cases_lt}
 use Rattle.std.proofs.lemmas.List.Elements.{All-append, All-cons, All-nil}
 use Rattle.std.proofs.lemmas.List.Sums.{count_by-le-length}
 use Rattle.std.proofs.lemmas.Nat.{from_be_bytes-to_be_bytes_4}
 use Rattle.gname.specs.Ids.{Id}
-use Rattle.gitcommitgraph.specs.Files.{AreLong, GraphFile, HaveEnds, IsAscending, IsGraphFile, no_parent, number}
-use Rattle.gitcommitgraph.specs.Texts.{AreNamed, Chunk, HasChunk, IsFramed, IsGraphText, MayHaveChunk, begins_within, fan_out, header}
-use Rattle.gitcommitgraph.specs.steps.Rows.{AreRows, IsSpan, IsTable, LacksName, pieces}
+use Rattle.gitcommitgraph.specs.Files.{AreLong, GraphFile, HaveEnds, IsAscending, no_parent, number}
+use Rattle.gitcommitgraph.specs.Texts.{Chunk, HasChunk, IsFramed, IsGraphText, MayHaveChunk, begins_within, fan_out, header}
+use Rattle.gitcommitgraph.specs.steps.Rows.{IsSpan, IsTable, LacksName, pieces}
 use Rattle.gitcommitgraph.specs.steps.Tables.{IsFanOut}
-use Rattle.gitcommitgraph.specs.steps.Layers.{ArePlaces, HaveLengths, IsCut, IsWithin, LacksChunk, MayBeSpan, file_at, part, size, table}
+use Rattle.gitcommitgraph.specs.steps.Layers.{ArePlaces, HaveLengths, IsCut, LacksChunk, MayBeSpan, part, size, table}
 use Rattle.gitcommitgraph.specs.declared.contents.Span.{Span}
 use Rattle.gitcommitgraph.specs.declared.layer.Places.{Places}
 use Rattle.gitcommitgraph.proofs.FrameLemmas.{chunks_are, first_row, has_name, headed, is_table, length-joined, more_rows, one_chunk, one_optional, pieces_back, rows_of, sum_is, text_long}

@@ -1,5 +1,5 @@
 -- A text that has the frame of a file, read back: its table of contents and its chunks.
-use Rattle.std.proofs.Common.{◌≡◌, ◌≢◌, ℕ, zero, suc, ◌+◌, ◌-◌, ◌*◌, ◌/◌, ◌<◌, ◌≤◌, ◌^◌, ◌⊎◌, inl, inr, List, [], ◌∷◌, ◌++◌, length, take, drop, get_or, slice_range, All, AllPairs, refl, sym, ap, subst, ◌∙◌, length-append, arith}
+use Rattle.std.proofs.Common.{◌≡◌, ◌≢◌, ℕ, zero, suc, ◌+◌, ◌-◌, ◌*◌, ◌/◌, ◌<◌, ◌≤◌, ◌^◌, inl, inr, List, [], ◌∷◌, ◌++◌, length, take, drop, get_or, slice_range, All, AllPairs, refl, sym, ap, subst, ◌∙◌, length-append, arith}
 use Rattle.std.specs.List.{concat, flat_map}
 use Rattle.std.specs.Int.{w64, from_be_bytes, to_be_bytes}
 use Rattle.std.specs.Simd.{first_chunks}
@@ -11,9 +11,8 @@ use Rattle.std.proofs.lemmas.Nat.{from_be_bytes-to_be_bytes_8}
 use Rattle.gname.specs.Ids.{Id}
 use Rattle.gitcommitgraph.specs.Files.{AreLong}
 use Rattle.gitcommitgraph.specs.Texts.{AreNamed, Chunk, HasChunk, IsFramed, MayHaveChunk, chunk_bytes, contents, header, no_name}
-use Rattle.gitcommitgraph.specs.steps.Rows.{AreRows, IsRising, IsSpan, IsTable, LacksName, pieces, row_name, row_offset}
-use Rattle.gitcommitgraph.specs.declared.contents.Span.{Span}
-use Rattle.gitcommitgraph.proofs.RowLemmas.{chunk_from, chunks_from, chunks_of, range_take}
+use Rattle.gitcommitgraph.specs.steps.Rows.{AreRows, IsRising, IsTable, pieces, row_name, row_offset}
+use Rattle.gitcommitgraph.proofs.RowLemmas.{chunks_from, chunks_of, range_take}
 
 -- ---- rows of so many bytes
 

@@ -5,6 +5,7 @@ use Rattle.std.specs.Simd.{first_chunks}
 use Rattle.std.proofs.lemmas.List.{drop_at, drop_more, drop_all, take-append-drop, take_at}
 use Rattle.std.proofs.lemmas.List.Elements.{All-cons, All-nil}
 use Rattle.gname.specs.Ids.{Id, IsIdTextOf, ReadsId}
+use Rattle.gname.specs.Hex.{decode_of}
 use Rattle.gname.specs.Laws.{TextsHaveOneReading}
 use Rattle.gname.specs.declared.formats.Format.TheVariants.{Sha1}
 use Rattle.gname.specs.declared.ids.OidFault.{OidFault}
@@ -63,3 +64,24 @@ each_is_line (suc n) (id ∷ ids) text h few =
     All-cons (λ line. (id : Id) × IsLine id line) (take 41 text) (first_chunks 41 n (drop 41 text))
     (id, subst (IsLine id) (sym first) h.2)
     (each_is_line n ids (drop 41 text) (subst (IsChainText ids) (sym rest) h.4) (let left = ap length rest in omega (arith, few, one, long, left)))
+
+-- ---- a text names the files of one chain
+
+one_line : (a b : Id) (line : List ℕ) → IsLine a line → IsLine b line → a ≡ b
+one_line a b line first second =
+    let digits : first.digits ≡ second.digits = sym (take_at first.digits (10 ∷ []) 40 first.spelt.long) ∙ ap (take 40) (sym first.parts ∙ second.parts) ∙ take_at second.digits (10 ∷ []) 40 second.spelt.long in
+    let same = sym first.spelt.spells ∙ ap decode_of digits ∙ second.spelt.spells in
+    cc
+
+pub chains_are_one : (one other : List Id) (text : List ℕ) → IsChainText one text → IsChainText other text → one ≡ other
+chains_are_one [] [] text first second = refl
+chains_are_one [] (b ∷ other) text first second = let n = length-chain (b ∷ other) text second in let m = ap length first in absurd (omega (arith, n, m))
+chains_are_one (a ∷ one) [] text first second = let n = length-chain (a ∷ one) text first in let m = ap length second in absurd (omega (arith, n, m))
+chains_are_one (a ∷ one) (b ∷ other) text first second =
+    let la = line_long a first.0 first.2 in
+    let lb = line_long b second.0 second.2 in
+    let line : first.0 ≡ second.0 = sym (take_at first.0 first.1 41 la) ∙ ap (take 41) (sym first.3 ∙ second.3) ∙ take_at second.0 second.1 41 lb in
+    let rest : second.1 ≡ first.1 = sym (drop_at second.0 second.1 41 lb) ∙ ap (drop 41) (sym second.3 ∙ first.3) ∙ drop_at first.0 first.1 41 la in
+    let head = one_line a b first.0 first.2 (subst (IsLine b) (sym line) second.2) in
+    let tail = chains_are_one one other first.1 first.4 (subst (IsChainText other) rest second.4) in
+    ap (λ x. x ∷ one) head ∙ ap (λ l. b ∷ l) tail

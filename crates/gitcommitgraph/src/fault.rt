@@ -1,6 +1,7 @@
 //! Faults of commit-graph files.
 
 ghost use Rattle.std.specs.Prelude.{◌≡◌, Some};
+ghost use Rattle.gitcommitgraph.specs.Faults.{commit_graph_fault_text};
 ghost use Rattle.gitcommitgraph.specs.declared.fault.CommitGraphFault.TheVariants.{Memory};
 
 use gname::OUT_OF_MEMORY_TEXT;
@@ -34,32 +35,35 @@ pub enum CommitGraphFault {
     Parents,
 }
 
-impl fmt::Display for CommitGraphFault {
-    fn fmt<W: fmt::Write>(&self, f: &mut fmt::Formatter<W>) -> fmt::Result {
+impl CommitGraphFault {
+    // The text of the fault.
+    fn text(&self) -> &'static str
+        ensures { result.now ≡ commit_graph_fault_text self.now }
+    {
         match self {
-            CommitGraphFault::Memory => f.write_str(OUT_OF_MEMORY_TEXT),
-            CommitGraphFault::Header => {
-                f.write_str("the file is no commit-graph of version 1 with SHA-1 ids")
-            }
-            CommitGraphFault::Contents => {
-                f.write_str("the commit-graph's table of contents is wrong")
-            }
+            CommitGraphFault::Memory => OUT_OF_MEMORY_TEXT,
+            CommitGraphFault::Header => "the file is no commit-graph of version 1 with SHA-1 ids",
+            CommitGraphFault::Contents => "the table of contents of the commit-graph is wrong",
             CommitGraphFault::Chunk => {
-                f.write_str("a chunk of the commit-graph is missing or has a wrong length")
+                "a chunk of the commit-graph is missing or has a wrong length"
             }
-            CommitGraphFault::Order => f.write_str("the commit-graph's ids do not ascend"),
-            CommitGraphFault::FanOut => f.write_str("the commit-graph's fan-out table is wrong"),
-            CommitGraphFault::Edges => {
-                f.write_str("an edge list of the commit-graph has no end")
-            }
+            CommitGraphFault::Order => "the ids of the commit-graph do not ascend",
+            CommitGraphFault::FanOut => "the fan-out table of the commit-graph is wrong",
+            CommitGraphFault::Edges => "a list of edges of the commit-graph has no end",
             CommitGraphFault::Bases => {
-                f.write_str("the commit-graph's base graphs are not those before it")
+                "the base graphs of the commit-graph are not the files before"
             }
-            CommitGraphFault::TooMany => f.write_str("the commit-graph has too many commits"),
-            CommitGraphFault::Parents => {
-                f.write_str("a parent in the commit-graph is not in the commit-graph")
-            }
+            CommitGraphFault::TooMany => "the commit-graph has too many commits",
+            CommitGraphFault::Parents => "a parent is not in the commit-graph",
         }
+    }
+}
+
+impl fmt::Display for CommitGraphFault {
+    ghost output = { λ fault. Some (commit_graph_fault_text fault) };
+
+    fn fmt<W: fmt::Write>(&self, f: &mut fmt::Formatter<W>) -> fmt::Result {
+        f.write_str(self.text())
     }
 }
 

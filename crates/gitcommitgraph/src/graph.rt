@@ -1,12 +1,12 @@
 //! Commit-graphs of one file or several.
 
-ghost use Rattle.std.specs.Prelude.{◌≡◌, ◌==◌, ◌<◌, ◌≤◌, ◌⊎◌, [], List, All, IfErr, IfOk, IfSome, MatchOption, OnErr, OnOk, length};
+ghost use Rattle.std.specs.Prelude.{◌≡◌, ◌==◌, ◌<◌, ◌≤◌, [], All, IfErr, IfOk, IfSome, MatchOption, OnErr, OnOk, length};
 ghost use Rattle.std.specs.List.{HoldsAt};
 ghost use Rattle.gname.specs.Ids.{IsIdOf};
 ghost use Rattle.gname.specs.declared.formats.Format.TheVariants.{Sha1};
 ghost use Rattle.gitcommitgraph.specs.Chains.{AddsFile, AreClosed, FindsCommit, ListsParents, graph_commits};
-ghost use Rattle.gitcommitgraph.specs.Files.{GraphFile, no_parent};
-ghost use Rattle.gitcommitgraph.specs.declared.fault.CommitGraphFault.TheVariants.{Memory};
+ghost use Rattle.gitcommitgraph.specs.Faults.{IsRefused};
+ghost use Rattle.gitcommitgraph.specs.Files.{no_parent};
 ghost use Rattle.gitcommitgraph.specs.steps.Chains.{IsIn};
 
 use crate::fault::CommitGraphFault;
@@ -27,6 +27,7 @@ pub struct CommitGraph<A: Allocator + Copy> {
 
 impl<A: Allocator + Copy> Model for CommitGraph<A> {
     ghost use Rattle.std.specs.Prelude.{List};
+    ghost use Rattle.gitcommitgraph.specs.Faults.{IsRefused};
     ghost use Rattle.gitcommitgraph.specs.Files.{GraphFile};
     ghost use Rattle.gitcommitgraph.specs.steps.Chains.{IsGraph};
 
@@ -57,8 +58,7 @@ impl<A: Allocator + Copy> CommitGraph<A> {
     /// it was.
     pub fn add(&mut self, bytes: Vec<u8, A>) -> Result<(), CommitGraphFault>
         ensures ok { OnOk result (AddsFile self.old bytes.items self.new) }
-        ensures err { IfErr result (λ fault. (fault ≡ Memory)
-            ⊎ ((new : List GraphFile) → ¬ AddsFile self.old bytes.items new)) }
+        ensures err { IfErr result (IsRefused self.old bytes.items) }
         ensures same { OnErr result (self.new ≡ self.old) }
     {
         let layer = Layer::read(bytes)?;

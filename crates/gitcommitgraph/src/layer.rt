@@ -1,10 +1,11 @@
 //! A file of a commit-graph.
 
-ghost use Rattle.std.specs.Prelude.{◌≡◌, ◌↔◌, ◌*◌, ◌<◌, IfOk, IsTrue, MatchOption, MatchResult, length, map};
+ghost use Rattle.std.specs.Prelude.{◌≡◌, ◌↔◌, ◌*◌, ◌<◌, List, IfOk, IsTrue, MatchOption, MatchResult, length, map};
 ghost use Rattle.std.specs.List.{HoldsAt};
 ghost use Rattle.gname.specs.Ids.{IsIdOf};
 ghost use Rattle.gname.specs.declared.formats.Format.TheVariants.{Sha1};
 ghost use Rattle.gitcommitgraph.specs.Chains.{FindsCommit, ListsParents, checksum_of};
+ghost use Rattle.gitcommitgraph.specs.Faults.{IsRefused};
 ghost use Rattle.gitcommitgraph.specs.Files.{GraphFile, HasPositionsBefore, IsGraphFile, file_commits};
 ghost use Rattle.gitcommitgraph.specs.Texts.{IsGraphText};
 ghost use Rattle.gitcommitgraph.specs.steps.Layers.{ArePlaces, AreTested, AreWithin, HaveLengths, IsCut, IsWithin, LacksChunk, MayBeSpan, size, table};
@@ -46,6 +47,7 @@ pub(crate) struct Layer<A: Allocator + Copy> {
 }
 
 impl<A: Allocator + Copy> Model for Layer<A> {
+    ghost use Rattle.gitcommitgraph.specs.Faults.{IsRefused};
     ghost use Rattle.gitcommitgraph.specs.Files.{GraphFile};
 
     ghost Value = { GraphFile };
@@ -65,7 +67,7 @@ impl<A: Allocator + Copy> Layer<A> {
     /// a list of edges has no end.
     pub(crate) fn read(bytes: Vec<u8, A>) -> Result<Layer<A>, CommitGraphFault>
         ensures { MatchResult result (λ file. IsGraphText file bytes.items)
-            (λ _. (file : GraphFile) → ¬ IsGraphText file bytes.items) }
+            (λ fault. (old : List GraphFile) → IsRefused old bytes.items fault) }
     {
         let places = read_places(bytes.as_slice())?;
         test_tables(bytes.as_slice(), &places)?;
@@ -163,7 +165,8 @@ impl<A: Allocator + Copy> Layer<A> {
 
 // Where the chunks of a file lie. They have the right lengths.
 fn read_places(bytes: &[u8]) -> Result<Places, CommitGraphFault>
-    ensures { MatchResult result (IsCut bytes.now) (λ _. (file : GraphFile) → ¬ IsGraphText file bytes.now) }
+    ensures { MatchResult result (IsCut bytes.now)
+        (λ fault. (old : List GraphFile) → IsRefused old bytes.now fault) }
 {
     let Some((body, _checksum)) = bytes.split_last_chunk::<ID_BYTES>() else {
         return Err(CommitGraphFault::Header);
@@ -187,7 +190,7 @@ fn read_places(bytes: &[u8]) -> Result<Places, CommitGraphFault>
 fn test_tables(bytes: &[u8], places: &Places) -> Result<(), CommitGraphFault>
     requires { IsCut bytes.now places.now }
     ensures { MatchResult result (λ _. AreTested bytes.now places.now)
-        (λ _. (file : GraphFile) → ¬ IsGraphText file bytes.now) }
+        (λ fault. (old : List GraphFile) → IsRefused old bytes.now fault) }
 {
     let tables = tables_of(bytes, places);
     if !tables.are_ascending() {

@@ -5,6 +5,7 @@ mod chain;
 mod contents;
 mod fault;
 mod graph;
+pub mod laws;
 mod layer;
 mod position;
 mod tables;

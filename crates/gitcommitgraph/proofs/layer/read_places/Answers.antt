@@ -1,6 +1,5 @@
-use Rattle.std.proofs.Common.{◌≡◌, ◌-◌, ◌∙◌, length, sym, subst, take, arith}
+use Rattle.std.proofs.Common.{◌∙◌, sym, subst, arith}
 use Rattle.std.proofs.lemmas.Bool.{false≢true}
-use Rattle.gitcommitgraph.specs.Texts.{header}
 use Rattle.gitcommitgraph.specs.steps.Rows.{IsTable}
 use Rattle.gitcommitgraph.specs.steps.Layers.{HaveLengths}
 use Rattle.gitcommitgraph.proofs.ExactLemmas.{has_chunks, has_header, has_table, have_lengths}
@@ -8,12 +7,12 @@ use Rattle.gitcommitgraph.proofs.TextLemmas.{cut_is}
 use Rattle.gitcommitgraph.proofs.layer.read_places.Goals as goal
 
 pub returns-in_default-read_header : goal.returns-in_default-read_header
-returns-in_default-read_header c file is =
+returns-in_default-read_header c old file is =
     let cut = c.in-Some.ensures.cases in
     has_header file c.args.bytes.now is (λ chunks bases rest same. c.in_default-read_header.ensures chunks bases rest (cut.0 ∙ same))
 
 pub returns-in_default-read_rows : goal.returns-in_default-read_rows
-returns-in_default-read_rows c file is =
+returns-in_default-read_rows c old file is =
     let cut = c.in-Some.ensures.cases in
     let head = c.in-Some-read_header.ensures in
     let header = c.in-Some-read_header.header in
@@ -21,7 +20,7 @@ returns-in_default-read_rows c file is =
     (λ rows table. c.in_default-read_rows.ensures rows (subst (λ b. IsTable header.chunks b rows) (sym cut.0) table))
 
 pub returns-in_default-find_places : goal.returns-in_default-find_places
-returns-in_default-find_places c file is =
+returns-in_default-find_places c old file is =
     let cut = c.in-Some.ensures.cases in
     let head = c.in-Some-read_header.ensures in
     let header = c.in-Some-read_header.header in
@@ -29,7 +28,7 @@ returns-in_default-find_places c file is =
     c.in-Some-read_rows.rows.now (subst (λ b. IsTable header.chunks b c.in-Some-read_rows.rows.now) cut.0 c.in-Some-read_rows.ensures) c.in_default-find_places.ensures
 
 pub returns-then-not-have_lengths : goal.returns-then-not-have_lengths
-returns-then-not-have_lengths c file is =
+returns-then-not-have_lengths c old file is =
     let cut = c.in-Some.ensures.cases in
     let head = c.in-Some-read_header.ensures in
     let header = c.in-Some-read_header.header in

@@ -1,6 +1,6 @@
-use Rattle.std.proofs.Common.{subst, sym}
+use Rattle.std.proofs.Common.{subst}
 use Rattle.std.proofs.lemmas.Result.{err_from_is_err_and}
-use Rattle.gitcommitgraph.specs.Texts.{IsGraphText}
+use Rattle.gitcommitgraph.specs.Faults.{IsRefused}
 use Rattle.gitcommitgraph.specs.steps.Layers.{AreTested, IsCut}
 use Rattle.gitcommitgraph.proofs.TextLemmas.{file_is, text_is}
 use Rattle.gitcommitgraph.proofs.layer.Layer.read.Goals as goal
@@ -22,9 +22,9 @@ returns g c =
 pub returns-in_err-places : goal.returns-in_err-places
 returns-in_err-places g c =
     let p = err_from_is_err_and c.from_residual.result c.from_residual.ensures.1 in
-    rw p.1 (λ file is. c.in_err-places.ensures file (subst (IsGraphText file) (sym c.as_slice.ensures.value) is))
+    rw (p.1, p.2) (λ old. subst (λ b. IsRefused old b c.in_err-places.field-0.0) c.as_slice.ensures.value (c.in_err-places.ensures old))
 
 pub returns-in_err-test_tables : goal.returns-in_err-test_tables
 returns-in_err-test_tables g c =
     let p = err_from_is_err_and c.from_residual-in_err-test_tables.result c.from_residual-in_err-test_tables.ensures.1 in
-    rw p.1 (λ file is. c.in_err-test_tables.ensures file (subst (IsGraphText file) (sym c.as_slice-2.ensures.value) is))
+    rw (p.1, p.2) (λ old. subst (λ b. IsRefused old b c.in_err-test_tables.field-0.0) c.as_slice-2.ensures.value (c.in_err-test_tables.ensures old))
