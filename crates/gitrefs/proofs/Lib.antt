@@ -1,5 +1,5 @@
 pub mod Cutting
-pub mod HeadLemmas
 pub mod LooseLemmas
 pub mod PackedLemmas
 pub mod TextLemmas
+pub mod BranchLemmas

@@ -77,7 +77,7 @@ impl<'r, R: Files, A: Allocator + Copy> GitDirectory<'r, R, A> {
         match self.fill(config, branch) {
             Ok(()) => Ok(()),
             Err(fault) => {
-                let _ = fs::remove_dir_all(&(self.files, &self.alloc), self.path);
+                let _ = self.files.remove_dir_all(self.alloc, self.path);
                 Err(fault)
             }
         }

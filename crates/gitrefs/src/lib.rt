@@ -6,11 +6,12 @@
 //! - [`parse_loose_ref`] and [`parse_packed_refs`] accept exactly the texts of the form in
 //!   `specs/`, and refuse all others. They answer what the text says: an id or the name of another
 //!   ref; the refs of the lines, in their order, with the peeled ids.
-//! - [`parse_git_file`] and [`parse_common_dir`] accept exactly the texts that name a path in `specs/`,
-//!   and answer that path.
+//! - [`parse_common_dir`] accepts exactly the texts that name a path in `specs/`, and answers that path.
+//!   [`parse_git_file`] answers the path only of such a text, but might refuse one.
 //! - [`packed_refs_text`] and [`peeled_refs_text`] write a header and the line of each ref, in the
 //!   order of the names, since `Refs` are in that order. If all ids are SHA-1, the text reads back
 //!   as these refs: [`laws`].
+//! - The text of a HEAD that points at a branch reads back as that branch.
 //! - [`replace_ref`] replaces a ref's file under a lock, over any `Storage` of `glockfile`. In
 //!   every state since then the file has the old text or the whole new one. At `Ok` it has the new
 //!   one. This run holds no lockfile at the end.

@@ -1,6 +1,6 @@
 //! Files that lead to another directory.
 
-ghost use Rattle.std.specs.Prelude.{◌≡◌, List, ℕ, MatchOption};
+ghost use Rattle.std.specs.Prelude.{◌≡◌, List, ℕ, IfSome, MatchOption};
 ghost use Rattle.gitrefs.specs.Links.{IsGitFile, IsPathFile, is_line_end};
 
 use crate::words::strip;
@@ -8,8 +8,7 @@ use crate::words::strip;
 /// The path of the Git directory that a file `.git` names, as in a linked worktree (git-worktree(1)) or a submodule
 /// (gitsubmodules(7)); `None` if the file is of another form. A relative path begins at the directory of the file.
 pub fn parse_git_file(text: &[u8]) -> Option<&[u8]>
-    ensures { MatchOption result ((path : List ℕ) → ¬ (IsGitFile text.now path))
-        (λ path. IsGitFile text.now path.now) }
+    ensures { IfSome result (λ path. IsGitFile text.now path.now) }
 {
     match strip(b"gitdir: ", text) {
         Some(rest) => parse_common_dir(rest),
