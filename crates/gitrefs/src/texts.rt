@@ -19,7 +19,6 @@ pub(crate) fn ref_text<A: Allocator + Copy>(alloc: A, id: &Oid) -> Result<Vec<u8
 }
 
 /// The text of HEAD that points at a branch.
-#[tactic(auto, using(crate::proofs::HeadLemmas::branch_reads))]
 pub(crate) fn branch_text<A: Allocator + Copy>(
     alloc: A,
     branch: &Target<A>,
