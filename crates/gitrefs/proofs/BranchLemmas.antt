@@ -12,7 +12,8 @@ branch_reads name text well_formed is = (
   32 ∷ (name ++ 10 ∷ []),
   is,
   record {
-    before = 32 ∷ []; after = 10 ∷ [];
+    before = 32 ∷ [];
+    after = 10 ∷ [];
     well_formed = well_formed;
     blank_before = All-cons (λ b. is_space b ≡ true) 32 [] refl (All-nil (λ b. is_space b ≡ true));
     blank_after = All-cons (λ b. is_space b ≡ true) 10 [] refl (All-nil (λ b. is_space b ≡ true));

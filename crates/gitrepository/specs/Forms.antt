@@ -1,11 +1,11 @@
 -- Which repositories are read, by their configuration (git-config(1), "core.repositoryFormatVersion", "extensions").
-use Rattle.std.specs.Prelude.{◌≡◌, ⊤, ℕ, ◌&&◌, ◌||◌, not, Bool, false, if◌then◌else◌, List, [], ◌∷◌, Option, None, Some}
-use Rattle.std.specs.Prelude.{All, Contains, codes}
+use Rattle.std.specs.Prelude.{ℕ, ◌&&◌, ◌||◌, not, Bool, false, if◌then◌else◌, List, [], ◌∷◌, Option, None, Some}
+use Rattle.std.specs.Prelude.{codes}
 use Rattle.std.specs.List.{list_any}
 use Rattle.std.specs.Str.{bytes_eq}
-use Rattle.gitconfig.specs.Configs.{IsConfig, Setting}
+use Rattle.gitconfig.specs.Configs.{Setting}
 use Rattle.gitrepository.specs.declared.fault.FormFault.{FormFault}
-use Rattle.gitrepository.specs.declared.fault.FormFault.TheVariants.{Version, ObjectFormat, RefStorage, PartialClone, Extension, Config}
+use Rattle.gitrepository.specs.declared.fault.FormFault.TheVariants.{Version, ObjectFormat, RefStorage, PartialClone, Extension}
 
 -- the setting has this value
 abbrev pub is_value : List ℕ → Option (List ℕ) → Bool
@@ -44,13 +44,3 @@ unfoldable pub form_fault : Bool → Setting → Option FormFault
 form_fault is_version_1 s =
     if is_version s then (if has_value (codes "0") s || has_value (codes "1") s then None else Some Version)
     else (if bytes_eq s.section (codes "extensions") then extension_fault is_version_1 s else None)
-
--- each setting is that of a repository that is read
-abbrev pub AreRead : List Setting → Type 0
-AreRead sets = All (λ s. form_fault (list_any sets_version_1 sets) s ≡ None) sets
-
--- why a repository with this configuration is not read: a setting, if the text has that form
-abbrev pub IsFormFault : List ℕ → FormFault → Type 0
-IsFormFault text Config = ⊤
-IsFormFault text fault = (sets : List Setting) × IsConfig text sets
-    × (s : Setting) × Contains sets s × (form_fault (list_any sets_version_1 sets) s ≡ Some fault)

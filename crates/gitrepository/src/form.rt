@@ -1,8 +1,8 @@
 //! The form of a repository. One that this crate does not read is refused.
 
-ghost use Rattle.std.specs.Prelude.{◌≡◌, List, IfOk, MatchOption};
-ghost use Rattle.gitconfig.specs.Configs.{IsConfig, Setting, setting_of};
-ghost use Rattle.gitrepository.specs.Forms.{AreRead, IsFormFault, extension_fault, form_fault, has_value, is_known, is_version, sets_version_1};
+ghost use Rattle.std.specs.Prelude.{◌≡◌};
+ghost use Rattle.gitconfig.specs.Configs.{setting_of};
+ghost use Rattle.gitrepository.specs.Forms.{extension_fault, form_fault, has_value, is_known, is_version, sets_version_1};
 
 use crate::fault::{FormFault, RepositoryFault};
 use gitconfig::{ConfigFault, Setting, parse_config};
@@ -117,9 +117,6 @@ fn lists_promisor(names: &[u8]) -> bool {
 
 // Why a repository with this configuration is not read; `None` if it is. It fails out of memory.
 fn form_of<A: Allocator + Copy>(alloc: A, text: &[u8]) -> Result<Option<FormFault>, AllocError>
-    ensures { IfOk result (λ fault. MatchOption fault
-        ((sets : List Setting) × IsConfig text.now sets × AreRead sets)
-        (IsFormFault text.now)) }
 {
     match parse_config(alloc, text) {
         Ok(settings) => Ok(fault_of_all(settings.as_slice())),
@@ -143,6 +140,7 @@ fn sets_version_1<A: Allocator + Copy>(setting: &Setting<A>) -> bool
     is_version(setting) && has_value(setting, b"1")
 }
 
+#[tactic(auto, unfolding(crate::specs::Forms::is_version))]
 fn is_version<A: Allocator + Copy>(setting: &Setting<A>) -> bool
     ensures { result ≡ is_version (setting_of setting.now) }
 {
@@ -160,6 +158,7 @@ fn has_value<A: Allocator + Copy>(setting: &Setting<A>, value: &[u8]) -> bool
 }
 
 // Why a repository with this setting is not read; `None` if it is.
+#[tactic(auto, unfolding(crate::specs::Forms::form_fault))]
 fn fault_of<A: Allocator + Copy>(setting: &Setting<A>, is_version_1: bool) -> Option<FormFault>
     ensures { result ≡ form_fault is_version_1 (setting_of setting.now) }
 {
@@ -175,6 +174,7 @@ fn fault_of<A: Allocator + Copy>(setting: &Setting<A>, is_version_1: bool) -> Op
     None
 }
 
+#[tactic(auto, unfolding(crate::specs::Forms::extension_fault))]
 fn extension_fault<A: Allocator + Copy>(
     setting: &Setting<A>,
     is_version_1: bool,
@@ -193,6 +193,7 @@ fn extension_fault<A: Allocator + Copy>(
 }
 
 // Whether an extension changes nothing of what is read or written here.
+#[tactic(auto, unfolding(crate::specs::Forms::is_known))]
 fn is_known(name: &[u8]) -> bool
     ensures { result ≡ is_known name.now }
 {
