@@ -14,7 +14,8 @@
 //!   with `Socket` alone, and then it served fewer.
 //! - [`fetch_on`] holds a fetch by the refspecs, the limit and the end of replies that it is given, from the first line
 //!   of this host and path on, with every promise of `gclient::fetch_over`. Or there is no such first line, or out of
-//!   memory for its buffers, and nothing came. [`ls_on`] holds a listing likewise, of these prefixes. Both refuse a host
+//!   memory for its buffers, and nothing came. [`fetch_git_on`] does the same with a first line that is made, and with
+//!   options for packs. [`ls_on`] holds a listing likewise, of these prefixes. Both refuse a host
 //!   or a path that is not well-formed, and more than 64 prefixes.
 //! - [`cmd_ls_remote`] writes the lines of the reply to such a listing and passes them on; or nothing, save where its
 //!   output fails (`specs/Listing.antt`, `Remote.antt`). It refuses more than 64 prefixes as such, or out of memory, and
@@ -84,7 +85,7 @@ mod stream;
 mod timer;
 
 pub use crate::deadline::{MAX_CONNECT, MAX_FIRST_LINE, MAX_REQUEST, MAX_SILENCE};
-pub use crate::fetching::{fetch_on, ls_on};
+pub use crate::fetching::{fetch_git_on, fetch_on, ls_on};
 pub use crate::message::{MAX_MESSAGE, MessageSink};
 pub use crate::place::Place;
 pub use crate::remote::{

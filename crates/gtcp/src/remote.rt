@@ -21,7 +21,7 @@ use crate::serving::serve_listener;
 use crate::stream::{Peer, connect_to};
 use crate::timer::Silence;
 use ganswer::Server;
-use gclient::{FetchFault, Fetched, Repo, Spec};
+use gclient::{FetchFault, Fetched, PackOptions, Repo, Spec};
 use gcmd::{
     OpenedFile, ProgramFault, conclude_stored, finish, load_server, open_client, open_stored,
     send_report, send_text,
@@ -383,6 +383,7 @@ where
         specs: fetch.specs,
         limit: fetch.limit,
         ends: fetch.ends,
+        options: PackOptions::default(),
     };
     match fetch_from(&peer, repo, &PlainPack, &git_fetch) {
         Ok(fetched) => Ok(fetched),
