@@ -6,7 +6,7 @@ use crate::opening::{Reader, open_client, repository_fault};
 use crate::progress::{Progress, Watched};
 use crate::remote::{Remote, tips_of};
 use crate::sentences::Sentence;
-use gclient::{FetchFault, Fetched, Repo, Spec};
+use gclient::{FetchFault, Fetched, PackOptions, Repo, Spec};
 use gcmd::{Ends, PackLimit, ProgramFault, send_report};
 use gconnect::{GitFetch, fetch_git};
 use ggraph::{Refs, Repository};
@@ -266,6 +266,10 @@ where
     S: Read + Write + OpenStream,
     E: Write,
 {
+    let options = PackOptions {
+        ofs_delta: true,
+        progress: progress.is_some(),
+    };
     let (Ok(mut reader), Ok(mut writer)) = (
         BufReader::with_capacity(alloc, BUFFER, Watched::new(peer, progress)),
         BufWriter::with_capacity(alloc, BUFFER, peer),
@@ -277,6 +281,7 @@ where
         specs: wanted.specs,
         limit: PackLimit::new(MAX_PACK).unwrap_or_default(),
         ends: Ends::Plain,
+        options,
     };
     let mut source = FromRead::new(&mut reader);
     let mut sink = ToWrite::new(&mut writer);

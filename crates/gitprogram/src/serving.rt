@@ -28,6 +28,7 @@ where
     R: Files + Print + AllocGlobal + Clock + Net,
     E: Write,
 {
+    check_base(rt, asked.base)?;
     let listener = match TcpListener::bind(rt, asked.listen) {
         Ok(listener) => listener,
         Err(error) => return Err(Fault::of(
@@ -44,6 +45,20 @@ where
         all: asked.export_all,
     };
     serve_each(rt, exports, &listener, asked.connections, errors)
+}
+
+// Checks that the base directory is there.
+fn check_base<R: Files + AllocGlobal>(rt: &R, base: &str) -> Result<(), Fault> {
+    match rt.metadata(base) {
+        Ok(_) => Ok(()),
+        Err(error) => Err(Fault::of(
+            rt.alloc(),
+            Sentence::Open {
+                path: base,
+                error: &error,
+            },
+        )),
+    }
 }
 
 // Says at which port connections are accepted.
