@@ -1,5 +1,9 @@
 //! `gitrepo clone`: a bare repository with the branches and tags of a server.
 
+ghost use Rattle.std.specs.Prelude.{◌≡◌, IfOk};
+ghost use Rattle.gitprogram.specs.Heads.{IsBranchOf, IsHead, IsListedHead, default_branch};
+ghost use Rattle.gitprogram.specs.declared.cloning.ServerHead.TheVariants.{Branch};
+
 use crate::fault::Fault;
 use crate::fetching::{Fetch, Wanted, progress_of, receive};
 use crate::opening::repository_fault;
@@ -119,35 +123,47 @@ fn push_spec(alloc: Global, specs: &mut Vec<Spec>, text: &[u8]) -> Result<(), Fa
 }
 
 // HEAD as the server lists it.
-fn head_of(alloc: Global, reply: &LsReply<Global>) -> Result<ServerHead, Fault> {
-    if let Some(target) = reply.unborn() {
-        return branch_named(alloc, target.as_bytes());
+fn head_of(alloc: Global, reply: &LsReply<Global>) -> Result<ServerHead, Fault>
+    ensures { IfOk result (IsHead reply.now.unborn reply.now.lines) }
+{
+    match reply.unborn() {
+        Some(target) => branch_of(alloc, target),
+        None => listed_head(alloc, reply),
     }
+}
+
+// HEAD as the first line lists it, if that is the line of HEAD.
+fn listed_head(alloc: Global, reply: &LsReply<Global>) -> Result<ServerHead, Fault>
+    ensures { IfOk result (IsListedHead reply.now.lines) }
+{
     match reply.at(0) {
         Some(line) if line.name.is_head() => match &line.symref {
-            Some(target) => branch_named(alloc, target.as_bytes()),
+            Some(target) => branch_of(alloc, target),
             None => Ok(ServerHead::Detached),
         },
-        _ => branch_named(alloc, DEFAULT_BRANCH),
+        _ => default_branch(alloc),
     }
 }
 
-// A HEAD that points at the branch with this name.
-fn branch_named(alloc: Global, name: &[u8]) -> Result<ServerHead, Fault> {
-    Ok(ServerHead::Branch(target_named(alloc, name)?))
-}
-
-fn target_named(alloc: Global, name: &[u8]) -> Result<Target<Global>, Fault> {
-    let Ok(name) = RefName::new(alloc, name) else {
-        return Err(Fault::Memory);
-    };
-    match Target::new(name) {
-        Some(target) => Ok(target),
-        None => target_named_default(alloc),
+// A HEAD that points at a name; at the default branch if that is HEAD itself.
+fn branch_of(alloc: Global, name: &RefName<Global>) -> Result<ServerHead, Fault>
+    ensures { IfOk result (IsBranchOf name.now) }
+{
+    match Target::new(name.copy_in(alloc)?) {
+        Some(target) => Ok(ServerHead::Branch(target)),
+        None => default_branch(alloc),
     }
 }
 
-fn target_named_default(alloc: Global) -> Result<Target<Global>, Fault> {
+fn default_branch(alloc: Global) -> Result<ServerHead, Fault>
+    ensures { IfOk result (λ head. head ≡ Branch default_branch) }
+{
+    Ok(ServerHead::Branch(default_target(alloc)?))
+}
+
+fn default_target(alloc: Global) -> Result<Target<Global>, Fault>
+    ensures { IfOk result (λ target. target ≡ default_branch) }
+{
     let Ok(name) = RefName::new(alloc, DEFAULT_BRANCH) else {
         return Err(Fault::Memory);
     };
@@ -194,7 +210,7 @@ fn make<'r, R: Files + AllocGlobal>(
     let alloc = rt.alloc();
     let branch = match head {
         ServerHead::Branch(target) => target.copy_in(alloc)?,
-        ServerHead::Detached => target_named_default(alloc)?,
+        ServerHead::Detached => default_target(alloc)?,
     };
     Ok(NewRepository::make(alloc, rt, dir, remote.url.as_str(), &branch))
 }

@@ -1,5 +1,8 @@
 //! A repository that is served from its advertisement on, and `gitrepo upload-pack`.
 
+ghost use Rattle.std.specs.Prelude.{◌≡◌};
+ghost use Rattle.gitprogram.specs.Versions.{is_version_2, names_version_2};
+
 use crate::directory::git_directory;
 use crate::fault::Fault;
 use crate::opening::{Opened, open_served, repository_fault};
@@ -82,8 +85,19 @@ fn has_version_2<R: Env + AllocGlobal>(rt: &R) -> bool {
     }
 }
 
-fn names_version_2(keys: &str) -> bool {
-    keys.split(':').any(|key| key == "version=2")
+// Whether one of the keys, between which colons are, is that of version 2.
+fn names_version_2(keys: &str) -> bool
+    ensures { result ≡ names_version_2 keys.now }
+{
+    keys.as_bytes()
+        .split(|byte| *byte == b':')
+        .any(|key| is_version_2(key))
+}
+
+fn is_version_2(key: &[u8]) -> bool
+    ensures { result ≡ is_version_2 key.now }
+{
+    key == b"version=2".as_slice()
 }
 
 /// A conversation with a client: how many of its requests were answered, and how it came out.
