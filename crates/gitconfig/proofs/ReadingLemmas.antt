@@ -1,6 +1,11 @@
 -- A configuration that is read, part by part.
-use Rattle.std.proofs.Common.{◌≡◌, ℕ, ◌+◌, ◌<◌, ◌≤◌, List, [], ◌∷◌, ◌++◌, length, refl, ap, sym, subst, ◌∙◌, append_assoc, append-nil, arith}
-use Rattle.gitconfig.specs.Configs.{BeginsWithItem, BeginsWithQuoted, HasItems, HasQuoted, Item, Nothing, Begins, Sets, Setting, settings_of}
+use Rattle.std.proofs.Common.{◌≡◌, ℕ, ◌+◌, ◌<◌, ◌≤◌, true, Option, List, [], ◌∷◌, ◌++◌, All, length, map, refl, ap, sym, subst, ◌∙◌, append_assoc, append-nil, arith}
+use Rattle.std.specs.Prelude.{IfOk, Result, Ok, Err}
+use Rattle.std.specs.Str.{str_to_ascii_lowercase}
+use Rattle.gitconfig.specs.Bytes.{is_blank, is_name_byte}
+use Rattle.gitconfig.specs.Configs.{BeginsWithItem, BeginsWithLetter, BeginsWithQuoted, BeginsWithVariable, HasItems, HasQuoted, HasValue, Item, Nothing, Begins, Sets, Setting, setting_of, settings_of}
+use Rattle.gitconfig.specs.declared.setting.Setting as settings
+use Rattle.std.proofs.lemmas.List.{map-append}
 use Rattle.gitconfig.specs.steps.Readings.{section_after}
 
 -- a text of a list of parts that goes on, by one part more
@@ -38,3 +43,21 @@ settings_more done item old_section new_section old new so_far is section more =
 
 pub settings_end : (done : List Item) (section : List ℕ) (sets : List Setting) → ((more : List Item) → settings_of [] (done ++ more) ≡ sets ++ settings_of section more) → sets ≡ settings_of [] done
 settings_end done section sets so_far = sym (ap (settings_of []) (sym (append-nil done)) ∙ so_far [] ∙ append-nil sets)
+
+-- ---- variables
+
+pub variable_read : (text spelt after_name blanks after rest : List ℕ) (value : Option (List ℕ)) → text ≡ spelt ++ after_name → after_name ≡ blanks ++ after → BeginsWithLetter spelt → All (λ b. is_name_byte b ≡ true) spelt → All (λ b. is_blank b ≡ true) blanks → HasValue after value rest → BeginsWithVariable text (str_to_ascii_lowercase spelt) value rest
+variable_read text spelt after_name blanks after rest value one two letter each blank has = record {
+  spelt = spelt; blanks = blanks; after = after;
+  parts = one ∙ ap (λ l. spelt ++ l) two;
+  letter = letter; each = each; named = refl; blank = blank; has = has;
+}
+
+pub pushed_setting : {A : Type 0} (old new : List (settings.Setting A)) (one : settings.Setting A) (set : Setting) → new ≡ old ++ one ∷ [] → setting_of one ≡ set → map setting_of new ≡ map setting_of old ++ set ∷ []
+pushed_setting old new one set is same = ap (map setting_of) is ∙ map-append setting_of old (one ∷ []) ∙ ap (λ s. map setting_of old ++ s ∷ []) same
+
+-- ---- results
+
+pub if_ok : {T E : Type 0} {P Q : T → Type 0} (result : Result T E) → ((x : T) → P x → Q x) → IfOk result P → IfOk result Q
+if_ok (Ok x) leads has = leads x has
+if_ok (Err fault) leads has = has

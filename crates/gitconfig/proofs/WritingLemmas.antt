@@ -1,6 +1,7 @@
 -- A configuration that is written, part by part.
-use Rattle.std.proofs.Common.{◌≡◌, ℕ, ◌<◌, ◌≤◌, ◌==◌, ◌||◌, Bool, true, false, inl, inr, List, [], ◌∷◌, ◌++◌, All, Some, codes, map, list_all, refl, ap, sym, subst, ◌∙◌, append_assoc, append-nil, arith}
-use Rattle.std.specs.Char.{is_ascii_alphabetic, is_ascii_lowercase, is_in_range, to_ascii_lowercase}
+use Rattle.std.proofs.Common.{◌≡◌, ℕ, ◌<◌, ◌≤◌, ◌==◌, ◌||◌, Bool, true, false, inl, inr, List, [], ◌∷◌, ◌++◌, All, Some, codes, map, refl, ap, sym, subst, ◌∙◌, append_assoc, append-nil, arith}
+use Rattle.std.specs.Char.{is_ascii_alphabetic, is_ascii_lowercase, to_ascii_lowercase}
+use Rattle.std.specs.List.{list_all}
 use Rattle.std.specs.Str.{str_to_ascii_lowercase}
 use Rattle.std.proofs.lemmas.Bool.{and_parts, leb-true, or_left, or_right}
 use Rattle.std.proofs.lemmas.List.{map-append}
@@ -22,11 +23,11 @@ holds_both a b s t one two = λ rest more has.
         (subst (λ l. HasItems (s ++ (t ++ rest)) l) (sym (append_assoc a b more)) (one (t ++ rest) (b ++ more) (two rest more has)))
 
 pub adds_both : (a b : List Item) (x y z : List ℕ) → AddsItems a x y → AddsItems b y z → AddsItems (a ++ b) x z
-adds_both a b x y z one two = (
-  one.0 ++ two.0,
-  two.1 ∙ ap (λ l. l ++ two.0) one.1 ∙ append_assoc x one.0 two.0,
-  holds_both a b one.0 two.0 one.2 two.2,
-)
+adds_both a b x y z one two = record {
+  text = one.text ++ two.text;
+  after = two.after ∙ ap (λ l. l ++ two.text) one.after ∙ append_assoc x one.text two.text;
+  holds = holds_both a b one.text two.text one.holds two.holds;
+}
 
 -- ---- words
 
@@ -112,29 +113,29 @@ space_item : (b : ℕ) (rest : List ℕ) (more : List Item) → is_space b ≡ t
 space_item b rest more space has = (rest, inl (b, refl, space), has)
 
 pub adds_section : (word old new : List ℕ) → is_word word ≡ true → new ≡ old ++ 91 ∷ [] ++ word ++ 93 ∷ 10 ∷ [] → AddsItems (Begins word ∷ Nothing ∷ []) old new
-adds_section word old new is same = (
-  91 ∷ [] ++ word ++ 93 ∷ 10 ∷ [],
-  same ∙ append_assoc (old ++ 91 ∷ []) word (93 ∷ 10 ∷ []) ∙ append_assoc old (91 ∷ []) (word ++ 93 ∷ 10 ∷ []),
-  λ rest more has. (
+adds_section word old new is same = record {
+  text = 91 ∷ [] ++ word ++ 93 ∷ 10 ∷ [];
+  after = same ∙ append_assoc (old ++ 91 ∷ []) word (93 ∷ 10 ∷ []) ∙ append_assoc old (91 ∷ []) (word ++ 93 ∷ 10 ∷ []);
+  holds = λ rest more has. (
     10 ∷ rest,
     subst (λ l. BeginsWithHeader (91 ∷ l) word (10 ∷ rest)) (sym (append_assoc word (93 ∷ 10 ∷ []) rest)) (header_of word (10 ∷ rest) is),
     space_item 10 rest more refl has,
-  ),
-)
+  );
+}
 
 pub adds_subsection : (word sub old new : List ℕ) → is_word word ≡ true → is_word sub ≡ true → new ≡ old ++ 91 ∷ [] ++ word ++ 32 ∷ 34 ∷ [] ++ sub ++ 34 ∷ 93 ∷ 10 ∷ [] → AddsItems (Begins (word ++ 46 ∷ sub) ∷ Nothing ∷ []) old new
 adds_subsection word sub old new is subis same =
-    let text : List ℕ = 91 ∷ (word ++ 32 ∷ 34 ∷ (sub ++ 34 ∷ 93 ∷ 10 ∷ [])) in (
-      text,
-      same ∙ simp append_assoc,
-      λ rest more has. (
+    let text : List ℕ = 91 ∷ (word ++ 32 ∷ 34 ∷ (sub ++ 34 ∷ 93 ∷ 10 ∷ [])) in record {
+      text = text;
+      after = same ∙ simp append_assoc;
+      holds = λ rest more has. (
         10 ∷ rest,
         subst (λ l. BeginsWithHeader l (word ++ 46 ∷ sub) (10 ∷ rest))
             (ap (λ l. 91 ∷ l) (ap (λ l. word ++ 32 ∷ 34 ∷ l) (sym (append_assoc sub (34 ∷ 93 ∷ 10 ∷ []) rest)) ∙ sym (append_assoc word (32 ∷ 34 ∷ (sub ++ 34 ∷ 93 ∷ 10 ∷ [])) rest)))
             (subheader_of word sub (10 ∷ rest) is subis),
         space_item 10 rest more refl has,
-      ),
-    )
+      );
+    }
 
 -- ---- values
 
@@ -236,10 +237,10 @@ variable_of name value text rest is valued = record {
 pub adds_setting : (name value old between new : List ℕ) → is_word name ≡ true → AddsValue value (old ++ 9 ∷ [] ++ name ++ 32 ∷ 61 ∷ 32 ∷ []) between → new ≡ between ++ 10 ∷ [] → AddsItems (Nothing ∷ Sets name (Some value) ∷ Nothing ∷ []) old new
 adds_setting name value old between new is adds same =
     let t : List ℕ = adds.0 in
-    let text : List ℕ = 9 ∷ (name ++ 32 ∷ 61 ∷ 32 ∷ (t ++ 10 ∷ [])) in (
-      text,
-      same ∙ ap (λ l. l ++ 10 ∷ []) adds.1 ∙ simp append_assoc,
-      λ rest more has. (
+    let text : List ℕ = 9 ∷ (name ++ 32 ∷ 61 ∷ 32 ∷ (t ++ 10 ∷ [])) in record {
+      text = text;
+      after = same ∙ ap (λ l. l ++ 10 ∷ []) adds.1 ∙ simp append_assoc;
+      holds = λ rest more has. (
         name ++ 32 ∷ 61 ∷ 32 ∷ (t ++ 10 ∷ []) ++ rest,
         inl (9, refl, refl),
         (10 ∷ rest,
@@ -247,14 +248,14 @@ adds_setting name value old between new is adds same =
               (ap (λ l. name ++ 32 ∷ 61 ∷ 32 ∷ l) (sym (append_assoc t (10 ∷ []) rest)) ∙ sym (append_assoc name (32 ∷ 61 ∷ 32 ∷ (t ++ 10 ∷ [])) rest))
               (variable_of name value t rest is adds.2),
           space_item 10 rest more refl has),
-      ),
-    )
+      );
+    }
 
 -- ---- the whole
 
 pub is_config : (items : List Item) (text : List ℕ) → AddsItems items [] text → IsConfig text (settings_of [] items)
 is_config items text adds = record {
   items = items;
-  has = subst (λ l. HasItems l items) (sym adds.1) (subst (λ l. HasItems l items) (append-nil adds.0) (subst (HasItems (adds.0 ++ [])) (append-nil items) (adds.2 [] [] refl)));
+  has = subst (λ l. HasItems l items) (sym adds.after) (subst (λ l. HasItems l items) (append-nil adds.text) (subst (HasItems (adds.text ++ [])) (append-nil items) (adds.holds [] [] refl)));
   is = refl;
 }

@@ -1,6 +1,6 @@
 //! The bytes of a configuration, by what they mean.
 
-ghost use Rattle.std.specs.Prelude.{◌≡◌, ◌≢◌, ◌++◌, ◌∷◌, ◌↔◌, All, IfSome, IsTrue, true};
+ghost use Rattle.std.specs.Prelude.{◌≡◌, ◌≢◌, ◌++◌, ◌∷◌, ◌↔◌, [], All, IfSome, IsTrue, true};
 ghost use Rattle.gitconfig.specs.Bytes.{EndsLine, EndsValue, is_blank, is_name_byte, is_section_byte, is_space};
 
 /// Whether a byte is a space, a tab or a CR.
@@ -31,6 +31,13 @@ fn is_section_byte(byte: u8) -> bool
     ensures { result ≡ is_section_byte byte }
 {
     is_name_byte(byte) || byte == b'.'
+}
+
+/// Whether no byte is left.
+pub(crate) fn is_over(text: &[u8]) -> bool
+    ensures { IsTrue result ↔ (text.now ≡ []) }
+{
+    text.is_empty()
 }
 
 /// The rest of a text that begins with this byte; `None` of any other text.

@@ -1,13 +1,13 @@
 //! Reading a configuration.
 
-ghost use Rattle.std.specs.Prelude.{◌≡◌, ◌++◌, ◌∷◌, ◌<◌, ◌≤◌, [], List, ℕ, Option, IfOk, OnOk, IfSome, length, map};
+ghost use Rattle.std.specs.Prelude.{◌≡◌, ◌++◌, ◌∷◌, ◌↔◌, ◌<◌, ◌≤◌, [], List, ℕ, Option, IfOk, OnOk, IfSome, IsTrue, length, map};
 ghost use Rattle.std.specs.Option.{option_map};
 ghost use Rattle.std.specs.Str.{str_to_ascii_lowercase};
 ghost use Rattle.gitconfig.specs.Configs.{BeginsWithHeader, BeginsWithLetter, BeginsWithItem, BeginsWithQuoted, BeginsWithVariable, EndsHeader, HasQuoted, HasValue, IsConfig, Item, setting_of};
 ghost use Rattle.gitconfig.specs.Values.{BeginsWithValue, is_quoted_after};
 ghost use Rattle.gitconfig.specs.steps.Readings.{HasRead, Pushes};
 
-use crate::bytes::{ends_line, ends_value, is_space, split_blanks, split_line, split_name, split_section, strip};
+use crate::bytes::{ends_line, ends_value, is_over, is_space, split_blanks, split_line, split_name, split_section, strip};
 use crate::fault::ConfigFault;
 use crate::pieces::{Piece, split_piece};
 use crate::setting::Setting;
@@ -35,7 +35,7 @@ pub fn parse_config<A: Allocator + Copy>(
         section: Vec::new(alloc),
     };
     let mut rest = text;
-    while !rest.is_empty() {
+    while !is_over(rest) {
         rest = reading.read_item(rest)?;
     }
     Ok(reading.settings)
@@ -52,25 +52,27 @@ impl<A: Allocator + Copy> Reading<A> {
             return Err(ConfigFault::Malformed);
         };
         match *first {
-            b'[' => self.read_header(after),
+            b'[' => self.read_header(text),
             b'#' | b';' => {
                 let (_words, rest) = split_line(after);
                 Ok(rest)
             }
             byte if is_space(byte) => Ok(after),
-            byte if byte.is_ascii_alphabetic() => self.read_setting(text),
-            _ => Err(ConfigFault::Malformed),
+            _ => self.read_setting(text),
         }
     }
 
-    // Reads the header of a section after its bracket, and answers the text after it.
+    // Reads the header of a section, and answers the text after it.
     fn read_header<'t>(&mut self, text: &'t [u8]) -> Result<&'t [u8], ConfigFault>
         ensures item { IfOk result (λ rest. (section : List ℕ)
-            × BeginsWithHeader (91 ∷ text.now) section rest.now
+            × BeginsWithHeader text.now section rest.now
             × HasRead self.old (Item.Begins section) self.new) }
         ensures shorter { IfOk result (λ rest. length rest.now < length text.now) }
     {
-        let (name, after) = split_section(text);
+        let Some(inner) = strip(b'[', text) else {
+            return Err(ConfigFault::Malformed);
+        };
+        let (name, after) = split_section(inner);
         if name.is_empty() {
             return Err(ConfigFault::Malformed);
         }
@@ -80,25 +82,54 @@ impl<A: Allocator + Copy> Reading<A> {
         Ok(rest)
     }
 
-    // Reads a variable, whose name begins the text, and answers the text after it.
+    // Reads a variable, and answers the text after it.
     fn read_setting<'t>(&mut self, text: &'t [u8]) -> Result<&'t [u8], ConfigFault>
-        requires { BeginsWithLetter text.now }
         ensures item { IfOk result (λ rest. (name : List ℕ) × (value : Option (List ℕ))
             × BeginsWithVariable text.now name value rest.now
             × HasRead self.old (Item.Sets name value) self.new) }
         ensures shorter { IfOk result (λ rest. length rest.now < length text.now) }
     {
         let (name, after_name) = split_name(text);
+        if !begins_with_letter(name) {
+            return Err(ConfigFault::Malformed);
+        }
         let (_blanks, after_blanks) = split_blanks(after_name);
         let (value, rest) = read_assigned(self.alloc, after_blanks)?;
-        let section = self.section.as_slice().to_vec(self.alloc)?;
-        let name = name.to_ascii_lowercase(self.alloc)?;
-        self.settings.push(Setting {
-            section,
-            name,
-            value,
-        })?;
+        let setting = setting_in(self.alloc, self.section.as_slice(), name, value)?;
+        self.settings.push(setting)?;
         Ok(rest)
+    }
+}
+
+// A variable of a section.
+fn setting_in<A: Allocator + Copy>(
+    alloc: A,
+    section: &[u8],
+    name: &[u8],
+    value: Option<Vec<u8, A>>,
+) -> Result<Setting<A>, AllocError>
+    ensures { IfOk result (λ setting. setting_of setting ≡ record {
+      section = section.now;
+      name = str_to_ascii_lowercase name.now;
+      value = option_map (λ value. value.items) value;
+    }) }
+{
+    let section = section.to_vec(alloc)?;
+    let name = name.to_ascii_lowercase(alloc)?;
+    Ok(Setting {
+        section,
+        name,
+        value,
+    })
+}
+
+// Whether a text begins with a letter.
+fn begins_with_letter(text: &[u8]) -> bool
+    ensures { IsTrue result ↔ BeginsWithLetter text.now }
+{
+    match text.first() {
+        Some(first) => first.is_ascii_alphabetic(),
+        None => false,
     }
 }
 

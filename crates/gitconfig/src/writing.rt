@@ -24,6 +24,7 @@ pub fn bare_config<A: Allocator + Copy>(alloc: A, origin: &[u8]) -> Result<Vec<u
 }
 
 // Adds the header of a section.
+#[tactic(auto, using(crate::proofs::WritingLemmas::adds_section))]
 fn push_section<A: Allocator + Copy>(
     text: &mut Vec<u8, A>,
     section: &[u8],
@@ -39,6 +40,7 @@ fn push_section<A: Allocator + Copy>(
 }
 
 // Adds the header of a subsection.
+#[tactic(auto, using(crate::proofs::WritingLemmas::adds_subsection))]
 fn push_subsection<A: Allocator + Copy>(
     text: &mut Vec<u8, A>,
     section: &[u8],
@@ -59,6 +61,7 @@ fn push_subsection<A: Allocator + Copy>(
 }
 
 // Adds a variable.
+#[tactic(auto, using(crate::proofs::WritingLemmas::adds_setting))]
 fn push_setting<A: Allocator + Copy>(
     text: &mut Vec<u8, A>,
     name: &[u8],
@@ -81,7 +84,8 @@ fn push_value<A: Allocator + Copy>(text: &mut Vec<u8, A>, value: &[u8]) -> Resul
     ensures { OnOk result (AddsValue value.now text.old.items text.new.items) }
 {
     if is_plain(value) {
-        return text.extend_from_slice(value);
+        text.extend_from_slice(value)?;
+        return Ok(());
     }
     text.push(b'"')?;
     push_quoted(text, value)?;

@@ -2,10 +2,10 @@
 
 use crate::fault::{Cause, RefFault};
 use crate::git_file::{GitFile, sync_directory};
-use crate::locked::{LockedFile, ref_text};
+use crate::locked::LockedFile;
 use crate::packed_text::{packed_refs_text, peeled_refs_text};
 use crate::path::FilePath;
-use crate::texts::branch_text;
+use crate::texts::{branch_text, ref_text};
 use crate::update::first_conflict;
 use gname::RefName;
 use grefs::{Head, Refs, Target};
@@ -50,7 +50,7 @@ impl<'r, R: Files, A: Allocator + Copy> GitDirectory<'r, R, A> {
         match self.fill(config, branch) {
             Ok(()) => Ok(()),
             Err(fault) => {
-                let _ = fs::remove_dir_all(self.files, self.path);
+                let _ = self.files.remove_dir_all(self.alloc, self.path);
                 Err(fault)
             }
         }

@@ -9,6 +9,7 @@
 //! - [`packed_refs_text`] and [`peeled_refs_text`] write a header and the line of each ref, in the
 //!   order of the names, since `Refs` are in that order. If all ids are SHA-1, the text reads back
 //!   as these refs: [`laws`].
+//! - The text of a HEAD that points at a branch reads back as that branch.
 //! - [`replace_ref`] replaces a ref's file under a lock, over any `Storage` of `glockfile`. In
 //!   every state since then the file has the old text or the whole new one. At `Ok` it has the new
 //!   one. This run holds no lockfile at the end.

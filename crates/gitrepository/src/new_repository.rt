@@ -11,7 +11,6 @@ use gitconfig::bare_config;
 use gitrefs::GitDirectory;
 use gname::{Oid, RefName};
 use std::alloc::Allocator;
-use std::fs;
 use std::fs::Files;
 
 /// A new bare repository (git-clone(1), `--bare`). If it is dropped before it is finished, its
@@ -26,13 +25,13 @@ pub struct NewRepository<'r, R: Files, A: Allocator + Copy> {
 impl<R: Files, A: Allocator + Copy> Drop for NewRepository<'_, R, A> {
     fn drop(self) {
         let NewRepository {
-            alloc: _,
+            alloc,
             files,
             path,
             is_finished,
         } = self;
         if !is_finished {
-            let _ = fs::remove_dir_all(files, path);
+            let _ = files.remove_dir_all(alloc, path);
         }
     }
 }

@@ -1,5 +1,6 @@
 -- A configuration that is written, part by part.
-use Rattle.std.specs.Prelude.{◌≡◌, ℕ, ◌&&◌, Bool, true, false, List, [], ◌∷◌, ◌++◌, map, list_all}
+use Rattle.std.specs.Prelude.{◌≡◌, ℕ, ◌&&◌, Bool, true, false, List, [], ◌∷◌, ◌++◌, map}
+use Rattle.std.specs.List.{list_all}
 use Rattle.std.specs.Char.{is_ascii_lowercase}
 use Rattle.gitconfig.specs.Bytes.{EndsValue}
 use Rattle.gitconfig.specs.Configs.{HasItems, Item}
@@ -16,8 +17,11 @@ is_word (b ∷ word) = is_ascii_lowercase b && list_all is_ascii_lowercase word
 abbrev pub HoldsItems : List Item → List ℕ → Type 0
 HoldsItems items text = (rest : List ℕ) (more : List Item) → HasItems rest more → HasItems (text ++ rest) (items ++ more)
 
-abbrev pub AddsItems : List Item → List ℕ → List ℕ → Type 0
-AddsItems items old new = (text : List ℕ) × (new ≡ old ++ text) × HoldsItems items text
+-- such a text was added
+pub record AddsItems (items : List Item) (old new : List ℕ) : Type 0 where
+  pub text : List ℕ
+  pub after : new ≡ old ++ text
+  pub holds : HoldsItems items text
 
 -- a text is a value, where one ends after it
 abbrev pub AddsValue : List ℕ → List ℕ → List ℕ → Type 0
