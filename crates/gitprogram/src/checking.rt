@@ -1,6 +1,6 @@
 //! `gitrepo check`: whether all that the refs reach is there.
 
-use crate::directory::{GitDir, git_directory};
+use crate::directory::{Directories, find_repository};
 use crate::fault::Fault;
 use crate::opening::{open_reader, repository_fault};
 use crate::output::print;
@@ -16,27 +16,27 @@ pub(crate) fn check<R>(rt: &R, dir: &str) -> Result<(), Fault>
 where
     R: Files + Print + AllocGlobal,
 {
-    let git_dir = git_directory(rt, dir)?;
-    let checked = check_directory(rt, &git_dir)?;
+    let found = find_repository(rt, dir)?;
+    let checked = check_found(rt, &found)?;
     let line = counts_line(rt.alloc(), checked)?;
     print(rt, line.as_bytes())
 }
 
-fn check_directory<R: Files + AllocGlobal>(rt: &R, git_dir: &GitDir) -> Result<Checked, Fault> {
+fn check_found<R: Files + AllocGlobal>(rt: &R, found: &Directories) -> Result<Checked, Fault> {
     let alloc = rt.alloc();
+    let path = found.common.as_str();
     let files = StoredFiles::new(rt);
-    let mut reader = match open_reader(alloc, &files, git_dir.path()) {
+    let mut reader = match open_reader(alloc, &files, path) {
         Ok(reader) => reader,
-        Err(fault) => return Err(repository_fault(alloc, git_dir.path(), &fault)),
+        Err(fault) => return Err(repository_fault(alloc, path, &fault)),
     };
-    let directory = git_dir.refs(alloc, rt);
-    match check_repository(&directory, &mut reader) {
+    match check_repository(&found.refs(alloc, rt), &mut reader) {
         Ok(checked) => Ok(checked),
-        Err(CheckFault::Repository(fault)) => Err(repository_fault(alloc, git_dir.path(), &fault)),
+        Err(CheckFault::Repository(fault)) => Err(repository_fault(alloc, path, &fault)),
         Err(CheckFault::Ref { name, fault }) => Err(Fault::of(
             alloc,
             Sentence::BrokenRef {
-                path: git_dir.path(),
+                path,
                 name: name.as_bytes(),
                 fault: &fault,
             },

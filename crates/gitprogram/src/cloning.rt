@@ -1,6 +1,10 @@
 //! `gitrepo clone`: a bare repository with the branches and tags of a server.
 
-use crate::directory::GitDir;
+ghost use Rattle.std.specs.Prelude.{◌≡◌, IfOk};
+ghost use Rattle.gitprogram.specs.Heads.{IsBranchOf, IsHead, IsListedHead, default_branch};
+ghost use Rattle.gitprogram.specs.declared.cloning.ServerHead.TheVariants.{Branch};
+
+use crate::directory::{Directories, open_fault};
 use crate::fault::Fault;
 use crate::fetching::{Fetch, Wanted, progress_of, receive};
 use crate::opening::repository_fault;
@@ -48,20 +52,25 @@ where
     R: Files + AllocGlobal + Net,
     E: Write + IsTerminal,
 {
-    let alloc = rt.alloc();
     let was_there = is_empty_directory(rt, asked.dir)?;
-    let remote = Remote::new(alloc, &asked.url)?;
-    let prefixes = prefixes(alloc)?;
-    let listed = remote.list(rt, alloc, prefixes.as_slice())?;
+    let remote = Remote::new(rt.alloc(), &asked.url)?;
+    let listed = list(rt, &remote)?;
     if was_there {
         let _ = fs::remove_dir(rt, asked.dir);
     }
-    let progress = progress_of(alloc, asked.verbosity, errors);
-    let outcome = clone_listed(rt, asked.dir, &remote, &listed, progress);
+    let mut progress = progress_of(rt.alloc(), asked.verbosity, errors);
+    let outcome = clone_listed(rt, asked.dir, &remote, &listed, &mut progress);
+    progress.finish();
     if was_there && outcome.is_err() {
         let _ = fs::create_dir(rt, asked.dir);
     }
     outcome
+}
+
+// HEAD, the branches and the tags of the server.
+fn list<R: AllocGlobal + Net>(rt: &R, remote: &Remote) -> Result<LsReply<Global>, Fault> {
+    let prefixes = prefixes(rt.alloc())?;
+    remote.list(rt, rt.alloc(), prefixes.as_slice())
 }
 
 // Whether there is an empty directory with this path. It fails if something else is there.
@@ -76,13 +85,7 @@ fn is_empty_directory<R: Files + AllocGlobal>(rt: &R, dir: &str) -> Result<bool,
         Err(error) if error.kind() == ErrorKind::NotADirectory => {
             Err(Fault::of(alloc, Sentence::Occupied { path: dir }))
         }
-        Err(error) => Err(Fault::of(
-            alloc,
-            Sentence::Open {
-                path: dir,
-                error: &error,
-            },
-        )),
+        Err(error) => Err(open_fault(alloc, dir, &error)),
     }
 }
 
@@ -120,35 +123,47 @@ fn push_spec(alloc: Global, specs: &mut Vec<Spec>, text: &[u8]) -> Result<(), Fa
 }
 
 // HEAD as the server lists it.
-fn head_of(alloc: Global, reply: &LsReply<Global>) -> Result<ServerHead, Fault> {
-    if let Some(target) = reply.unborn() {
-        return branch_named(alloc, target.as_bytes());
+fn head_of(alloc: Global, reply: &LsReply<Global>) -> Result<ServerHead, Fault>
+    ensures { IfOk result (IsHead reply.now.unborn reply.now.lines) }
+{
+    match reply.unborn() {
+        Some(target) => branch_of(alloc, target),
+        None => listed_head(alloc, reply),
     }
+}
+
+// HEAD as the first line lists it, if that is the line of HEAD.
+fn listed_head(alloc: Global, reply: &LsReply<Global>) -> Result<ServerHead, Fault>
+    ensures { IfOk result (IsListedHead reply.now.lines) }
+{
     match reply.at(0) {
         Some(line) if line.name.is_head() => match &line.symref {
-            Some(target) => branch_named(alloc, target.as_bytes()),
+            Some(target) => branch_of(alloc, target),
             None => Ok(ServerHead::Detached),
         },
-        _ => branch_named(alloc, DEFAULT_BRANCH),
+        _ => default_branch(alloc),
     }
 }
 
-// A HEAD that points at the branch with this name.
-fn branch_named(alloc: Global, name: &[u8]) -> Result<ServerHead, Fault> {
-    Ok(ServerHead::Branch(target_named(alloc, name)?))
-}
-
-fn target_named(alloc: Global, name: &[u8]) -> Result<Target<Global>, Fault> {
-    let Ok(name) = RefName::new(alloc, name) else {
-        return Err(Fault::Memory);
-    };
-    match Target::new(name) {
-        Some(target) => Ok(target),
-        None => target_named_default(alloc),
+// A HEAD that points at a name; at the default branch if that is HEAD itself.
+fn branch_of(alloc: Global, name: &RefName<Global>) -> Result<ServerHead, Fault>
+    ensures { IfOk result (IsBranchOf name.now) }
+{
+    match Target::new(name.copy_in(alloc)?) {
+        Some(target) => Ok(ServerHead::Branch(target)),
+        None => default_branch(alloc),
     }
 }
 
-fn target_named_default(alloc: Global) -> Result<Target<Global>, Fault> {
+fn default_branch(alloc: Global) -> Result<ServerHead, Fault>
+    ensures { IfOk result (λ head. head ≡ Branch default_branch) }
+{
+    Ok(ServerHead::Branch(default_target(alloc)?))
+}
+
+fn default_target(alloc: Global) -> Result<Target<Global>, Fault>
+    ensures { IfOk result (λ target. target ≡ default_branch) }
+{
     let Ok(name) = RefName::new(alloc, DEFAULT_BRANCH) else {
         return Err(Fault::Memory);
     };
@@ -164,7 +179,7 @@ fn clone_listed<R, E>(
     dir: &str,
     remote: &Remote,
     listed: &LsReply<Global>,
-    progress: Option<Progress<'_, E>>,
+    progress: &mut Progress<'_, E>,
 ) -> Result<(), Fault>
 where
     R: Files + AllocGlobal + Net,
@@ -174,13 +189,14 @@ where
     let head = head_of(alloc, listed)?;
     let tips = tips_of(alloc, listed)?;
     let specs = specs(alloc, &head)?;
+    let found = Directories::of_one(alloc, dir)?;
     let wanted = Wanted {
         remote,
         specs: specs.as_slice(),
         tips: &tips,
     };
     match make(rt, dir, remote, &head)? {
-        Ok(new) => fill(rt, dir, new, wanted, progress),
+        Ok(new) => fill(rt, &found, new, wanted, progress),
         Err(fault) => Err(repository_fault(alloc, dir, &fault)),
     }
 }
@@ -195,7 +211,7 @@ fn make<'r, R: Files + AllocGlobal>(
     let alloc = rt.alloc();
     let branch = match head {
         ServerHead::Branch(target) => target.copy_in(alloc)?,
-        ServerHead::Detached => target_named_default(alloc)?,
+        ServerHead::Detached => default_target(alloc)?,
     };
     Ok(NewRepository::make(alloc, rt, dir, remote.url.as_str(), &branch))
 }
@@ -203,18 +219,17 @@ fn make<'r, R: Files + AllocGlobal>(
 // Fetches into the new repository, and keeps it.
 fn fill<R, E>(
     rt: &R,
-    dir: &str,
+    found: &Directories,
     new: NewRepository<'_, R, Global>,
     wanted: Wanted<'_>,
-    progress: Option<Progress<'_, E>>,
+    progress: &mut Progress<'_, E>,
 ) -> Result<(), Fault>
 where
     R: Files + AllocGlobal + Net,
     E: Write,
 {
-    let git_dir = GitDir::whole(rt.alloc(), dir)?;
-    match receive(rt, &git_dir, wanted, progress) {
-        Ok(fetch) => keep(rt.alloc(), dir, new, &fetch),
+    match receive(rt, found, wanted, progress) {
+        Ok(fetch) => keep(rt.alloc(), found, new, &fetch),
         Err(fault) => Err(fault),
     }
 }
@@ -222,14 +237,15 @@ where
 // Brings the pack and the refs to the new repository.
 fn keep<R: Files>(
     alloc: Global,
-    dir: &str,
+    found: &Directories,
     new: NewRepository<'_, R, Global>,
     fetch: &Fetch,
 ) -> Result<(), Fault> {
-    let (refs, head) = kept_refs(alloc, fetch.repo.refs())?;
-    match new.finish(fetch.received.as_ref(), fetch.repo.graph(), &refs, &head) {
+    let repo = &fetch.client.repo;
+    let (refs, head) = kept_refs(alloc, repo.refs())?;
+    match new.finish(fetch.received.as_ref(), repo.graph(), &refs, &head) {
         Ok(()) => Ok(()),
-        Err(fault) => Err(repository_fault(alloc, dir, &fault)),
+        Err(fault) => Err(repository_fault(alloc, found.own.as_str(), &fault)),
     }
 }
 

@@ -1,8 +1,8 @@
 //! `gitrepo fetch`, and what it shares with a clone.
 
-use crate::directory::{GitDir, git_directory};
+use crate::directory::{Directories, find_repository};
 use crate::fault::Fault;
-use crate::opening::{Reader, open_client, repository_fault};
+use crate::opening::{open_client, repository_fault};
 use crate::progress::{Progress, Watched};
 use crate::remote::{Remote, tips_of};
 use crate::sentences::Sentence;
@@ -38,13 +38,20 @@ pub(crate) struct Wanted<'a> {
     pub(crate) tips: &'a Tips<Global>,
 }
 
+/// A repository of a client, and the refs that it had.
+#[derive(Drop)]
+pub(crate) struct Client {
+    /// The refs before the fetch.
+    pub(crate) before: Refs<Global>,
+    /// The repository.
+    pub(crate) repo: Repo<Global>,
+}
+
 /// A fetch whose pack is not installed yet, and whose refs have not moved.
 #[derive(Drop)]
 pub(crate) struct Fetch {
-    /// The refs before.
-    pub(crate) before: Refs<Global>,
-    /// The repository after.
-    pub(crate) repo: Repo<Global>,
+    /// The repository.
+    pub(crate) client: Client,
     /// The report.
     pub(crate) fetched: Fetched<Global>,
     /// The pack that came.
@@ -57,37 +64,60 @@ where
     R: Files + Print + AllocGlobal + Net,
     E: Write + IsTerminal,
 {
-    let alloc = rt.alloc();
-    let git_dir = git_directory(rt, asked.dir)?;
-    let remote = Remote::new(alloc, &asked.url)?;
-    let listed = remote.list(rt, alloc, &[])?;
-    check_sources(alloc, &remote, &listed, asked.specs.as_slice())?;
-    let tips = tips_of(alloc, &listed)?;
+    let found = find_repository(rt, asked.dir)?;
+    let remote = Remote::new(rt.alloc(), &asked.url)?;
+    let tips = list_tips(rt, &remote, asked.specs.as_slice())?;
     let wanted = Wanted {
         remote: &remote,
         specs: asked.specs.as_slice(),
         tips: &tips,
     };
-    let progress = progress_of(alloc, asked.verbosity, errors);
-    let fetch = receive(rt, &git_dir, wanted, progress)?;
-    keep(rt, &git_dir, &fetch)?;
-    if asked.verbosity.quiet {
-        return Ok(());
-    }
-    report(rt, &fetch.fetched)
+    let mut progress = progress_of(rt.alloc(), asked.verbosity, errors);
+    let outcome = receive(rt, &found, wanted, &mut progress);
+    progress.finish();
+    conclude(rt, &found, asked.verbosity, outcome)
 }
 
-/// The progress that is shown, if it is to be.
+// The ids of the server's refs, among which each ref that refspecs name has to be.
+fn list_tips<R>(rt: &R, remote: &Remote, specs: &[Spec<Global>]) -> Result<Tips<Global>, Fault>
+where
+    R: AllocGlobal + Net,
+{
+    let listed = remote.list(rt, rt.alloc(), &[])?;
+    check_sources(rt.alloc(), remote, &listed, specs)?;
+    Ok(tips_of(rt.alloc(), &listed)?)
+}
+
+// Keeps what was fetched, and prints the report.
+fn conclude<R>(
+    rt: &R,
+    found: &Directories,
+    verbosity: Verbosity,
+    outcome: Result<Fetch, Fault>,
+) -> Result<(), Fault>
+where
+    R: Files + Print + AllocGlobal,
+{
+    match outcome {
+        Ok(fetch) => {
+            keep(rt, found, &fetch)?;
+            if verbosity.quiet {
+                return Ok(());
+            }
+            report(rt, &fetch.fetched)
+        }
+        Err(fault) => Err(fault),
+    }
+}
+
+/// The progress of a fetch.
 pub(crate) fn progress_of<E: Write + IsTerminal>(
     alloc: Global,
     verbosity: Verbosity,
     errors: &mut E,
-) -> Option<Progress<'_, E>> {
-    if verbosity.shows_progress(errors.is_terminal()) {
-        Some(Progress::new(alloc, errors))
-    } else {
-        None
-    }
+) -> Progress<'_, E> {
+    let is_shown = verbosity.shows_progress(errors.is_terminal());
+    Progress::new(alloc, errors, is_shown)
 }
 
 // Fails at the first refspec of one ref that the server does not have (git-fetch(1)).
@@ -128,24 +158,24 @@ fn has_source(listed: &LsReply<Global>, spec: &Spec<Global>) -> bool {
 }
 
 // Installs the pack, and then moves the refs.
-fn keep<R: Files + AllocGlobal>(rt: &R, git_dir: &GitDir, fetch: &Fetch) -> Result<(), Fault> {
-    match install_and_move(rt, git_dir, fetch) {
+fn keep<R: Files + AllocGlobal>(rt: &R, found: &Directories, fetch: &Fetch) -> Result<(), Fault> {
+    match install_and_move(rt, found, fetch) {
         Ok(()) => Ok(()),
-        Err(fault) => Err(repository_fault(rt.alloc(), git_dir.path(), &fault)),
+        Err(fault) => Err(repository_fault(rt.alloc(), found.common.as_str(), &fault)),
     }
 }
 
 fn install_and_move<R: Files + AllocGlobal>(
     rt: &R,
-    git_dir: &GitDir,
+    found: &Directories,
     fetch: &Fetch,
 ) -> Result<(), RepositoryFault<Global>> {
     let alloc = rt.alloc();
     if let Some(received) = &fetch.received {
-        install_pack(alloc, rt, git_dir.path(), received)?;
+        install_pack(alloc, rt, found.common.as_str(), received)?;
     }
-    let updates = updates_of(alloc, &fetch.before, fetch.repo.refs())?;
-    git_dir.refs(alloc, rt).update_refs(updates.as_slice())?;
+    let updates = updates_of(alloc, &fetch.client.before, fetch.client.repo.refs())?;
+    found.refs(alloc, rt).update_refs(updates.as_slice())?;
     Ok(())
 }
 
@@ -183,111 +213,170 @@ fn report<R: Print + AllocGlobal>(rt: &R, fetched: &Fetched<Global>) -> Result<(
     }
 }
 
-/// Fetches into the repository of a Git directory. Nothing is written yet.
+/// Fetches into a repository. Nothing is written yet.
 pub(crate) fn receive<R, E>(
     rt: &R,
-    git_dir: &GitDir,
+    found: &Directories,
     wanted: Wanted<'_>,
-    progress: Option<Progress<'_, E>>,
+    progress: &mut Progress<'_, E>,
 ) -> Result<Fetch, Fault>
 where
     R: Files + AllocGlobal + Net,
     E: Write,
 {
     let files = StoredFiles::new(rt);
-    let (repository, reader) = open_client(rt.alloc(), rt, &files, git_dir, wanted.tips)?;
+    match open_client(rt.alloc(), rt, &files, found, wanted.tips) {
+        Ok((repository, reader)) => {
+            let indexer = StoreIndexer::new(reader, wanted.tips);
+            receive_with(rt, found, repository, &indexer, wanted, progress)
+        }
+        Err(fault) => Err(fault),
+    }
+}
+
+// Fetches into a repository by an indexer.
+fn receive_with<R, E>(
+    rt: &R,
+    found: &Directories,
+    repository: Repository<Global>,
+    indexer: &StoreIndexer<'_, '_, StoredFiles<'_, R>, Global>,
+    wanted: Wanted<'_>,
+    progress: &mut Progress<'_, E>,
+) -> Result<Fetch, Fault>
+where
+    R: Files + AllocGlobal + Net,
+    E: Write,
+{
+    match make_client(rt.alloc(), found, repository) {
+        Ok(client) => receive_into(rt, client, indexer, wanted, progress),
+        Err(fault) => Err(fault),
+    }
+}
+
+fn make_client(
+    alloc: Global,
+    found: &Directories,
+    repository: Repository<Global>,
+) -> Result<Client, Fault> {
     let Repository {
         graph,
         refs,
         head: _,
     } = repository;
-    let before = refs.copy_in(rt.alloc())?;
+    let before = refs.copy_in(alloc)?;
     match Repo::new(graph, refs) {
-        Ok(repo) => receive_into(rt, before, repo, reader, wanted, progress),
+        Ok(repo) => Ok(Client { before, repo }),
         Err(fault) => Err(Fault::of(
-            rt.alloc(),
+            alloc,
             Sentence::Client {
-                path: git_dir.path(),
+                path: found.own.as_str(),
                 fault: &fault,
             },
         )),
     }
 }
 
-// Fetches into a repository that is open.
 fn receive_into<R, E>(
     rt: &R,
-    before: Refs<Global>,
-    repo: Repo<Global>,
-    reader: Reader<'_, '_, R>,
+    client: Client,
+    indexer: &StoreIndexer<'_, '_, StoredFiles<'_, R>, Global>,
     wanted: Wanted<'_>,
-    progress: Option<Progress<'_, E>>,
+    progress: &mut Progress<'_, E>,
 ) -> Result<Fetch, Fault>
 where
     R: Files + AllocGlobal + Net,
     E: Write,
 {
-    let alloc = rt.alloc();
-    let stream = wanted.remote.connect(rt, alloc)?;
-    let indexer = StoreIndexer::new(reader, wanted.tips);
-    let mut repo = repo;
-    let peer = Peer::new(stream, Silence);
-    match converse(alloc, &peer, &mut repo, &indexer, wanted, progress) {
+    let mut client = client;
+    match converse(rt, &mut client.repo, indexer, wanted, progress) {
         Ok(fetched) => Ok(Fetch {
-            before,
-            repo,
+            client,
             fetched,
             received: indexer.take_received(),
         }),
-        Err(fault) => match indexer.take_fault() {
-            Some(cause) => Err(Fault::of(
-                alloc,
-                Sentence::RefusedPack {
-                    url: wanted.remote.url.as_str(),
-                    fault: &cause,
-                },
-            )),
-            None => Err(wanted.remote.fault(alloc, &fault)),
-        },
+        Err(fault) => Err(fault),
     }
 }
 
-// Holds the conversation of a fetch.
-fn converse<R, S, E>(
+// Connects to the server, and holds the conversation of a fetch.
+fn converse<R, E>(
+    rt: &R,
+    repo: &mut Repo<Global>,
+    indexer: &StoreIndexer<'_, '_, StoredFiles<'_, R>, Global>,
+    wanted: Wanted<'_>,
+    progress: &mut Progress<'_, E>,
+) -> Result<Fetched<Global>, Fault>
+where
+    R: Files + AllocGlobal + Net,
+    E: Write,
+{
+    let stream = wanted.remote.connect(rt, rt.alloc())?;
+    let peer = Peer::new(stream, Silence);
+    match converse_with(rt.alloc(), &peer, repo, indexer, wanted, progress) {
+        Ok(fetched) => Ok(fetched),
+        Err(fault) => Err(fetch_fault(rt.alloc(), wanted.remote, indexer, &fault)),
+    }
+}
+
+// The fault of a fetch. The indexer knows more of its own.
+fn fetch_fault<R: Files>(
+    alloc: Global,
+    remote: &Remote,
+    indexer: &StoreIndexer<'_, '_, StoredFiles<'_, R>, Global>,
+    fault: &FetchFault<Global>,
+) -> Fault {
+    match indexer.take_fault() {
+        Some(cause) => Fault::of(
+            alloc,
+            Sentence::RefusedPack {
+                url: remote.url.as_str(),
+                fault: &cause,
+            },
+        ),
+        None => remote.fault(alloc, fault),
+    }
+}
+
+// Holds the conversation of a fetch through buffers.
+fn converse_with<R, S, E>(
     alloc: Global,
     peer: &Peer<S, Silence>,
     repo: &mut Repo<Global>,
     indexer: &StoreIndexer<'_, '_, StoredFiles<'_, R>, Global>,
     wanted: Wanted<'_>,
-    progress: Option<Progress<'_, E>>,
+    progress: &mut Progress<'_, E>,
 ) -> Result<Fetched<Global>, FetchFault<Global>>
 where
     R: Files,
     S: Read + Write + OpenStream,
     E: Write,
 {
-    let options = PackOptions {
-        ofs_delta: true,
-        progress: progress.is_some(),
-    };
-    let (Ok(mut reader), Ok(mut writer)) = (
-        BufReader::with_capacity(alloc, BUFFER, Watched::new(peer, progress)),
-        BufWriter::with_capacity(alloc, BUFFER, peer),
-    ) else {
+    let fetch = fetch_of(wanted, progress.is_shown());
+    let Ok(mut reader) = BufReader::with_capacity(alloc, BUFFER, Watched::new(peer, progress))
+    else {
         return Err(FetchFault::NoBuffer);
     };
-    let fetch = GitFetch {
-        hello: &wanted.remote.hello,
-        specs: wanted.specs,
-        limit: PackLimit::new(MAX_PACK).unwrap_or_default(),
-        ends: Ends::Plain,
-        options,
+    let Ok(mut writer) = BufWriter::with_capacity(alloc, BUFFER, peer) else {
+        return Err(FetchFault::NoBuffer);
     };
     let mut source = FromRead::new(&mut reader);
     let mut sink = ToWrite::new(&mut writer);
     let fetched = fetch_git(repo, &mut source, &mut sink, indexer, &fetch);
-    // What could not be written is not tried again.
+    // Bytes that could not be written are not tried again.
     let (_peer, _unwritten) = writer.into_parts();
-    reader.get_mut().finish();
     fetched
+}
+
+// The fetch that is asked for: deltas may name their bases by offsets.
+fn fetch_of(wanted: Wanted<'_>, progress: bool) -> GitFetch<'_, Global> {
+    GitFetch {
+        hello: &wanted.remote.hello,
+        specs: wanted.specs,
+        limit: PackLimit::new(MAX_PACK).unwrap_or_default(),
+        ends: Ends::Plain,
+        options: PackOptions {
+            ofs_delta: true,
+            progress,
+        },
+    }
 }

@@ -1,11 +1,15 @@
 //! `gitrepo ls`: the refs of a server.
 
+ghost use Rattle.std.specs.Prelude.{◌≡◌, ◌<◌, ◌++◌, IfOk, OnOk, Some, length, slice_get};
+ghost use Rattle.glsreply.specs.RefTexts as texts;
+ghost use Rattle.gitprogram.specs.Listing.{id_line, is_listed, listed_lines, listing, ref_lines};
+
 use crate::fault::Fault;
 use crate::output::print;
 use crate::remote::Remote;
 use gitwords::LsArgs;
 use glsreply::{LsReply, RefLine};
-use gname::Prefix;
+use gname::{Oid, Prefix};
 use grequest::MAX_PREFIXES;
 use std::alloc::{AllocError, Global};
 use std::net::Net;
@@ -38,19 +42,51 @@ fn reply_text(
     alloc: Global,
     reply: &LsReply<Global>,
     prefixes: &[Prefix<Global>],
-) -> Result<Vec<u8>, AllocError> {
+) -> Result<Vec<u8>, AllocError>
+    ensures { IfOk result (λ text. text.items ≡ listing prefixes.now reply.now.lines) }
+{
     let mut text = Vec::new(alloc);
     for place in 0..reply.len() {
-        if let Some(line) = reply.at(place) {
-            if begins_with_one(line.name.as_bytes(), prefixes) {
-                put_ref(&mut text, line)?;
-            }
-        }
+        put_at(&mut text, reply, place, prefixes)?;
     }
     Ok(text)
 }
 
-fn begins_with_one(name: &[u8], prefixes: &[Prefix<Global>]) -> bool {
+// The lines of the ref at a position, if it is listed.
+fn put_at(
+    text: &mut Vec<u8>,
+    reply: &LsReply<Global>,
+    place: usize,
+    prefixes: &[Prefix<Global>],
+) -> Result<(), AllocError>
+    requires { place < length reply.now.lines }
+    ensures { OnOk result ((line : texts.RefLine) × (slice_get reply.now.lines place ≡ Some line)
+        × (text.new.items ≡ text.old.items ++ listed_lines prefixes.now line)) }
+{
+    match reply.at(place) {
+        Some(line) => put_listed(text, line, prefixes),
+        None => unreachable!(),
+    }
+}
+
+fn put_listed(
+    text: &mut Vec<u8>,
+    line: &RefLine<Global>,
+    prefixes: &[Prefix<Global>],
+) -> Result<(), AllocError>
+    ensures { OnOk result (text.new.items ≡ text.old.items ++ listed_lines prefixes.now line.now) }
+{
+    if is_listed(prefixes, line.name.as_bytes()) {
+        put_ref(text, line)
+    } else {
+        Ok(())
+    }
+}
+
+// Whether a name begins with one of some prefixes, or there is none.
+fn is_listed(prefixes: &[Prefix<Global>], name: &[u8]) -> bool
+    ensures { result ≡ is_listed prefixes.now name.now }
+{
     prefixes.is_empty()
         || prefixes
             .iter()
@@ -58,18 +94,24 @@ fn begins_with_one(name: &[u8], prefixes: &[Prefix<Global>]) -> bool {
 }
 
 // The line of a ref, and that of the object to which it leads if it is at a tag.
-fn put_ref(text: &mut Vec<u8>, line: &RefLine<Global>) -> Result<(), AllocError> {
-    line.id.push_hex(text)?;
-    put_name(text, line.name.as_bytes(), b"\n")?;
-    if let Some(peeled) = line.peeled {
-        peeled.push_hex(text)?;
-        put_name(text, line.name.as_bytes(), b"^{}\n")?;
+fn put_ref(text: &mut Vec<u8>, line: &RefLine<Global>) -> Result<(), AllocError>
+    ensures { OnOk result (text.new.items ≡ text.old.items ++ ref_lines line.now) }
+{
+    put_line(text, &line.id, line.name.as_bytes(), b"")?;
+    match &line.peeled {
+        Some(peeled) => put_line(text, peeled, line.name.as_bytes(), b"^{}"),
+        None => Ok(()),
     }
-    Ok(())
 }
 
-fn put_name(text: &mut Vec<u8>, name: &[u8], end: &[u8]) -> Result<(), AllocError> {
+// A line of an id and a name with an ending.
+fn put_line(text: &mut Vec<u8>, id: &Oid, name: &[u8], ending: &[u8]) -> Result<(), AllocError>
+    ensures { OnOk result (text.new.items ≡ text.old.items ++ id_line id.now (name.now ++ ending.now)) }
+{
+    id.push_hex(text)?;
     text.push(b'\t')?;
     text.extend_from_slice(name)?;
-    text.extend_from_slice(end)
+    text.extend_from_slice(ending)?;
+    text.push(b'\n')?;
+    Ok(())
 }

@@ -1,6 +1,6 @@
 //! A repository that is opened.
 
-use crate::directory::GitDir;
+use crate::directory::Directories;
 use crate::fault::Fault;
 use crate::sentences::Sentence;
 use ganswer::Server;
@@ -38,20 +38,20 @@ pub(crate) fn open_served<'f, 'r, R: Files>(
     alloc: Global,
     rt: &R,
     files: &'f StoredFiles<'r, R>,
-    git_dir: &GitDir,
+    found: &Directories,
 ) -> Result<Opened<'f, 'r, R>, NotOpened> {
-    match open(alloc, rt, files, git_dir) {
-        Ok((repository, reader)) => make_server(alloc, git_dir.path(), repository, reader),
+    match open(alloc, rt, files, found) {
+        Ok((repository, reader)) => make_server(alloc, found, repository, reader),
         Err(fault) => Err(NotOpened {
             form: form_of(&fault),
-            fault: repository_fault(alloc, git_dir.path(), &fault),
+            fault: repository_fault(alloc, found.common.as_str(), &fault),
         }),
     }
 }
 
 fn make_server<'f, 'r, R: Files>(
     alloc: Global,
-    git_dir: &str,
+    found: &Directories,
     repository: Repository<Global>,
     reader: Reader<'f, 'r, R>,
 ) -> Result<Opened<'f, 'r, R>, NotOpened> {
@@ -65,7 +65,7 @@ fn make_server<'f, 'r, R: Files>(
             fault: Fault::of(
                 alloc,
                 Sentence::Build {
-                    path: git_dir,
+                    path: found.own.as_str(),
                     fault: &fault,
                 },
             ),
@@ -78,12 +78,12 @@ pub(crate) fn open_client<'f, 'r, R: Files>(
     alloc: Global,
     rt: &R,
     files: &'f StoredFiles<'r, R>,
-    git_dir: &GitDir,
+    found: &Directories,
     tips: &Tips<Global>,
 ) -> Result<(Repository<Global>, Reader<'f, 'r, R>), Fault> {
-    match open_with_leaves(alloc, rt, files, git_dir, tips) {
+    match open_with_leaves(alloc, rt, files, found, tips) {
         Ok(opened) => Ok(opened),
-        Err(fault) => Err(repository_fault(alloc, git_dir.path(), &fault)),
+        Err(fault) => Err(repository_fault(alloc, found.common.as_str(), &fault)),
     }
 }
 
@@ -91,10 +91,10 @@ fn open_with_leaves<'f, 'r, R: Files>(
     alloc: Global,
     rt: &R,
     files: &'f StoredFiles<'r, R>,
-    git_dir: &GitDir,
+    found: &Directories,
     tips: &Tips<Global>,
 ) -> Result<(Repository<Global>, Reader<'f, 'r, R>), RepositoryFault<Global>> {
-    let (mut repository, mut reader) = open(alloc, rt, files, git_dir)?;
+    let (mut repository, mut reader) = open(alloc, rt, files, found)?;
     add_leaves(&mut reader, &mut repository.graph, tips)?;
     Ok((repository, reader))
 }
@@ -104,11 +104,10 @@ fn open<'f, 'r, R: Files>(
     alloc: Global,
     rt: &R,
     files: &'f StoredFiles<'r, R>,
-    git_dir: &GitDir,
+    found: &Directories,
 ) -> Result<(Repository<Global>, Reader<'f, 'r, R>), RepositoryFault<Global>> {
-    let mut reader = open_reader(alloc, files, git_dir.path())?;
-    let directory = git_dir.refs(alloc, rt);
-    let repository = open_repository(&directory, &mut reader)?;
+    let mut reader = open_reader(alloc, files, found.common.as_str())?;
+    let repository = open_repository(&found.refs(alloc, rt), &mut reader)?;
     Ok((repository, reader))
 }
 
@@ -116,25 +115,19 @@ fn open<'f, 'r, R: Files>(
 pub(crate) fn open_reader<'f, 'r, R: Files>(
     alloc: Global,
     files: &'f StoredFiles<'r, R>,
-    git_dir: &str,
+    path: &str,
 ) -> Result<Reader<'f, 'r, R>, RepositoryFault<Global>> {
-    let store = open_store(files, alloc, git_dir)?;
+    let store = open_store(files, alloc, path)?;
     Ok(ObjectReader::new(store)?)
 }
 
-/// The fault of the repository of a Git directory.
+/// The fault of the repository at a path.
 pub(crate) fn repository_fault(
     alloc: Global,
-    git_dir: &str,
+    path: &str,
     fault: &RepositoryFault<Global>,
 ) -> Fault {
-    Fault::of(
-        alloc,
-        Sentence::Repository {
-            path: git_dir,
-            fault,
-        },
-    )
+    Fault::of(alloc, Sentence::Repository { path, fault })
 }
 
 fn form_of(fault: &RepositoryFault<Global>) -> Option<FormFault> {

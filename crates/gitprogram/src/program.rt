@@ -1,5 +1,7 @@
 //! The arguments, and the work that each command is.
 
+ghost use Rattle.std.specs.Prelude.{◌≡◌, MatchResult};
+
 use crate::checking::check;
 use crate::cloning::clone_remote;
 use crate::fault::Fault;
@@ -77,7 +79,9 @@ fn print_answer<R: Print, W: Write>(rt: &R, answer: &Answer, errors: &mut W) -> 
 }
 
 // Prints the fault, if there is one, and returns the exit status.
-fn finish<W: Write>(outcome: Result<(), Fault>, errors: &mut W) -> u8 {
+fn finish<W: Write>(outcome: Result<(), Fault>, errors: &mut W) -> u8
+    ensures { MatchResult outcome (λ _. result ≡ 0) (λ _. result ≡ 1) }
+{
     match outcome {
         Ok(()) => 0,
         Err(fault) => {

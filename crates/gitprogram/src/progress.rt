@@ -20,6 +20,7 @@ const REMOTE: &[u8] = b"remote: ";
 #[derive(Drop)]
 pub(crate) struct Progress<'e, E> {
     errors: &'e mut E,
+    is_shown: bool,
     packets: Packets,
     pack: PackSeen,
     // How many bytes had come when the progress was shown last.
@@ -54,10 +55,11 @@ const NO_PACK: PackSeen = PackSeen {
 };
 
 impl<'e, E: Write> Progress<'e, E> {
-    /// Progress that is shown on these errors.
-    pub(crate) fn new(alloc: Global, errors: &'e mut E) -> Progress<'e, E> {
+    /// Progress on these errors, if it is to be shown.
+    pub(crate) fn new(alloc: Global, errors: &'e mut E, is_shown: bool) -> Progress<'e, E> {
         Progress {
             errors,
+            is_shown,
             packets: Packets::new(),
             pack: NO_PACK,
             shown: 0,
@@ -66,8 +68,16 @@ impl<'e, E: Write> Progress<'e, E> {
         }
     }
 
+    /// Whether it is shown.
+    pub(crate) fn is_shown(&self) -> bool {
+        self.is_shown
+    }
+
     // Shows the progress of some bytes of the server. Out of memory it leaves some out.
     fn watch(&mut self, bytes: &[u8]) {
+        if !self.is_shown {
+            return;
+        }
         let _ = self.look_at_all(bytes);
         let _ = self.errors.write_all(self.text.as_slice());
         self.text.clear();
@@ -154,8 +164,8 @@ impl<'e, E: Write> Progress<'e, E> {
         Ok(())
     }
 
-    // Ends the line that is open.
-    fn finish(&mut self) {
+    /// Ends the line that is open, if there is one.
+    pub(crate) fn finish(&mut self) {
         if self.line != Line::New {
             let _ = self.errors.write_all(b"\n");
             self.line = Line::New;
@@ -203,35 +213,24 @@ impl fmt::Display for Size {
     }
 }
 
-/// A reader of which the progress is shown, if it is to be.
+/// A reader whose bytes are watched.
 #[derive(Drop)]
-pub(crate) struct Watched<'e, D, E> {
+pub(crate) struct Watched<'p, 'e, D, E> {
     reader: D,
-    progress: Option<Progress<'e, E>>,
+    progress: &'p mut Progress<'e, E>,
 }
 
-impl<'e, D, E> Watched<'e, D, E> {
-    /// The reader, with the progress that is shown.
-    pub(crate) fn new(reader: D, progress: Option<Progress<'e, E>>) -> Watched<'e, D, E> {
+impl<'p, 'e, D, E> Watched<'p, 'e, D, E> {
+    /// The reader, with the progress that watches it.
+    pub(crate) fn new(reader: D, progress: &'p mut Progress<'e, E>) -> Watched<'p, 'e, D, E> {
         Watched { reader, progress }
     }
 }
 
-impl<D, E: Write> Watched<'_, D, E> {
-    /// Ends the line of progress that is open, if there is one.
-    pub(crate) fn finish(&mut self) {
-        if let Some(progress) = &mut self.progress {
-            progress.finish();
-        }
-    }
-}
-
-impl<D: Read, E: Write> Read for Watched<'_, D, E> {
+impl<D: Read, E: Write> Read for Watched<'_, '_, D, E> {
     fn read(&mut self, buf: &mut [u8]) -> io::Result<usize> {
         let count = self.reader.read(buf)?;
-        if let Some(progress) = &mut self.progress {
-            progress.watch(&buf[..count]);
-        }
+        self.progress.watch(&buf[..count]);
         Ok(count)
     }
 }

@@ -1,11 +1,11 @@
 //! `gitrepo serve`: repositories served to those who connect.
 
-use crate::directory::{Exports, served_directory};
+use crate::directory::{Exports, find_served, open_fault};
 use crate::fault::Fault;
 use crate::output::print;
 use crate::refusals::{Worded, send_error};
 use crate::sentences::Sentence;
-use crate::uploading::{Conversation, REPLY_BUFFER, serve_directory};
+use crate::uploading::{Conversation, REPLY_BUFFER, serve_repository};
 use crate::visit::{Counted, Visit};
 use ganswer::ServeFault;
 use gconnect::hear;
@@ -28,6 +28,7 @@ where
     R: Files + Print + AllocGlobal + Clock + Net,
     E: Write,
 {
+    check_base(rt, asked.base)?;
     let listener = match TcpListener::bind(rt, asked.listen) {
         Ok(listener) => listener,
         Err(error) => return Err(Fault::of(
@@ -44,6 +45,14 @@ where
         all: asked.export_all,
     };
     serve_each(rt, exports, &listener, asked.connections, errors)
+}
+
+// Checks that the base directory is there.
+fn check_base<R: Files + AllocGlobal>(rt: &R, base: &str) -> Result<(), Fault> {
+    match rt.metadata(base) {
+        Ok(_) => Ok(()),
+        Err(error) => Err(open_fault(rt.alloc(), base, &error)),
+    }
 }
 
 // Says at which port connections are accepted.
@@ -143,7 +152,7 @@ where
     };
     let mut visit = Visit::new(alloc);
     visit.conversation = serve_between(rt, exports, &mut reader, &mut writer, &mut visit.path);
-    // What could not be written is not tried again.
+    // Bytes that could not be written are not tried again.
     let (counted, _unwritten) = writer.into_parts();
     visit.bytes = counted.bytes();
     visit
@@ -194,8 +203,8 @@ fn serve_path<R, S: Source, W: Sink>(
 where
     R: Files + AllocGlobal,
 {
-    match served_directory(rt, exports, path) {
-        Ok(Some(git_dir)) => serve_directory(rt, &git_dir, source, sink),
+    match find_served(rt, exports, path) {
+        Ok(Some(found)) => serve_repository(rt, &found, source, sink),
         Ok(None) => {
             let _ = send_not_served(rt, path, sink);
             Conversation::failed(Fault::of(rt.alloc(), Sentence::NotServed))

@@ -1,6 +1,9 @@
 //! A repository that is served from its advertisement on, and `gitrepo upload-pack`.
 
-use crate::directory::{GitDir, git_directory};
+ghost use Rattle.std.specs.Prelude.{◌≡◌};
+ghost use Rattle.gitprogram.specs.Versions.{is_version_2, names_version_2};
+
+use crate::directory::{Directories, find_repository};
 use crate::fault::Fault;
 use crate::opening::{Opened, open_served, repository_fault};
 use crate::refusals::{Worded, send_error};
@@ -46,7 +49,7 @@ where
     let mut worded = Worded::new(&mut writer);
     let mut sink = ToWrite::new(&mut worded);
     let upload = upload_to(rt, dir, &mut source, &mut sink);
-    // What could not be written is not tried again.
+    // Bytes that could not be written are not tried again.
     let (_writer, _unwritten) = writer.into_parts();
     upload
 }
@@ -65,8 +68,8 @@ where
         let _ = send_error(NO_VERSION_2, sink);
         return Err(Fault::of(rt.alloc(), Sentence::NoVersion2));
     }
-    match git_directory(rt, dir) {
-        Ok(git_dir) => serve_directory(rt, &git_dir, source, sink).outcome,
+    match find_repository(rt, dir) {
+        Ok(found) => serve_repository(rt, &found, source, sink).outcome,
         Err(fault) => {
             let _ = send_error(NOT_THERE, sink);
             Err(fault)
@@ -82,8 +85,19 @@ fn has_version_2<R: Env + AllocGlobal>(rt: &R) -> bool {
     }
 }
 
-fn names_version_2(keys: &str) -> bool {
-    keys.split(':').any(|key| key == "version=2")
+// Whether one of the keys, between which colons are, is that of version 2.
+fn names_version_2(keys: &str) -> bool
+    ensures { result ≡ names_version_2 keys.now }
+{
+    keys.as_bytes()
+        .split(|byte| *byte == b':')
+        .any(|key| is_version_2(key))
+}
+
+fn is_version_2(key: &[u8]) -> bool
+    ensures { result ≡ is_version_2 key.now }
+{
+    key == b"version=2".as_slice()
 }
 
 /// A conversation with a client: how many of its requests were answered, and how it came out.
@@ -103,10 +117,10 @@ impl Conversation {
     }
 }
 
-/// Opens a Git directory, and serves it from its advertisement on.
-pub(crate) fn serve_directory<R, S: Source, W: Sink>(
+/// Opens a repository, and serves it from its advertisement on.
+pub(crate) fn serve_repository<R, S: Source, W: Sink>(
     rt: &R,
-    git_dir: &GitDir,
+    found: &Directories,
     source: &mut S,
     sink: &mut W,
 ) -> Conversation
@@ -114,8 +128,8 @@ where
     R: Files + AllocGlobal,
 {
     let files = StoredFiles::new(rt);
-    match open_served(rt.alloc(), rt, &files, git_dir) {
-        Ok(opened) => serve_opened(rt.alloc(), git_dir.path(), &opened, source, sink),
+    match open_served(rt.alloc(), rt, &files, found) {
+        Ok(opened) => serve_opened(rt.alloc(), found, &opened, source, sink),
         Err(cause) => {
             let _ = send_not_opened(rt.alloc(), cause.form, sink);
             Conversation::failed(cause.fault)
@@ -144,7 +158,7 @@ fn send_not_opened<W: Sink>(
 
 fn serve_opened<R: Files, S: Source, W: Sink>(
     alloc: Global,
-    git_dir: &str,
+    found: &Directories,
     opened: &Opened<'_, '_, R>,
     source: &mut S,
     sink: &mut W,
@@ -153,7 +167,7 @@ fn serve_opened<R: Files, S: Source, W: Sink>(
     let outcome = match end {
         End::Closed | End::Ended => Ok(()),
         End::WriteFailed => Err(Fault::of(alloc, Sentence::ClientLost)),
-        End::Refused(fault) => Err(request_fault(alloc, git_dir, &opened.packer, &fault)),
+        End::Refused(fault) => Err(request_fault(alloc, found, &opened.packer, &fault)),
     };
     Conversation { requests, outcome }
 }
@@ -161,13 +175,13 @@ fn serve_opened<R: Files, S: Source, W: Sink>(
 // The fault of a request that was refused. The packer knows more of its own.
 fn request_fault<R: Files>(
     alloc: Global,
-    git_dir: &str,
+    found: &Directories,
     packer: &StorePacker<'_, StoredFiles<'_, R>, Global>,
     fault: &ServeFault,
 ) -> Fault {
     if let ServeFault::Pack(PackFault::Other) = fault {
         if let Some(cause) = packer.take_fault() {
-            return repository_fault(alloc, git_dir, &cause);
+            return repository_fault(alloc, found.common.as_str(), &cause);
         }
     }
     Fault::of(alloc, Sentence::Request(fault))
