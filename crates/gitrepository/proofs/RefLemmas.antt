@@ -4,7 +4,9 @@ use Rattle.std.proofs.lemmas.List.Elements.{All-contains}
 use Rattle.gname.specs.Ids.{Id}
 use Rattle.gname.specs.Names.{Name}
 use Rattle.grefs.specs.RefLists.{RefList, SetsRef}
+use Rattle.gobject.specs.declared.node.Entry.{Entry}
 use Rattle.gdag.specs.Graphs.{History, Holds}
+use Rattle.gitrepository.specs.Peeling.{IsPeeledRef}
 use Rattle.gitrepository.specs.Repositories.{AreHeld}
 
 -- a ref that is new, or was there
@@ -16,3 +18,8 @@ one P old new ref this all (inr among) = All-contains P old ref all among
 pub AreHeld_set : {A : Type 0} (graph : History A) (old new : RefList) (name : Name) (id : Id) → SetsRef old new name id → Holds graph.entries id → AreHeld graph old → AreHeld graph new
 AreHeld_set graph old new name id sets holds held =
     λ k d inside. one (λ ref. Holds graph.entries ref.1) old (name, id) _ holds held (sets.each k d inside)
+
+-- the refs stay those of tags where one that is so is set
+pub are_peeled_set : {A : Type 0} (graph : List (Entry A)) (refs old new : RefList) (name : Name) (id : Id) → SetsRef old new name id → IsPeeledRef graph refs (name, id) → All (IsPeeledRef graph refs) old → All (IsPeeledRef graph refs) new
+are_peeled_set graph refs old new name id sets this peeled =
+    λ k d inside. one (IsPeeledRef graph refs) old (name, id) _ this peeled (sets.each k d inside)
