@@ -120,7 +120,6 @@ fn peeled_refs<A: Allocator + Copy>(
 }
 
 // Puts the object to which the tag of a ref leads.
-#[tactic(auto, using(crate::proofs::RefLemmas::are_peeled_set))]
 fn set_peeled<A: Allocator + Copy>(
     graph: &Graph<A>,
     refs: &Refs<A>,
