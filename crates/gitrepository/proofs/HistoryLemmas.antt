@@ -14,5 +14,9 @@ came P old new entry all this (inr comes) = subst (All P) (sym comes.1) (All-pus
 
 -- each entry stays that of an object where one of an object is added, or refused
 pub objects_inserted : {A : Type 0} (old new : History A) (entry : Entry A) (result : Result Bool GraphFault) → AddsOne old entry new result → All IsOfObject old.entries → IsOfObject entry → All IsOfObject new.entries
-objects_inserted old new entry (Ok is_new) adds all this = came IsOfObject old.entries new.entries entry all this adds.1.0.comes
+objects_inserted old new entry (Ok is_new) adds all this = came IsOfObject old.entries new.entries entry all this adds.1.comes
 objects_inserted old new entry (Err fault) adds all this = subst (λ g. All IsOfObject g.entries) (sym adds.0) all
+
+-- each entry stays that of an object where one more comes
+pub objects_pushed : {A : Type 0} (old new : List (Entry A)) (entry : Entry A) → new ≡ old ++ entry ∷ [] → All IsOfObject old → IsOfObject entry → All IsOfObject new
+objects_pushed old new entry is all this = subst (All IsOfObject) (sym is) (All-push IsOfObject old entry all this)

@@ -1,3 +1,4 @@
+pub mod ArrivalLemmas
 pub mod HistoryLemmas
 pub mod PutLemmas
 pub mod RefLemmas

@@ -7,5 +7,7 @@ use Rattle.gdag.specs.Peeling.{PeelsTo}
 use Rattle.grefs.specs.RefLists.{RefList}
 
 -- the name is that of a ref, whose tag leads to the object
-abbrev pub IsPeeledRef : {A : Type 0} → List (Entry A) → RefList → Name × Id → Type 0
-IsPeeledRef graph refs peeled = (id : Id) × Contains refs (peeled.0, id) × PeelsTo graph id peeled.1
+pub record IsPeeledRef {A : Type 0} (graph : List (Entry A)) (refs : RefList) (peeled : Name × Id) : Type 0 where
+  pub id : Id
+  pub listed : Contains refs (peeled.0, id)
+  pub leads : PeelsTo graph id peeled.1

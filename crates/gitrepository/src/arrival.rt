@@ -58,9 +58,9 @@ impl<'r, 't, 'f, F: ObjectFiles, A: Allocator + Copy> Arrival<'r, 't, 'f, F, A> 
         }
     }
 
-    /// The fault for which an object was refused.
-    pub(crate) fn into_fault(self) -> Option<RepositoryFault<A>> {
-        self.fault
+    /// The fault for which an object was refused, which is given away; `None` if there is none.
+    pub(crate) fn take_fault(&mut self) -> Option<RepositoryFault<A>> {
+        self.fault.take()
     }
 
     /// The entries, once each object that is named is in the pack or in the store, with the type by
@@ -154,10 +154,10 @@ impl<'r, 't, 'f, F: ObjectFiles, A: Allocator + Copy> Arrival<'r, 't, 'f, F, A> 
 
     // Adds the tree or the blob that a tag names.
     fn learn_target(&mut self, body: &[u8]) -> Result<(), RepositoryFault<A>> {
-        if let Some(entry) = named_leaf(self.alloc, body) {
-            self.entries.push(entry)?;
+        match named_leaf(self.alloc, body) {
+            Some(entry) => self.push(entry),
+            None => Ok(()),
         }
-        Ok(())
     }
 
     // Adds the entry of an object.
@@ -170,11 +170,18 @@ impl<'r, 't, 'f, F: ObjectFiles, A: Allocator + Copy> Arrival<'r, 't, 'f, F, A> 
         requires { id_of kind body.now ≡ id.now }
     {
         match entry_of(self.alloc, id, kind, body) {
-            Ok(entry) => {
-                self.entries.push(entry)?;
-                Ok(())
-            }
+            Ok(entry) => self.push(entry),
             Err(fault) => Err(RepositoryFault::of_object(id, fault)),
+        }
+    }
+
+    // Adds an entry.
+    fn push(&mut self, entry: Entry<A>) -> Result<(), RepositoryFault<A>>
+        requires { IsRead entry }
+    {
+        match self.entries.push(entry) {
+            Ok(()) => Ok(()),
+            Err(_) => Err(RepositoryFault::Memory),
         }
     }
 }

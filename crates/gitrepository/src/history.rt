@@ -1,6 +1,6 @@
 //! The commits and tags that some ids reach, parents first.
 
-ghost use Rattle.std.specs.Prelude.{◌≡◌, IfOk, OnOk, length};
+ghost use Rattle.std.specs.Prelude.{◌≡◌, IfOk, IfSome, OnOk, length};
 ghost use Rattle.gdag.specs.Graphs.{Holds};
 ghost use Rattle.gdag.specs.Reach.{Keeps};
 ghost use Rattle.gitrepository.specs.Entries.{IsOfObject};
@@ -110,18 +110,35 @@ impl<A: Allocator + Copy> History<A> {
     ) -> Result<bool, RepositoryFault<A>>
         ensures { Keeps self.old.entries self.new.entries }
     {
-        if let Some(parent) = self.next_parent() {
-            self.reach(reader, parent)?;
-            return Ok(true);
+        match self.next_parent() {
+            Some(parent) => {
+                self.reach(reader, parent)?;
+                Ok(true)
+            }
+            None => self.insert_last(),
         }
-        let _looked = self.looked.pop();
-        match self.path.pop() {
+    }
+
+    // The last object on the path enters the graph. Answers whether there was an object.
+    fn insert_last(&mut self) -> Result<bool, RepositoryFault<A>>
+        ensures { Keeps self.old.entries self.new.entries }
+    {
+        match self.pop() {
             Some(entry) => {
                 self.insert(entry)?;
                 Ok(true)
             }
             None => Ok(false),
         }
+    }
+
+    // Takes the last object off the path.
+    fn pop(&mut self) -> Option<Entry<A>>
+        ensures same { self.new ≡ self.old }
+        ensures object { IfSome result (λ entry. IsOfObject entry) }
+    {
+        let _looked = self.looked.pop();
+        self.path.pop()
     }
 
     // Adds an object to the graph.
@@ -151,6 +168,7 @@ impl<A: Allocator + Copy> History<A> {
 
     // Reads an object, and puts it on the path, unless the graph has it. A path that leads back to
     // itself is cut when it is too long.
+    #[tactic(auto, using(crate::proofs::HistoryLemmas::objects_pushed))]
     fn reach<F: ObjectFiles>(
         &mut self,
         reader: &mut ObjectReader<'_, F, A>,

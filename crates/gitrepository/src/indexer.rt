@@ -1,6 +1,7 @@
 //! An indexer of packs that come to a Git directory.
 
-ghost use Rattle.std.specs.Prelude.{◌≡◌, ⊤, IfOk};
+ghost use Rattle.std.specs.Prelude.{◌≡◌, ⊤, ℕ, IfOk};
+ghost use Rattle.gitpack.specs.Packs.{IsFramed};
 ghost use Rattle.gitrepository.specs.Packs.{IsIndexed};
 
 use crate::arrival::Arrival;
@@ -98,21 +99,32 @@ impl<'t, 'f, F: ObjectFiles, A: Allocator + Copy> StoreIndexer<'t, 'f, F, A> {
 }
 
 // The index of a pack, and the entries of its commits and tags.
-fn index_bytes<F: ObjectFiles, A: Allocator + Copy>(
-    reader: &mut ObjectReader<'_, F, A>,
-    tips: &Tips<A>,
+fn index_bytes<'r, 't, 'f, F: ObjectFiles, A: Allocator + Copy>(
+    reader: &'r mut ObjectReader<'f, F, A>,
+    tips: &'t Tips<A>,
     bytes: &[u8],
 ) -> Result<(IndexedPack<A>, Vec<Entry<A>, A>), RepositoryFault<A>>
     ensures { IfOk result (λ read. IsIndexed bytes.now read.1.items) }
 {
     let alloc = reader.store().allocator();
     let mut arrival = Arrival::new(alloc, reader, tips);
-    match index_pack(alloc, bytes, LIMITS, &mut arrival) {
-        Ok(index) => {
-            let entries = arrival.into_entries(&index)?;
-            Ok((index, entries))
-        }
-        Err(fault) => match arrival.into_fault() {
+    let index = index_arrival(alloc, bytes, &mut arrival)?;
+    let entries = arrival.into_entries(&index)?;
+    Ok((index, entries))
+}
+
+// Indexes a pack whose objects come to the arrival. The fault is that for which an object was
+// refused, if there is one.
+fn index_arrival<F: ObjectFiles, A: Allocator + Copy>(
+    alloc: A,
+    bytes: &[u8],
+    arrival: &mut Arrival<'_, '_, '_, F, A>,
+) -> Result<IndexedPack<A>, RepositoryFault<A>>
+    ensures { IfOk result (λ index. (count : ℕ) × IsFramed count index.checksum bytes.now) }
+{
+    match index_pack(alloc, bytes, LIMITS, arrival) {
+        Ok(index) => Ok(index),
+        Err(fault) => match arrival.take_fault() {
             Some(own) => Err(own),
             None => Err(RepositoryFault::from(fault)),
         },

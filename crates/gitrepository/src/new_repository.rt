@@ -109,19 +109,28 @@ fn peeled_refs<A: Allocator + Copy>(
 {
     let mut peeled = Refs::new(alloc);
     for pair in refs.as_slice() {
-        match graph.peel(&pair.1) {
-            Some(id) if id != pair.1 => set_peeled(&mut peeled, pair.0.copy_in(alloc)?, id)?,
-            _ => {}
+        if let Some(id) = graph.peel(&pair.1) {
+            if id != pair.1 {
+                let name = pair.0.copy_in(alloc)?;
+                set_peeled(graph, refs, &mut peeled, name, id)?;
+            }
         }
     }
     Ok(peeled)
 }
 
+// Puts the object to which the tag of a ref leads.
 fn set_peeled<A: Allocator + Copy>(
+    graph: &Graph<A>,
+    refs: &Refs<A>,
     peeled: &mut Refs<A>,
     name: RefName<A>,
     id: Oid,
-) -> Result<(), RepositoryFault<A>> {
+) -> Result<(), RepositoryFault<A>>
+    requires { IsPeeledRef graph.now.entries refs.now (name, id) }
+    ensures { All (IsPeeledRef graph.now.entries refs.now) peeled.old
+        → OnOk result (All (IsPeeledRef graph.now.entries refs.now) peeled.new) }
+{
     match peeled.set(name, id) {
         Ok(()) => Ok(()),
         Err(_) => Err(RepositoryFault::Memory),
