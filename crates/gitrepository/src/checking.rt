@@ -83,8 +83,7 @@ fn check_ref<F: ObjectFiles, A: Allocator + Copy>(
     history: &mut History<A>,
     gathering: &mut Gathering<'_, '_, F, A>,
     id: &Oid,
-) -> Result<(), RepositoryFault<A>>
-{
+) -> Result<(), RepositoryFault<A>> {
     let first = history.len();
     history.add(&mut *gathering.reader, id)?;
     for place in first..history.len() {

@@ -112,8 +112,7 @@ fn lists_promisor(names: &[u8]) -> bool {
 }
 
 // Why a repository with this configuration is not read; `None` if it is. It fails out of memory.
-fn form_of<A: Allocator + Copy>(alloc: A, text: &[u8]) -> Result<Option<FormFault>, AllocError>
-{
+fn form_of<A: Allocator + Copy>(alloc: A, text: &[u8]) -> Result<Option<FormFault>, AllocError> {
     match parse_config(alloc, text) {
         Ok(settings) => Ok(fault_of_all(settings.as_slice())),
         Err(ConfigFault::Malformed) => Ok(Some(FormFault::Config)),
@@ -130,19 +129,16 @@ fn fault_of_all<A: Allocator + Copy>(settings: &[Setting<A>]) -> Option<FormFaul
 }
 
 // Whether the setting is that of version 1.
-fn sets_version_1<A: Allocator + Copy>(setting: &Setting<A>) -> bool
-{
+fn sets_version_1<A: Allocator + Copy>(setting: &Setting<A>) -> bool {
     is_version(setting) && has_value(setting, b"1")
 }
 
-fn is_version<A: Allocator + Copy>(setting: &Setting<A>) -> bool
-{
+fn is_version<A: Allocator + Copy>(setting: &Setting<A>) -> bool {
     setting.section.as_slice() == b"core".as_slice()
         && setting.name.as_slice() == b"repositoryformatversion".as_slice()
 }
 
-fn has_value<A: Allocator + Copy>(setting: &Setting<A>, value: &[u8]) -> bool
-{
+fn has_value<A: Allocator + Copy>(setting: &Setting<A>, value: &[u8]) -> bool {
     match &setting.value {
         Some(own) => own.as_slice() == value,
         None => false,
@@ -150,8 +146,7 @@ fn has_value<A: Allocator + Copy>(setting: &Setting<A>, value: &[u8]) -> bool
 }
 
 // Why a repository with this setting is not read; `None` if it is.
-fn fault_of<A: Allocator + Copy>(setting: &Setting<A>, is_version_1: bool) -> Option<FormFault>
-{
+fn fault_of<A: Allocator + Copy>(setting: &Setting<A>, is_version_1: bool) -> Option<FormFault> {
     if is_version(setting) {
         if has_value(setting, b"0") || has_value(setting, b"1") {
             return None;
@@ -167,8 +162,7 @@ fn fault_of<A: Allocator + Copy>(setting: &Setting<A>, is_version_1: bool) -> Op
 fn extension_fault<A: Allocator + Copy>(
     setting: &Setting<A>,
     is_version_1: bool,
-) -> Option<FormFault>
-{
+) -> Option<FormFault> {
     match setting.name.as_slice() {
         b"objectformat" if has_value(setting, b"sha1") => None,
         b"objectformat" => Some(FormFault::ObjectFormat),
@@ -181,7 +175,6 @@ fn extension_fault<A: Allocator + Copy>(
 }
 
 // Whether an extension changes nothing of what is read or written here.
-fn is_known(name: &[u8]) -> bool
-{
+fn is_known(name: &[u8]) -> bool {
     KNOWN.iter().any(|known| *known == name)
 }

@@ -77,8 +77,7 @@ impl<A: Allocator + Copy> History<A> {
         &mut self,
         reader: &mut ObjectReader<'_, F, A>,
         id: &Oid,
-    ) -> Result<(), RepositoryFault<A>>
-    {
+    ) -> Result<(), RepositoryFault<A>> {
         self.reach(
             reader,
             Parent {
@@ -99,8 +98,7 @@ impl<A: Allocator + Copy> History<A> {
     fn step<F: ObjectFiles>(
         &mut self,
         reader: &mut ObjectReader<'_, F, A>,
-    ) -> Result<bool, RepositoryFault<A>>
-    {
+    ) -> Result<bool, RepositoryFault<A>> {
         match self.next_parent() {
             Some(parent) => {
                 self.reach(reader, parent)?;
@@ -111,8 +109,7 @@ impl<A: Allocator + Copy> History<A> {
     }
 
     // The last object on the path enters the graph. Answers whether there was an object.
-    fn insert_last(&mut self) -> Result<bool, RepositoryFault<A>>
-    {
+    fn insert_last(&mut self) -> Result<bool, RepositoryFault<A>> {
         match self.pop() {
             Some(entry) => {
                 self.insert(entry)?;

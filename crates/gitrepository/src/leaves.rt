@@ -21,8 +21,7 @@ pub fn add_leaves<F: ObjectFiles, A: Allocator + Copy>(
     reader: &mut ObjectReader<'_, F, A>,
     graph: &mut Graph<A>,
     tips: &Tips<A>,
-) -> Result<(), RepositoryFault<A>>
-{
+) -> Result<(), RepositoryFault<A>> {
     for id in tips.as_slice() {
         if !graph.contains(id) && is_leaf(reader, id)? {
             add_leaf(reader, graph, id)?;
@@ -57,8 +56,7 @@ fn add_leaf<F: ObjectFiles, A: Allocator + Copy>(
     reader: &mut ObjectReader<'_, F, A>,
     graph: &mut Graph<A>,
     id: &Oid,
-) -> Result<(), RepositoryFault<A>>
-{
+) -> Result<(), RepositoryFault<A>> {
     let object = reader.read_checked(id)?;
     if !is_leaf_type(object.kind) {
         return Err(RepositoryFault::refused(id, ObjectCause::Type));

@@ -101,8 +101,7 @@ fn peeled_refs<A: Allocator + Copy>(
     alloc: A,
     graph: &Graph<A>,
     refs: &Refs<A>,
-) -> Result<Refs<A>, RepositoryFault<A>>
-{
+) -> Result<Refs<A>, RepositoryFault<A>> {
     let mut peeled = Refs::new(alloc);
     for pair in refs.as_slice() {
         if let Some(id) = graph.peel(&pair.1) {

@@ -23,16 +23,14 @@ impl<A: Allocator + Copy> Model for Tips<A> {
 
 impl<A: Allocator + Copy> Tips<A> {
     /// These ids, which may come in any order. It fails out of memory.
-    pub fn new(alloc: A, ids: &[Oid]) -> Result<Tips<A>, AllocError>
-    {
+    pub fn new(alloc: A, ids: &[Oid]) -> Result<Tips<A>, AllocError> {
         let mut ids = ids.to_vec(alloc)?;
         ids.sort_unstable();
         Ok(Tips { ids })
     }
 
     /// Whether a ref of the peer is at this id.
-    pub fn contains(&self, id: &Oid) -> bool
-    {
+    pub fn contains(&self, id: &Oid) -> bool {
         self.ids.binary_search(id).is_ok()
     }
 
