@@ -1,6 +1,6 @@
 //! A fact, looked at.
 
-use crate::{history, known, large, made, shown};
+use crate::{history, known, made, shown};
 use cases::{Fact, Kind, Trouble};
 use scarce::Scarce;
 use std::alloc::{Allocator, Global};
@@ -89,9 +89,8 @@ fn found_in_text<A: Allocator + Copy>(
     memory: A,
     fact: &Fact<'_>,
 ) -> Result<String, Trouble> {
-    match fact.kind {
-        Kind::Shown => shown::answer(look.alloc, fact),
-        Kind::Large => large::answer(look.alloc, fact),
-        _ => made::answer(look.alloc, memory, fact, look.most),
+    if fact.kind == Kind::Shown {
+        return shown::answer(look.alloc, fact);
     }
+    made::answer(look.alloc, memory, fact, look.most)
 }
