@@ -84,17 +84,17 @@ AreLong n rows = All (λ row. length row ≡ n) rows
 abbrev pub IsAscending : List Id → Type 0
 IsAscending ids = AllAdjacentBelow (λ one other. slice_cmp nat_cmp one other ≡ Less) ids (length ids)
 
--- A row that names the place of a list names that of an edge. The last of the edges has the highest bit, so that each list
--- has an end.
+-- the place that a row names, if any, is one of so many
 abbrev pub NamesEdge : ℕ → List ℕ → Type 0
 NamesEdge count row = mark ≤ second_parent row → second_parent row - mark < count
 
+-- Each list that a row names begins at an edge. The last edge has the highest bit, so each list has an end.
 pub record HaveEnds (edges rows : List (List ℕ)) : Type 0 where
   pub last : (d : List ℕ) → 0 < length edges → mark ≤ number (slice_index_or edges (length edges - 1) d)
   pub begins : All (NamesEdge (length edges)) rows
 
--- The form of a file: ids of 20 bytes, which ascend; a row of 36 bytes for each; and edges of 4 bytes. Each place of an id is
--- less than the number where there is no parent.
+-- The form of a file: ids of 20 bytes, which ascend; a row of 36 bytes for each; and edges of 4 bytes. There are so few
+-- ids that each has a place less than the number where there is no parent.
 pub record IsGraphFile (file : GraphFile) : Type 0 where
   pub bases : AreLong 20 file.bases
   pub ids : AreLong 20 file.ids
@@ -122,6 +122,7 @@ pub record IsEdgeBefore (end : ℕ) (edge : List ℕ) : Type 0 where
   pub inner : number edge < mark → number edge < end
   pub last : mark ≤ number edge → number edge - mark < end
 
+-- each position that a file names is before this one
 pub record HasPositionsBefore (end : ℕ) (file : GraphFile) : Type 0 where
   pub rows : All (IsRowBefore end) file.rows
   pub edges : All (IsEdgeBefore end) file.edges

@@ -8,7 +8,8 @@ use Rattle.gitcommitgraph.specs.Texts.{IsGraphText}
 -- a text of fewer than 2^64 bytes is that of one file
 abbrev pub FilesAreOne : Type 0
 FilesAreOne =
-    (one other : GraphFile) (text : List ℕ) → IsGraphText one text → IsGraphText other text → length text < 2 ^ 64 → one ≡ other
+    (one other : GraphFile) (text : List ℕ)
+    → IsGraphText one text → IsGraphText other text → length text < 2 ^ 64 → one ≡ other
 
 -- a text names the files of one chain
 abbrev pub ChainsAreOne : Type 0

@@ -24,8 +24,8 @@ chunk_bytes c = c.bytes
 abbrev pub no_name : List ℕ
 no_name = 0 ∷ 0 ∷ 0 ∷ 0 ∷ []
 
--- The table of contents of chunks that begin at this offset. It has a row for each, with its name and its offset. A last
--- row has the offset at which they end.
+-- The table of contents of chunks that begin at this offset. It has a row for each, with its name and its offset, and a
+-- last row with the offset at which they end.
 abbrev pub contents : ℕ → List Chunk → List ℕ
 contents offset [] = no_name ++ to_be_bytes w64 offset
 contents offset (c ∷ chunks) = c.name ++ (to_be_bytes w64 offset ++ contents (offset + length c.bytes) chunks)

@@ -18,14 +18,14 @@ pub(crate) const ENTRY_BYTES: usize = 12;
 // The name in the last row.
 const NO_NAME: &[u8; 4] = b"\0\0\0\0";
 
-/// What the header says: the number of chunks, and of base graphs.
+/// A header: the number of chunks, and of base graphs.
 #[derive(Clone, Copy, Drop)]
 pub(crate) struct Header {
     pub(crate) chunks: u8,
     pub(crate) bases: u8,
 }
 
-/// Where a chunk lies in a file.
+/// The place of a chunk: its bytes are from `start` to `end`.
 #[derive(Clone, Copy, Drop)]
 pub(crate) struct Span {
     pub(crate) start: usize,
@@ -131,7 +131,7 @@ fn offset_of(row: &[u8; ENTRY_BYTES]) -> u64
     u64::from_be_bytes(*row.last_chunk::<8>().unwrap())
 }
 
-/// Where the chunk with this name lies; `None` if there is none.
+/// The place of the chunk with this name; `None` if there is none.
 pub(crate) fn span_of(rows: &[[u8; ENTRY_BYTES]], name: &[u8; 4]) -> Option<Span>
     ensures { MatchOption result (LacksName rows.now name.now) (IsSpan rows.now name.now) }
 {

@@ -27,7 +27,6 @@ pub struct CommitGraph<A: Allocator + Copy> {
 
 impl<A: Allocator + Copy> Model for CommitGraph<A> {
     ghost use Rattle.std.specs.Prelude.{List};
-    ghost use Rattle.gitcommitgraph.specs.Faults.{IsRefused};
     ghost use Rattle.gitcommitgraph.specs.Files.{GraphFile};
     ghost use Rattle.gitcommitgraph.specs.steps.Chains.{IsGraph};
 
@@ -53,9 +52,10 @@ impl<A: Allocator + Copy> CommitGraph<A> {
     /// Adds the next file of a chain, of which the lowest comes first, or a file alone. The bytes are
     /// kept as they are. Their checksum is not tested.
     ///
-    /// It fails if the bytes have not the form of a file, if its base graphs are not the files
-    /// before, if a parent is not in the commit-graph, or out of memory. The commit-graph is then as
-    /// it was.
+    /// It fails with `Bases` if the base graphs are not the files before, and with `TooMany` if there
+    /// are more commits than positions. It fails with `Parents` if the file names a position of no
+    /// commit. It fails out of memory, and with any other fault if the bytes are no file. The
+    /// commit-graph is then as it was.
     pub fn add(&mut self, bytes: Vec<u8, A>) -> Result<(), CommitGraphFault>
         ensures ok { OnOk result (AddsFile self.old bytes.items self.new) }
         ensures err { IfErr result (IsRefused self.old bytes.items) }

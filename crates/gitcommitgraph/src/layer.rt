@@ -29,7 +29,7 @@ const EDGE_BYTES: usize = 4;
 // No byte.
 const NOWHERE: Span = Span { start: 0, end: 0 };
 
-// Where the chunks of a file lie.
+// The places of a file's chunks.
 #[derive(Clone, Copy, Drop)]
 struct Places {
     fan_out: Span,
@@ -62,9 +62,9 @@ impl<A: Allocator + Copy> Model for Layer<A> {
 impl<A: Allocator + Copy> Layer<A> {
     /// The file with these bytes.
     ///
-    /// It fails with `Header`, `Contents` or `Chunk` if the parts of the file are not such, with `Order`
-    /// if its ids do not ascend, with `FanOut` if its fan-out table is not theirs, and with `Edges` if
-    /// a list of edges has no end.
+    /// It fails with `Header`, `Contents` or `Chunk` if one of these is wrong, and with `Order` if the
+    /// ids do not ascend. It fails with `FanOut` if the fan-out table is not theirs, and with `Edges`
+    /// if a list of edges has no end.
     pub(crate) fn read(bytes: Vec<u8, A>) -> Result<Layer<A>, CommitGraphFault>
         ensures { MatchResult result (λ file. IsGraphText file bytes.items)
             (λ fault. (old : List GraphFile) → IsRefused old bytes.items fault) }
@@ -163,7 +163,8 @@ impl<A: Allocator + Copy> Layer<A> {
     }
 }
 
-// Where the chunks of a file lie. They have the right lengths.
+// The places of a file's chunks, which have the right lengths. It fails with `Header`, `Contents` or
+// `Chunk`.
 fn read_places(bytes: &[u8]) -> Result<Places, CommitGraphFault>
     ensures { MatchResult result (IsCut bytes.now)
         (λ fault. (old : List GraphFile) → IsRefused old bytes.now fault) }
@@ -205,7 +206,7 @@ fn test_tables(bytes: &[u8], places: &Places) -> Result<(), CommitGraphFault>
     Ok(())
 }
 
-// Where the chunks of these rows lie.
+// The places of the chunks of these rows; `None` if one is missing.
 fn find_places(rows: &[[u8; ENTRY_BYTES]]) -> Option<Places>
     ensures { MatchOption result (LacksChunk rows.now) (ArePlaces rows.now) }
 {
@@ -218,7 +219,7 @@ fn find_places(rows: &[[u8; ENTRY_BYTES]]) -> Option<Places>
     })
 }
 
-// Where a chunk lies that may not be there.
+// The place of a chunk that may not be there.
 fn optional_span_of(rows: &[[u8; ENTRY_BYTES]], name: &[u8; 4]) -> Span
     ensures { MayBeSpan rows.now name.now result }
 {
@@ -242,7 +243,7 @@ fn have_lengths(places: &Places, bases: usize) -> bool
         && size_of(&places.bases) == bases * ID_BYTES
 }
 
-// How many bytes lie there.
+// The number of bytes there.
 fn size_of(span: &Span) -> usize
     ensures { result ≡ size span.now }
 {

@@ -15,7 +15,7 @@ pub(crate) const ID_BYTES: usize = 20;
 /// The bytes of a row of the commit data.
 pub(crate) const ROW_BYTES: usize = 36;
 
-// Where the numbers of the two parents begin in a row.
+// The places in a row of the numbers for its two parents.
 const FIRST_PARENT: usize = 20;
 
 const SECOND_PARENT: usize = 24;

@@ -8,7 +8,8 @@ use Rattle.gitcommitgraph.specs.Texts.{begins_within}
 -- a table of 256 numbers: for each byte, how many ids begin with it or a lower one
 pub record IsFanOut (rows : List (List ℕ)) (ids : List Id) : Type 0 where
   pub long : length rows ≡ 256
-  pub counted : (byte : ℕ) (d : List ℕ) → byte < 256 → number (slice_index_or rows byte d) ≡ count_by (begins_within byte) ids
+  pub counted : (byte : ℕ) (d : List ℕ) → byte < 256
+      → number (slice_index_or rows byte d) ≡ count_by (begins_within byte) ids
 
 -- the ids before a place begin with lower bytes, and those from another place on with higher ones
 pub record AreBetween (byte : ℕ) (ids : List Id) (start end : ℕ) : Type 0 where
