@@ -6,6 +6,8 @@
 //!   they lie.
 //! - A [`StoreIndexer`] indexes a pack that comes, and keeps it. [`install_pack`] brings it to the
 //!   directory.
+//! - [`open_store`] refuses a repository of a form that is not read. A [`NewRepository`] is one that a
+//!   clone makes. [`check_repository`] checks that all that the refs reach is there.
 //!
 //! # Proved
 //!
@@ -32,8 +34,8 @@
 //! - No delta is made. Loose objects are deflated whole, and so is an object whose base the peer
 //!   does not get.
 //! - A graph holds at most 1,048,576 commits and tags, with at most 64 parents each.
-//! - A commit-graph, a multi-pack index, bitmaps, shallow repositories, grafts and replace refs are
-//!   not read.
+//! - A commit-graph, a multi-pack index, bitmaps, grafts and replace refs are not read. A shallow
+//!   repository, a partial clone, SHA-256 ids, a reftable and an unknown extension are refused.
 //! - An object that is here counts as complete: what it names is not looked for.
 //!
 //! # What the contracts do not rule out
@@ -41,7 +43,10 @@
 //! - The packer might send other objects than those that are asked for, or send the entry of one
 //!   object for another. The reader compares the CRC-32 of each entry that is copied with that of
 //!   the index, but has no clause that says so.
-//! - The graph might hold more than the refs reach, and a ref might be left out.
+//! - The graph might hold more than the refs reach, and a ref might be left out. So might
+//!   [`check_refs`] leave out a ref; it counts the nodes of a graph as above.
+//! - [`Tips`] might forget an id, [`add_leaves`] might add other nodes, and a repository of any form
+//!   might be opened or refused. The names of peeled refs in a new repository might be wrong.
 //! - The indexer might leave out an entry. It looks for the trees and blobs that are named, and
 //!   compares objects that are here already; no clause says so.
 //! - No contract can say what a file of the system has: only the order of the calls of
