@@ -1,7 +1,7 @@
 -- What was put in a pack.
 use Rattle.std.proofs.Common.{◌≡◌, ℕ, ◌+◌, List, [], ◌∷◌, ◌++◌, All, length, refl, ap, subst, sym, ◌∙◌, arith}
 use Rattle.std.specs.List.{concat}
-use Rattle.std.proofs.lemmas.List.Elements.{All-push}
+use Rattle.std.proofs.lemmas.List.Elements.{All-nil, All-push}
 use Rattle.std.proofs.lemmas.List.Folds.{concat-append}
 use Rattle.std.proofs.lemmas.List.{length-append, append_assoc, append-nil}
 use Rattle.gitpack.specs.Packs.{AddsEntry, pack_header, with_trailer}
@@ -25,7 +25,7 @@ HasPut_more count put size form stream old new has adds =
 
 -- no entry yet
 pub HasPut_none : (count : ℕ) (bytes : List ℕ) → bytes ≡ pack_header count → HasPut count 0 bytes
-HasPut_none count bytes is = record { texts = []; each = tt; many = refl; is = is ∙ sym (append-nil (pack_header count)) }
+HasPut_none count bytes is = record { texts = []; each = All-nil IsEntryText; many = refl; is = is ∙ sym (append-nil (pack_header count)) }
 
 -- a pack with as many entries as its header says
 pub IsWholePack_of : (count put : ℕ) (bytes pack : List ℕ) → put ≡ count → HasPut count put bytes → pack ≡ with_trailer bytes → IsWholePack pack
