@@ -1,3 +1,4 @@
 pub mod Heads
 pub mod Listing
+pub mod Moves
 pub mod Versions
