@@ -1,4 +1,3 @@
 pub mod Heads
 pub mod Listing
-pub mod Moves
 pub mod Versions

@@ -189,7 +189,7 @@ where
     let head = head_of(alloc, listed)?;
     let tips = tips_of(alloc, listed)?;
     let specs = specs(alloc, &head)?;
-    let found = Directories::of_bare(alloc, dir)?;
+    let found = Directories::of_one(alloc, dir)?;
     let wanted = Wanted {
         remote,
         specs: specs.as_slice(),

@@ -1,8 +1,5 @@
 //! `gitrepo fetch`, and what it shares with a clone.
 
-ghost use Rattle.std.specs.Prelude.{◌≡◌, ◌++◌, IfOk, OnOk};
-ghost use Rattle.gitprogram.specs.Moves.{is_at, moves, moves_from};
-
 use crate::directory::{Directories, find_repository};
 use crate::fault::Fault;
 use crate::opening::{open_client, repository_fault};
@@ -12,13 +9,13 @@ use crate::sentences::Sentence;
 use gclient::{FetchFault, Fetched, PackOptions, Repo, Spec};
 use gcmd::{Ends, PackLimit, ProgramFault, send_report};
 use gconnect::{GitFetch, fetch_git};
-use ggraph::{Head, Refs, Repository};
+use ggraph::{Refs, Repository};
 use gitobjects::StoredFiles;
 use gitrefs::RefUpdate;
 use gitrepository::{Received, RepositoryFault, StoreIndexer, Tips, install_pack};
 use gitwords::{FetchArgs, Verbosity};
 use glsreply::LsReply;
-use gname::{MAX_PACK, Oid, RefName};
+use gname::MAX_PACK;
 use gpkt::{FromRead, ToWrite};
 use gtcp::{Peer, Silence};
 use std::alloc::{AllocError, Global};
@@ -162,61 +159,23 @@ fn has_source(listed: &LsReply<Global>, spec: &Spec<Global>) -> bool {
 
 // Installs the pack, and then moves the refs.
 fn keep<R: Files + AllocGlobal>(rt: &R, found: &Directories, fetch: &Fetch) -> Result<(), Fault> {
-    let client = &fetch.client;
-    let updates = updates_of(rt.alloc(), &client.before, client.repo.refs())?;
-    check_head(rt, found, updates.as_slice())?;
-    match install_and_move(rt, found, &fetch.received, updates.as_slice()) {
+    match install_and_move(rt, found, fetch) {
         Ok(()) => Ok(()),
         Err(fault) => Err(repository_fault(rt.alloc(), found.common.as_str(), &fault)),
     }
 }
 
-// Fails if the branch that is checked out in a work tree would move (git-fetch(1),
-// "--update-head-ok").
-fn check_head<R>(rt: &R, found: &Directories, updates: &[RefUpdate]) -> Result<(), Fault>
-where
-    R: Files + AllocGlobal,
-{
-    if !found.has_work_tree {
-        return Ok(());
-    }
-    match found.refs(rt.alloc(), rt).read_refs() {
-        Ok((_, Head::Symref(branch))) => check_branch(rt.alloc(), branch.name(), updates),
-        Ok(_) => Ok(()),
-        Err(fault) => {
-            let fault = RepositoryFault::from(fault);
-            Err(repository_fault(rt.alloc(), found.common.as_str(), &fault))
-        }
-    }
-}
-
-fn check_branch(
-    alloc: Global,
-    branch: &RefName<Global>,
-    updates: &[RefUpdate],
-) -> Result<(), Fault> {
-    if updates.iter().any(|update| update.name == *branch) {
-        return Err(Fault::of(
-            alloc,
-            Sentence::CheckedOut {
-                name: branch.as_bytes(),
-            },
-        ));
-    }
-    Ok(())
-}
-
 fn install_and_move<R: Files + AllocGlobal>(
     rt: &R,
     found: &Directories,
-    received: &Option<Received<Global>>,
-    updates: &[RefUpdate],
+    fetch: &Fetch,
 ) -> Result<(), RepositoryFault<Global>> {
     let alloc = rt.alloc();
-    if let Some(received) = received {
+    if let Some(received) = &fetch.received {
         install_pack(alloc, rt, found.common.as_str(), received)?;
     }
-    found.refs(alloc, rt).update_refs(updates)?;
+    let updates = updates_of(alloc, &fetch.client.before, fetch.client.repo.refs())?;
+    found.refs(alloc, rt).update_refs(updates.as_slice())?;
     Ok(())
 }
 
@@ -225,44 +184,19 @@ fn updates_of(
     alloc: Global,
     before: &Refs<Global>,
     after: &Refs<Global>,
-) -> Result<Vec<RefUpdate>, AllocError>
-    ensures { IfOk result (λ updates. updates.items ≡ moves before.now after.now) }
-{
+) -> Result<Vec<RefUpdate>, AllocError> {
     let mut updates = Vec::new(alloc);
     for pair in after.as_slice() {
-        push_update(&mut updates, before.get(&pair.0), &pair.0, &pair.1)?;
+        let old = before.get(&pair.0);
+        if old != Some(pair.1) {
+            updates.push(RefUpdate {
+                name: pair.0.copy_in(alloc)?,
+                old,
+                new: pair.1,
+            })?;
+        }
     }
     Ok(updates)
-}
-
-// Adds the move of a ref, unless it is still where it was.
-fn push_update(
-    updates: &mut Vec<RefUpdate>,
-    old: Option<Oid>,
-    name: &RefName<Global>,
-    id: &Oid,
-) -> Result<(), AllocError>
-    ensures { OnOk result (updates.new.items ≡ updates.old.items ++ moves_from old name.now id.now) }
-{
-    if is_at(old, id) {
-        return Ok(());
-    }
-    let name = name.copy_in(*updates.allocator())?;
-    updates.push(RefUpdate {
-        name,
-        old,
-        new: *id,
-    })?;
-    Ok(())
-}
-
-fn is_at(old: Option<Oid>, id: &Oid) -> bool
-    ensures { result ≡ is_at old id.now }
-{
-    match old {
-        Some(old) => old == *id,
-        None => false,
-    }
 }
 
 // Prints what became of each ref.
