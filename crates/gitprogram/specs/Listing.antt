@@ -1,5 +1,5 @@
 -- The lines of a listing, as git-ls-remote(1) prints them.
-use Rattle.std.specs.Prelude.{ℕ, Bool, true, List, [], ◌∷◌, ◌++◌, codes, if◌then◌else◌, nat_eq, Option, None, Some}
+use Rattle.std.specs.Prelude.{ℕ, ◌==◌, ◌||◌, Bool, length, List, [], ◌∷◌, ◌++◌, codes, if◌then◌else◌, nat_eq, Option, None, Some}
 use Rattle.std.specs.List.{flat_map, list_any, starts_with}
 use Rattle.gname.specs.Ids.{Id, id_text}
 use Rattle.gpkt.specs.Packets.{Bytes}
@@ -20,8 +20,7 @@ ref_lines line = id_line line.id (line.name ++ []) ++ peeled_line line.name line
 
 -- whether a name is listed: it begins with one of the prefixes, or there is none
 abbrev pub is_listed : List Bytes → Bytes → Bool
-is_listed [] name = true
-is_listed prefixes name = list_any (starts_with nat_eq name) prefixes
+is_listed prefixes name = length prefixes == 0 || list_any (starts_with nat_eq name) prefixes
 
 abbrev pub listed_lines : List Bytes → RefLine → Bytes
 listed_lines prefixes line = if is_listed prefixes line.name then ref_lines line else []

@@ -1,6 +1,7 @@
 //! `gitrepo ls`: the refs of a server.
 
-ghost use Rattle.std.specs.Prelude.{◌≡◌, ◌<◌, ◌++◌, IfOk, OnOk, Some, length, slice_get};
+ghost use Rattle.std.specs.Prelude.{◌≡◌, ◌<◌, ◌++◌, IfOk, OnOk, Some, length, nat_eq, slice_get};
+ghost use Rattle.std.specs.List.{list_any, starts_with};
 ghost use Rattle.glsreply.specs.RefTexts as texts;
 ghost use Rattle.gitprogram.specs.Listing.{id_line, is_listed, listed_lines, listing, ref_lines};
 
@@ -87,10 +88,16 @@ fn put_listed(
 fn is_listed(prefixes: &[Prefix<Global>], name: &[u8]) -> bool
     ensures { result ≡ is_listed prefixes.now name.now }
 {
-    prefixes.is_empty()
-        || prefixes
-            .iter()
-            .any(|prefix| name.starts_with(prefix.as_bytes()))
+    prefixes.is_empty() || begins_with_any(prefixes, name)
+}
+
+// Whether a name begins with one of some prefixes.
+fn begins_with_any(prefixes: &[Prefix<Global>], name: &[u8]) -> bool
+    ensures { result ≡ list_any (starts_with nat_eq name.now) prefixes.now }
+{
+    prefixes
+        .iter()
+        .any(|prefix| name.starts_with(prefix.as_bytes()))
 }
 
 // The line of a ref, and that of the object to which it leads if it is at a tag.
