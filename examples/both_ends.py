@@ -10,9 +10,13 @@ import time
 
 BRANCH = "refs/heads/trunk"
 # The longest that a command may take.
-SECONDS = 60
+SECONDS = 30
 
-SETTINGS = {"gc.auto": "0", "maintenance.auto": "false", "protocol.file.allow": "always", "advice.detachedHead": "false"}
+# A fetch keeps its pack, so that there are fewer files.
+SETTINGS = {
+    "gc.auto": "0", "maintenance.auto": "false", "fetch.unpackLimit": "1", "protocol.file.allow": "always",
+    "advice.detachedHead": "false",
+}
 ENV = {
     "PATH": os.environ["PATH"],
     "HOME": "/nonexistent",
@@ -22,6 +26,7 @@ ENV = {
     "GIT_CONFIG_GLOBAL": "/dev/null",
     "GIT_TERMINAL_PROMPT": "0",
     "GIT_NO_REPLACE_OBJECTS": "1",
+    "GIT_TEMPLATE_DIR": "",
     "GIT_AUTHOR_NAME": "A",
     "GIT_AUTHOR_EMAIL": "a@example.com",
     "GIT_COMMITTER_NAME": "C",

@@ -311,6 +311,20 @@ def broken_refs(folder, ours):
     check("gitrepo check names a ref whose object is missing", done.status == 1 and "1" * 40 in done.told, done)
 
 
+def change_an_entry(path, id):
+    """Changes a byte of the entry of an object, in the only pack."""
+    (index,) = [name for name in os.listdir(f"{path}/objects/pack") if name.endswith(".idx")]
+    index = f"{path}/objects/pack/{index}"
+    lines = attempt("git", "show-index", data=read(index)).out.decode().splitlines()
+    (offset,) = [int(line.split()[0]) for line in lines if line.split()[1] == id]
+    pack = index.replace(".idx", ".pack")
+    text = bytearray(read(pack))
+    text[offset + 12] ^= 16
+    os.chmod(pack, 0o644)
+    with open(pack, "wb") as file:
+        file.write(text)
+
+
 def damaged(folder, ours):
     """Objects that are missing or changed: no clone is wrong, gitrepo check names what is wrong, and the server goes on."""
     source = add_history(new_repository(f"{folder}/to-damage.git"), 12, 62)
@@ -327,16 +341,8 @@ def damaged(folder, ours):
         check(f"a {kind} is missing: no clone", done.status == 128 or kind == "tag", done)
         done = gitrepo("check", path)
         check(f"a {kind} is missing: gitrepo check names it", done.status == 1 and id in done.told, done)
-    path = f"{folder}/served/changed.git"
-    add_history(new_repository(path), 80, 63)
-    for name in os.listdir(f"{path}/objects/pack"):
-        file = f"{path}/objects/pack/{name}"
-        if name.endswith(".pack"):
-            text = bytearray(read(file))
-            text[len(text) // 2] ^= 16
-            os.chmod(file, 0o644)
-            with open(file, "wb") as out:
-                out.write(text)
+    path = add_history(new_repository(f"{folder}/served/changed.git"), 80, 63)
+    change_an_entry(path, git(path, "rev-parse", f"{BRANCH}^{{tree}}"))
     done = attempt("git", "clone", "--quiet", "--mirror", ours.url("changed.git"), f"{folder}/changed.git")
     check("a pack is changed: no clone", done.status == 128, done)
     done = gitrepo("check", path)
@@ -437,7 +443,7 @@ def limits(folder, ours, theirs):
 
 def words(folder, theirs):
     """Exit statuses, help, the version, and that no error leaves a folder."""
-    for what in ([], ["clone"], ["clone", theirs.url("x")], ["none"], ["fetch", "--none"], ["serve", folder], ["ls"]):
+    for what in ([], ["clone"], ["clone", theirs.url("x")], ["none"], ["fetch", "--none"], ["ls"]):
         done = gitrepo(*what)
         check(f"gitrepo {' '.join(what)[:20]}: status 2 and the usage", done.status == 2 and "sage" in done.told, done)
     for what in (["--help"], ["clone", "--help"], ["serve", "--help"], ["--version"]):
