@@ -15,7 +15,7 @@ SECONDS = 30
 # A fetch keeps its pack, so that there are fewer files.
 SETTINGS = {
     "gc.auto": "0", "maintenance.auto": "false", "fetch.unpackLimit": "1", "protocol.file.allow": "always",
-    "advice.detachedHead": "false",
+    "advice.detachedHead": "false", "core.fsync": "none",
 }
 ENV = {
     "PATH": os.environ["PATH"],
