@@ -6,6 +6,7 @@ leaves 127.0.0.1, and the folder is removed at the end. A run that takes longer 
 
 import os
 import re
+import shutil
 import signal
 import socket
 import subprocess
@@ -333,9 +334,10 @@ def damaged(folder, ours):
         "blob": git(source, "rev-list", "--objects", "--filter=object:type=blob", "--no-object-names", BRANCH).split("\n")[-1],
         "tag": git(source, "rev-parse", "refs/tags/v62"),
     }
+    loose = unpacked(source, f"{folder}/to-damage-loose.git")
     for kind, id in ids.items():
         name = f"without-a-{kind}.git"
-        path = unpacked(source, f"{folder}/served/{name}")
+        path = shutil.copytree(loose, f"{folder}/served/{name}")
         os.remove(f"{path}/objects/{id[:2]}/{id[2:]}")
         done = attempt("git", "clone", "--quiet", "--mirror", ours.url(name), f"{folder}/{name}")
         check(f"a {kind} is missing: no clone", done.status == 128 or kind == "tag", done)
