@@ -4,7 +4,7 @@ use crate::deltas::low_bits;
 use crate::names::Object;
 use crate::trouble::Trouble;
 use gitobject::ObjectType;
-use gzlib::{Deflater, crc32_of};
+use gzlib::{Deflater, crc32_of, put_stored};
 use sha1::Sha1;
 use std::alloc::Global;
 
@@ -100,16 +100,15 @@ impl<'a> Pack<'a> {
         self.put_stream(deflater, object.body.as_slice())
     }
 
-    /// Adds a delta of the object whose entry begins so many bytes before.
+    /// Adds a delta of the object whose entry begins so many bytes before, in stored blocks.
     pub(crate) fn put_offset_delta(
         &mut self,
-        deflater: &mut Deflater<Global>,
         distance: usize,
         delta: &[u8],
     ) -> Result<(), Trouble> {
         self.put_head(OFFSET_DELTA, delta.len())?;
         self.put_distance(distance)?;
-        self.put_stream(deflater, delta)
+        Ok(put_stored(&mut self.body, delta)?)
     }
 
     /// How many bytes before the next entry that one begins that lies so many entries before it.
@@ -124,33 +123,29 @@ impl<'a> Pack<'a> {
 
     // Adds a distance: seven bits a byte, the highest first, and one less for each byte more.
     fn put_distance(&mut self, distance: usize) -> Result<(), Trouble> {
-        let mut digits = [0; 10];
-        let mut rest = distance;
-        let mut first = 9;
-        digits[first] = low_bits(rest);
-        rest >>= 7;
-        for place in (0..9usize).rev() {
+        let first = self.body.len();
+        self.body.push(low_bits(distance))?;
+        let mut rest = distance >> 7;
+        for _ in 0..usize::BITS {
             if rest == 0 {
                 break;
             }
             rest = rest.wrapping_sub(1);
-            digits[place] = low_bits(rest) | 0x80;
+            self.body.insert(first, low_bits(rest) | 0x80)?;
             rest >>= 7;
-            first = place;
         }
-        Ok(self.body.extend_from_slice(&digits[first..])?)
+        Ok(())
     }
 
-    /// Adds a delta of an object, which is named by its id.
+    /// Adds a delta of an object, which is named by its id, in stored blocks.
     pub(crate) fn put_ref_delta(
         &mut self,
-        deflater: &mut Deflater<Global>,
         base: &Object<'_>,
         delta: &[u8],
     ) -> Result<(), Trouble> {
         self.put_head(REF_DELTA, delta.len())?;
         self.put_bytes(base.id.as_bytes())?;
-        self.put_stream(deflater, delta)
+        Ok(put_stored(&mut self.body, delta)?)
     }
 
     /// All bytes of the pack.

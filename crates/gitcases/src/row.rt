@@ -39,8 +39,12 @@ pub(crate) struct Row<'a> {
     /// The answer to opening the store.
     pub(crate) open: Option<Vec<u8>>,
     pub(crate) reads: Vec<Read>,
-    /// Whether it is tried as it is alone.
+    /// More answers that may come where an allocation is refused.
+    pub(crate) memory: Vec<Vec<u8>>,
+    /// Whether it is tried without an allocation refused.
     pub(crate) is_large: bool,
+    /// Whether its bytes are cut and changed.
+    pub(crate) is_swept: bool,
 }
 
 // How much a pack may ask for, unless a row says otherwise.
@@ -64,7 +68,9 @@ impl<'a> Row<'a> {
             has: Vec::new(alloc),
             open: None,
             reads: Vec::new(alloc),
+            memory: Vec::new(alloc),
             is_large: false,
+            is_swept: false,
         }
     }
 

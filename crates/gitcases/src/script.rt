@@ -110,7 +110,7 @@ impl<'a> Script<'a> {
             "lines" => self.begin_lines(rest),
             "line" | "wrong-line" | "unsorted" => self.add_to_lines(word, rest),
             "store" => Ok(self.stores.push(Store::new(self.alloc, rest)?)?),
-            "loose" | "file" | "packed" => self.add_to_store(word, rest),
+            "loose" | "file" | "packed" | "at" => self.add_to_store(word, rest),
             "row" => self.begin_row(rest),
             _ if is_of_row(word) => self.add_to_row(word, rest),
             _ => self.add_to_pack(word, rest),
@@ -173,15 +173,15 @@ impl<'a> Script<'a> {
             }
             "back" => {
                 let distance = pack.distance_of(number_of(first)?)?;
-                pack.put_offset_delta(&mut self.deflater, distance, self.names.text(more)?)
+                pack.put_offset_delta(distance, self.names.text(more)?)
             }
             "far" => {
                 let distance = number_of(first)?;
-                pack.put_offset_delta(&mut self.deflater, distance, self.names.text(more)?)
+                pack.put_offset_delta(distance, self.names.text(more)?)
             }
             "by-id" => {
                 let base = self.names.object(first)?;
-                pack.put_ref_delta(&mut self.deflater, base, self.names.text(more)?)
+                pack.put_ref_delta(base, self.names.text(more)?)
             }
             "head" => pack.put_head(number_of_kind(first)?, number_of(more)?),
             _ => self.set_in_pack(word, rest),
@@ -221,11 +221,11 @@ impl<'a> Script<'a> {
         let (name, place) = first_of(rest);
         let (number, offset) = first_of(place);
         let (start, crc) = self.pack(pack)?.entry(number_of(number)?)?;
-        let offset = if offset.is_empty() { start } else { number_of(offset)? };
+        let offset = offset_of(start, offset)?;
         let crc = if word == "line" { crc } else { !crc };
         let id = self.names.object(name)?.id;
         match self.lines.last_mut() {
-            Some(lines) => lines.push(id, crc, offset as u64),
+            Some(lines) => lines.push(id, crc, offset),
             None => Err(Trouble::NotBegun),
         }
     }
@@ -240,21 +240,31 @@ impl<'a> Script<'a> {
         }
     }
 
-    fn add_to_store(&mut self, word: &str, rest: &str) -> Result<(), Trouble> {
+    fn add_to_store(&mut self, word: &str, rest: &'a str) -> Result<(), Trouble> {
         match word {
             "loose" => self.add_loose(rest),
             "packed" => self.add_packed(rest),
-            _ => {
-                let (path, line) = first_of(rest);
-                let bytes = self.spelled(line)?;
-                self.add_file(path, bytes)
-            }
+            "at" => self.set_folder(rest),
+            _ => self.add_file(rest),
         }
     }
 
-    fn add_file(&mut self, path: &str, bytes: Vec<u8>) -> Result<(), Trouble> {
+    fn set_folder(&mut self, folder: &'a str) -> Result<(), Trouble> {
         match self.stores.last_mut() {
-            Some(store) => store.add(self.alloc, path, bytes),
+            Some(store) => {
+                store.set_folder(folder);
+                Ok(())
+            }
+            None => Err(Trouble::NotBegun),
+        }
+    }
+
+    fn add_file(&mut self, rest: &str) -> Result<(), Trouble> {
+        let (path, line) = first_of(rest);
+        let bytes = self.spelled(line)?;
+        let path = String::from_str(self.alloc, path)?;
+        match self.stores.last_mut() {
+            Some(store) => store.add(path, bytes),
             None => Err(Trouble::NotBegun),
         }
     }
@@ -280,17 +290,18 @@ impl<'a> Script<'a> {
     fn add_packed(&mut self, rest: &str) -> Result<(), Trouble> {
         let (name, lines) = first_of(rest);
         let pack = self.pack_bytes(name)?;
-        let index = self.index_bytes(name, lines)?;
-        let path = format!(in self.alloc; "objects/pack/pack-{name}.pack")?;
-        self.add_file(path.as_str(), pack)?;
-        let path = format!(in self.alloc; "objects/pack/pack-{name}.idx")?;
-        self.add_file(path.as_str(), index)
+        let index = self.index_bytes(lines)?;
+        match self.stores.last_mut() {
+            Some(store) => store.add_packed(self.alloc, name, pack, index),
+            None => Err(Trouble::NotBegun),
+        }
     }
 
-    fn index_bytes(&self, pack: &str, name: &str) -> Result<Vec<u8>, Trouble> {
+    // The text of the index that has these lines.
+    fn index_bytes(&self, name: &str) -> Result<Vec<u8>, Trouble> {
         for lines in &self.lines {
             if lines.name == name {
-                return lines.bytes(self.alloc, self.pack(pack)?);
+                return lines.bytes(self.alloc, self.pack(lines.pack)?);
             }
         }
         Err(Trouble::NoName)
@@ -318,6 +329,8 @@ impl<'a> Script<'a> {
             "in" => row.store = rest,
             "index" => row.index = Some(due),
             "open" => row.open = Some(due),
+            "memory" => row.memory.push(due)?,
+            "sweep" => row.is_swept = true,
             _ => row.is_large = true,
         }
         Ok(())
@@ -368,10 +381,21 @@ impl<'a> Script<'a> {
     }
 }
 
+// The offset of an entry, another one, or one so many bytes after it.
+fn offset_of(start: usize, offset: &str) -> Result<u64, Trouble> {
+    if offset.is_empty() {
+        return Ok(start as u64);
+    }
+    match offset.strip_prefix('+') {
+        Some(more) => Ok(start.saturating_add(number_of(more)?) as u64),
+        None => Ok(number_of(offset)? as u64),
+    }
+}
+
 // Whether a line with this word says something of a row.
 fn is_of_row(word: &str) -> bool {
     matches!(
         word,
-        "of" | "in" | "index" | "has" | "limits" | "open" | "read" | "raw" | "large"
+        "of" | "in" | "index" | "has" | "limits" | "open" | "read" | "raw" | "memory" | "large" | "sweep"
     )
 }

@@ -7,8 +7,10 @@ use gname::Oid;
 use gzlib::Deflater;
 use std::alloc::{AllocError, Allocator, Global};
 
-/// The path of each Git directory.
-pub(crate) const GIT_DIR: &str = "r";
+/// The path of each Git directory, and of its objects.
+pub(crate) const GIT_DIR: &str = "/r";
+
+const OBJECTS: &str = "/r/objects";
 
 /// A file.
 #[derive(Drop)]
@@ -22,6 +24,8 @@ pub(crate) struct File {
 pub(crate) struct Store<'a> {
     pub(crate) name: &'a str,
     pub(crate) files: Vec<File>,
+    // The folder to which objects are added.
+    folder: &'a str,
 }
 
 impl<'a> Store<'a> {
@@ -30,25 +34,37 @@ impl<'a> Store<'a> {
         let mut store = Store {
             name,
             files: Vec::new(alloc),
+            folder: OBJECTS,
         };
-        store.add(alloc, "objects/info/packs", Vec::new(alloc))?;
+        let path = String::from_str(alloc, "/r/objects/info/packs")?;
+        store.add(path, Vec::new(alloc))?;
         Ok(store)
     }
 
-    /// Adds a file. Its path begins in the directory, or at the root if there is a slash.
-    pub(crate) fn add(
+    /// Adds a file.
+    pub(crate) fn add(&mut self, path: String, bytes: Vec<u8>) -> Result<(), Trouble> {
+        self.files.push(File { path, bytes })?;
+        Ok(())
+    }
+
+    /// Adds objects to this folder from now on.
+    pub(crate) fn set_folder(&mut self, folder: &'a str) {
+        self.folder = folder;
+    }
+
+    /// Adds a pack and its index.
+    pub(crate) fn add_packed(
         &mut self,
         alloc: Global,
         name: &str,
-        bytes: Vec<u8>,
+        pack: Vec<u8>,
+        index: Vec<u8>,
     ) -> Result<(), Trouble> {
-        let path = if name.starts_with('/') {
-            String::from_str(alloc, name)?
-        } else {
-            format!(in alloc; "{GIT_DIR}/{name}")?
-        };
-        self.files.push(File { path, bytes })?;
-        Ok(())
+        let folder = self.folder;
+        let path = format!(in alloc; "{folder}/pack/pack-{name}.pack")?;
+        self.add(path, pack)?;
+        let path = format!(in alloc; "{folder}/pack/pack-{name}.idx")?;
+        self.add(path, index)
     }
 
     /// Adds the file of a loose object, which inflates to the text.
@@ -68,10 +84,11 @@ impl<'a> Store<'a> {
         let (Ok(first), Ok(rest)) = (str::from_utf8(first), str::from_utf8(rest)) else {
             return Err(Trouble::NoName);
         };
-        let name = format!(in alloc; "objects/{first}/{rest}")?;
+        let folder = self.folder;
+        let path = format!(in alloc; "{folder}/{first}/{rest}")?;
         let mut stream = Vec::new(alloc);
         deflater.deflate(text, &mut stream)?;
-        self.add(alloc, name.as_str(), stream)
+        self.add(path, stream)
     }
 }
 

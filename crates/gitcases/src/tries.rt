@@ -10,9 +10,6 @@ use crate::trouble::Trouble;
 use scarce::Scarce;
 use std::alloc::Global;
 
-// Packs and files of more bytes are tried as they are alone.
-const MAX_SWEPT: usize = 3_000;
-
 // The bits of a byte.
 const BITS: [u8; 8] = [1, 2, 4, 8, 16, 32, 64, 128];
 
@@ -96,13 +93,15 @@ fn try_pack<R: Print + AllocGlobal>(
     if let Some(_id) = missing_of(alloc, pack, row.limits, row.has.as_slice())? {
         tell_wrong(rt, attempt, "an object is not in the index", tally)?;
     }
-    if row.is_large || pack.len() > MAX_SWEPT {
+    if row.is_large {
         return Ok(());
     }
-    attempt.way = Way::Cut;
-    try_cuts(rt, attempt, pack, tally)?;
-    attempt.way = Way::Changed;
-    try_changes(rt, attempt, pack, due, tally)?;
+    if row.is_swept {
+        attempt.way = Way::Cut;
+        try_cuts(rt, attempt, pack, tally)?;
+        attempt.way = Way::Changed;
+        try_changes(rt, attempt, pack, due, tally)?;
+    }
     attempt.way = Way::Scarce;
     try_scarce_pack(rt, attempt, pack, due, tally)
 }
@@ -215,11 +214,21 @@ fn judge_scarce<R: Print>(
     due: &[u8],
     tally: &mut Tally,
 ) -> Result<(), Trouble> {
-    if answer == MEMORY {
+    if answer == MEMORY || is_among(attempt.row, answer) {
         tally.count(attempt.way);
         return Ok(());
     }
     compare(rt, attempt, answer, due, tally)
+}
+
+// Whether an answer is one of those that may come where an allocation is refused.
+fn is_among(row: &Row<'_>, answer: &str) -> bool {
+    for due in &row.memory {
+        if due.as_slice() == answer.as_bytes() {
+            return true;
+        }
+    }
+    false
 }
 
 // Tries a store in all ways.
@@ -245,8 +254,71 @@ fn try_store<R: Print + AllocGlobal>(
         if !row.is_large {
             try_scarce_read(rt, attempt, files, read, tally)?;
         }
+        if row.is_swept {
+            try_changed_files(rt, attempt, files, read, tally)?;
+        }
     }
     Ok(())
+}
+
+// Reads an object with each file changed in each bit, and cut after each byte. The answer is the same
+// object, or a fault.
+fn try_changed_files<R: Print + AllocGlobal>(
+    rt: &R,
+    attempt: Attempt<'_, '_>,
+    files: &[File],
+    read: &Read,
+    tally: &mut Tally,
+) -> Result<(), Trouble> {
+    for number in 0..files.len() {
+        let mut changed = copies(rt.alloc(), files)?;
+        let count = files[number].bytes.len();
+        for place in 0..count {
+            try_changed_file(rt, attempt, (&mut changed, number, place), read, tally)?;
+        }
+    }
+    Ok(())
+}
+
+fn copies(alloc: Global, files: &[File]) -> Result<Vec<File>, Trouble> {
+    let mut copies = Vec::new(alloc);
+    for file in files {
+        copies.push(File {
+            path: String::from_str(alloc, file.path.as_str())?,
+            bytes: file.bytes.as_slice().to_vec(alloc)?,
+        })?;
+    }
+    Ok(copies)
+}
+
+// Reads an object with each bit changed at a place of a file.
+fn try_changed_file<R: Print + AllocGlobal>(
+    rt: &R,
+    attempt: Attempt<'_, '_>,
+    (files, number, place): (&mut Vec<File>, usize, usize),
+    read: &Read,
+    tally: &mut Tally,
+) -> Result<(), Trouble> {
+    let alloc = rt.alloc();
+    let mut attempt = attempt;
+    attempt.way = Way::Changed;
+    attempt.place = place;
+    for bit in BITS {
+        change_file(files, number, place, bit);
+        let answer = of_reading(alloc, alloc, files.as_slice(), read)?;
+        change_file(files, number, place, bit);
+        tally.count(attempt.way);
+        if answer.is_empty() {
+            tell_wrong(rt, attempt, answer.as_str(), tally)?;
+        }
+    }
+    Ok(())
+}
+
+fn change_file(files: &mut Vec<File>, number: usize, place: usize, bit: u8) {
+    if let Some(file) = files.get_mut(number) {
+        change(&mut file.bytes, place, bit);
+    }
 }
 
 // Reads an object with each allocation refused in turn.
