@@ -1,7 +1,7 @@
-"""Runs the examples of README.md, and compares what they print with what the page shows. usage: readme.py PROGRAM
+"""Runs the examples of README.md, and compares what they print with what the page shows. usage: readme.py PROGRAM...
 
 It runs each line that begins with `$ ` in a block marked `console`, all in one shell, in a temporary folder with a copy of
-examples/, with the program on the PATH. Ports that the page names are exchanged for free ones. Blocks marked `console git`
+examples/, with the programs on the PATH. Ports that the page names are exchanged for free ones. Blocks marked `console git`
 are left out if git or its daemon is not installed.
 """
 
@@ -52,8 +52,9 @@ def free_ports(page):
 class Shell:
     """A shell whose output is read command by command, what it runs in the background included."""
 
-    def __init__(self, folder, program):
-        more = {"PATH": f"{os.path.dirname(program)}:{os.environ['PATH']}", "HOME": folder, "LC_ALL": "C"}
+    def __init__(self, folder, programs):
+        folders = [os.path.dirname(program) for program in programs]
+        more = {"PATH": ":".join([*folders, os.environ["PATH"]]), "HOME": folder, "LC_ALL": "C"}
         self.process = subprocess.Popen(
             ["bash"], cwd=folder, env=os.environ | more, stdin=subprocess.PIPE, stdout=subprocess.PIPE,
             stderr=subprocess.STDOUT, start_new_session=True,
@@ -91,13 +92,13 @@ def wait_for(port):
         time.sleep(0.1)
 
 
-def main(program):
+def main(programs):
     with open(f"{TOP}/README.md") as file:
         page = free_ports(file.read())
     ran = wrong = 0
     with tempfile.TemporaryDirectory() as folder:
         shutil.copytree(f"{TOP}/examples", f"{folder}/examples")
-        shell = Shell(folder, program)
+        shell = Shell(folder, programs)
         try:
             for command, shown in commands_of(page):
                 got = shell.run(command, shown)
@@ -111,4 +112,4 @@ def main(program):
     return 1 if wrong or not ran else 0
 
 
-sys.exit(main(os.path.abspath(sys.argv[1])))
+sys.exit(main([os.path.abspath(program) for program in sys.argv[1:]]))

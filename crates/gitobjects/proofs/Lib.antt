@@ -1,3 +1,4 @@
 pub mod PartsLemmas
 pub mod WindowLemmas
 pub mod ListingLemmas
+pub mod HeadLemmas

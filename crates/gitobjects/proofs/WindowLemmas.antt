@@ -1,7 +1,9 @@
--- Parts of parts.
-use Rattle.std.proofs.Common.{◌≡◌, ℕ, ◌+◌, ◌≤◌, List, ◌++◌, Option, None, Some, length, take, drop, ap, sym, ◌∙◌, arith}
-use Rattle.std.proofs.lemmas.List.{drop-append-le, drop-drop, length-drop, take-append-drop, take-append-le}
-use Rattle.gitobjects.specs.Windows.{IsPart}
+-- Parts of parts, and blocks.
+use Rattle.std.proofs.Common.{◌≡◌, ℕ, ◌+◌, ◌<◌, ◌≤◌, List, [], ◌∷◌, ◌++◌, Option, None, Some, length, map, take, drop, set, get_or, ap, sym, ◌∙◌, subst, arith}
+use Rattle.std.proofs.lemmas.List.{drop-append-le, drop-drop, get_or-map, length-append, length-drop, map-set, set-get_or, take-append-drop, take-append-le}
+use Rattle.std.proofs.lemmas.List.Elements.{All-push}
+use Rattle.gitobjects.specs.Windows.{AreBlocks, IsBlock, IsPart}
+use Rattle.gitobjects.specs.declared.window.Block.{Block}
 
 -- a part of a part of a file is a part of the file
 pub IsPart-inner : (known : Option (List ℕ)) (first offset count start : ℕ) (block bytes : List ℕ) → first + offset ≡ start → IsPart known first block → offset + count ≤ length block → bytes ≡ take count (drop offset block) → length bytes ≡ count → IsPart known start bytes
@@ -15,3 +17,15 @@ IsPart-inner (Some all) first offset count start block bytes sum is fits cut lon
     let back : drop start all ≡ drop offset block ++ R =
     ap (λ n. drop n all) (sym sum) ∙ sym (drop-drop offset first all) ∙ ap (drop offset) whole ∙ drop-append-le offset block R inside in
     cut ∙ sym (take-append-le count (drop offset block) R enough) ∙ ap (take count) (sym back) ∙ ap (λ n. take n (drop start all)) (sym long)
+
+-- where an element is replaced by another of the same image, the images stay
+pub map-set_same : {X Y : Type 0} (f : X → Y) (xs : List X) (i : ℕ) (x y : X) → f y ≡ f (get_or xs i x) → i < length xs → map f (set xs i y) ≡ map f xs
+map-set_same f xs i x y same inside =
+    map-set f xs i y ∙ ap (set (map f xs) i) (same ∙ sym (get_or-map f xs i x (f x) inside)) ∙ set-get_or (map f xs) i (f x)
+
+-- one block more
+pub AreBlocks-push : {A : Type 0} (packs : List (Option (List ℕ))) (blocks : List (Block A)) (block : Block A) → AreBlocks packs blocks → length blocks < 64 → IsBlock packs block → AreBlocks packs (blocks ++ block ∷ [])
+AreBlocks-push packs blocks block are room is = record {
+  few = rw length-append (omega arith);
+  each = All-push (IsBlock packs) blocks block are.each is;
+}

@@ -3,3 +3,5 @@ pub mod Windows
 pub mod Parts
 pub mod Alternates
 pub mod Listings
+pub mod Listed
+pub mod Heads

@@ -4,20 +4,39 @@
 ghost use Rattle.std.specs.Prelude.{◌≡◌, ◌++◌, ◌∷◌, [], IfOk, OnOk, filter, map, string_bytes};
 ghost use Rattle.gitobjects.specs.Alternates.{NamesFolders, names_folder};
 
-use crate::fault::{Cause, StoreFault, fault_at};
+use crate::fault::{Cause, FileFault, StoreFault, fault_at};
 use crate::files::ObjectFiles;
 use crate::limits::{MAX_ALTERNATES, MAX_DEPTH, MAX_FOLDERS};
+use crate::listed::Listed;
 use crate::parts::cut;
 use crate::paths::join;
 use std::alloc::{AllocError, Allocator};
 use std::io::ErrorKind;
 
-/// A folder of objects.
+/// A folder of objects, and the folder of packs in it.
 #[derive(Drop)]
 pub(crate) struct Folder<A: Allocator + Copy> {
     pub(crate) path: String<A>,
+    pub(crate) packs: String<A>,
+    pub(crate) listed: Listed,
+    // The faults of the packs that are left out.
+    pub(crate) left_out: Vec<FileFault<A>, A>,
     // How many alternates lead to it.
     depth: usize,
+}
+
+impl<A: Allocator + Copy> Folder<A> {
+    // A folder of objects, whose packs were never listed.
+    fn new(alloc: A, path: String<A>, depth: usize) -> Result<Folder<A>, AllocError> {
+        let packs = join(alloc, path.as_str(), "pack")?;
+        Ok(Folder {
+            path,
+            packs,
+            listed: Listed::Never,
+            left_out: Vec::new(alloc),
+            depth,
+        })
+    }
 }
 
 /// The folder of a repository, and all that its alternates name, and theirs, up to the depth that
@@ -30,7 +49,7 @@ pub(crate) fn object_folders<F: ObjectFiles, A: Allocator + Copy>(
 ) -> Result<Vec<Folder<A>, A>, StoreFault<A>> {
     let mut folders = Vec::new(alloc);
     let path = own_folder(files, alloc, own)?;
-    folders.push(Folder { path, depth: 0 })?;
+    folders.push(Folder::new(alloc, path, 0)?)?;
     for place in 0..MAX_FOLDERS {
         let Some(folder) = folders.get(place) else {
             break;
@@ -149,7 +168,7 @@ fn add_folder<F: ObjectFiles, A: Allocator + Copy>(
     if folders.len() >= MAX_FOLDERS {
         return Err(Cause::Folders);
     }
-    folders.push(Folder { path, depth })?;
+    folders.push(Folder::new(alloc, path, depth)?)?;
     Ok(())
 }
 

@@ -214,3 +214,36 @@ pub(crate) fn fault_at<A: Allocator + Copy>(alloc: A, path: &str, cause: Cause) 
         Err(_) => StoreFault::Memory,
     }
 }
+
+/// The fault of the first of some places in which an object is broken, while others are tried.
+#[derive(Drop)]
+pub(crate) struct FirstFault<A: Allocator + Copy> {
+    fault: Option<StoreFault<A>>,
+}
+
+impl<A: Allocator + Copy> FirstFault<A> {
+    /// No place so far.
+    pub(crate) fn new() -> FirstFault<A> {
+        FirstFault { fault: None }
+    }
+
+    /// Notes the fault of a place. It fails if there is no memory, since then no other place is
+    /// tried.
+    pub(crate) fn note(&mut self, fault: StoreFault<A>) -> Result<(), StoreFault<A>> {
+        if let StoreFault::Memory = fault {
+            return Err(fault);
+        }
+        if self.fault.is_none() {
+            self.fault = Some(fault);
+        }
+        Ok(())
+    }
+
+    /// The fault of the first place, if there was one.
+    pub(crate) fn finish(self) -> Result<(), StoreFault<A>> {
+        match self.fault {
+            Some(fault) => Err(fault),
+            None => Ok(()),
+        }
+    }
+}

@@ -24,6 +24,17 @@ pub trait OpenPack {
         ensures bytes { bytes self.new ≡ bytes self.old };
 }
 
+/// When the names in a folder last changed. Two times tell only whether they are the same.
+#[derive(Clone, Copy, Debug, PartialEq, Eq)]
+pub struct FolderTime {
+    /// The seconds since 1970.
+    pub seconds: i64,
+    /// The nanoseconds after those.
+    pub nanoseconds: i64,
+    /// The number that the system gave to the folder.
+    pub folder: u64,
+}
+
 /// The files of a Git directory, as far as objects are read.
 pub trait ObjectFiles {
     /// An open pack.
@@ -32,6 +43,15 @@ pub trait ObjectFiles {
     /// The bytes of a file; `None` if there is none. It fails with `Open`, `Read`, and `FileSize`
     /// if the file has more bytes than `most`.
     fn read<A: Allocator + Copy>(
+        &self,
+        alloc: A,
+        path: &str,
+        most: usize,
+    ) -> Result<Option<Vec<u8, A>>, Cause>;
+
+    /// The first bytes of a file, `most` of them, or all if it has fewer; `None` if there is no such
+    /// file. It fails with `Open` and `Read`.
+    fn read_front<A: Allocator + Copy>(
         &self,
         alloc: A,
         path: &str,
@@ -52,6 +72,10 @@ pub trait ObjectFiles {
     /// Opens a pack, and answers its length too; `None` if there is no such file. It fails with
     /// `Open`.
     fn open_pack(&self, path: &str) -> Result<Option<(Self::Pack, usize)>, Cause>;
+
+    /// When the names in a folder last changed; `None` if there is no such folder. It fails with
+    /// `List`.
+    fn changed(&self, path: &str) -> Result<Option<FolderTime>, Cause>;
 
     /// The names in a folder, each with a NUL after it; no name if there is no such folder. It
     /// fails with `List`, and `FileSize` if the names have more bytes than [`crate::MAX_NAMES`].

@@ -2,8 +2,8 @@
 //! loose objects, and alternates. This crate knows nothing of refs, graphs or the protocol.
 //!
 //! - An [`ObjectStore`] opens the packs of a directory and finds objects.
-//! - An [`ObjectReader`] reads them. It applies deltas without recursion, and keeps some bases in a
-//!   bounded cache.
+//! - An [`ObjectReader`] reads them, and answers their types. It applies deltas without recursion,
+//!   and keeps some bases in a bounded cache.
 //! - [`ObjectReader::raw_entry`] answers an entry of a pack as it lies, so that a packer can copy
 //!   it.
 //! - [`StoredFiles`] are the files of the system, and [`MemoryFiles`] are files in memory.
@@ -12,10 +12,11 @@
 //!
 //! - [`ObjectReader::read_checked`] answers an object only if its id is the one that was asked for.
 //!   The SHA-1 is computed.
-//! - A private part of a read inflates the stream of an entry to as many bytes as it was told, and
+//! - A private part of a read inflates the stream of an entry to as many bytes as its head has, and
 //!   splits the text of a loose object exactly.
-//! - The window of a pack answers the bytes of the pack, where they are known, whatever blocks it
-//!   holds.
+//! - The window on the packs answers the bytes of a pack, where they are known, whatever blocks it
+//!   holds. The blocks of all packs together are 64 at most, of 1 MiB at most.
+//! - A folder that was listed twice since its names changed is not listed again.
 //! - The path of a loose object is made of a folder and the digits of the id. The stem of a pack is
 //!   a name that is listed in its folder. The lines of `info/alternates` are read in order.
 //! - No call panics, overflows or reads out of bounds, and each returns, on any files, also if a
@@ -24,20 +25,28 @@
 //! # Differences from Git
 //!
 //! - A pack stays open once it is found. Git opens packs as it needs them, and closes some.
-//! - An index of version 1 is a fault of the store. A multi-pack index, bitmaps and a commit-graph
-//!   are not read.
-//! - If an object lies in two places and the first is broken, that is a fault. Git tries others.
+//! - An object that is not found makes Git list all packs again. Here only the folders are listed
+//!   whose names changed, and each of them once more after that.
+//! - A pack with an index of version 1 is left out; Git reads it. A multi-pack index, bitmaps and a
+//!   commit-graph are not read.
+//! - If an object is nowhere and a pack was left out, the fault names that pack. Git says that the
+//!   object is missing.
+//! - If a base of a delta is broken in its pack, a copy from another place is taken, as in Git. Here
+//!   the copy has 4 MiB at most, no base of its own is broken, and a chain has 16 such bases at
+//!   most.
 //! - A path in quotes in `info/alternates`, or one that is not UTF-8, is a fault. Git reads both.
 //! - An alternate that is not there is left out. Git does so, too, and prints an error.
 //! - An entry of a pack must have no byte after its stream. Git does not look for one.
-//! - A pack that does not fit its index is a fault of the store. Git leaves such a pack out.
 //!
 //! # What the contracts do not rule out
 //!
 //! - [`ObjectReader::read`] trusts the files: it computes no id. A clause cannot say what a file of
 //!   the system has.
-//! - No clause states the object that a whole chain of deltas makes. Each step rests on a contract
-//!   of `gitpack`.
+//! - No clause states the object that a whole chain of deltas makes, or the type that
+//!   [`ObjectReader::kind_of`] answers. Each step rests on a contract of `gitpack`.
+//! - No clause says that the other places of a broken object are tried.
+//! - A pack may come in the same tick of the file system's clock as a listing. Then it is not seen
+//!   until the folder changes again, or until [`ObjectReader::refresh`].
 //! - The cache of bases is proved safe only.
 //! - Any call may fail out of memory, and any file may be refused.
 //!
@@ -49,15 +58,18 @@
 
 mod alternates;
 mod cache;
+mod chain;
 mod entry;
 mod fault;
 mod files;
 mod limits;
+mod listed;
 mod listing;
 mod memory;
 mod object;
 mod order;
 mod pack;
+mod packs;
 mod parts;
 mod paths;
 mod reader;
@@ -67,7 +79,7 @@ mod window;
 
 pub use crate::entry::RawEntry;
 pub use crate::fault::{Cause, FileFault, StoreFault};
-pub use crate::files::{ObjectFiles, OpenPack};
+pub use crate::files::{FolderTime, ObjectFiles, OpenPack};
 pub use crate::limits::{
     MAX_ALTERNATES, MAX_BASE, MAX_DEPTH, MAX_FOLDERS, MAX_INDEX, MAX_KEPT, MAX_NAMES, MAX_OBJECT,
     MAX_STREAM,

@@ -33,8 +33,15 @@ pub const MAX_BASE: usize = 4_194_304;
 /// KiB.
 pub(crate) const MAX_ANSWER: usize = 65_536;
 
-/// The bytes of a block of a window: 1 MiB.
+/// The most bytes of a loose object that are read to find its type.
+pub(crate) const MAX_FRONT: usize = 4_096;
+
+/// The most objects of one chain of deltas that are broken in its pack, and for which copies are
+/// taken from other places.
+pub(crate) const MAX_COPIES: usize = 16;
+
+/// The most bytes of a block of a pack that is held: 1 MiB.
 pub(crate) const BLOCK: usize = 1_048_576;
 
-/// The blocks that a window holds.
-pub(crate) const BLOCKS: usize = 16;
+/// The most blocks that a store holds, of all its packs together: 64 MiB.
+pub(crate) const BLOCKS: usize = 64;

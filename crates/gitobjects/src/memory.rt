@@ -3,7 +3,7 @@
 ghost use Rattle.std.specs.Prelude.{◌≡◌, Some};
 
 use crate::fault::Cause;
-use crate::files::{ObjectFiles, OpenPack};
+use crate::files::{FolderTime, ObjectFiles, OpenPack};
 use std::alloc::{AllocError, Allocator};
 use std::io::ErrorKind;
 
@@ -93,6 +93,21 @@ impl<A: Allocator + Copy> ObjectFiles for MemoryFiles<A> {
         }
     }
 
+    fn read_front<B: Allocator + Copy>(
+        &self,
+        alloc: B,
+        path: &str,
+        most: usize,
+    ) -> Result<Option<Vec<u8, B>>, Cause> {
+        match self.bytes_of(path) {
+            Some(bytes) => {
+                let count = bytes.len().min(most);
+                Ok(Some(bytes[..count].to_vec(alloc)?))
+            }
+            None => Ok(None),
+        }
+    }
+
     fn exists(&self, path: &str) -> Result<bool, Cause> {
         for file in &self.files {
             let own = file.path.as_str();
@@ -123,6 +138,19 @@ impl<A: Allocator + Copy> ObjectFiles for MemoryFiles<A> {
                 Ok(Some((MemoryPack { bytes }, length)))
             }
             None => Ok(None),
+        }
+    }
+
+    // The seconds are the number of all files, which is another one once a file is added.
+    fn changed(&self, path: &str) -> Result<Option<FolderTime>, Cause> {
+        if self.exists(path)? {
+            Ok(Some(FolderTime {
+                seconds: i64::try_from(self.files.len()).unwrap_or(i64::MAX),
+                nanoseconds: 0,
+                folder: 0,
+            }))
+        } else {
+            Ok(None)
         }
     }
 

@@ -1,7 +1,9 @@
 //! An object that was read.
 
-ghost use Rattle.std.specs.Prelude.{◌≡◌, ◌↔◌, IsTrue, IfOk};
+ghost use Rattle.std.specs.Prelude.{◌≡◌, ◌↔◌, IsTrue, IfOk, MatchOption};
 ghost use Rattle.gitobject.specs.Naming.{id_of, object_text};
+ghost use Rattle.gitobject.specs.declared.types.ObjectType.{ObjectType};
+ghost use Rattle.gitobjects.specs.Heads.{BeginsAsObject, BeginsWith};
 
 use crate::fault::Cause;
 use crate::limits::MAX_OBJECT;
@@ -57,6 +59,51 @@ pub(crate) fn read_loose<A: Allocator + Copy>(
         Ok(_) => Err(Cause::Stream),
         Err(InflateFault::Memory) => Err(Cause::Memory),
         Err(_) => Err(Cause::Stream),
+    }
+}
+
+/// The type of the object in the file of a loose object that begins with these bytes; `None` if they
+/// do not tell.
+///
+/// It fails with `Memory` alone.
+pub(crate) fn loose_kind<A: Allocator + Copy>(
+    alloc: A,
+    inflater: &mut Inflater,
+    front: &[u8],
+) -> Result<Option<ObjectType>, Cause> {
+    let mut text = Vec::new(alloc);
+    match inflater.inflate_front(front, &mut text, MAX_LOOSE_HEAD) {
+        Ok(()) => Ok(kind_in(text.as_slice())),
+        Err(InflateFault::Memory) => Err(Cause::Memory),
+        Err(_) => Ok(None),
+    }
+}
+
+// The type with whose word and a space a text begins.
+fn kind_in(text: &[u8]) -> Option<ObjectType>
+    ensures { MatchOption result ((kind : ObjectType) → ¬ (BeginsAsObject text.now kind))
+        (BeginsAsObject text.now) }
+{
+    if begins(b"commit ", text) {
+        Some(ObjectType::Commit)
+    } else if begins(b"tree ", text) {
+        Some(ObjectType::Tree)
+    } else if begins(b"blob ", text) {
+        Some(ObjectType::Blob)
+    } else if begins(b"tag ", text) {
+        Some(ObjectType::Tag)
+    } else {
+        None
+    }
+}
+
+// Whether a text begins with the word.
+fn begins(word: &[u8], text: &[u8]) -> bool
+    ensures { IsTrue result ↔ BeginsWith word.now text.now }
+{
+    match text.strip_prefix(word) {
+        Some(_) => true,
+        None => false,
     }
 }
 

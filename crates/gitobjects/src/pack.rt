@@ -1,4 +1,4 @@
-//! A pack and its index. The index is held in memory; of the pack only a window is.
+//! A pack and its index. The index is held in memory; of the packs only blocks are.
 
 use crate::entry::RawEntry;
 use crate::fault::{Cause, StoreFault, fault_at};
@@ -7,6 +7,7 @@ use crate::limits::{MAX_INDEX, MAX_STREAM};
 use crate::order::{EntryOrder, HEADER, Start};
 use crate::paths::pack_path;
 use crate::window::Window;
+use gitobject::ObjectType;
 use gitpack::{EntryForm, MAX_HEAD, PackIndex, read_head};
 use gname::Oid;
 use gzlib::crc32_of;
@@ -17,21 +18,32 @@ const TRAILER: usize = 20;
 
 /// A pack that is open, with its index.
 #[derive(Drop)]
-pub(crate) struct PackFile<P: OpenPack + Drop, A: Allocator + Copy> {
+pub(crate) struct PackFile<A: Allocator + Copy> {
     path: String<A>,
     index: PackIndex<A>,
-    window: Window<P, A>,
     order: EntryOrder<A>,
+    // Its number in the window.
+    number: usize,
 }
 
-/// Opens the pack that has this name in a folder, without its extension; `None` if its index or the
-/// pack is not there.
+/// The form of an entry.
+#[derive(Clone, Copy, Debug, PartialEq, Eq)]
+pub(crate) enum LocalForm {
+    /// A whole object of this type.
+    Whole(ObjectType),
+    /// A delta of the entry that begins at this offset of the same pack.
+    Delta(usize),
+}
+
+/// Opens the pack that has this name in a folder, without its extension, and adds it to the window;
+/// `None` if its index or the pack is not there.
 pub(crate) fn open_pack<F: ObjectFiles, A: Allocator + Copy>(
     files: &F,
     alloc: A,
+    window: &mut Window<F::Pack, A>,
     folder: &str,
     stem: &str,
-) -> Result<Option<PackFile<F::Pack, A>>, StoreFault<A>> {
+) -> Result<Option<PackFile<A>>, StoreFault<A>> {
     let index_path = pack_path(alloc, folder, stem, ".idx")?;
     let index = match read_index(files, alloc, index_path.as_str()) {
         Ok(Some(index)) => index,
@@ -39,12 +51,12 @@ pub(crate) fn open_pack<F: ObjectFiles, A: Allocator + Copy>(
         Err(cause) => return Err(fault_at(alloc, index_path.as_str(), cause)),
     };
     let path = pack_path(alloc, folder, stem, ".pack")?;
-    match open_window(files, alloc, path.as_str(), &index) {
-        Ok(Some((window, order))) => Ok(Some(PackFile {
+    match open_entries(files, alloc, window, path.as_str(), &index) {
+        Ok(Some((number, order))) => Ok(Some(PackFile {
             path,
             index,
-            window,
             order,
+            number,
         })),
         Ok(None) => Ok(None),
         Err(cause) => Err(fault_at(alloc, path.as_str(), cause)),
@@ -65,32 +77,34 @@ fn read_index<F: ObjectFiles, A: Allocator + Copy>(
     }
 }
 
-// Opens the pack of an index.
-fn open_window<F: ObjectFiles, A: Allocator + Copy>(
+// Opens the pack of an index, and answers its number in the window.
+fn open_entries<F: ObjectFiles, A: Allocator + Copy>(
     files: &F,
     alloc: A,
+    window: &mut Window<F::Pack, A>,
     path: &str,
     index: &PackIndex<A>,
-) -> Result<Option<(Window<F::Pack, A>, EntryOrder<A>)>, Cause> {
-    let Some((file, length)) = files.open_pack(path)? else {
+) -> Result<Option<(usize, EntryOrder<A>)>, Cause> {
+    let Some((mut file, length)) = files.open_pack(path)? else {
         return Ok(None);
     };
     let Some(end) = length.checked_sub(TRAILER) else {
         return Err(Cause::Pack);
     };
-    let mut window = Window::new(alloc, file, length);
-    check_header(&mut window, index)?;
-    check_trailer(&mut window, end, index)?;
+    check_header(&mut file, alloc, index)?;
+    check_trailer(&mut file, alloc, end, index)?;
     let order = EntryOrder::new(alloc, index, end)?;
-    Ok(Some((window, order)))
+    let number = window.add(file, length)?;
+    Ok(Some((number, order)))
 }
 
 // Checks that the header of the pack has the version 2 and the count of the index.
-fn check_header<P: OpenPack + Drop, A: Allocator + Copy>(
-    window: &mut Window<P, A>,
+fn check_header<P: OpenPack, A: Allocator + Copy>(
+    file: &mut P,
+    alloc: A,
     index: &PackIndex<A>,
 ) -> Result<(), Cause> {
-    let header = window.read(0, HEADER)?;
+    let header = file.read_at(alloc, 0, HEADER)?;
     let Some(count) = header.as_slice().strip_prefix(b"PACK\0\0\0\x02") else {
         return Err(Cause::Pack);
     };
@@ -101,12 +115,13 @@ fn check_header<P: OpenPack + Drop, A: Allocator + Copy>(
 }
 
 // Checks that the pack ends with the checksum that the index has.
-fn check_trailer<P: OpenPack + Drop, A: Allocator + Copy>(
-    window: &mut Window<P, A>,
+fn check_trailer<P: OpenPack, A: Allocator + Copy>(
+    file: &mut P,
+    alloc: A,
     end: usize,
     index: &PackIndex<A>,
 ) -> Result<(), Cause> {
-    let trailer = window.read(end, TRAILER)?;
+    let trailer = file.read_at(alloc, end, TRAILER)?;
     let checksum = index.pack_checksum();
     if trailer.as_slice() == checksum.as_bytes() {
         Ok(())
@@ -115,7 +130,7 @@ fn check_trailer<P: OpenPack + Drop, A: Allocator + Copy>(
     }
 }
 
-impl<P: OpenPack + Drop, A: Allocator + Copy> PackFile<P, A> {
+impl<A: Allocator + Copy> PackFile<A> {
     /// The path of the pack.
     pub(crate) fn path(&self) -> &str {
         self.path.as_str()
@@ -136,36 +151,47 @@ impl<P: OpenPack + Drop, A: Allocator + Copy> PackFile<P, A> {
         usize::try_from(self.index.offset(place)?).ok()
     }
 
-    /// The offset of the base of the entry that begins here; `None` if the entry is a whole object.
-    /// It fails with `Head`, and with `Base` if no entry begins here or the base is not in the
-    /// pack.
-    pub(crate) fn base_at(&mut self, start: usize) -> Result<Option<usize>, Cause> {
+    /// The form of the entry that begins here. It fails with `Head`, and with `Base` if no entry
+    /// begins here or the base is not in the pack.
+    pub(crate) fn form_at<P: OpenPack + Drop>(
+        &self,
+        window: &mut Window<P, A>,
+        start: usize,
+    ) -> Result<LocalForm, Cause> {
         let length = self.length_of(start)?;
-        let bytes = self.window.read(start, length.min(MAX_HEAD))?;
+        let bytes = window.read(self.number, start, length.min(MAX_HEAD))?;
         match read_head(bytes.as_slice()) {
-            Some(head) => self.base_of(start, head.form),
+            Some(head) => self.local_form(start, head.form),
             None => Err(Cause::Head),
         }
     }
 
     /// All bytes of the entry that begins here. It fails with `Base` if none does, and with
     /// `ObjectSize`.
-    pub(crate) fn bytes_at(&mut self, start: usize) -> Result<Vec<u8, A>, Cause> {
+    pub(crate) fn bytes_at<P: OpenPack + Drop>(
+        &self,
+        window: &mut Window<P, A>,
+        start: usize,
+    ) -> Result<Vec<u8, A>, Cause> {
         let length = self.length_of(start)?;
         if length > MAX_STREAM {
             return Err(Cause::ObjectSize);
         }
-        self.window.read(start, length)
+        window.read(self.number, start, length)
     }
 
     /// The entry at a place of the index as it lies; `None` past the end of the index. It fails
     /// with `Crc` if it has another CRC-32 than the index says, with `Head`, and otherwise as
     /// `bytes_at`.
-    pub(crate) fn raw_entry(&mut self, place: usize) -> Result<Option<RawEntry<A>>, Cause> {
+    pub(crate) fn raw_entry<P: OpenPack + Drop>(
+        &self,
+        window: &mut Window<P, A>,
+        place: usize,
+    ) -> Result<Option<RawEntry<A>>, Cause> {
         let (Some(start), Some(crc)) = (self.start_of(place), self.index.crc(place)) else {
             return Ok(None);
         };
-        let bytes = self.bytes_at(start)?;
+        let bytes = self.bytes_at(window, start)?;
         if crc32_of(bytes.as_slice()) != crc {
             return Err(Cause::Crc);
         }
@@ -178,12 +204,12 @@ impl<P: OpenPack + Drop, A: Allocator + Copy> PackFile<P, A> {
 
     // The place in the index of the base of a delta; `None` if the entry is a whole object.
     fn base_place(&self, start: usize, form: EntryForm) -> Result<Option<usize>, Cause> {
-        match self.base_of(start, form)? {
-            Some(base) => match self.order.place_of(base) {
+        match self.local_form(start, form)? {
+            LocalForm::Delta(base) => match self.order.place_of(base) {
                 Some(place) => Ok(Some(place)),
                 None => Err(Cause::Base),
             },
-            None => Ok(None),
+            LocalForm::Whole(_) => Ok(None),
         }
     }
 
@@ -194,21 +220,27 @@ impl<P: OpenPack + Drop, A: Allocator + Copy> PackFile<P, A> {
         }
     }
 
-    // The offset of the base of an entry that begins here; `None` of a whole object.
-    fn base_of(&self, start: usize, form: EntryForm) -> Result<Option<usize>, Cause> {
+    // The form of an entry that begins here.
+    fn local_form(&self, start: usize, form: EntryForm) -> Result<LocalForm, Cause> {
         let base = match form {
-            EntryForm::Whole(_) => return Ok(None),
+            EntryForm::Whole(kind) => return Ok(LocalForm::Whole(kind)),
             EntryForm::OffsetDelta(back) if back > 0 => start.checked_sub(back),
             EntryForm::OffsetDelta(_) => None,
             EntryForm::RefDelta(id) => self.start_of_id(&id),
         };
         match base {
-            Some(base) => Ok(Some(base)),
+            Some(base) => Ok(LocalForm::Delta(base)),
             None => Err(Cause::Base),
         }
     }
 
-    fn start_of_id(&self, id: &Oid) -> Option<usize> {
+    /// The offset of the entry of the object with this id; `None` if it is not in the pack.
+    pub(crate) fn start_of_id(&self, id: &Oid) -> Option<usize> {
         self.start_of(self.index.find(id)?)
+    }
+
+    /// The id of the object whose entry begins here; `None` if none does.
+    pub(crate) fn id_at(&self, start: usize) -> Option<Oid> {
+        self.index.id(self.order.place_of(start)?)
     }
 }

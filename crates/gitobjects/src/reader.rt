@@ -5,30 +5,25 @@ ghost use Rattle.gitobject.specs.Naming.{id_of};
 
 use crate::cache::{BaseCache, Spot};
 use crate::entry::RawEntry;
-use crate::fault::{Cause, StoreFault};
+use crate::fault::{Cause, FirstFault, StoreFault};
 use crate::files::ObjectFiles;
-use crate::limits::{MAX_ANSWER, MAX_OBJECT};
 use crate::object::Object;
 use crate::store::{Found, ObjectStore};
-use gitpack::{EntryForm, apply_delta};
+use gitobject::ObjectType;
 use gname::Oid;
 use gzlib::Inflater;
 use std::alloc::{AllocError, Allocator};
 
 /// A reader of the objects of a store. It keeps some of the bases to which deltas were applied.
+///
+/// A call that does not find an object lists the packs again, as Git may have packed the object
+/// meanwhile. A folder of packs is listed at most twice for each time at which its names changed,
+/// however many objects are not found. [`ObjectReader::refresh`] lists all folders.
 #[derive(Drop)]
 pub struct ObjectReader<'f, F: ObjectFiles, A: Allocator + Copy> {
-    store: ObjectStore<'f, F, A>,
-    inflater: Inflater,
-    cache: BaseCache<A>,
-}
-
-// The deltas of a chain, by where they begin, the last one first; and where the chain ends, in a
-// whole object.
-#[derive(Drop)]
-struct Chain<A: Allocator + Copy> {
-    deltas: Vec<usize, A>,
-    end: usize,
+    pub(crate) store: ObjectStore<'f, F, A>,
+    pub(crate) inflater: Inflater,
+    pub(crate) cache: BaseCache<A>,
 }
 
 impl<'f, F: ObjectFiles, A: Allocator + Copy> ObjectReader<'f, F, A> {
@@ -47,20 +42,49 @@ impl<'f, F: ObjectFiles, A: Allocator + Copy> ObjectReader<'f, F, A> {
         &self.store
     }
 
-    /// The object with this id, as the files have it. Its id is not computed: see
-    /// [`ObjectReader::read_checked`].
+    /// Looks for alternates and packs that came, whenever their folders changed.
     ///
-    /// If the object is not found, the packs are listed once more, as Git may have packed it
-    /// meanwhile. It fails with `Missing` if the object is not there, with `Memory`, and otherwise
-    /// names the file and the cause. The reader can be used again after each fault.
-    pub fn read(&mut self, id: &Oid) -> Result<Object<A>, StoreFault<A>> {
-        if let Some(object) = self.read_listed(id)? {
-            return Ok(object);
+    /// It fails as [`ObjectStore::open`] does. Then the reader still has all packs that it had.
+    pub fn refresh(&mut self) -> Result<(), StoreFault<A>> {
+        self.store.reload()
+    }
+
+    /// The place of the object with this id; `None` if it is not there.
+    ///
+    /// It fails with `Memory`. If the object is not found, it names the first folder that it cannot
+    /// look into. A pack that is left out makes no fault here.
+    pub fn find(&mut self, id: &Oid) -> Result<Option<Found>, StoreFault<A>> {
+        if let Some(found) = self.store.find(id)? {
+            return Ok(Some(found));
         }
-        self.store.reload()?;
-        match self.read_listed(id)? {
+        if self.store.list_stale()? {
+            return self.store.find(id);
+        }
+        Ok(None)
+    }
+
+    /// The object with this id, as the files have it. Its id is not computed: see
+    /// [`ObjectReader::read_checked`]. If the object is broken in one place, the others are tried,
+    /// as in Git.
+    ///
+    /// It fails with `Missing` if the object is nowhere, and no pack is left out. If it is broken in
+    /// each place, it names the first one and the cause. If it is nowhere, it names the first pack
+    /// that is left out and the cause. It fails with `Memory`, too. The reader can be used again
+    /// after each fault.
+    pub fn read(&mut self, id: &Oid) -> Result<Object<A>, StoreFault<A>> {
+        let first = match self.read_listed(id) {
+            Ok(Some(object)) => return Ok(object),
+            Err(StoreFault::Memory) => return Err(StoreFault::Memory),
+            other => other,
+        };
+        let last = if self.store.list_stale()? {
+            self.read_listed(id)
+        } else {
+            first
+        };
+        match last? {
             Some(object) => Ok(object),
-            None => Err(StoreFault::Missing(*id)),
+            None => Err(self.store.missing(id)),
         }
     }
 
@@ -79,8 +103,21 @@ impl<'f, F: ObjectFiles, A: Allocator + Copy> ObjectReader<'f, F, A> {
         }
     }
 
+    /// The type of the object with this id. Its body is not inflated: the heads of its entry and of
+    /// the bases below tell the type, or the beginning of a loose object does. If none does, the
+    /// object is read.
+    ///
+    /// It fails as [`ObjectReader::read`] does. An object whose body is broken may have a type.
+    pub fn kind_of(&mut self, id: &Oid) -> Result<ObjectType, StoreFault<A>> {
+        match self.kind_listed(id) {
+            Ok(Some(kind)) => Ok(kind),
+            Err(Cause::Memory) => Err(StoreFault::Memory),
+            _ => Ok(self.read(id)?.kind),
+        }
+    }
+
     /// The entry at a place of the index of a pack, as it lies; `None` if there is no such pack or
-    /// place.
+    /// place. No other place is tried if it is broken.
     ///
     /// It fails with `Memory`, and otherwise names the pack and the cause. The cause is `Crc` if
     /// the CRC-32 of the entry is not the one in the index.
@@ -92,113 +129,69 @@ impl<'f, F: ObjectFiles, A: Allocator + Copy> ObjectReader<'f, F, A> {
         self.store.raw_entry(pack, place)
     }
 
-    // The object with this id; `None` if it is in no pack that is open, and not loose.
-    fn read_listed(&mut self, id: &Oid) -> Result<Option<Object<A>>, StoreFault<A>> {
-        match self.store.find(id)? {
-            Some(found) => self.read_found(id, found),
-            None => Ok(None),
-        }
-    }
-
-    /// The object that was found here; `None` if it is not there any more.
+    /// The object that was found here; `None` if it is not there any more. If it is broken here, the
+    /// other places are tried.
     ///
-    /// It fails with `Memory`, and otherwise names the file and the cause.
+    /// It fails with `Memory`. If the object is broken in each place, it names the first one and
+    /// the cause.
     pub fn read_found(
         &mut self,
         id: &Oid,
         found: Found,
     ) -> Result<Option<Object<A>>, StoreFault<A>> {
-        match found {
-            Found::Packed { pack, place } => match self.store.start_of(pack, place) {
-                Some(start) => match self.read_packed(pack, start) {
-                    Ok(object) => Ok(Some(object)),
-                    Err(cause) => Err(self.store.fault_in(pack, cause)),
-                },
-                None => Ok(None),
-            },
-            Found::Loose => self.store.read_loose(id, &mut self.inflater),
-        }
-    }
-
-    // The object whose entry begins here.
-    fn read_packed(&mut self, pack: usize, start: usize) -> Result<Object<A>, Cause> {
-        let chain = self.trace(pack, start)?;
-        let Chain { deltas, end } = chain;
-        let base = self.read_base(Spot { pack, start: end })?;
-        let object = self.apply_all(pack, end, base, deltas)?;
-        if object.body.len() <= MAX_ANSWER {
-            let copy = object.copy_in(self.store.allocator())?;
-            self.cache.put(Spot { pack, start }, copy)?;
-        }
-        Ok(object)
-    }
-
-    // The chain of deltas that begins here. It ends in a whole object, or in one that is kept.
-    fn trace(&mut self, pack: usize, start: usize) -> Result<Chain<A>, Cause> {
-        let mut deltas = Vec::new(self.store.allocator());
-        let mut end = start;
-        // A chain that does not lead back to itself has each object of the pack at most once.
-        for _delta in 0..self.store.object_count(pack) {
-            let spot = Spot { pack, start: end };
-            if self.cache.holds(spot) {
-                return Ok(Chain { deltas, end });
+        if let Found::Packed { pack, place } = found {
+            if let Some(start) = self.store.start_of(pack, place) {
+                match self.read_packed(Spot { pack, start }) {
+                    Ok(object) => return Ok(Some(object)),
+                    Err(Cause::Memory) => return Err(StoreFault::Memory),
+                    Err(_) => {}
+                }
             }
-            let Some(base) = self.store.base_at(spot)? else {
-                return Ok(Chain { deltas, end });
-            };
-            deltas.push(end)?;
-            end = base;
         }
-        Err(Cause::Circle)
+        self.read_listed(id)
     }
 
-    // The whole object that begins here, or that is kept.
-    fn read_base(&mut self, spot: Spot) -> Result<Object<A>, Cause> {
-        if let Some(object) = self.cache.get(spot) {
-            return Ok(object.copy_in(self.store.allocator())?);
+    // The object with this id, from the first place in which it is whole; `None` if it is in no pack
+    // that is open, and not loose. If it is broken in each place, it fails with the first fault.
+    fn read_listed(&mut self, id: &Oid) -> Result<Option<Object<A>>, StoreFault<A>> {
+        let mut faults = FirstFault::new();
+        for pack in 0..self.store.pack_count() {
+            match self.read_in(pack, id) {
+                Ok(Some(object)) => return Ok(Some(object)),
+                Ok(None) => {}
+                Err(fault) => faults.note(fault)?,
+            }
         }
-        let entry = self.store.inflate_at(spot, &mut self.inflater)?;
-        match entry.form {
-            EntryForm::Whole(kind) => Ok(Object {
-                kind,
-                body: entry.text,
-            }),
-            _ => Err(Cause::Base),
+        match self.store.read_loose(id, &mut self.inflater) {
+            Ok(Some(object)) => return Ok(Some(object)),
+            Ok(None) => {}
+            Err(fault) => faults.note(fault)?,
+        }
+        faults.finish()?;
+        Ok(None)
+    }
+
+    // The object with this id in a pack; `None` if the pack has no such object.
+    fn read_in(&mut self, pack: usize, id: &Oid) -> Result<Option<Object<A>>, StoreFault<A>> {
+        let Some(start) = self.store.start_in(pack, id) else {
+            return Ok(None);
+        };
+        match self.read_packed(Spot { pack, start }) {
+            Ok(object) => Ok(Some(object)),
+            Err(cause) => Err(self.store.fault_in(pack, cause)),
         }
     }
 
-    // Applies deltas to their base, the last one of the list first. Each base is kept.
-    fn apply_all(
-        &mut self,
-        pack: usize,
-        end: usize,
-        base: Object<A>,
-        deltas: Vec<usize, A>,
-    ) -> Result<Object<A>, Cause> {
-        let mut deltas = deltas;
-        let mut object = base;
-        let mut place = end;
-        while let Some(start) = deltas.pop() {
-            let made = self.apply(&object, Spot { pack, start })?;
-            let before = Spot { pack, start: place };
-            self.cache.put(before, object)?;
-            object = made;
-            place = start;
+    // The type of the object with this id, by heads alone; `None` if no head has it. At any fault
+    // but `Memory` no head has it either.
+    fn kind_listed(&mut self, id: &Oid) -> Result<Option<ObjectType>, Cause> {
+        for pack in 0..self.store.pack_count() {
+            if let Some(start) = self.store.start_in(pack, id) {
+                if let Some(kind) = self.kind_at(Spot { pack, start })? {
+                    return Ok(Some(kind));
+                }
+            }
         }
-        Ok(object)
-    }
-
-    // The object that the delta that begins here makes of its base.
-    fn apply(&mut self, base: &Object<A>, spot: Spot) -> Result<Object<A>, Cause> {
-        let delta = self.store.inflate_at(spot, &mut self.inflater)?;
-        let alloc = self.store.allocator();
-        let text = delta.text.as_slice();
-        match apply_delta(alloc, base.body.as_slice(), text, MAX_OBJECT)? {
-            Some(body) => Ok(Object {
-                kind: base.kind,
-                body,
-            }),
-            None => Err(Cause::Delta),
-        }
+        self.store.kind_of_loose(id, &mut self.inflater)
     }
 }

@@ -3,14 +3,15 @@
 use crate::alternates::{Folder, object_folders};
 use crate::cache::Spot;
 use crate::entry::{Inflated, RawEntry, inflate_entry};
-use crate::fault::{Cause, StoreFault, fault_at};
+use crate::fault::{Cause, FileFault, FirstFault, StoreFault, fault_at};
 use crate::files::ObjectFiles;
-use crate::limits::MAX_STREAM;
-use crate::listing::index_stems;
-use crate::object::{Object, read_loose};
+use crate::limits::{MAX_FRONT, MAX_STREAM};
+use crate::object::{Object, loose_kind, read_loose};
 use crate::order::Start;
-use crate::pack::{PackFile, open_pack};
-use crate::paths::{join, loose_path, pack_path};
+use crate::pack::LocalForm;
+use crate::packs::Packs;
+use crate::paths::{join, loose_path};
+use gitobject::ObjectType;
 use gitpack::PackIndex;
 use gname::Oid;
 use gzlib::Inflater;
@@ -33,14 +34,16 @@ pub struct ObjectStore<'f, F: ObjectFiles, A: Allocator + Copy> {
     alloc: A,
     own: String<A>,
     folders: Vec<Folder<A>, A>,
-    packs: Vec<PackFile<F::Pack, A>, A>,
+    packs: Packs<F::Pack, A>,
 }
 
 impl<'f, F: ObjectFiles, A: Allocator + Copy> ObjectStore<'f, F, A> {
     /// Opens the objects of the Git directory with this path. All of its packs are opened, and no
-    /// object is read.
+    /// object is read. A pack that can't be opened or used is left out, as in Git: see
+    /// [`ObjectStore::left_out`].
     ///
-    /// It fails with `Memory`, and names any file that it cannot open or use.
+    /// It fails with `Memory`, and names the folder of objects if it is not there, or the file of
+    /// alternates that it cannot use.
     pub fn open(
         files: &'f F,
         alloc: A,
@@ -52,7 +55,7 @@ impl<'f, F: ObjectFiles, A: Allocator + Copy> ObjectStore<'f, F, A> {
             alloc,
             own,
             folders: Vec::new(alloc),
-            packs: Vec::new(alloc),
+            packs: Packs::new(alloc),
         };
         store.reload()?;
         Ok(store)
@@ -61,48 +64,43 @@ impl<'f, F: ObjectFiles, A: Allocator + Copy> ObjectStore<'f, F, A> {
     /// Looks for alternates and packs that came since they were last looked for. The packs that are
     /// open stay.
     ///
-    /// At an error the store still has all packs that it had.
+    /// It fails as `open` does. Then the store still has all packs that it had.
     pub fn reload(&mut self) -> Result<(), StoreFault<A>> {
-        let folders = object_folders(self.files, self.alloc, self.own.as_str())?;
-        for folder in &folders {
-            let packs = join(self.alloc, folder.path.as_str(), "pack")?;
-            self.add_packs(packs.as_str())?;
-        }
-        self.folders = folders;
+        self.folders = object_folders(self.files, self.alloc, self.own.as_str())?;
+        self.list_stale()?;
         Ok(())
     }
 
-    // Opens the packs of a folder that are not open yet.
-    fn add_packs(&mut self, folder: &str) -> Result<(), StoreFault<A>> {
-        let stems = match self.stems_in(folder) {
-            Ok(stems) => stems,
-            Err(cause) => return Err(fault_at(self.alloc, folder, cause)),
-        };
-        for stem in &stems {
-            self.add_pack(folder, stem.as_str())?;
+    /// Lists the folders of packs that may have other packs than when they were listed, and answers
+    /// whether there is such a folder. A folder is listed at most twice while its names stay.
+    ///
+    /// It fails out of memory alone.
+    pub(crate) fn list_stale(&mut self) -> Result<bool, StoreFault<A>> {
+        let mut is_listed = false;
+        for folder in self.folders.iter_mut() {
+            if self.packs.list(self.files, folder)? {
+                is_listed = true;
+            }
         }
-        Ok(())
+        Ok(is_listed)
     }
 
-    fn stems_in(&self, folder: &str) -> Result<Vec<String<A>, A>, Cause> {
-        let names = self.files.list(self.alloc, folder)?;
-        index_stems(self.alloc, names.as_slice())
+    /// The fault of the first pack or folder of packs that is left out; `None` if none is.
+    pub fn left_out(&self) -> Option<&FileFault<A>> {
+        for folder in &self.folders {
+            if let Some(fault) = folder.left_out.first() {
+                return Some(fault);
+            }
+        }
+        None
     }
 
-    // Opens a pack, if it is not open yet.
-    fn add_pack(&mut self, folder: &str, stem: &str) -> Result<(), StoreFault<A>> {
-        let path = pack_path(self.alloc, folder, stem, ".pack")?;
-        if self.is_open(path.as_str()) {
-            return Ok(());
+    /// The fault of an object that is found nowhere: that of a pack that is left out, if one is.
+    pub(crate) fn missing(&self, id: &Oid) -> StoreFault<A> {
+        match self.left_out() {
+            Some(fault) => fault_at(self.alloc, fault.path.as_str(), fault.cause),
+            None => StoreFault::Missing(*id),
         }
-        if let Some(pack) = open_pack(self.files, self.alloc, folder, stem)? {
-            self.packs.push(pack)?;
-        }
-        Ok(())
-    }
-
-    fn is_open(&self, path: &str) -> bool {
-        self.packs.iter().any(|pack| pack.path() == path)
     }
 
     /// The allocator.
@@ -133,29 +131,39 @@ impl<'f, F: ObjectFiles, A: Allocator + Copy> ObjectStore<'f, F, A> {
     }
 
     /// The place of the object with this id; `None` if it is not there. Packs come before loose
-    /// objects.
+    /// objects. Nothing is listed again.
     ///
-    /// It fails with `Memory`, and names a folder that it cannot look into.
+    /// It fails with `Memory`. If the object is not found, it names the first folder that it cannot
+    /// look into.
     pub fn find(&self, id: &Oid) -> Result<Option<Found>, StoreFault<A>> {
         if let Some(found) = self.find_packed(id) {
             return Ok(Some(found));
         }
+        let mut faults = FirstFault::new();
         for folder in &self.folders {
-            if self.has_loose(folder.path.as_str(), id)? {
-                return Ok(Some(Found::Loose));
+            match self.has_loose(folder.path.as_str(), id) {
+                Ok(true) => return Ok(Some(Found::Loose)),
+                Ok(false) => {}
+                Err(fault) => faults.note(fault)?,
             }
         }
+        faults.finish()?;
         Ok(None)
     }
 
     // The first pack that has the object.
     fn find_packed(&self, id: &Oid) -> Option<Found> {
         for pack in 0..self.packs.len() {
-            if let Some(place) = self.packs[pack].index().find(id) {
+            if let Some(place) = self.place_in(pack, id) {
                 return Some(Found::Packed { pack, place });
             }
         }
         None
+    }
+
+    // The place of the object in the index of a pack.
+    fn place_in(&self, pack: usize, id: &Oid) -> Option<usize> {
+        self.packs.get(pack)?.index().find(id)
     }
 
     fn has_loose(&self, folder: &str, id: &Oid) -> Result<bool, StoreFault<A>> {
@@ -179,12 +187,9 @@ impl<'f, F: ObjectFiles, A: Allocator + Copy> ObjectStore<'f, F, A> {
         pack: usize,
         place: usize,
     ) -> Result<Option<RawEntry<A>>, StoreFault<A>> {
-        let Some(file) = self.packs.get_mut(pack) else {
-            return Ok(None);
-        };
-        match file.raw_entry(place) {
+        match self.packs.raw_entry(pack, place) {
             Ok(entry) => Ok(entry),
-            Err(cause) => Err(fault_at(self.alloc, file.path(), cause)),
+            Err(cause) => Err(self.fault_in(pack, cause)),
         }
     }
 
@@ -194,29 +199,30 @@ impl<'f, F: ObjectFiles, A: Allocator + Copy> ObjectStore<'f, F, A> {
         self.packs.get(pack)?.start_of(place)
     }
 
+    /// The offset of the entry of the object with this id in a pack; `None` if the pack has no such
+    /// object.
+    pub(crate) fn start_in(&self, pack: usize, id: &Oid) -> Option<usize> {
+        self.packs.get(pack)?.start_of_id(id)
+    }
+
+    /// The id of the object whose entry begins here; `None` if none does.
+    pub(crate) fn id_at(&self, spot: Spot) -> Option<Oid> {
+        self.packs.get(spot.pack)?.id_at(spot.start)
+    }
+
     /// The form of the entry that begins here, and its inflated stream.
     pub(crate) fn inflate_at(
         &mut self,
         spot: Spot,
         inflater: &mut Inflater,
     ) -> Result<Inflated<A>, Cause> {
-        let bytes = self.bytes_at(spot)?;
+        let bytes = self.packs.bytes_at(spot)?;
         inflate_entry(self.alloc, inflater, bytes.as_slice())
     }
 
-    fn bytes_at(&mut self, spot: Spot) -> Result<Vec<u8, A>, Cause> {
-        match self.packs.get_mut(spot.pack) {
-            Some(file) => file.bytes_at(spot.start),
-            None => Err(Cause::Base),
-        }
-    }
-
-    /// The offset of the base of the entry that begins here; `None` if the entry is a whole object.
-    pub(crate) fn base_at(&mut self, spot: Spot) -> Result<Option<usize>, Cause> {
-        match self.packs.get_mut(spot.pack) {
-            Some(file) => file.base_at(spot.start),
-            None => Err(Cause::Base),
-        }
+    /// The form of the entry that begins here.
+    pub(crate) fn form_at(&mut self, spot: Spot) -> Result<LocalForm, Cause> {
+        self.packs.form_at(spot)
     }
 
     /// How many objects a pack has; 0 if there is no such pack.
@@ -247,16 +253,23 @@ impl<'f, F: ObjectFiles, A: Allocator + Copy> ObjectStore<'f, F, A> {
     }
 
     /// The loose object with this id; `None` if no folder has it.
+    ///
+    /// It fails with `Memory`. If the object is whole in no folder, it names the first file that is
+    /// broken.
     pub(crate) fn read_loose(
         &self,
         id: &Oid,
         inflater: &mut Inflater,
     ) -> Result<Option<Object<A>>, StoreFault<A>> {
+        let mut faults = FirstFault::new();
         for folder in &self.folders {
-            if let Some(object) = self.read_loose_in(folder.path.as_str(), id, inflater)? {
-                return Ok(Some(object));
+            match self.read_loose_in(folder.path.as_str(), id, inflater) {
+                Ok(Some(object)) => return Ok(Some(object)),
+                Ok(None) => {}
+                Err(fault) => faults.note(fault)?,
             }
         }
+        faults.finish()?;
         Ok(None)
     }
 
@@ -275,6 +288,26 @@ impl<'f, F: ObjectFiles, A: Allocator + Copy> ObjectStore<'f, F, A> {
             Err(cause) => Err(fault_at(self.alloc, path.as_str(), cause)),
         }
     }
+
+    /// The type of the loose object with this id, by its beginning; `None` if no folder has one with a
+    /// type.
+    ///
+    /// It fails with `Memory` alone.
+    pub(crate) fn kind_of_loose(
+        &self,
+        id: &Oid,
+        inflater: &mut Inflater,
+    ) -> Result<Option<ObjectType>, Cause> {
+        for folder in &self.folders {
+            let path = loose_path(self.alloc, folder.path.as_str(), id)?;
+            match read_kind(self.files, self.alloc, path.as_str(), inflater) {
+                Ok(Some(kind)) => return Ok(Some(kind)),
+                Err(Cause::Memory) => return Err(Cause::Memory),
+                Ok(None) | Err(_) => {}
+            }
+        }
+        Ok(None)
+    }
 }
 
 // The loose object in a file; `None` if there is no such file.
@@ -286,6 +319,20 @@ fn read_loose_file<F: ObjectFiles, A: Allocator + Copy>(
 ) -> Result<Option<Object<A>>, Cause> {
     match files.read(alloc, path, MAX_STREAM)? {
         Some(stream) => Ok(Some(read_loose(alloc, inflater, stream.as_slice())?)),
+        None => Ok(None),
+    }
+}
+
+// The type of the loose object in a file; `None` if there is no such file, or its beginning does
+// not tell.
+fn read_kind<F: ObjectFiles, A: Allocator + Copy>(
+    files: &F,
+    alloc: A,
+    path: &str,
+    inflater: &mut Inflater,
+) -> Result<Option<ObjectType>, Cause> {
+    match files.read_front(alloc, path, MAX_FRONT)? {
+        Some(front) => loose_kind(alloc, inflater, front.as_slice()),
         None => Ok(None),
     }
 }

@@ -3,11 +3,12 @@
 ghost use Rattle.std.specs.Prelude.{◌≡◌, None, IfOk, vec_len};
 
 use crate::fault::Cause;
-use crate::files::{ObjectFiles, OpenPack};
+use crate::files::{FolderTime, ObjectFiles, OpenPack};
 use crate::limits::MAX_NAMES;
 use std::alloc::Allocator;
 use std::fs::{File, Files, OpenFile};
 use std::io::{ErrorKind, Read, Seek, SeekFrom};
+use std::os::unix::fs::MetadataExt;
 
 /// The files of the system.
 #[derive(Drop)]
@@ -124,6 +125,18 @@ impl<R: Files> ObjectFiles for StoredFiles<'_, R> {
         Ok(Some(read_bytes(alloc, &mut file, length)?))
     }
 
+    fn read_front<A: Allocator + Copy>(
+        &self,
+        alloc: A,
+        path: &str,
+        most: usize,
+    ) -> Result<Option<Vec<u8, A>>, Cause> {
+        let Some((mut file, length)) = open_file(self.files, path)? else {
+            return Ok(None);
+        };
+        Ok(Some(read_bytes(alloc, &mut file, length.min(most))?))
+    }
+
     fn exists(&self, path: &str) -> Result<bool, Cause> {
         match self.files.metadata(path) {
             Ok(_) => Ok(true),
@@ -148,6 +161,18 @@ impl<R: Files> ObjectFiles for StoredFiles<'_, R> {
         match open_file(self.files, path)? {
             Some((file, length)) => Ok(Some((StoredPack { file }, length))),
             None => Ok(None),
+        }
+    }
+
+    fn changed(&self, path: &str) -> Result<Option<FolderTime>, Cause> {
+        match self.files.metadata(path) {
+            Ok(metadata) => Ok(Some(FolderTime {
+                seconds: metadata.mtime(),
+                nanoseconds: metadata.mtime_nsec(),
+                folder: metadata.ino(),
+            })),
+            Err(error) if is_missing(error.kind()) => Ok(None),
+            Err(error) => Err(Cause::list(&error)),
         }
     }
 

@@ -1,72 +1,95 @@
-//! A window on a pack: blocks of it that were read, so that a pack is not held as a whole.
+//! A window on the packs that are open: blocks of them that were read last, so that no pack is held
+//! as a whole.
 
-ghost use Rattle.std.specs.Prelude.{◌≡◌, ◌+◌, ◌≤◌, ℕ, List, Option, All, IfOk, IfSome, OnSome, take, drop, length, vec_len};
-ghost use Rattle.gitobjects.specs.Windows.{IsPart};
+ghost use Rattle.std.specs.Prelude.{◌≡◌, ◌+◌, ◌≤◌, ◌<◌, ◌++◌, ◌∷◌, [], ℕ, List, Option, IfOk, IfSome, OnErr, OnOk, OnSome, take, drop, length, map, vec_len};
+ghost use Rattle.gitobjects.specs.Windows.{AreBlocks, IsBlock, IsPartOf};
 
 use crate::fault::Cause;
 use crate::files::OpenPack;
 use crate::limits::{BLOCK, BLOCKS};
-use std::alloc::Allocator;
+use std::alloc::{AllocError, Allocator};
 use std::marker::Model;
 
-// A block of a pack: where it begins, and its bytes.
+/// A pack that is open, and where it ends.
 #[derive(Drop)]
-struct Block<A: Allocator + Copy> {
-    first: usize,
-    bytes: Vec<u8, A>,
+pub(crate) struct Opened<P: OpenPack + Drop> {
+    file: P,
+    end: usize,
 }
 
-/// An open pack of a known length, and the blocks of it that were read last.
+/// A block of a pack: the number of the pack, where the block begins, and its bytes.
+#[derive(Drop)]
+pub(crate) struct Block<A: Allocator + Copy> {
+    pub(crate) pack: usize,
+    pub(crate) first: usize,
+    pub(crate) bytes: Vec<u8, A>,
+}
+
+/// The packs that are open, by their numbers, and the blocks of all of them that were read last.
+/// The blocks have 64 MiB at most.
 #[derive(Drop)]
 pub(crate) struct Window<P: OpenPack + Drop, A: Allocator + Copy> {
     alloc: A,
-    file: P,
-    length: usize,
+    packs: Vec<Opened<P>, A>,
     // The oldest comes first.
     blocks: Vec<Block<A>, A>,
 }
 
 impl<P: OpenPack + Drop, A: Allocator + Copy> Model for Window<P, A> {
-    ghost use Rattle.std.specs.Prelude.{ℕ, List, Option, All};
-    ghost use Rattle.gitobjects.specs.Windows.{IsPart};
+    ghost use Rattle.std.specs.Prelude.{ℕ, List, Option, map};
+    ghost use Rattle.gitobjects.specs.Windows.{AreBlocks};
 
-    // The bytes of the pack, where they are known.
-    ghost Value = { Option (List ℕ) };
+    // The bytes of each pack, where they are known.
+    ghost Value = { List (Option (List ℕ)) };
 
-    ghost view = { λ w. P.bytes w.file };
+    ghost view = { λ w. map (λ opened. P.bytes opened.file) w.packs.items };
 
-    ghost invariant = { λ w. All (λ block. IsPart (P.bytes w.file) block.first block.bytes.items)
+    ghost invariant = { λ w. AreBlocks (map (λ opened. P.bytes opened.file) w.packs.items)
         w.blocks.items };
 }
 
 impl<P: OpenPack + Drop, A: Allocator + Copy> Window<P, A> {
-    /// A window that holds no block yet.
-    pub(crate) fn new(alloc: A, file: P, length: usize) -> Window<P, A>
-        ensures { result ≡ P.bytes file }
+    /// A window on no pack.
+    pub(crate) fn new(alloc: A) -> Window<P, A>
+        ensures { result ≡ [] }
     {
-        let blocks = Vec::new(alloc);
         Window {
             alloc,
-            file,
-            length,
-            blocks,
+            packs: Vec::new(alloc),
+            blocks: Vec::new(alloc),
         }
     }
 
-    /// So many bytes of the pack from a place on. It fails with `Offset` if the pack ends before,
-    /// with `Read`, and with `Memory`.
-    pub(crate) fn read(&mut self, start: usize, count: usize) -> Result<Vec<u8, A>, Cause>
-        ensures part { IfOk result (λ bytes. IsPart self.old start bytes.items) }
+    /// Adds an open pack that ends here, and answers its number. It fails only out of memory.
+    pub(crate) fn add(&mut self, file: P, end: usize) -> Result<usize, AllocError>
+        ensures number { IfOk result (λ number. number ≡ length self.old) }
+        ensures ok { OnOk result (self.new ≡ self.old ++ P.bytes file ∷ []) }
+        ensures err { OnErr result (self.new ≡ self.old) }
+    {
+        let number = self.packs.len();
+        self.packs.push(Opened { file, end })?;
+        Ok(number)
+    }
+
+    /// So many bytes of a pack from a place on. It fails with `Offset` if the pack ends before or
+    /// there is no pack with this number, with `Read`, and with `Memory`.
+    pub(crate) fn read(
+        &mut self,
+        pack: usize,
+        start: usize,
+        count: usize,
+    ) -> Result<Vec<u8, A>, Cause>
+        ensures part { IfOk result (λ bytes. IsPartOf self.old pack start bytes.items) }
         ensures count { IfOk result (λ bytes. vec_len bytes ≡ count) }
         ensures same { self.new ≡ self.old }
     {
         let offset = start % BLOCK;
         if count > BLOCK - offset {
-            return self.load(start, count);
+            return self.load(pack, start, count);
         }
         let first = start - offset;
-        self.fetch(first)?;
-        let Some(block) = self.block_at(first) else {
+        self.fetch(pack, first)?;
+        let Some(block) = self.block_at(pack, first) else {
             return Err(Cause::Offset);
         };
         let Some(bytes) = inner_part(block, offset, count) else {
@@ -75,46 +98,76 @@ impl<P: OpenPack + Drop, A: Allocator + Copy> Window<P, A> {
         Ok(Vec::from_slice(self.alloc, bytes)?)
     }
 
-    // Whether the block that begins here is held.
-    fn holds(&self, first: usize) -> bool {
-        self.block_at(first).is_some()
+    // Whether the block of a pack that begins here is held.
+    fn holds(&self, pack: usize, first: usize) -> bool {
+        self.block_at(pack, first).is_some()
     }
 
-    // The block that begins here; `None` if it is not held.
-    fn block_at(&self, first: usize) -> Option<&[u8]>
-        ensures { IfSome result (λ bytes. IsPart self.now first bytes.now) }
+    // The block of a pack that begins here; `None` if it is not held.
+    fn block_at(&self, pack: usize, first: usize) -> Option<&[u8]>
+        ensures { IfSome result (λ bytes. IsPartOf self.now pack first bytes.now) }
     {
         for block in &self.blocks {
-            if block.first == first {
+            if block.pack == pack && block.first == first {
                 return Some(block.bytes.as_slice());
             }
         }
         None
     }
 
-    // Reads the block that begins here, unless it is held.
-    fn fetch(&mut self, first: usize) -> Result<(), Cause>
+    // Reads the block of a pack that begins here, unless it is held.
+    fn fetch(&mut self, pack: usize, first: usize) -> Result<(), Cause>
         ensures { self.new ≡ self.old }
     {
-        if self.holds(first) {
+        if self.holds(pack, first) {
             return Ok(());
         }
-        let count = BLOCK.min(self.length.saturating_sub(first));
-        let bytes = self.load(first, count)?;
-        push_block(&mut self.blocks, Block { first, bytes })
+        let count = BLOCK.min(self.end_of(pack).saturating_sub(first));
+        let bytes = self.load(pack, first, count)?;
+        push_block(&mut self.blocks, Block { pack, first, bytes })
     }
 
-    // Reads so many bytes of the pack from a place on.
-    fn load(&mut self, start: usize, count: usize) -> Result<Vec<u8, A>, Cause>
-        ensures part { IfOk result (λ bytes. IsPart self.old start bytes.items) }
+    // The end of a pack; 0 if there is no pack with this number.
+    fn end_of(&self, pack: usize) -> usize {
+        match self.packs.get(pack) {
+            Some(opened) => opened.end,
+            None => 0,
+        }
+    }
+
+    // Reads so many bytes of a pack from a place on.
+    fn load(&mut self, pack: usize, start: usize, count: usize) -> Result<Vec<u8, A>, Cause>
+        ensures part { IfOk result (λ bytes. IsPartOf self.old pack start bytes.items) }
         ensures count { IfOk result (λ bytes. vec_len bytes ≡ count) }
+        ensures inside { OnOk result (pack < length self.old) }
         ensures same { self.new ≡ self.old }
     {
-        if count > self.length.saturating_sub(start) {
-            return Err(Cause::Offset);
-        }
-        self.file.read_at(self.alloc, start, count)
+        read_part(&mut self.packs, self.alloc, pack, start, count)
     }
+}
+
+// Reads so many bytes of one of these packs from a place on.
+fn read_part<P: OpenPack + Drop, A: Allocator + Copy>(
+    packs: &mut Vec<Opened<P>, A>,
+    alloc: A,
+    pack: usize,
+    start: usize,
+    count: usize,
+) -> Result<Vec<u8, A>, Cause>
+    ensures part { IfOk result (λ bytes.
+        IsPartOf (map (λ opened. P.bytes opened.file) packs.old.items) pack start bytes.items) }
+    ensures count { IfOk result (λ bytes. vec_len bytes ≡ count) }
+    ensures inside { OnOk result (pack < length packs.old.items) }
+    ensures same { map (λ opened. P.bytes opened.file) packs.new.items
+        ≡ map (λ opened. P.bytes opened.file) packs.old.items }
+{
+    if pack >= packs.len() {
+        return Err(Cause::Offset);
+    }
+    if count > packs[pack].end.saturating_sub(start) {
+        return Err(Cause::Offset);
+    }
+    packs[pack].file.read_at(alloc, start, count)
 }
 
 // Adds a block, and gives up the oldest one if there are too many.
@@ -122,9 +175,8 @@ fn push_block<A: Allocator + Copy>(
     blocks: &mut Vec<Block<A>, A>,
     block: Block<A>,
 ) -> Result<(), Cause>
-    ensures { (known : Option (List ℕ)) → IsPart known block.first block.bytes.items
-        → All (λ b. IsPart known b.first b.bytes.items) blocks.old.items
-        → All (λ b. IsPart known b.first b.bytes.items) blocks.new.items }
+    ensures { (packs : List (Option (List ℕ))) → IsBlock packs block
+        → AreBlocks packs blocks.old.items → AreBlocks packs blocks.new.items }
 {
     make_room(blocks);
     blocks.push(block)?;
@@ -133,9 +185,9 @@ fn push_block<A: Allocator + Copy>(
 
 // Gives up the oldest block if there are too many.
 fn make_room<A: Allocator + Copy>(blocks: &mut Vec<Block<A>, A>)
-    ensures { (known : Option (List ℕ))
-        → All (λ b. IsPart known b.first b.bytes.items) blocks.old.items
-        → All (λ b. IsPart known b.first b.bytes.items) blocks.new.items }
+    ensures blocks { (packs : List (Option (List ℕ)))
+        → AreBlocks packs blocks.old.items → AreBlocks packs blocks.new.items }
+    ensures room { length blocks.old.items ≤ 64 → length blocks.new.items < 64 }
 {
     if blocks.len() < BLOCKS {
         return;

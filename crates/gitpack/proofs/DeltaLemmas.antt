@@ -308,7 +308,7 @@ module _ (base delta after front : List ℕ) (base_number : ℕ) (based : IsSize
   no_size none body d = none (length body) d.size d.commands d.sized (after_is body d).1
 
   module _ (commands back : List ℕ) (number : ℕ) (sized : IsSize back number) (cut : after ≡ back ++ commands) where
-    commands_are : (body : List ℕ) (d : IsDelta base delta body) → (number ≡ length body) × (commands ≡ d.commands)
+    pub commands_are : (body : List ℕ) (d : IsDelta base delta body) → (number ≡ length body) × (commands ≡ d.commands)
     commands_are body d = sizes_once back d.size commands d.commands number (length body) sized d.sized (sym cut ∙ (after_is body d).1)
 
     pub other_size : (most : ℕ) → ((base_number ≡ length base) × (number ≤ most) → ⊥) → (body : List ℕ) → IsDelta base delta body → ¬ (length body ≤ most)

@@ -4,3 +4,4 @@ pub mod Deltas
 pub mod Indexes
 pub mod Packs
 pub mod Laws
+pub mod steps

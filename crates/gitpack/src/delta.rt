@@ -20,6 +20,22 @@ const SIZE_BYTES: u32 = 3;
 // The size of a copy whose number is 0.
 const FULL_COPY: usize = 0x10000;
 
+/// The number of bytes of the body that a delta makes, as the delta has it. It is `None` if the bytes
+/// do not begin with two sizes, and so are no delta.
+pub fn made_size(delta: &[u8]) -> Option<usize>
+    ensures { MatchOption result
+        ((base body : List ℕ) → ¬ (IsDelta base delta.now body))
+        (λ size. (base body : List ℕ) → IsDelta base delta.now body → length body ≡ size) }
+{
+    let Some((_base_size, after)) = split_size(delta) else {
+        return None;
+    };
+    match split_size(after) {
+        Some((size, _commands)) => Some(size),
+        None => None,
+    }
+}
+
 /// The body that a delta makes of its base. It is `None` if the bytes are no delta of this base,
 /// or one that makes more than `most` bytes. The body takes memory for at most twice its bytes.
 ///

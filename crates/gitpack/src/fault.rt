@@ -13,7 +13,7 @@ pub enum PackFileFault {
     /// The header, the number of entries or the trailer of the pack is wrong.
     Frame,
     /// The entry at this place is cut, or has no zlib stream or one of another size. Or it is no
-    /// delta of its base, makes an object past the limit, or has a base that comes twice.
+    /// delta of its base, or has a base that comes twice.
     Entry(usize),
     /// The base of a delta is not in the pack: the pack is thin, or an offset is wrong.
     Thin,

@@ -1,8 +1,9 @@
 //! The text of a pack index (gitformat-pack(5)).
 
-ghost use Rattle.std.specs.Prelude.{◌≡◌, ◌^◌, ◌<◌, ◌≤◌, ◌++◌, IfOk, OnOk, length, slice_index};
+ghost use Rattle.std.specs.Prelude.{◌≡◌, ℕ, ◌^◌, ◌<◌, ◌≤◌, ◌++◌, IfOk, OnOk, length, slice_index};
 ghost use Rattle.std.specs.List.{flat_map};
-ghost use Rattle.gitpack.specs.Indexes.{crc_bytes, fan_out, id_bytes, ids_within, index_body, index_text, long_bytes, short_offsets};
+ghost use Rattle.gitpack.specs.Indexes.{crc_bytes, fan_out, id_bytes, index_body, index_text, long_bytes, short_offsets};
+ghost use Rattle.gitpack.specs.steps.FirstBytes.{ids_beginning};
 
 use crate::index::IndexEntry;
 use gname::Oid;
@@ -45,32 +46,35 @@ fn put_fan_out<A: Allocator + Copy>(
     requires { length entries.now < 2 ^ 31 }
     ensures { OnOk result (out.new.items ≡ out.old.items ++ fan_out 256 entries.now) }
 {
-    for byte in 0..256u32 {
-        let count = ids_up_to(byte, entries);
-        out.extend_from_slice(&count.to_be_bytes())?;
+    let counts = count_by_first(entries);
+    let mut total = 0;
+    for byte in 0..256 {
+        total += counts[byte];
+        out.extend_from_slice(&total.to_be_bytes())?;
     }
     Ok(())
 }
 
-// The number of ids whose first byte is at most this one.
-fn ids_up_to(byte: u32, entries: &[IndexEntry]) -> u32
+// For each byte, the number of ids that begin with it.
+fn count_by_first(entries: &[IndexEntry]) -> [u32; 256]
     requires { length entries.now < 2 ^ 31 }
-    ensures { result ≡ ids_within byte entries.now }
+    ensures { (byte : ℕ) → byte < 256
+        → slice_index result byte ≡ ids_beginning byte entries.now }
 {
-    let mut count = 0;
+    let mut counts = [0; 256];
     for entry in entries {
-        if first_byte(&entry.id) <= byte {
-            count += 1;
-        }
+        let byte = first_byte(&entry.id);
+        counts[byte] += 1;
     }
-    count
+    counts
 }
 
 // The first byte of an id.
-fn first_byte(id: &Oid) -> u32
-    ensures { result ≡ slice_index id.now 0 }
+fn first_byte(id: &Oid) -> usize
+    ensures value { result ≡ slice_index id.now 0 }
+    ensures small { result < 256 }
 {
-    u32::from(id.as_bytes()[0])
+    usize::from(id.as_bytes()[0])
 }
 
 // Adds the ids.

@@ -9,7 +9,7 @@
 //!   [`PackWriter`] writes is read again.
 //! - [`apply_delta`] makes a body exactly if the bytes are a delta of the base. In a delta both
 //!   sizes are right, and each copy lies within the base. The body is the bytes that the copies
-//!   and insertions add, in order.
+//!   and insertions add, in order. [`made_size`] answers the size of that body.
 //! - [`PackIndex::read`] answers an index only for the text of that index. The lines are sorted by
 //!   their ids, and the fan-out table and both tables of offsets are theirs. [`PackIndex::find`]
 //!   finds an id exactly if it is in the index.
@@ -72,7 +72,7 @@ mod scanning;
 mod streams;
 mod writing;
 
-pub use crate::delta::apply_delta;
+pub use crate::delta::{apply_delta, made_size};
 pub use crate::entry::{EntryForm, EntryHead, MAX_HEAD, read_head};
 pub use crate::fault::PackFileFault;
 pub use crate::index::{IndexEntry, PackIndex};

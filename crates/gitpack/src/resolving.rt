@@ -2,7 +2,7 @@
 //! a time.
 
 use crate::children::{Children, Cursor};
-use crate::delta::apply_delta;
+use crate::delta::{apply_delta, made_size};
 use crate::entry::EntryForm;
 use crate::fault::PackFileFault;
 use crate::index::IndexEntry;
@@ -162,6 +162,7 @@ impl<'a, A: Allocator + Copy> Resolver<'a, A> {
             return Err(PackFileFault::Entry(place));
         }
         let delta = self.inflate(place, &entry)?;
+        self.check_size(delta.as_slice())?;
         let Some((kind, body)) = self.apply(delta.as_slice())? else {
             return Err(PackFileFault::Entry(place));
         };
@@ -177,6 +178,14 @@ impl<'a, A: Allocator + Copy> Resolver<'a, A> {
             self.hold(Base { kind, body, left })?;
         }
         Ok(())
+    }
+
+    // The object that a delta makes has no more bytes than an object may have.
+    fn check_size(&self, delta: &[u8]) -> Result<(), PackFileFault> {
+        match made_size(delta) {
+            Some(size) if size > self.limits.object => Err(PackFileFault::TooLarge),
+            _ => Ok(()),
+        }
     }
 
     // Counts so many bytes more.

@@ -5,5 +5,6 @@ pub mod PackedRefs
 pub mod PackedTexts
 pub mod Texts
 pub mod Paths
+pub mod Links
 pub mod Faults
 pub mod steps

@@ -1,13 +1,14 @@
 //! A git directory, as far as its refs go.
 
 use crate::fault::{Cause, RefFault};
-use crate::git_file::GitFile;
+use crate::git_file::{GitFile, sync_directory};
 use crate::locked::LockedFile;
 use crate::packed_text::{packed_refs_text, peeled_refs_text};
 use crate::path::FilePath;
+use crate::texts::{branch_text, ref_text};
 use crate::update::first_conflict;
 use gname::RefName;
-use grefs::{Refs, Target};
+use grefs::{Head, Refs, Target};
 use std::alloc::{Allocator, Global};
 use std::fs;
 use std::fs::{File, Files};
@@ -19,56 +20,114 @@ pub struct GitDirectory<'r, R: Files, A: Allocator + Copy = Global> {
     pub(crate) files: &'r R,
     pub(crate) alloc: A,
     pub(crate) path: &'r str,
+    // The directory of HEAD: that of a linked worktree, or the same.
+    head_path: &'r str,
 }
 
-// The directories of a new repository.
-const DIRECTORIES: [&str; 4] = ["objects/info", "objects/pack", "refs/heads", "refs/tags"];
-
-// The configuration of a new bare repository (git-config(1), "core").
-const BARE_CONFIG: &[u8] =
-    b"[core]\n\trepositoryformatversion = 0\n\tfilemode = true\n\tbare = true\n";
+// The directories of a new repository, each after the one in which it lies.
+const DIRECTORIES: [&str; 6] = [
+    "objects",
+    "objects/info",
+    "objects/pack",
+    "refs",
+    "refs/heads",
+    "refs/tags",
+];
 
 impl<'r, R: Files, A: Allocator + Copy> GitDirectory<'r, R, A> {
     /// The git directory with this path. Nothing is opened yet.
     pub fn new(alloc: A, files: &'r R, path: &'r str) -> GitDirectory<'r, R, A> {
-        GitDirectory { files, alloc, path }
+        GitDirectory {
+            files,
+            alloc,
+            path,
+            head_path: path,
+        }
     }
 
-    /// Makes a bare repository without objects and refs, whose HEAD points at this branch
-    /// (git-init(1)).
+    /// The git directory of a linked worktree (git-worktree(1)): HEAD lies in its own directory, and
+    /// all refs below `refs/` in the common one. Nothing is opened yet.
+    pub fn linked(alloc: A, files: &'r R, common: &'r str, own: &'r str) -> GitDirectory<'r, R, A> {
+        GitDirectory {
+            files,
+            alloc,
+            path: common,
+            head_path: own,
+        }
+    }
+
+    /// The path of a ref's file, or of HEAD.
+    pub(crate) fn path_of(&self, name: &RefName<A>) -> Result<FilePath<A>, RefFault<A>> {
+        if name.is_head() {
+            FilePath::of_ref(self.alloc, self.head_path, name)
+        } else {
+            FilePath::of_ref(self.alloc, self.path, name)
+        }
+    }
+
+    /// Makes a repository with this configuration and without objects and refs, whose HEAD points at
+    /// this branch (git-init(1)). All of it is brought to the disk.
     ///
     /// If the directory is there already, it fails with `System` and changes nothing. If another
-    /// call fails, a part of the repository stays.
-    pub fn make(&self, branch: &Target<A>) -> Result<(), RefFault<A>> {
+    /// call fails, the directory is removed again, as far as the system does so.
+    pub fn make(&self, config: &[u8], branch: &Target<A>) -> Result<(), RefFault<A>> {
         if let Err(error) = fs::create_dir(self.files, self.path) {
             return Err(RefFault::system(self.alloc, self.path, error));
         }
+        match self.fill(config, branch) {
+            Ok(()) => Ok(()),
+            Err(fault) => {
+                let _ = self.files.remove_dir_all(self.alloc, self.path);
+                Err(fault)
+            }
+        }
+    }
+
+    // Fills the directory of a new repository. HEAD comes last, since a directory without it is no
+    // repository.
+    fn fill(&self, config: &[u8], branch: &Target<A>) -> Result<(), RefFault<A>> {
         for name in DIRECTORIES {
             self.make_directory(name)?;
         }
-        let config = FilePath::of_config(self.alloc, self.path)?;
-        self.lock(config)?.replace(BARE_CONFIG)?;
-        self.write_head(branch)
+        let path = FilePath::of_config(self.alloc, self.path)?;
+        self.lock(path)?.replace(config)?;
+        self.write_head(&branch_text(self.alloc, branch)?)?;
+        self.sync_name(self.path)
     }
 
     fn make_directory(&self, name: &str) -> Result<(), RefFault<A>> {
         let mut path = String::from_str(self.alloc, self.path)?;
         path.push_str("/")?;
         path.push_str(name)?;
-        match fs::create_dir_all(self.files, path.as_str()) {
-            Ok(()) => Ok(()),
+        match fs::create_dir(self.files, path.as_str()) {
+            Ok(()) => self.sync_name(path.as_str()),
             Err(error) => Err(RefFault::system(self.alloc, path.as_str(), error)),
         }
     }
 
-    // Points HEAD at a branch.
-    fn write_head(&self, branch: &Target<A>) -> Result<(), RefFault<A>> {
+    // Brings the name of a file or a directory to the disk.
+    fn sync_name(&self, path: &str) -> Result<(), RefFault<A>> {
+        match sync_directory(self.files, path) {
+            Ok(()) => Ok(()),
+            Err(error) => Err(RefFault::system(self.alloc, path, error)),
+        }
+    }
+
+    /// Replaces HEAD: it is at an id, or points at a ref (git-symbolic-ref(1)). If there is to be no
+    /// HEAD, it is left as it is.
+    ///
+    /// It fails with `Locked`, `System` or `Memory`. HEAD is as it was then, or the whole new one.
+    pub fn set_head(&self, head: &Head<A>) -> Result<(), RefFault<A>> {
+        match head {
+            Head::None => Ok(()),
+            Head::Id(id) => self.write_head(&ref_text(self.alloc, id)?),
+            Head::Symref(branch) => self.write_head(&branch_text(self.alloc, branch)?),
+        }
+    }
+
+    fn write_head(&self, text: &Vec<u8, A>) -> Result<(), RefFault<A>> {
         let head = RefName::head(self.alloc)?;
-        let path = FilePath::of_ref(self.alloc, self.path, &head)?;
-        let mut text = Vec::new(self.alloc);
-        text.extend_from_slice(b"ref: ")?;
-        text.extend_from_slice(branch.name().as_bytes())?;
-        text.push(b'\n')?;
+        let path = self.path_of(&head)?;
         self.lock(path)?.replace(text.as_slice())
     }
 
@@ -101,7 +160,7 @@ impl<'r, R: Files, A: Allocator + Copy> GitDirectory<'r, R, A> {
 
     // There is a `HEAD`, as each git directory has one.
     pub(crate) fn check_repository(&self) -> Result<(), RefFault<A>> {
-        let path = FilePath::of_ref(self.alloc, self.path, &RefName::head(self.alloc)?)?;
+        let path = self.path_of(&RefName::head(self.alloc)?)?;
         match self.files.symlink_metadata(path.as_str()) {
             Ok(_) => Ok(()),
             Err(error) if error.kind() == ErrorKind::NotFound => {
@@ -113,7 +172,7 @@ impl<'r, R: Files, A: Allocator + Copy> GitDirectory<'r, R, A> {
 
     // The fault of a ref's file.
     pub(crate) fn fault_of(&self, name: &RefName<A>, cause: Cause) -> RefFault<A> {
-        match FilePath::of_ref(self.alloc, self.path, name) {
+        match self.path_of(name) {
             Ok(path) => RefFault::at(self.alloc, path.as_str(), cause),
             Err(fault) => fault,
         }

@@ -130,12 +130,14 @@ fn is_no_directory(kind: ErrorKind) -> bool {
     kind == ErrorKind::AlreadyExists || kind == ErrorKind::NotADirectory
 }
 
-// Brings a new name to the disk, in the directory that it is in.
-fn sync_directory<R: Files>(files: &R, path: &str) -> io::Result<()> {
-    match Path::new(path).parent() {
-        Some(parent) => File::open(files, parent)?.sync_all(),
-        None => Ok(()),
-    }
+/// Brings a new name to the disk, in the directory that it is in.
+pub(crate) fn sync_directory<R: Files>(files: &R, path: &str) -> io::Result<()> {
+    let parent = match Path::new(path).parent() {
+        Some(parent) if parent.as_str().is_empty() => Path::new("."),
+        Some(parent) => parent,
+        None => return Ok(()),
+    };
+    File::open(files, parent)?.sync_all()
 }
 
 impl<R: Files, A: Allocator + Copy> Storage for GitFile<'_, R, A> {

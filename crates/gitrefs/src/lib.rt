@@ -6,9 +6,12 @@
 //! - [`parse_loose_ref`] and [`parse_packed_refs`] accept exactly the texts of the form in
 //!   `specs/`, and refuse all others. They answer what the text says: an id or the name of another
 //!   ref; the refs of the lines, in their order, with the peeled ids.
+//! - [`parse_common_dir`] accepts exactly the texts that name a path in `specs/`, and answers that path.
+//!   [`parse_git_file`] answers the path only of such a text, but might refuse one.
 //! - [`packed_refs_text`] and [`peeled_refs_text`] write a header and the line of each ref, in the
 //!   order of the names, since `Refs` are in that order. If all ids are SHA-1, the text reads back
 //!   as these refs: [`laws`].
+//! - The text of a HEAD that points at a branch reads back as that branch.
 //! - [`replace_ref`] replaces a ref's file under a lock, over any `Storage` of `glockfile`. In
 //!   every state since then the file has the old text or the whole new one. At `Ok` it has the new
 //!   one. This run holds no lockfile at the end.
@@ -38,8 +41,8 @@
 //! - Git follows a symbolic ref to a name outside `refs/`, as `ORIG_HEAD`. Here it is left out.
 //! - Git refuses a ref to an object that is missing, and a branch at no commit. This crate sees no
 //!   object.
-//! - The configuration is not read: no SHA-256, no reftable, no shared permissions. The git
-//!   directory of a linked worktree is not joined with its common one. Reflogs are left alone.
+//! - The configuration is not read: no SHA-256, no reftable, no shared permissions. Reflogs are
+//!   left alone. Of a linked worktree HEAD alone is its own; Git has `refs/bisect` and some more there, too.
 //!
 //! # What the contracts do not rule out
 //!
@@ -68,18 +71,21 @@ mod directory;
 mod fault;
 mod git_file;
 pub mod laws;
+mod links;
 mod locked;
 mod loose;
 mod packed;
 mod packed_text;
 mod path;
 mod reading;
+mod texts;
 mod update;
 mod values;
 mod words;
 
 pub use crate::directory::GitDirectory;
 pub use crate::fault::{Cause, RefFault, TextFault};
+pub use crate::links::{parse_common_dir, parse_git_file};
 pub use crate::locked::replace_ref;
 pub use crate::loose::{LooseRef, parse_loose_ref};
 pub use crate::packed::{PackedRef, parse_packed_refs};

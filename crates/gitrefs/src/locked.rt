@@ -7,9 +7,10 @@ ghost use Rattle.gitrefs.specs.Texts.{ref_text};
 
 use crate::fault::RefFault;
 use crate::git_file::GitFile;
+use crate::texts::ref_text;
 use glockfile::{Storage, StorageFault, open_file, replace_file};
 use gname::Oid;
-use std::alloc::{AllocError, Allocator};
+use std::alloc::Allocator;
 use std::fs::Files;
 
 /// A file that this run has locked, and its text. Its lockfile is removed when it is dropped.
@@ -94,14 +95,4 @@ pub fn replace_ref<A: Allocator + Copy, T: Storage>(
             Err(StorageFault::Memory)
         }
     }
-}
-
-// The text of a ref's file: the digits of its id, and an LF.
-fn ref_text<A: Allocator + Copy>(alloc: A, id: &Oid) -> Result<Vec<u8, A>, AllocError>
-    ensures { IfOk result (λ text. text.items ≡ ref_text id.now) }
-{
-    let mut text = Vec::new(alloc);
-    id.push_hex(&mut text)?;
-    text.push(b'\n')?;
-    Ok(text)
 }

@@ -135,7 +135,7 @@ impl<R: Files, A: Allocator + Copy> GitDirectory<'_, R, A> {
         let Some(name) = self.ref_name(text.as_bytes())? else {
             return Ok(());
         };
-        let path = FilePath::of_ref(self.alloc, self.path, &name)?;
+        let path = self.path_of(&name)?;
         if let None = self.found(&path, self.files.metadata(path.as_str()))? {
             return Ok(());
         }
@@ -160,7 +160,7 @@ impl<R: Files, A: Allocator + Copy> GitDirectory<'_, R, A> {
     // Looks under the name of a ref. A symbolic link to a ref's name is a symbolic ref, as Git once
     // made them; any other one is followed.
     fn look(&self, name: &RefName<A>) -> Result<Place<A>, RefFault<A>> {
-        let path = FilePath::of_ref(self.alloc, self.path, name)?;
+        let path = self.path_of(name)?;
         let Some(metadata) = self.found(&path, self.files.symlink_metadata(path.as_str()))? else {
             return Ok(Place::Empty);
         };

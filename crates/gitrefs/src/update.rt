@@ -4,7 +4,6 @@ use crate::directory::GitDirectory;
 use crate::fault::{Cause, RefFault, TextFault};
 use crate::locked::LockedFile;
 use crate::loose::{LooseRef, name_of, parse_loose_ref};
-use crate::path::FilePath;
 use gname::{Oid, RefName};
 use grefs::{Refs, RefsFault};
 use std::alloc::{Allocator, Global};
@@ -35,7 +34,7 @@ impl<R: Files, A: Allocator + Copy> GitDirectory<'_, R, A> {
         self.check_conflicts(updates)?;
         let mut locked = Vec::new(self.alloc);
         for update in updates {
-            let path = FilePath::of_ref(self.alloc, self.path, &update.name)?;
+            let path = self.path_of(&update.name)?;
             locked.push(self.lock(path)?)?;
         }
         let packed = self.packed_ids()?;

@@ -7,7 +7,7 @@
 //!   their Adler-32, also where the bytes come in pieces.
 //! - [`Inflater::inflate`] appends at most `most` bytes. The Adler-32 of those is the four bytes
 //!   with which the stream ends, and the stream lies within the bytes. At a fault the body is as it
-//!   was.
+//!   was. [`Inflater::inflate_front`] appends at most `count` bytes.
 //! - [`put_stored`] appends exactly the stream of stored blocks that `specs/Stored.antt` defines.
 //! - [`Deflater::deflate`] appends a header, some blocks, and the Adler-32 of the bytes. At a fault
 //!   `out` is as it was.

@@ -1,0 +1,43 @@
+-- Why a file is not added to a commit-graph, and the texts of faults, as they are printed.
+use Rattle.std.specs.Prelude.{◌≢◌, ⊤, ℕ, ◌<◌, List, [], ◌∷◌, ◌++◌, codes, length, map}
+use Rattle.gname.specs.Faults.{out_of_memory_text}
+use Rattle.gitcommitgraph.specs.Chains.{checksum_of, graph_commits}
+use Rattle.gitcommitgraph.specs.Files.{GraphFile, HasPositionsBefore, no_parent}
+use Rattle.gitcommitgraph.specs.Texts.{IsGraphText}
+use Rattle.gitcommitgraph.specs.declared.fault.CommitGraphFault.{CommitGraphFault}
+use Rattle.gitcommitgraph.specs.declared.fault.CommitGraphFault.TheVariants.{Memory, Header, Contents, Chunk, Order, FanOut, Edges, Bases, TooMany, Parents}
+
+-- the text is no file's
+abbrev pub IsNoFile : List ℕ → Type 0
+IsNoFile text = (file : GraphFile) → ¬ IsGraphText file text
+
+-- the text is that of a file of which this holds
+abbrev pub IsOfFile : List ℕ → (GraphFile → Type 0) → Type 0
+IsOfFile text P = (file : GraphFile) × IsGraphText file text × P file
+
+-- Why a text is not added to a chain: out of memory; its base graphs are not the files before; there would be too many
+-- commits; a position is that of no commit; or the text is no file's.
+abbrev pub IsRefused : List GraphFile → List ℕ → CommitGraphFault → Type 0
+IsRefused old text Memory = ⊤
+IsRefused old text Bases = IsOfFile text (λ file. file.bases ≢ map checksum_of old)
+IsRefused old text TooMany = IsOfFile text (λ file. no_parent < length (graph_commits (old ++ file ∷ [])))
+IsRefused old text Parents =
+    IsOfFile text (λ file. ¬ HasPositionsBefore (length (graph_commits (old ++ file ∷ []))) file)
+IsRefused old text Header = IsNoFile text
+IsRefused old text Contents = IsNoFile text
+IsRefused old text Chunk = IsNoFile text
+IsRefused old text Order = IsNoFile text
+IsRefused old text FanOut = IsNoFile text
+IsRefused old text Edges = IsNoFile text
+
+abbrev pub commit_graph_fault_text : CommitGraphFault → List ℕ
+commit_graph_fault_text Memory = out_of_memory_text
+commit_graph_fault_text Header = codes "the file is no commit-graph of version 1 with SHA-1 ids"
+commit_graph_fault_text Contents = codes "the table of contents of the commit-graph is wrong"
+commit_graph_fault_text Chunk = codes "a chunk of the commit-graph is missing or has a wrong length"
+commit_graph_fault_text Order = codes "the ids of the commit-graph do not ascend"
+commit_graph_fault_text FanOut = codes "the fan-out table of the commit-graph is wrong"
+commit_graph_fault_text Edges = codes "a list of edges of the commit-graph has no end"
+commit_graph_fault_text Bases = codes "the base graphs of the commit-graph are not the files before"
+commit_graph_fault_text TooMany = codes "the commit-graph has too many commits"
+commit_graph_fault_text Parents = codes "a parent is not in the commit-graph"

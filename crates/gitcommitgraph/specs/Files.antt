@@ -1,0 +1,127 @@
+-- What a commit-graph file says (gitformat-commit-graph(5), "CHUNK DATA").
+use Rattle.std.specs.Prelude.{◌≡◌, ℕ, ◌-◌, ◌<◌, ◌≤◌, ◌==◌, ◌⊎◌, if◌then◌else◌, nat_lt, List, [], ◌∷◌, All, length, drop, slice_index_or, slice_range}
+use Rattle.std.specs.List.{AllAdjacentBelow}
+use Rattle.std.specs.Int.{w32, from_be_bytes}
+use Rattle.std.specs.Ordering.{nat_cmp}
+use Rattle.std.specs.declared.cmp.Ordering.TheVariants.{Less}
+use Rattle.std.specs.Cmp.Lexicographic.{slice_cmp}
+use Rattle.gname.specs.Ids.{Id}
+
+-- What a file has: the checksums of its base graphs; the ids of its commits, and for each a row of the commit data; the
+-- edges of octopus merges; and its own checksum.
+pub record GraphFile : Type 0 where
+  pub bases : List Id
+  pub ids : List Id
+  pub rows : List (List ℕ)
+  pub edges : List (List ℕ)
+  pub checksum : Id
+
+-- a commit: its id, and the positions of its parents in the commit-graph
+pub record Commit : Type 0 where
+  pub id : Id
+  pub parents : List ℕ
+
+-- ---- parents
+
+-- the number with four bytes, the highest first
+unfoldable pub number : List ℕ → ℕ
+number bytes = from_be_bytes w32 bytes
+
+-- the numbers of a row after the id of the tree, for the first parent and the second
+abbrev pub first_parent : List ℕ → ℕ
+first_parent row = number (slice_range row 20 24)
+
+abbrev pub second_parent : List ℕ → ℕ
+second_parent row = number (slice_range row 24 28)
+
+-- the number where there is no parent
+abbrev pub no_parent : ℕ
+no_parent = 0x7000_0000
+
+-- the numbers from here on have the highest bit
+abbrev pub mark : ℕ
+mark = 0x8000_0000
+
+-- the parents in a list of edges: the positions up to the first number with the highest bit, and that one without it
+abbrev pub edge_list : List (List ℕ) → List ℕ
+edge_list [] = []
+edge_list (edge ∷ edges) =
+    if nat_lt (number edge) mark then number edge ∷ edge_list edges else (number edge - mark) ∷ []
+
+-- The parents that two numbers spell: none, the first, or both. A second number with the highest bit names the place in
+-- the edges from which on the other parents are listed.
+abbrev pub parents_by : List (List ℕ) → ℕ → ℕ → List ℕ
+parents_by edges first second =
+    if first == no_parent then []
+    else (if second == no_parent then first ∷ []
+    else (if nat_lt second mark then first ∷ second ∷ []
+    else first ∷ edge_list (drop (second - mark) edges)))
+
+-- the parents that a row spells
+abbrev pub row_parents : List (List ℕ) → List ℕ → List ℕ
+row_parents edges row = parents_by edges (first_parent row) (second_parent row)
+
+-- ---- commits
+
+-- the commits with these ids and rows
+abbrev pub commits_of : List (List ℕ) → List Id → List (List ℕ) → List Commit
+commits_of edges [] rows = []
+commits_of edges (id ∷ ids) [] = []
+commits_of edges (id ∷ ids) (row ∷ rows) =
+    record { id = id; parents = row_parents edges row } ∷ commits_of edges ids rows
+
+-- the commits of a file, in the order of their ids
+abbrev pub file_commits : GraphFile → List Commit
+file_commits file = commits_of file.edges file.ids file.rows
+
+-- ---- the form of a file
+
+-- each is so many bytes long
+abbrev pub AreLong : ℕ → List (List ℕ) → Type 0
+AreLong n rows = All (λ row. length row ≡ n) rows
+
+-- each id is less than the next
+abbrev pub IsAscending : List Id → Type 0
+IsAscending ids = AllAdjacentBelow (λ one other. slice_cmp nat_cmp one other ≡ Less) ids (length ids)
+
+-- A row that names the place of a list names that of an edge. The last of the edges has the highest bit, so that each list
+-- has an end.
+abbrev pub NamesEdge : ℕ → List ℕ → Type 0
+NamesEdge count row = mark ≤ second_parent row → second_parent row - mark < count
+
+pub record HaveEnds (edges rows : List (List ℕ)) : Type 0 where
+  pub last : (d : List ℕ) → 0 < length edges → mark ≤ number (slice_index_or edges (length edges - 1) d)
+  pub begins : All (NamesEdge (length edges)) rows
+
+-- The form of a file: ids of 20 bytes, which ascend; a row of 36 bytes for each; and edges of 4 bytes. Each place of an id is
+-- less than the number where there is no parent.
+pub record IsGraphFile (file : GraphFile) : Type 0 where
+  pub bases : AreLong 20 file.bases
+  pub ids : AreLong 20 file.ids
+  pub rows : AreLong 36 file.rows
+  pub edges : AreLong 4 file.edges
+  pub checksum : length file.checksum ≡ 20
+  pub few : length file.ids ≤ no_parent
+  pub each : length file.rows ≡ length file.ids
+  pub ascending : IsAscending file.ids
+  pub ended : HaveEnds file.edges file.rows
+
+-- ---- the positions that a file names
+
+-- there is no parent, or it is before a position
+abbrev pub IsBefore : ℕ → ℕ → Type 0
+IsBefore end parent = (parent ≡ no_parent) ⊎ (parent < end)
+
+-- the parents that a row names itself are before a position
+pub record IsRowBefore (end : ℕ) (row : List ℕ) : Type 0 where
+  pub first : IsBefore end (first_parent row)
+  pub second : second_parent row < mark → IsBefore end (second_parent row)
+
+-- the parent that an edge names is before a position
+pub record IsEdgeBefore (end : ℕ) (edge : List ℕ) : Type 0 where
+  pub inner : number edge < mark → number edge < end
+  pub last : mark ≤ number edge → number edge - mark < end
+
+pub record HasPositionsBefore (end : ℕ) (file : GraphFile) : Type 0 where
+  pub rows : All (IsRowBefore end) file.rows
+  pub edges : All (IsEdgeBefore end) file.edges

@@ -1,0 +1,6 @@
+pub mod Files
+pub mod Texts
+pub mod Chains
+pub mod Faults
+pub mod Laws
+pub mod steps

@@ -1,0 +1,97 @@
+-- The steps of a file in memory: where its chunks lie.
+use Rattle.std.specs.Prelude.{◌≡◌, ℕ, ◌-◌, ◌*◌, ◌/◌, ◌%◌, ◌<◌, ◌≤◌, ◌⊎◌, List, codes, length, drop, slice_index, slice_range}
+use Rattle.gitcommitgraph.specs.Files.{GraphFile, HaveEnds, IsAscending, IsGraphFile, no_parent}
+use Rattle.gitcommitgraph.specs.Texts.{Chunk, IsFramed, HasChunk, MayHaveChunk}
+use Rattle.gitcommitgraph.specs.steps.Rows.{pieces, IsSpan, LacksName}
+use Rattle.gitcommitgraph.specs.steps.Tables.{IsFanOut}
+use Rattle.gitcommitgraph.specs.declared.contents.Span.{Span}
+use Rattle.gitcommitgraph.specs.declared.layer.Places.{Places}
+
+-- the bytes that lie there, and the rows of a table that lies there
+abbrev pub part : List ℕ → Span → List ℕ
+part bytes span = slice_range bytes span.start span.end
+
+abbrev pub table : ℕ → List ℕ → Span → List (List ℕ)
+table n bytes span = pieces n (part bytes span)
+
+-- the file with these bytes, whose chunks lie there
+abbrev pub file_at : List ℕ → Places → GraphFile
+file_at bytes places = record {
+  bases = table 20 bytes places.bases;
+  ids = table 20 bytes places.ids;
+  rows = table 36 bytes places.rows;
+  edges = table 4 bytes places.edges;
+  checksum = drop (length bytes - 20) bytes;
+}
+
+-- ---- finding the chunks
+
+-- such a chunk lies there, or there is none and no byte
+pub record MayBeSpan (rows : List (List ℕ)) (name : List ℕ) (span : Span) : Type 0 where
+  pub cases : IsSpan rows name span ⊎ (LacksName rows name × (span.start ≡ 0) × (span.end ≡ 0))
+
+-- the chunks of these rows lie there
+pub record ArePlaces (rows : List (List ℕ)) (places : Places) : Type 0 where
+  pub fan_out : IsSpan rows (codes "OIDF") places.fan_out
+  pub ids : IsSpan rows (codes "OIDL") places.ids
+  pub rows_at : IsSpan rows (codes "CDAT") places.rows
+  pub edges : MayBeSpan rows (codes "EDGE") places.edges
+  pub bases : MayBeSpan rows (codes "BASE") places.bases
+
+-- one of the chunks that must be there is not
+pub record LacksChunk (rows : List (List ℕ)) : Type 0 where
+  pub cases : LacksName rows (codes "OIDF") ⊎ (LacksName rows (codes "OIDL") ⊎ LacksName rows (codes "CDAT"))
+
+-- how many bytes lie there
+abbrev pub size : Span → ℕ
+size span = span.end - span.start
+
+-- the lengths of the chunks of a file with so many base graphs
+pub record HaveLengths (places : Places) (bases : ℕ) : Type 0 where
+  pub fan_out : size places.fan_out ≡ 1024
+  pub ids : size places.ids % 20 ≡ 0
+  pub few : size places.ids / 20 ≤ no_parent
+  pub rows : size places.rows % 36 ≡ 0
+  pub each : size places.rows / 36 ≡ size places.ids / 20
+  pub edges : size places.edges % 4 ≡ 0
+  pub bases_at : size places.bases ≡ 20 * bases
+
+-- ---- a file whose chunks were found
+
+-- what lies there is some of the bytes
+pub record IsWithin (bytes : List ℕ) (span : Span) : Type 0 where
+  pub ordered : span.start ≤ span.end
+  pub inside : span.end ≤ length bytes
+
+pub record AreWithin (bytes : List ℕ) (places : Places) : Type 0 where
+  pub fan_out : IsWithin bytes places.fan_out
+  pub ids : IsWithin bytes places.ids
+  pub rows : IsWithin bytes places.rows
+  pub edges : IsWithin bytes places.edges
+  pub bases : IsWithin bytes places.bases
+
+-- the text has the frame of a file, and the chunks lie there
+pub record IsCut (bytes : List ℕ) (places : Places) : Type 0 where
+  pub bases_count : ℕ
+  pub chunks : List Chunk
+  pub framed : IsFramed bases_count chunks (drop (length bytes - 20) bytes) bytes
+  pub small : (i : ℕ) → slice_index bytes i < 256
+  pub within : AreWithin bytes places
+  pub fan_out : HasChunk chunks (codes "OIDF") (part bytes places.fan_out)
+  pub ids : HasChunk chunks (codes "OIDL") (part bytes places.ids)
+  pub rows : HasChunk chunks (codes "CDAT") (part bytes places.rows)
+  pub edges : MayHaveChunk chunks (codes "EDGE") (part bytes places.edges)
+  pub bases : MayHaveChunk chunks (codes "BASE") (part bytes places.bases)
+  pub lengths : HaveLengths places bases_count
+
+-- the tables that lie there have their form
+pub record AreTested (bytes : List ℕ) (places : Places) : Type 0 where
+  pub ascending : IsAscending (table 20 bytes places.ids)
+  pub fan_out : IsFanOut (table 4 bytes places.fan_out) (table 20 bytes places.ids)
+  pub ended : HaveEnds (table 4 bytes places.edges) (table 36 bytes places.rows)
+
+-- a file whose form was tested
+pub record IsFileAt (bytes : List ℕ) (places : Places) : Type 0 where
+  pub within : AreWithin bytes places
+  pub formed : IsGraphFile (file_at bytes places)
+  pub fan_out : IsFanOut (table 4 bytes places.fan_out) (table 20 bytes places.ids)

@@ -1,0 +1,142 @@
+//! The header and the table of contents of a file (gitformat-commit-graph(5), "HEADER" and "CHUNK
+//! LOOKUP"; gitformat-chunk(5)).
+
+ghost use Rattle.std.specs.Prelude.{◌≡◌, ◌<◌, ◌++◌, ◌↔◌, List, ℕ, IsTrue, MatchOption, length, slice_index_or};
+ghost use Rattle.gitcommitgraph.specs.Texts.{header};
+ghost use Rattle.gitcommitgraph.specs.steps.Rows.{AreDistinct, AreRows, IsRising, IsSpan, IsTable, LacksName, row_name, row_offset};
+
+// The bytes of the header.
+const HEADER_BYTES: usize = 8;
+
+// The signature, version 1, and the number of SHA-1.
+const SIGNATURE: &[u8; 6] = b"CGPH\x01\x01";
+
+/// The bytes of a row of the table of contents: the name of a chunk, and the offset at which it
+/// begins.
+pub(crate) const ENTRY_BYTES: usize = 12;
+
+// The name in the last row.
+const NO_NAME: &[u8; 4] = b"\0\0\0\0";
+
+/// What the header says: the number of chunks, and of base graphs.
+#[derive(Clone, Copy, Drop)]
+pub(crate) struct Header {
+    pub(crate) chunks: u8,
+    pub(crate) bases: u8,
+}
+
+/// Where a chunk lies in a file.
+#[derive(Clone, Copy, Drop)]
+pub(crate) struct Span {
+    pub(crate) start: usize,
+    pub(crate) end: usize,
+}
+
+/// The header with which some bytes begin.
+pub(crate) fn read_header(bytes: &[u8]) -> Option<Header>
+    ensures { MatchOption result
+        ((chunks bases : ℕ) (rest : List ℕ) → ¬ (bytes.now ≡ header chunks bases ++ rest))
+        (λ head. (rest : List ℕ) × (bytes.now ≡ header head.chunks head.bases ++ rest)) }
+{
+    let after = bytes.strip_prefix(SIGNATURE)?;
+    let counts = after.first_chunk::<2>()?;
+    Some(Header {
+        chunks: counts[0],
+        bases: counts[1],
+    })
+}
+
+/// The rows of the table of contents of so many chunks, in a file without its trailer. It is `None`
+/// if the chunks do not lie one after the other up to the end, or if two have the same name.
+pub(crate) fn read_rows(chunks: u8, body: &[u8]) -> Option<&[[u8; ENTRY_BYTES]]>
+    ensures { MatchOption result ((rows : List (List ℕ)) → ¬ IsTable chunks body.now rows)
+        (λ rows. IsTable chunks body.now rows.now) }
+{
+    let start = HEADER_BYTES + (usize::from(chunks) + 1) * ENTRY_BYTES;
+    let table = body.get(HEADER_BYTES..start)?;
+    let (rows, _rest) = table.as_chunks::<ENTRY_BYTES>();
+    if are_rows(rows, start as u64, body.len() as u64) {
+        Some(rows)
+    } else {
+        None
+    }
+}
+
+// Whether rows are those of chunks between these offsets.
+fn are_rows(rows: &[[u8; ENTRY_BYTES]], start: u64, end: u64) -> bool
+    ensures { IsTrue result ↔ AreRows start end rows.now }
+{
+    let (Some(first), Some(last)) = (rows.first(), rows.last()) else {
+        return false;
+    };
+    if offset_of(first) != start {
+        return false;
+    }
+    if offset_of(last) != end {
+        return false;
+    }
+    if name_of(last) != NO_NAME {
+        return false;
+    }
+    is_rising(rows) && are_distinct(rows)
+}
+
+// Whether no row has a lower offset than the one before.
+fn is_rising(rows: &[[u8; ENTRY_BYTES]]) -> bool
+    ensures { IsTrue result ↔ IsRising rows.now }
+{
+    rows.is_sorted_by(|one, other| offset_of(one) <= offset_of(other))
+}
+
+// Whether no two rows have the same name.
+fn are_distinct(rows: &[[u8; ENTRY_BYTES]]) -> bool
+    ensures { IsTrue result ↔ AreDistinct rows.now }
+{
+    for (place, row) in rows.iter().enumerate() {
+        if place_of(&rows[..place], name_of(row)).is_some() {
+            return false;
+        }
+    }
+    true
+}
+
+// The place of the first row with this name.
+fn place_of(rows: &[[u8; ENTRY_BYTES]], name: &[u8; 4]) -> Option<usize>
+    ensures { MatchOption result
+        ((k : ℕ) (d : List ℕ) → k < length rows.now → ¬ (row_name (slice_index_or rows.now k d) ≡ name.now))
+        (λ place. (place < length rows.now)
+        × ((d : List ℕ) → row_name (slice_index_or rows.now place d) ≡ name.now)
+        × ((k : ℕ) (d : List ℕ) → k < place → ¬ (row_name (slice_index_or rows.now k d) ≡ name.now))) }
+{
+    for (place, row) in rows.iter().enumerate() {
+        if name_of(row) == name {
+            return Some(place);
+        }
+    }
+    None
+}
+
+// The name in a row.
+fn name_of(row: &[u8; ENTRY_BYTES]) -> &[u8; 4]
+    ensures { result.now ≡ row_name row.now }
+{
+    row.first_chunk::<4>().unwrap()
+}
+
+// The offset in a row.
+#[tactic(auto, unfolding(crate::specs::steps::Rows::row_offset))]
+fn offset_of(row: &[u8; ENTRY_BYTES]) -> u64
+    ensures { result ≡ row_offset row.now }
+{
+    u64::from_be_bytes(*row.last_chunk::<8>().unwrap())
+}
+
+/// Where the chunk with this name lies; `None` if there is none.
+pub(crate) fn span_of(rows: &[[u8; ENTRY_BYTES]], name: &[u8; 4]) -> Option<Span>
+    ensures { MatchOption result (LacksName rows.now name.now) (IsSpan rows.now name.now) }
+{
+    let place = place_of(rows, name)?;
+    let start = offset_of(rows.get(place)?) as usize;
+    let end = offset_of(rows.get(place + 1)?) as usize;
+    Some(Span { start, end })
+}

@@ -1,0 +1,86 @@
+//! Faults of commit-graph files.
+
+ghost use Rattle.std.specs.Prelude.{◌≡◌, Some};
+ghost use Rattle.gitcommitgraph.specs.Faults.{commit_graph_fault_text};
+ghost use Rattle.gitcommitgraph.specs.declared.fault.CommitGraphFault.TheVariants.{Memory};
+
+use gname::OUT_OF_MEMORY_TEXT;
+use std::alloc::{AllocError, AllocFailed};
+use std::error::Error;
+use std::fmt;
+
+/// Why a file is not added to a commit-graph.
+#[derive(Clone, Copy, Debug, PartialEq, Eq, Drop)]
+pub enum CommitGraphFault {
+    /// Out of memory.
+    Memory,
+    /// The file does not begin as a commit-graph of version 1 with SHA-1 ids, or is cut.
+    Header,
+    /// The table of contents is wrong: the chunks do not lie one after the other between it and the
+    /// trailer, or two have the same name.
+    Contents,
+    /// A chunk is missing or has a wrong length.
+    Chunk,
+    /// The ids do not ascend.
+    Order,
+    /// The fan-out table is not that of the ids.
+    FanOut,
+    /// An edge list has no end.
+    Edges,
+    /// The base graphs are not the files that were added before.
+    Bases,
+    /// There are more commits than positions.
+    TooMany,
+    /// A parent has a position at which there is no commit.
+    Parents,
+}
+
+impl CommitGraphFault {
+    // The text of the fault.
+    fn text(&self) -> &'static str
+        ensures { result.now ≡ commit_graph_fault_text self.now }
+    {
+        match self {
+            CommitGraphFault::Memory => OUT_OF_MEMORY_TEXT,
+            CommitGraphFault::Header => "the file is no commit-graph of version 1 with SHA-1 ids",
+            CommitGraphFault::Contents => "the table of contents of the commit-graph is wrong",
+            CommitGraphFault::Chunk => {
+                "a chunk of the commit-graph is missing or has a wrong length"
+            }
+            CommitGraphFault::Order => "the ids of the commit-graph do not ascend",
+            CommitGraphFault::FanOut => "the fan-out table of the commit-graph is wrong",
+            CommitGraphFault::Edges => "a list of edges of the commit-graph has no end",
+            CommitGraphFault::Bases => {
+                "the base graphs of the commit-graph are not the files before"
+            }
+            CommitGraphFault::TooMany => "the commit-graph has too many commits",
+            CommitGraphFault::Parents => "a parent is not in the commit-graph",
+        }
+    }
+}
+
+impl fmt::Display for CommitGraphFault {
+    ghost output = { λ fault. Some (commit_graph_fault_text fault) };
+
+    fn fmt<W: fmt::Write>(&self, f: &mut fmt::Formatter<W>) -> fmt::Result {
+        f.write_str(self.text())
+    }
+}
+
+impl Error for CommitGraphFault {}
+
+impl From<AllocError> for CommitGraphFault {
+    ghost from_gives = { λ _ fault. fault ≡ Memory };
+
+    fn from(_refused: AllocError) -> CommitGraphFault {
+        CommitGraphFault::Memory
+    }
+}
+
+impl<T: Drop> From<AllocFailed<T>> for CommitGraphFault {
+    ghost from_gives = { λ _ fault. fault ≡ Memory };
+
+    fn from(_refused: AllocFailed<T>) -> CommitGraphFault {
+        CommitGraphFault::Memory
+    }
+}

@@ -1,0 +1,4 @@
+pub mod Bytes
+pub mod Values
+pub mod Configs
+pub mod steps

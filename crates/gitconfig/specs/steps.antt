@@ -1,0 +1,3 @@
+-- The steps: what only private functions and proofs speak of.
+pub mod Readings
+pub mod Writing

@@ -1,0 +1,116 @@
+//! The bytes of a configuration, by what they mean.
+
+ghost use Rattle.std.specs.Prelude.{◌≡◌, ◌≢◌, ◌++◌, ◌∷◌, ◌↔◌, [], All, IfSome, IsTrue, true};
+ghost use Rattle.gitconfig.specs.Bytes.{EndsLine, EndsValue, is_blank, is_name_byte, is_section_byte, is_space};
+
+/// Whether a byte is a space, a tab or a CR.
+pub(crate) fn is_blank(byte: u8) -> bool
+    ensures { result ≡ is_blank byte }
+{
+    byte == b' ' || byte == b'\t' || byte == b'\r'
+}
+
+/// Whether a byte is a blank or an LF.
+pub(crate) fn is_space(byte: u8) -> bool
+    ensures { result ≡ is_space byte }
+{
+    is_blank(byte) || byte == b'\n'
+}
+
+// Whether the name of a variable can have this byte.
+#[tactic(auto, unfolding(crate::specs::Bytes::is_name_byte))]
+fn is_name_byte(byte: u8) -> bool
+    ensures { result ≡ is_name_byte byte }
+{
+    byte.is_ascii_alphanumeric() || byte == b'-'
+}
+
+// Whether the name of a section can have this byte.
+#[tactic(auto, unfolding(crate::specs::Bytes::is_section_byte))]
+fn is_section_byte(byte: u8) -> bool
+    ensures { result ≡ is_section_byte byte }
+{
+    is_name_byte(byte) || byte == b'.'
+}
+
+/// Whether no byte is left.
+pub(crate) fn is_over(text: &[u8]) -> bool
+    ensures { IsTrue result ↔ (text.now ≡ []) }
+{
+    text.is_empty()
+}
+
+/// The rest of a text that begins with this byte; `None` of any other text.
+pub(crate) fn strip(byte: u8, text: &[u8]) -> Option<&[u8]>
+    ensures { IfSome result (λ rest. text.now ≡ byte ∷ rest.now) }
+{
+    match text.split_first() {
+        Some((first, rest)) if *first == byte => Some(rest),
+        _ => None,
+    }
+}
+
+/// The blanks at the front of a text, and the text after them.
+pub(crate) fn split_blanks(text: &[u8]) -> (&[u8], &[u8])
+    ensures parts { text.now ≡ result.0.now ++ result.1.now }
+    ensures each { All (λ b. is_blank b ≡ true) result.0.now }
+{
+    match text.iter().position(|byte| !is_blank(*byte)) {
+        Some(end) => text.split_at(end),
+        None => (text, b""),
+    }
+}
+
+/// The bytes at the front of a text that the name of a variable can have, and the text after them.
+pub(crate) fn split_name(text: &[u8]) -> (&[u8], &[u8])
+    ensures parts { text.now ≡ result.0.now ++ result.1.now }
+    ensures each { All (λ b. is_name_byte b ≡ true) result.0.now }
+{
+    match text.iter().position(|byte| !is_name_byte(*byte)) {
+        Some(end) => text.split_at(end),
+        None => (text, b""),
+    }
+}
+
+/// The bytes at the front of a text that the name of a section can have, and the text after them.
+pub(crate) fn split_section(text: &[u8]) -> (&[u8], &[u8])
+    ensures parts { text.now ≡ result.0.now ++ result.1.now }
+    ensures each { All (λ b. is_section_byte b ≡ true) result.0.now }
+{
+    match text.iter().position(|byte| !is_section_byte(*byte)) {
+        Some(end) => text.split_at(end),
+        None => (text, b""),
+    }
+}
+
+/// The first line of a text, and the text from its end on.
+pub(crate) fn split_line(text: &[u8]) -> (&[u8], &[u8])
+    ensures parts { text.now ≡ result.0.now ++ result.1.now }
+    ensures each { All (λ b. b ≢ 10) result.0.now }
+    ensures ends { EndsLine result.1.now }
+{
+    match text.iter().position(|byte| *byte == b'\n') {
+        Some(end) => text.split_at(end),
+        None => (text, b""),
+    }
+}
+
+/// Whether a line ends before this text.
+pub(crate) fn ends_line(text: &[u8]) -> bool
+    ensures { IsTrue result ↔ EndsLine text.now }
+{
+    match text.first() {
+        Some(first) => *first == b'\n',
+        None => true,
+    }
+}
+
+/// Whether a value ends before this text: its line does, or a comment begins.
+pub(crate) fn ends_value(text: &[u8]) -> bool
+    ensures { IsTrue result ↔ EndsValue text.now }
+{
+    match text.first() {
+        Some(first) => *first == b'\n' || *first == b'#' || *first == b';',
+        None => true,
+    }
+}

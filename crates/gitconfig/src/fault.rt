@@ -1,0 +1,31 @@
+//! Why a configuration is not read.
+
+ghost use Rattle.std.specs.Prelude.{◌≡◌};
+ghost use Rattle.gitconfig.specs.declared.fault.ConfigFault.TheVariants.{Memory};
+
+use std::alloc::{AllocError, AllocFailed};
+
+/// Why a configuration is not read.
+#[derive(Clone, Copy, Debug, PartialEq, Eq)]
+pub enum ConfigFault {
+    /// The text is no configuration.
+    Malformed,
+    /// Out of memory.
+    Memory,
+}
+
+impl From<AllocError> for ConfigFault {
+    ghost from_gives = { λ _ fault. fault ≡ Memory };
+
+    fn from(_refused: AllocError) -> ConfigFault {
+        ConfigFault::Memory
+    }
+}
+
+impl<T: Drop> From<AllocFailed<T>> for ConfigFault {
+    ghost from_gives = { λ _ fault. fault ≡ Memory };
+
+    fn from(_refused: AllocFailed<T>) -> ConfigFault {
+        ConfigFault::Memory
+    }
+}

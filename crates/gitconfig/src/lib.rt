@@ -1,0 +1,39 @@
+//! The text of a configuration file of Git (git-config(1), "CONFIGURATION FILE"). This crate reads
+//! no file.
+//!
+//! # Proved
+//!
+//! - [`parse_config`] answers variables only of a text that is a configuration, as `specs/` defines
+//!   it: the variables that it sets, in order, with their sections and values.
+//! - No call panics, overflows or reads out of bounds, and each returns, for any text.
+//!
+//! # Differences from Git
+//!
+//! - A variable before the first header has the empty section.
+//! - A CR counts as a blank, wherever it is. Git takes it so only before LF and in values.
+//! - A byte order mark at the start is malformed. Git skips it.
+//! - `include` and `includeIf` are sections like others.
+//!
+//! # What the contracts do not rule out
+//!
+//! A configuration might be refused as malformed. Any call that allocates may fail with out of
+//! memory; the contracts do not say when.
+//!
+//! There are no tests here.
+//!
+//! # Stands on
+//!
+//! `std` alone.
+#![tactic(auto)]
+
+mod bytes;
+mod fault;
+mod pieces;
+mod reading;
+mod setting;
+mod writing;
+
+pub use crate::fault::ConfigFault;
+pub use crate::reading::parse_config;
+pub use crate::setting::Setting;
+pub use crate::writing::bare_config;

@@ -1,0 +1,30 @@
+-- The beginnings of texts.
+use Rattle.std.proofs.Common.{◌≡◌, ℕ, ◌+◌, true, false, nat_eq, List, [], ◌∷◌, ◌++◌, length, take, drop, sym, ap, ◌∙◌, arith}
+use Rattle.std.specs.Cmp.Lexicographic.{pointwise}
+use Rattle.std.proofs.lemmas.Bool.{false≢true}
+use Rattle.std.proofs.lemmas.List.{take-append-drop, take-append-le, take_all}
+use Rattle.std.proofs.lemmas.Slice.Eq.{bytes_eq-Decides}
+use Rattle.gitobject.specs.declared.types.ObjectType.{ObjectType}
+use Rattle.gitobject.specs.declared.types.ObjectType.TheVariants.{Commit, Tree, Blob, Tag}
+use Rattle.std.specs.Prelude.{codes}
+use Rattle.gitobjects.specs.Heads.{BeginsAsObject, BeginsWith}
+
+take_front : (a b : List ℕ) → take (length a) (a ++ b) ≡ a
+take_front a b = take-append-le (length a) a b (omega arith) ∙ take_all (length a) a (omega arith)
+
+-- what stripping a word says of a text
+pub strips : (word text : List ℕ) → pointwise nat_eq (take (length word) text) word ≡ true → BeginsWith word text
+strips word text same =
+    let front = (bytes_eq-Decides (take (length word) text) word).0 same in
+    (drop (length word) text, sym (take-append-drop (length word) text) ∙ ap (λ l. l ++ drop (length word) text) front)
+
+pub strips_not : (word text : List ℕ) → pointwise nat_eq (take (length word) text) word ≡ false → ¬ (BeginsWith word text)
+strips_not word text differ begins =
+    false≢true (sym differ ∙ (bytes_eq-Decides (take (length word) text) word).1 (ap (take (length word)) begins.1 ∙ take_front word begins.0))
+
+-- a text that begins with none of the words begins as no object
+pub no_object : (text : List ℕ) → ¬ (BeginsWith (codes "commit ") text) → ¬ (BeginsWith (codes "tree ") text) → ¬ (BeginsWith (codes "blob ") text) → ¬ (BeginsWith (codes "tag ") text) → (kind : ObjectType) → ¬ (BeginsAsObject text kind)
+no_object text commit tree blob tag Commit = commit
+no_object text commit tree blob tag Tree = tree
+no_object text commit tree blob tag Blob = blob
+no_object text commit tree blob tag Tag = tag

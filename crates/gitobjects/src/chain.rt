@@ -1,0 +1,236 @@
+//! Reading an object of a pack: a chain of deltas is applied without recursion.
+
+use crate::cache::Spot;
+use crate::fault::{Cause, StoreFault};
+use crate::files::ObjectFiles;
+use crate::limits::{MAX_ANSWER, MAX_COPIES, MAX_OBJECT};
+use crate::object::Object;
+use crate::pack::LocalForm;
+use crate::reader::ObjectReader;
+use gitobject::ObjectType;
+use gitpack::{EntryForm, apply_delta, made_size};
+use gname::Oid;
+use std::alloc::Allocator;
+
+// The deltas of a chain, by where they begin, the last one first; and where the chain ends, in a
+// whole object.
+#[derive(Drop)]
+struct Chain<A: Allocator + Copy> {
+    deltas: Vec<usize, A>,
+    end: usize,
+}
+
+// An entry of a chain that is not read: where it begins, and the cause.
+#[derive(Clone, Copy, Debug, Drop)]
+struct Broken {
+    start: usize,
+    cause: Cause,
+}
+
+// The outcome for the entry that begins here.
+fn at<T: Drop>(start: usize, outcome: Result<T, Cause>) -> Result<T, Broken> {
+    match outcome {
+        Ok(value) => Ok(value),
+        Err(cause) => Err(Broken { start, cause }),
+    }
+}
+
+// Why a delta makes no object of its base.
+fn refusal(delta: &[u8]) -> Cause {
+    match made_size(delta) {
+        Some(size) if size > MAX_OBJECT => Cause::ObjectSize,
+        _ => Cause::Delta,
+    }
+}
+
+impl<F: ObjectFiles, A: Allocator + Copy> ObjectReader<'_, F, A> {
+    /// The object whose entry begins here. If an object of its chain is broken, a copy is taken from
+    /// another place, as in Git.
+    pub(crate) fn read_packed(&mut self, spot: Spot) -> Result<Object<A>, Cause> {
+        let mut last = spot.start;
+        for _copy in 0..MAX_COPIES {
+            match self.read_chain(spot) {
+                Ok(object) => return Ok(object),
+                Err(broken) if broken.start == last => return Err(broken.cause),
+                Err(broken) => {
+                    last = broken.start;
+                    self.copy_base(
+                        Spot {
+                            pack: spot.pack,
+                            start: broken.start,
+                        },
+                        broken.cause,
+                    )?;
+                }
+            }
+        }
+        Err(Cause::Base)
+    }
+
+    // Keeps a copy of the object whose entry begins here, from another place: here it is broken, for
+    // this cause. It fails with the cause if the object is whole in no other place.
+    fn copy_base(&mut self, spot: Spot, cause: Cause) -> Result<(), Cause> {
+        if cause == Cause::Memory {
+            return Err(cause);
+        }
+        let Some(id) = self.store.id_at(spot) else {
+            return Err(cause);
+        };
+        match self.read_elsewhere(&id, spot.pack)? {
+            Some(object) => {
+                self.cache.put(spot, object)?;
+                Ok(())
+            }
+            None => Err(cause),
+        }
+    }
+
+    // The object with this id from any place but this pack; `None` if it is whole in none. It fails
+    // with `Memory` alone.
+    fn read_elsewhere(&mut self, id: &Oid, but: usize) -> Result<Option<Object<A>>, Cause> {
+        for pack in 0..self.store.pack_count() {
+            if pack == but {
+                continue;
+            }
+            if let Some(object) = self.read_whole(pack, id)? {
+                return Ok(Some(object));
+            }
+        }
+        match self.store.read_loose(id, &mut self.inflater) {
+            Ok(found) => Ok(found),
+            Err(StoreFault::Memory) => Err(Cause::Memory),
+            Err(_) => Ok(None),
+        }
+    }
+
+    // The object with this id in a pack; `None` if it is not there, or not whole. It fails with
+    // `Memory` alone.
+    fn read_whole(&mut self, pack: usize, id: &Oid) -> Result<Option<Object<A>>, Cause> {
+        let Some(start) = self.store.start_in(pack, id) else {
+            return Ok(None);
+        };
+        match self.read_chain(Spot { pack, start }) {
+            Ok(object) => Ok(Some(object)),
+            Err(broken) if broken.cause == Cause::Memory => Err(Cause::Memory),
+            Err(_) => Ok(None),
+        }
+    }
+
+    // The object whose entry begins here, if no entry of its chain is broken.
+    fn read_chain(&mut self, spot: Spot) -> Result<Object<A>, Broken> {
+        let Spot { pack, start } = spot;
+        let chain = at(start, self.trace(pack, start))?;
+        let Chain { deltas, end } = chain;
+        let base = at(end, self.read_base(Spot { pack, start: end }))?;
+        let object = self.apply_all(pack, end, base, deltas)?;
+        at(start, self.keep(spot, &object))?;
+        Ok(object)
+    }
+
+    // Keeps an answer, unless it is too large.
+    fn keep(&mut self, spot: Spot, object: &Object<A>) -> Result<(), Cause> {
+        if object.body.len() <= MAX_ANSWER {
+            let copy = object.copy_in(self.store.allocator())?;
+            self.cache.put(spot, copy)?;
+        }
+        Ok(())
+    }
+
+    // The chain of deltas that begins here. It ends in a whole object, in one that is kept, or in an
+    // entry that is broken: reading that one finds the cause.
+    fn trace(&mut self, pack: usize, start: usize) -> Result<Chain<A>, Cause> {
+        let mut deltas = Vec::new(self.store.allocator());
+        let mut end = start;
+        // A chain that does not lead back to itself has each object of the pack at most once.
+        for _delta in 0..self.store.object_count(pack) {
+            let spot = Spot { pack, start: end };
+            if self.cache.holds(spot) {
+                return Ok(Chain { deltas, end });
+            }
+            match self.store.form_at(spot) {
+                Ok(LocalForm::Delta(base)) => {
+                    deltas.push(end)?;
+                    end = base;
+                }
+                Err(Cause::Memory) => return Err(Cause::Memory),
+                Ok(LocalForm::Whole(_)) | Err(_) => return Ok(Chain { deltas, end }),
+            }
+        }
+        Err(Cause::Circle)
+    }
+
+    // The whole object that begins here, or that is kept.
+    fn read_base(&mut self, spot: Spot) -> Result<Object<A>, Cause> {
+        if let Some(object) = self.cache.get(spot) {
+            return Ok(object.copy_in(self.store.allocator())?);
+        }
+        let entry = self.store.inflate_at(spot, &mut self.inflater)?;
+        match entry.form {
+            EntryForm::Whole(kind) => Ok(Object {
+                kind,
+                body: entry.text,
+            }),
+            _ => Err(Cause::Base),
+        }
+    }
+
+    // Applies deltas to their base, the last one of the list first. Each base is kept.
+    fn apply_all(
+        &mut self,
+        pack: usize,
+        end: usize,
+        base: Object<A>,
+        deltas: Vec<usize, A>,
+    ) -> Result<Object<A>, Broken> {
+        let mut deltas = deltas;
+        let mut object = base;
+        let mut place = end;
+        while let Some(start) = deltas.pop() {
+            let made = at(start, self.apply(&object, Spot { pack, start }))?;
+            let before = Spot { pack, start: place };
+            if let Err(_) = self.cache.put(before, object) {
+                return Err(Broken {
+                    start,
+                    cause: Cause::Memory,
+                });
+            }
+            object = made;
+            place = start;
+        }
+        Ok(object)
+    }
+
+    // The object that the delta that begins here makes of its base.
+    fn apply(&mut self, base: &Object<A>, spot: Spot) -> Result<Object<A>, Cause> {
+        let delta = self.store.inflate_at(spot, &mut self.inflater)?;
+        let alloc = self.store.allocator();
+        let text = delta.text.as_slice();
+        match apply_delta(alloc, base.body.as_slice(), text, MAX_OBJECT)? {
+            Some(body) => Ok(Object {
+                kind: base.kind,
+                body,
+            }),
+            None => Err(refusal(text)),
+        }
+    }
+
+    /// The type of the object whose entry begins here, by the heads of its chain; `None` if one of
+    /// them is broken. It fails with `Memory` alone.
+    pub(crate) fn kind_at(&mut self, spot: Spot) -> Result<Option<ObjectType>, Cause> {
+        let pack = spot.pack;
+        let mut start = spot.start;
+        for _delta in 0..self.store.object_count(pack) {
+            let here = Spot { pack, start };
+            if let Some(object) = self.cache.get(here) {
+                return Ok(Some(object.kind));
+            }
+            match self.store.form_at(here) {
+                Ok(LocalForm::Whole(kind)) => return Ok(Some(kind)),
+                Ok(LocalForm::Delta(base)) => start = base,
+                Err(Cause::Memory) => return Err(Cause::Memory),
+                Err(_) => return Ok(None),
+            }
+        }
+        Ok(None)
+    }
+}

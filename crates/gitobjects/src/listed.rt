@@ -1,0 +1,42 @@
+//! When a folder of packs was listed, and when it must be listed again.
+
+ghost use Rattle.std.specs.Prelude.{◌≡◌, ◌≢◌, ◌↔◌, IsTrue, Option};
+ghost use Rattle.gitobjects.specs.Listed.{ListsAgain, Twice};
+ghost use Rattle.gitobjects.specs.declared.files.FolderTime.{FolderTime};
+
+use crate::files::FolderTime;
+
+/// How often a folder was listed since its names changed, and when they did; no time if there is no
+/// such folder.
+#[derive(Clone, Copy, Debug)]
+pub(crate) enum Listed {
+    /// It was never listed.
+    Never,
+    /// It was listed once.
+    Once(Option<FolderTime>),
+    /// It was listed twice.
+    Twice(Option<FolderTime>),
+}
+
+impl Listed {
+    /// Whether the folder must be listed again, now that its names changed at this time. It is not
+    /// if it was listed twice since.
+    pub(crate) fn is_stale(&self, now: Option<FolderTime>) -> bool
+        ensures { IsTrue result ↔ (self.now ≢ Twice now) }
+    {
+        match self {
+            Listed::Twice(time) => *time != now,
+            _ => true,
+        }
+    }
+
+    /// The state of the folder once it is listed again, after its names changed at this time.
+    pub(crate) fn again(&self, now: Option<FolderTime>) -> Listed
+        ensures { ListsAgain now self.now result }
+    {
+        match self {
+            Listed::Once(time) | Listed::Twice(time) if *time == now => Listed::Twice(now),
+            _ => Listed::Once(now),
+        }
+    }
+}

@@ -1,0 +1,164 @@
+//! The packs of a store.
+
+use crate::alternates::Folder;
+use crate::cache::Spot;
+use crate::entry::RawEntry;
+use crate::fault::{Cause, FileFault, StoreFault, fault_at};
+use crate::files::{FolderTime, ObjectFiles, OpenPack};
+use crate::listing::index_stems;
+use crate::pack::{LocalForm, PackFile, open_pack};
+use crate::paths::pack_path;
+use crate::window::Window;
+use std::alloc::Allocator;
+
+/// The packs that are open, by their numbers.
+#[derive(Drop)]
+pub(crate) struct Packs<P: OpenPack + Drop, A: Allocator + Copy> {
+    alloc: A,
+    open: Vec<PackFile<A>, A>,
+    window: Window<P, A>,
+}
+
+impl<P: OpenPack + Drop, A: Allocator + Copy> Packs<P, A> {
+    /// No pack.
+    pub(crate) fn new(alloc: A) -> Packs<P, A> {
+        Packs {
+            alloc,
+            open: Vec::new(alloc),
+            window: Window::new(alloc),
+        }
+    }
+
+    /// Lists a folder of packs, unless it was listed twice since its names changed, and answers
+    /// whether it was listed. A pack that can't be opened is left out, with its fault.
+    ///
+    /// It fails out of memory alone.
+    pub(crate) fn list<F: ObjectFiles<Pack = P>>(
+        &mut self,
+        files: &F,
+        folder: &mut Folder<A>,
+    ) -> Result<bool, StoreFault<A>> {
+        let now = time_of(files, folder.packs.as_str())?;
+        if !folder.listed.is_stale(now) {
+            return Ok(false);
+        }
+        folder.left_out = self.add_packs(files, folder.packs.as_str())?;
+        folder.listed = folder.listed.again(now);
+        Ok(true)
+    }
+
+    // Opens the packs of a folder that are not open yet, and answers the faults of those that are
+    // left out.
+    fn add_packs<F: ObjectFiles<Pack = P>>(
+        &mut self,
+        files: &F,
+        folder: &str,
+    ) -> Result<Vec<FileFault<A>, A>, StoreFault<A>> {
+        let mut left_out = Vec::new(self.alloc);
+        match stems_in(files, self.alloc, folder) {
+            Ok(stems) => {
+                for stem in &stems {
+                    keep_fault(&mut left_out, self.add_pack(files, folder, stem.as_str()))?;
+                }
+            }
+            Err(cause) => keep_fault(&mut left_out, Err(fault_at(self.alloc, folder, cause)))?,
+        }
+        Ok(left_out)
+    }
+
+    // Opens a pack, if it is not open yet.
+    fn add_pack<F: ObjectFiles<Pack = P>>(
+        &mut self,
+        files: &F,
+        folder: &str,
+        stem: &str,
+    ) -> Result<(), StoreFault<A>> {
+        let path = pack_path(self.alloc, folder, stem, ".pack")?;
+        if self.is_open(path.as_str()) {
+            return Ok(());
+        }
+        if let Some(pack) = open_pack(files, self.alloc, &mut self.window, folder, stem)? {
+            self.open.push(pack)?;
+        }
+        Ok(())
+    }
+
+    fn is_open(&self, path: &str) -> bool {
+        self.open.iter().any(|pack| pack.path() == path)
+    }
+
+    /// How many packs are open.
+    pub(crate) fn len(&self) -> usize {
+        self.open.len()
+    }
+
+    /// The pack with this number; `None` if there is none.
+    pub(crate) fn get(&self, pack: usize) -> Option<&PackFile<A>> {
+        self.open.get(pack)
+    }
+
+    /// The entry at a place of the index of a pack, as it lies; `None` if there is no such pack or
+    /// place. It fails as [`PackFile::raw_entry`] does.
+    pub(crate) fn raw_entry(
+        &mut self,
+        pack: usize,
+        place: usize,
+    ) -> Result<Option<RawEntry<A>>, Cause> {
+        match self.open.get(pack) {
+            Some(file) => file.raw_entry(&mut self.window, place),
+            None => Ok(None),
+        }
+    }
+
+    /// All bytes of the entry that begins here. It fails with `Base` if none does.
+    pub(crate) fn bytes_at(&mut self, spot: Spot) -> Result<Vec<u8, A>, Cause> {
+        match self.open.get(spot.pack) {
+            Some(file) => file.bytes_at(&mut self.window, spot.start),
+            None => Err(Cause::Base),
+        }
+    }
+
+    /// The form of the entry that begins here. It fails with `Base` if none does.
+    pub(crate) fn form_at(&mut self, spot: Spot) -> Result<LocalForm, Cause> {
+        match self.open.get(spot.pack) {
+            Some(file) => file.form_at(&mut self.window, spot.start),
+            None => Err(Cause::Base),
+        }
+    }
+}
+
+// When the names in a folder of packs last changed; `None` if it is not there, or can't be listed.
+fn time_of<F: ObjectFiles, A: Allocator + Copy>(
+    files: &F,
+    folder: &str,
+) -> Result<Option<FolderTime>, StoreFault<A>> {
+    match files.changed(folder) {
+        Ok(time) => Ok(time),
+        Err(Cause::Memory) => Err(StoreFault::Memory),
+        Err(_) => Ok(None),
+    }
+}
+
+// The names of the packs whose index lies in a folder.
+fn stems_in<F: ObjectFiles, A: Allocator + Copy>(
+    files: &F,
+    alloc: A,
+    folder: &str,
+) -> Result<Vec<String<A>, A>, Cause> {
+    let names = files.list(alloc, folder)?;
+    index_stems(alloc, names.as_slice())
+}
+
+// Keeps the fault of a file, if there is one. It fails with any other fault.
+fn keep_fault<A: Allocator + Copy>(
+    faults: &mut Vec<FileFault<A>, A>,
+    outcome: Result<(), StoreFault<A>>,
+) -> Result<(), StoreFault<A>> {
+    match outcome {
+        Err(StoreFault::File(fault)) => {
+            faults.push(fault)?;
+            Ok(())
+        }
+        other => other,
+    }
+}

@@ -1,0 +1,20 @@
+-- The files that lead to another directory (gitrepository-layout(5), "commondir"; git-worktree(1), "DETAILS").
+use Rattle.std.specs.Prelude.{◌≡◌, ℕ, Bool, List, [], ◌∷◌, ◌++◌, ◌||◌, ◌==◌, All, codes, true, false}
+
+-- a line feed or a carriage return
+abbrev pub is_line_end : ℕ → Bool
+is_line_end b = (b == 10) || (b == 13)
+
+-- the text is a path, and then line ends alone; no line end is the last byte of the path
+pub record IsPathFile (text path : List ℕ) : Type 0 where
+  pub front : List ℕ
+  pub last : ℕ
+  pub ends : List ℕ
+  pub is_path : path ≡ front ++ last ∷ []
+  pub not_end : is_line_end last ≡ false
+  pub all_ends : All (λ b. is_line_end b ≡ true) ends
+  pub parts : text ≡ path ++ ends
+
+-- a file `.git`: `gitdir: ` and a path
+abbrev pub IsGitFile : List ℕ → List ℕ → Type 0
+IsGitFile text path = (rest : List ℕ) × (text ≡ codes "gitdir: " ++ rest) × IsPathFile rest path

@@ -1,0 +1,39 @@
+//! Files that lead to another directory.
+
+ghost use Rattle.std.specs.Prelude.{◌≡◌, List, ℕ, IfSome, MatchOption};
+ghost use Rattle.gitrefs.specs.Links.{IsGitFile, IsPathFile, is_line_end};
+
+use crate::words::strip;
+
+/// The path of the Git directory that a file `.git` names, as in a linked worktree (git-worktree(1)) or a submodule
+/// (gitsubmodules(7)); `None` if the file is of another form. A relative path begins at the directory of the file.
+pub fn parse_git_file(text: &[u8]) -> Option<&[u8]>
+    ensures { IfSome result (λ path. IsGitFile text.now path.now) }
+{
+    match strip(b"gitdir: ", text) {
+        Some(rest) => parse_common_dir(rest),
+        None => None,
+    }
+}
+
+/// The path of the directory that a file `commondir` names (gitrepository-layout(5)); `None` if the file is of another
+/// form. A relative path begins at the Git directory.
+pub fn parse_common_dir(text: &[u8]) -> Option<&[u8]>
+    ensures { MatchOption result ((path : List ℕ) → ¬ (IsPathFile text.now path))
+        (λ path. IsPathFile text.now path.now) }
+{
+    let mut path = text;
+    while let Some((last, front)) = path.split_last() {
+        if !is_line_end(*last) {
+            return Some(path);
+        }
+        path = front;
+    }
+    None
+}
+
+fn is_line_end(byte: u8) -> bool
+    ensures { result ≡ is_line_end byte }
+{
+    byte == b'\n' || byte == b'\r'
+}

@@ -1,0 +1,4 @@
+pub mod HistoryLemmas
+pub mod PutLemmas
+pub mod RefLemmas
+pub mod TipLemmas

@@ -1,0 +1,15 @@
+-- Folders in memory.
+use Rattle.gitrepository.specs.Installing.{Arrival, Folder, IndexComes, PackComes}
+use Rattle.gitrepository.specs.declared.folder.Stage.{Stage}
+use Rattle.gitrepository.specs.declared.memory_folder.PackFile.{PackFile}
+use Rattle.gitrepository.specs.declared.memory_folder.PackFile.TheVariants.{Index, Pack}
+
+-- a file that came
+abbrev pub file_of : {A : Type 0} → PackFile A → Arrival
+file_of (Pack bytes) = PackComes bytes.items
+file_of (Index bytes) = IndexComes bytes.items
+
+-- what came to a folder, and how far this run is with a pack
+pub record Held : Type 0 where
+  pub folder : Folder
+  pub stage : Stage

@@ -1,0 +1,233 @@
+//! A visitor of the objects of a pack that comes.
+
+ghost use Rattle.std.specs.Prelude.{◌≡◌, All, IfOk, IfSome};
+ghost use Rattle.gitobject.specs.Naming.{id_of};
+ghost use Rattle.gitrepository.specs.Entries.{IsRead};
+
+use crate::fault::{ObjectCause, RepositoryFault};
+use crate::nodes::{entry_of, leaf};
+use crate::tips::Tips;
+use ggraph::{Entry, IdHasher};
+use gitobject::{Link, ObjectType, links_of, tag_link};
+use gitobjects::{ObjectFiles, ObjectReader};
+use gitpack::{IndexedPack, ObjectVisitor, PackFileFault};
+use gname::Oid;
+use indexmap::IndexMap;
+use std::alloc::Allocator;
+use std::hash::BuildHasherDefault;
+use std::marker::Model;
+
+/// A visitor of the objects of a pack that comes. Contracts see the entries of its commits and tags.
+#[derive(Drop)]
+pub(crate) struct Arrival<'r, 't, 'f, F: ObjectFiles, A: Allocator + Copy> {
+    alloc: A,
+    reader: &'r mut ObjectReader<'f, F, A>,
+    tips: &'t Tips<A>,
+    entries: Vec<Entry<A>, A>,
+    // The types of the objects that are named.
+    needs: IndexMap<Oid, ObjectType, IdHasher, A>,
+    fault: Option<RepositoryFault<A>>,
+}
+
+impl<'r, 't, 'f, F: ObjectFiles, A: Allocator + Copy> Model for Arrival<'r, 't, 'f, F, A> {
+    ghost use Rattle.std.specs.Prelude.{All, List};
+    ghost use Rattle.gobject.specs.declared.node.Entry.{Entry};
+    ghost use Rattle.gitrepository.specs.Entries.{IsRead};
+
+    ghost Value = { List (Entry A) };
+
+    ghost view = { λ a. a.entries.items };
+
+    ghost invariant = { λ a. All IsRead a.entries.items };
+}
+
+impl<'r, 't, 'f, F: ObjectFiles, A: Allocator + Copy> Arrival<'r, 't, 'f, F, A> {
+    /// No object has come yet.
+    pub(crate) fn new(
+        alloc: A,
+        reader: &'r mut ObjectReader<'f, F, A>,
+        tips: &'t Tips<A>,
+    ) -> Arrival<'r, 't, 'f, F, A> {
+        Arrival {
+            alloc,
+            reader,
+            tips,
+            entries: Vec::new(alloc),
+            needs: IndexMap::with_hasher(alloc, BuildHasherDefault::new()),
+            fault: None,
+        }
+    }
+
+    /// The fault for which an object was refused.
+    pub(crate) fn into_fault(self) -> Option<RepositoryFault<A>> {
+        self.fault
+    }
+
+    /// The entries, once each object that is named is in the pack or in the store, with the type by
+    /// which it is named.
+    pub(crate) fn into_entries(
+        self,
+        pack: &IndexedPack<A>,
+    ) -> Result<Vec<Entry<A>, A>, RepositoryFault<A>>
+        ensures { IfOk result (λ entries. All IsRead entries.items) }
+    {
+        let Arrival {
+            reader,
+            entries,
+            needs,
+            ..
+        } = self;
+        for (id, kind) in &needs {
+            check_need(
+                reader,
+                pack,
+                Link {
+                    id: *id,
+                    kind: *kind,
+                },
+            )?;
+        }
+        Ok(entries)
+    }
+
+    // Learns of an object.
+    fn learn(&mut self, id: &Oid, kind: ObjectType, body: &[u8]) -> Result<(), RepositoryFault<A>>
+        requires { id_of kind body.now ≡ id.now }
+    {
+        self.compare(id, kind, body)?;
+        self.need_links(id, kind, body)?;
+        if kind == ObjectType::Tag {
+            self.learn_target(body)?;
+        }
+        if is_node(kind) || self.tips.contains(id) {
+            self.push_object(id, kind, body)?;
+        }
+        Ok(())
+    }
+
+    // Compares an object with the one that is here, if there is one.
+    fn compare(
+        &mut self,
+        id: &Oid,
+        kind: ObjectType,
+        body: &[u8],
+    ) -> Result<(), RepositoryFault<A>> {
+        let Some(found) = self.reader.store().find(id)? else {
+            return Ok(());
+        };
+        match self.reader.read_found(id, found)? {
+            Some(own) if own.kind != kind || own.body.as_slice() != body => {
+                Err(RepositoryFault::refused(id, ObjectCause::Differs))
+            }
+            _ => Ok(()),
+        }
+    }
+
+    // Notes the objects to which an object links.
+    fn need_links(
+        &mut self,
+        id: &Oid,
+        kind: ObjectType,
+        body: &[u8],
+    ) -> Result<(), RepositoryFault<A>> {
+        let links = match links_of(self.alloc, kind, body) {
+            Ok(links) => links,
+            Err(fault) => return Err(RepositoryFault::of_object(id, fault)),
+        };
+        for link in &links {
+            self.need(*link)?;
+        }
+        Ok(())
+    }
+
+    // Notes that an object is named.
+    fn need(&mut self, link: Link) -> Result<(), RepositoryFault<A>> {
+        match self.needs.get(&link.id).copied() {
+            Some(kind) if kind == link.kind => Ok(()),
+            Some(_) => Err(RepositoryFault::refused(&link.id, ObjectCause::Type)),
+            None => {
+                self.needs.insert(link.id, link.kind)?;
+                Ok(())
+            }
+        }
+    }
+
+    // Adds the tree or the blob that a tag names.
+    fn learn_target(&mut self, body: &[u8]) -> Result<(), RepositoryFault<A>> {
+        if let Some(entry) = named_leaf(self.alloc, body) {
+            self.entries.push(entry)?;
+        }
+        Ok(())
+    }
+
+    // Adds the entry of an object.
+    fn push_object(
+        &mut self,
+        id: &Oid,
+        kind: ObjectType,
+        body: &[u8],
+    ) -> Result<(), RepositoryFault<A>>
+        requires { id_of kind body.now ≡ id.now }
+    {
+        match entry_of(self.alloc, id, kind, body) {
+            Ok(entry) => {
+                self.entries.push(entry)?;
+                Ok(())
+            }
+            Err(fault) => Err(RepositoryFault::of_object(id, fault)),
+        }
+    }
+}
+
+// Whether objects of this type are nodes of a graph.
+fn is_node(kind: ObjectType) -> bool {
+    kind == ObjectType::Commit || kind == ObjectType::Tag
+}
+
+// The leaf of the tree or blob that a tag names; `None` if it names a commit or a tag.
+fn named_leaf<A: Allocator + Copy>(alloc: A, tag: &[u8]) -> Option<Entry<A>>
+    ensures { IfSome result (λ entry. IsRead entry) }
+{
+    let link = tag_link(tag)?;
+    match link.kind {
+        ObjectType::Tree => Some(Entry {
+            id: link.id,
+            node: leaf(alloc),
+        }),
+        ObjectType::Blob => Some(Entry {
+            id: link.id,
+            node: leaf(alloc),
+        }),
+        ObjectType::Commit | ObjectType::Tag => None,
+    }
+}
+
+// Whether an object that is named is in the pack or in the store, with the type by which it is
+// named.
+fn check_need<F: ObjectFiles, A: Allocator + Copy>(
+    reader: &mut ObjectReader<'_, F, A>,
+    pack: &IndexedPack<A>,
+    need: Link,
+) -> Result<(), RepositoryFault<A>> {
+    let kind = match pack.find(&need.id) {
+        Some(entry) => entry.kind,
+        None => reader.kind_of(&need.id)?,
+    };
+    if kind == need.kind {
+        Ok(())
+    } else {
+        Err(RepositoryFault::refused(&need.id, ObjectCause::Type))
+    }
+}
+
+impl<F: ObjectFiles, A: Allocator + Copy> ObjectVisitor for Arrival<'_, '_, '_, F, A> {
+    fn visit(&mut self, id: &Oid, kind: ObjectType, body: &[u8]) -> Result<(), PackFileFault> {
+        match self.learn(id, kind, body) {
+            Ok(()) => Ok(()),
+            Err(fault) => {
+                self.fault = Some(fault);
+                Err(PackFileFault::Refused)
+            }
+        }
+    }
+}

@@ -1,0 +1,209 @@
+//! Writing a pack: entries of packs are copied as they lie.
+
+ghost use Rattle.std.specs.Prelude.{◌≡◌, ◌≤◌, IfOk, length};
+ghost use Rattle.gname.specs.Limits.{max_pack};
+ghost use Rattle.gitrepository.specs.Packs.{IsWholePack};
+
+use crate::fates::{Fate, Fates};
+use crate::fault::{ObjectCause, RepositoryFault};
+use crate::gather::gather;
+use crate::outgoing::Outgoing;
+use ggraph::Entry;
+use gitobjects::{Found, ObjectFiles, ObjectReader, RawEntry};
+use gitpack::EntryForm;
+use gname::Oid;
+use gzlib::Deflater;
+use std::alloc::Allocator;
+
+/// How the objects of a pack went out.
+#[derive(Clone, Copy, Debug, PartialEq, Eq, Drop)]
+pub struct PackCounts {
+    /// Whole objects that were copied.
+    pub whole: u32,
+    /// Deltas that were copied.
+    pub deltas: u32,
+    /// Loose objects, which were deflated anew.
+    pub loose: u32,
+    /// Deltas whose base does not go out: their objects were deflated anew.
+    pub baseless: u32,
+}
+
+impl PackCounts {
+    /// No object.
+    pub(crate) const NONE: PackCounts = PackCounts {
+        whole: 0,
+        deltas: 0,
+        loose: 0,
+        baseless: 0,
+    };
+
+    /// The number of all objects. It stays at the greatest number if there are more.
+    pub fn objects(&self) -> u32 {
+        let copied = self.whole.saturating_add(self.deltas);
+        copied
+            .saturating_add(self.loose)
+            .saturating_add(self.baseless)
+    }
+}
+
+/// The pack of some commits and tags and of what goes with them, and how its objects went out.
+pub(crate) fn write_pack<F: ObjectFiles, A: Allocator + Copy>(
+    reader: &mut ObjectReader<'_, F, A>,
+    alloc: A,
+    entries: &[Entry<A>],
+) -> Result<(Vec<u8, A>, PackCounts), RepositoryFault<A>>
+    ensures whole { IfOk result (λ made. IsWholePack made.0.items) }
+    ensures few { IfOk result (λ made. length made.0.items ≤ max_pack) }
+{
+    let fates = gather(reader, entries)?;
+    let outgoing = Outgoing::new(alloc, fates.sent())?;
+    let deflater = Deflater::new(alloc)?;
+    let mut copying = Copying {
+        alloc,
+        reader,
+        fates,
+        outgoing,
+        deflater,
+        counts: PackCounts::NONE,
+        starts: Vec::new(alloc),
+    };
+    copying.copy_packs()?;
+    copying.put_loose()?;
+    let counts = copying.counts;
+    Ok((copying.outgoing.finish()?, counts))
+}
+
+// An object that lies in a pack: its id, and its place in the index.
+#[derive(Clone, Copy, Drop)]
+struct Packed {
+    id: Oid,
+    place: usize,
+}
+
+// A pack that is written.
+#[derive(Drop)]
+struct Copying<'r, 'f, F: ObjectFiles, A: Allocator + Copy> {
+    alloc: A,
+    reader: &'r mut ObjectReader<'f, F, A>,
+    fates: Fates<A>,
+    outgoing: Outgoing<A>,
+    deflater: Deflater<A>,
+    counts: PackCounts,
+    // The position of each entry of the pack that is copied now, by its place in the index; 0 if it
+    // was not put.
+    starts: Vec<usize, A>,
+}
+
+impl<F: ObjectFiles, A: Allocator + Copy> Copying<'_, '_, F, A> {
+    // Copies what is sent of all packs.
+    fn copy_packs(&mut self) -> Result<(), RepositoryFault<A>> {
+        for pack in 0..self.reader.store().pack_count() {
+            self.copy_pack(pack)?;
+        }
+        Ok(())
+    }
+
+    // Copies what is sent of a pack, in the order in which it lies.
+    fn copy_pack(&mut self, pack: usize) -> Result<(), RepositoryFault<A>> {
+        let count = self.reader.store().starts(pack).len();
+        self.starts = Vec::new(self.alloc);
+        self.starts.resize(count, 0)?;
+        for number in 0..count {
+            if let Some(object) = self.sent_at(pack, number) {
+                self.copy_entry(pack, object)?;
+            }
+        }
+        Ok(())
+    }
+
+    // The object whose entry lies in a pack as the one with this number, if it is sent.
+    fn sent_at(&self, pack: usize, number: usize) -> Option<Packed> {
+        let place = self.reader.store().starts(pack).get(number)?.place;
+        let id = self.reader.store().index(pack)?.id(place)?;
+        match self.fates.of(&id, Found::Packed { pack, place }) {
+            Fate::Sent => Some(Packed { id, place }),
+            _ => None,
+        }
+    }
+
+    // Copies an entry, or deflates its object anew if it is a delta whose base does not go out.
+    fn copy_entry(&mut self, pack: usize, object: Packed) -> Result<(), RepositoryFault<A>> {
+        let Some(entry) = self.reader.raw_entry(pack, object.place)? else {
+            return Ok(());
+        };
+        let position = self.outgoing.position();
+        match self.form_of(pack, &entry, position) {
+            Some(form) => self.copy(form, &entry)?,
+            None => {
+                self.counts.baseless = self.counts.baseless.saturating_add(1);
+                self.put_anew(&object.id)?;
+            }
+        }
+        if let Some(slot) = self.starts.get_mut(object.place) {
+            *slot = position;
+        }
+        Ok(())
+    }
+
+    // Puts an entry with its own stream.
+    fn copy(&mut self, form: EntryForm, entry: &RawEntry<A>) -> Result<(), RepositoryFault<A>> {
+        match form {
+            EntryForm::Whole(_) => self.counts.whole = self.counts.whole.saturating_add(1),
+            _ => self.counts.deltas = self.counts.deltas.saturating_add(1),
+        }
+        let stream = entry
+            .bytes
+            .as_slice()
+            .get(entry.head.length..)
+            .unwrap_or(b"");
+        self.outgoing.put(form, entry.head.size, stream)
+    }
+
+    // The form in which an entry goes out at this position; `None` if its base does not go out. A
+    // delta names the place to which its base goes.
+    fn form_of(&self, pack: usize, entry: &RawEntry<A>, position: usize) -> Option<EntryForm> {
+        let Some(base) = entry.base else {
+            return Some(entry.head.form);
+        };
+        match self.starts.get(base).copied() {
+            Some(start) if 0 < start && start < position => {
+                Some(EntryForm::OffsetDelta(position - start))
+            }
+            _ => {
+                let id = self.reader.store().index(pack)?.id(base)?;
+                if self.is_sent(&id) {
+                    Some(EntryForm::RefDelta(id))
+                } else {
+                    None
+                }
+            }
+        }
+    }
+
+    fn is_sent(&self, id: &Oid) -> bool {
+        match self.reader.store().find(id) {
+            Ok(Some(found)) => self.fates.of(id, found) == Fate::Sent,
+            _ => false,
+        }
+    }
+
+    // Puts the loose objects that are sent.
+    fn put_loose(&mut self) -> Result<(), RepositoryFault<A>> {
+        for number in 0..self.fates.loose_count() {
+            if let Some((id, Fate::Sent)) = self.fates.loose_at(number) {
+                self.counts.loose = self.counts.loose.saturating_add(1);
+                self.put_anew(&id)?;
+            }
+        }
+        Ok(())
+    }
+
+    // Deflates an object anew. Its id is computed.
+    fn put_anew(&mut self, id: &Oid) -> Result<(), RepositoryFault<A>> {
+        let object = self.reader.read_checked(id)?;
+        let body = object.body.as_slice();
+        let mut stream = Vec::new(self.alloc);
+        self.deflater.deflate(body, &mut stream)?;
+        self.outgoing.put(EntryForm::Whole(object.kind), body.len(), stream.as_slice())
+    }
+}

@@ -1,0 +1,325 @@
+//! Why a repository is not read, packed or added to.
+
+use ggraph::{GraphFault, MAX_NODES, MAX_PARENTS, RefsFault};
+use gitobject::ObjectFault;
+use gitobjects::{Cause, FileFault, StoreFault};
+use gitpack::PackFileFault;
+use gitrefs::RefFault;
+use gname::{MAX_ID_TEXT, OUT_OF_MEMORY_TEXT, Oid, RefName};
+use std::alloc::{AllocError, AllocFailed, Allocator};
+use std::error::Error;
+use std::{fmt, io};
+
+/// The fault of an object.
+#[derive(Clone, Copy, Debug, PartialEq, Eq)]
+pub enum ObjectCause {
+    /// Its bytes do not have the form of its type.
+    Malformed,
+    /// It has another type than the object that names it says.
+    Type,
+    /// Another object with the same id is there.
+    Differs,
+    /// It has more than [`MAX_PARENTS`] parents.
+    Parents,
+}
+
+/// Why a repository of some form is not read (git-config(1), "core.repositoryFormatVersion",
+/// "extensions").
+#[derive(Clone, Copy, Debug, PartialEq, Eq)]
+pub enum FormFault {
+    /// It is shallow: some commits have parents that are left out.
+    Shallow,
+    /// Its ids are not SHA-1: `extensions.objectFormat`.
+    ObjectFormat,
+    /// Its refs are not in files: `extensions.refStorage`.
+    RefStorage,
+    /// It is a partial clone: objects that are named may be left out.
+    PartialClone,
+    /// Its version is neither 0 nor 1: `core.repositoryFormatVersion`.
+    Version,
+    /// It has an extension that is not known.
+    Extension,
+    /// Its configuration is malformed.
+    Config,
+}
+
+/// Why a repository is not read, packed or added to.
+#[derive(Drop)]
+pub enum RepositoryFault<A: Allocator + Copy> {
+    /// Out of memory.
+    Memory,
+    /// An object is missing, or a file that holds objects is refused.
+    Store(StoreFault<A>),
+    /// The refs are not read.
+    Refs(RefFault<A>),
+    /// An object is refused.
+    Object {
+        /// Its id.
+        id: Oid,
+        /// The fault.
+        cause: ObjectCause,
+    },
+    /// The refs reach more commits and tags than a graph holds.
+    Objects,
+    /// A pack is refused, or can't be written.
+    Pack(PackFileFault),
+    /// The number of objects in a pack that is written is not the one that was counted.
+    Count,
+    /// The system refused a call on a file.
+    File {
+        /// Its path.
+        path: String<A>,
+        /// The system's error.
+        error: io::Error,
+    },
+    /// The repository has a form that is not read.
+    Form {
+        /// The path of the file that says so.
+        path: String<A>,
+        /// The form.
+        fault: FormFault,
+    },
+    /// The packer or the indexer is at work already.
+    Busy,
+}
+
+/// Why a repository is not whole.
+#[derive(Drop)]
+pub enum CheckFault<A: Allocator + Copy> {
+    /// The repository is not read, or out of memory.
+    Repository(RepositoryFault<A>),
+    /// An object that a ref or HEAD reaches is missing or refused.
+    Ref {
+        /// The name of the ref, or `HEAD`.
+        name: RefName<A>,
+        /// The fault, which names the object.
+        fault: RepositoryFault<A>,
+    },
+}
+
+impl<A: Allocator + Copy> CheckFault<A> {
+    /// The fault of an object that a ref reaches.
+    pub(crate) fn of_ref(alloc: A, name: &RefName<A>, fault: RepositoryFault<A>) -> CheckFault<A> {
+        match name.copy_in(alloc) {
+            Ok(name) => CheckFault::Ref { name, fault },
+            Err(_) => CheckFault::Repository(RepositoryFault::Memory),
+        }
+    }
+
+    /// The fault of an object that HEAD reaches.
+    pub(crate) fn of_head(alloc: A, fault: RepositoryFault<A>) -> CheckFault<A> {
+        match RefName::head(alloc) {
+            Ok(name) => CheckFault::Ref { name, fault },
+            Err(_) => CheckFault::Repository(RepositoryFault::Memory),
+        }
+    }
+}
+
+impl<A: Allocator + Copy> RepositoryFault<A> {
+    /// The fault of an object.
+    pub(crate) fn of_object(id: &Oid, fault: ObjectFault) -> RepositoryFault<A> {
+        match fault {
+            ObjectFault::Malformed => RepositoryFault::refused(id, ObjectCause::Malformed),
+            ObjectFault::Memory => RepositoryFault::Memory,
+        }
+    }
+
+    /// The fault of an object that is refused for this cause.
+    pub(crate) fn refused(id: &Oid, cause: ObjectCause) -> RepositoryFault<A> {
+        RepositoryFault::Object { id: *id, cause }
+    }
+
+    /// The fault of an object that the graph refuses.
+    pub(crate) fn of_node(id: &Oid, fault: GraphFault) -> RepositoryFault<A> {
+        match fault {
+            GraphFault::Memory => RepositoryFault::Memory,
+            GraphFault::TooMany => RepositoryFault::Objects,
+            GraphFault::TooManyParents => RepositoryFault::refused(id, ObjectCause::Parents),
+            GraphFault::Conflict { .. } => RepositoryFault::refused(id, ObjectCause::Differs),
+            _ => RepositoryFault::refused(id, ObjectCause::Malformed),
+        }
+    }
+
+    /// The fault of the file with this path.
+    pub(crate) fn of_file(alloc: A, path: &str, error: io::Error) -> RepositoryFault<A> {
+        if error.kind() == io::ErrorKind::OutOfMemory {
+            return RepositoryFault::Memory;
+        }
+        match String::from_str(alloc, path) {
+            Ok(path) => RepositoryFault::File { path, error },
+            Err(_) => RepositoryFault::Memory,
+        }
+    }
+
+    /// The fault of the file with this path, which is read as those of objects are.
+    pub(crate) fn of_cause(alloc: A, path: &str, cause: Cause) -> RepositoryFault<A> {
+        if cause == Cause::Memory {
+            return RepositoryFault::Memory;
+        }
+        match String::from_str(alloc, path) {
+            Ok(path) => RepositoryFault::Store(StoreFault::File(FileFault { path, cause })),
+            Err(_) => RepositoryFault::Memory,
+        }
+    }
+
+    /// The fault of a repository whose form the file with this path says.
+    pub(crate) fn of_form(alloc: A, path: &str, fault: FormFault) -> RepositoryFault<A> {
+        match String::from_str(alloc, path) {
+            Ok(path) => RepositoryFault::Form { path, fault },
+            Err(_) => RepositoryFault::Memory,
+        }
+    }
+}
+
+impl FormFault {
+    // The table of forms that are not read.
+    fn text(self) -> &'static str {
+        match self {
+            FormFault::Shallow => {
+                "the repository is shallow, which is not supported; `git fetch --unshallow` makes it whole"
+            }
+            FormFault::ObjectFormat => {
+                "the ids of the repository are not SHA-1 (extensions.objectFormat), which is not supported"
+            }
+            FormFault::RefStorage => {
+                "the refs of the repository are not in files (extensions.refStorage), which is not supported; `git refs migrate --ref-format=files` brings them there"
+            }
+            FormFault::PartialClone => {
+                "the repository is a partial clone, which is not supported; clone it without `--filter`"
+            }
+            FormFault::Version =>
+                "the version of the repository (core.repositoryFormatVersion) is not known",
+            FormFault::Extension => "the repository has an extension that is not known",
+            FormFault::Config => "the configuration is malformed",
+        }
+    }
+}
+
+impl fmt::Display for FormFault {
+    fn fmt<W: fmt::Write>(&self, f: &mut fmt::Formatter<W>) -> fmt::Result {
+        f.write_str(self.text())
+    }
+}
+
+impl fmt::Display for ObjectCause {
+    fn fmt<W: fmt::Write>(&self, f: &mut fmt::Formatter<W>) -> fmt::Result {
+        match self {
+            ObjectCause::Malformed => f.write_str("is malformed"),
+            ObjectCause::Type => f.write_str("has another type than the object that names it says"),
+            ObjectCause::Differs => f.write_str("has other bytes than the object with its id here"),
+            ObjectCause::Parents => write!(f, "has more than {MAX_PARENTS} parents"),
+        }
+    }
+}
+
+impl<A: Allocator + Copy> fmt::Display for RepositoryFault<A> {
+    fn fmt<W: fmt::Write>(&self, f: &mut fmt::Formatter<W>) -> fmt::Result {
+        match self {
+            RepositoryFault::Memory => f.write_str(OUT_OF_MEMORY_TEXT),
+            RepositoryFault::Store(fault) => write!(f, "{fault}"),
+            RepositoryFault::Refs(fault) => write!(f, "{fault}"),
+            RepositoryFault::Object { id, cause } => write_object(id, *cause, f),
+            RepositoryFault::Objects => write!(
+                f,
+                "there are more than {MAX_NODES} commits and tags"
+            ),
+            RepositoryFault::Pack(fault) => write_pack(*fault, f),
+            RepositoryFault::Count => f.write_str("the pack has another number of objects"),
+            RepositoryFault::File { path, error } => write!(f, "{path}: {error}"),
+            RepositoryFault::Form { path, fault } => write!(f, "{path}: {fault}"),
+            RepositoryFault::Busy => f.write_str("the repository is in use"),
+        }
+    }
+}
+
+fn write_object<W: fmt::Write>(
+    id: &Oid,
+    cause: ObjectCause,
+    f: &mut fmt::Formatter<W>,
+) -> fmt::Result {
+    let mut digits = [0; MAX_ID_TEXT];
+    let count = id.to_hex(&mut digits);
+    f.write_str("object ")?;
+    f.write_str(str::from_utf8(&digits[..count]).unwrap_or(""))?;
+    write!(f, " {cause}")
+}
+
+// The table of the faults of packs.
+fn write_pack<W: fmt::Write>(fault: PackFileFault, f: &mut fmt::Formatter<W>) -> fmt::Result {
+    match fault {
+        PackFileFault::Memory => f.write_str(OUT_OF_MEMORY_TEXT),
+        PackFileFault::Frame => f.write_str("the header or the trailer of the pack is wrong"),
+        PackFileFault::Entry(at) => write!(f, "the entry at byte {at} of the pack is malformed"),
+        PackFileFault::Thin => f.write_str("the base of a delta is not in the pack"),
+        PackFileFault::TooLarge => f.write_str("the pack or an object in it is too large"),
+        PackFileFault::Format => f.write_str("the base of a delta has no SHA-1 id"),
+        PackFileFault::Refused => f.write_str("an object of the pack is refused"),
+    }
+}
+
+impl<A: Allocator + Copy> fmt::Debug for RepositoryFault<A> {
+    fn fmt<W: fmt::Write>(&self, f: &mut fmt::Formatter<W>) -> fmt::Result {
+        fmt::Display::fmt(self, f)
+    }
+}
+
+impl<A: Allocator + Copy> Error for RepositoryFault<A> {}
+
+impl<A: Allocator + Copy> fmt::Display for CheckFault<A> {
+    fn fmt<W: fmt::Write>(&self, f: &mut fmt::Formatter<W>) -> fmt::Result {
+        match self {
+            CheckFault::Repository(fault) => write!(f, "{fault}"),
+            CheckFault::Ref { name, fault } => {
+                f.write_str(str::from_utf8(name.as_bytes()).unwrap_or("a ref"))?;
+                write!(f, ": {fault}")
+            }
+        }
+    }
+}
+
+impl<A: Allocator + Copy> fmt::Debug for CheckFault<A> {
+    fn fmt<W: fmt::Write>(&self, f: &mut fmt::Formatter<W>) -> fmt::Result {
+        fmt::Display::fmt(self, f)
+    }
+}
+
+impl<A: Allocator + Copy> Error for CheckFault<A> {}
+
+impl<A: Allocator + Copy> From<AllocError> for RepositoryFault<A> {
+    fn from(_refused: AllocError) -> RepositoryFault<A> {
+        RepositoryFault::Memory
+    }
+}
+
+impl<T: Drop, A: Allocator + Copy> From<AllocFailed<T>> for RepositoryFault<A> {
+    fn from(_refused: AllocFailed<T>) -> RepositoryFault<A> {
+        RepositoryFault::Memory
+    }
+}
+
+impl<A: Allocator + Copy> From<StoreFault<A>> for RepositoryFault<A> {
+    fn from(fault: StoreFault<A>) -> RepositoryFault<A> {
+        match fault {
+            StoreFault::Memory => RepositoryFault::Memory,
+            _ => RepositoryFault::Store(fault),
+        }
+    }
+}
+
+impl<A: Allocator + Copy> From<RefFault<A>> for RepositoryFault<A> {
+    fn from(fault: RefFault<A>) -> RepositoryFault<A> {
+        match fault {
+            RefFault::Memory => RepositoryFault::Memory,
+            _ => RepositoryFault::Refs(fault),
+        }
+    }
+}
+
+impl<A: Allocator + Copy> From<PackFileFault> for RepositoryFault<A> {
+    fn from(fault: PackFileFault) -> RepositoryFault<A> {
+        match fault {
+            PackFileFault::Memory => RepositoryFault::Memory,
+            _ => RepositoryFault::Pack(fault),
+        }
+    }
+}

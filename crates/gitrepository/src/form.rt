@@ -1,0 +1,200 @@
+//! The form of a repository. One that this crate does not read is refused.
+
+ghost use Rattle.std.specs.Prelude.{◌≡◌, List, IfOk, MatchOption};
+ghost use Rattle.gitconfig.specs.Configs.{IsConfig, Setting, setting_of};
+ghost use Rattle.gitrepository.specs.Forms.{AreRead, IsFormFault, extension_fault, form_fault, has_value, is_known, is_version, sets_version_1};
+
+use crate::fault::{FormFault, RepositoryFault};
+use gitconfig::{ConfigFault, Setting, parse_config};
+use gitobjects::{ObjectFiles, ObjectStore};
+use std::alloc::{AllocError, Allocator};
+
+// The most bytes of a configuration: 1 MiB.
+const MAX_CONFIG: usize = 1_048_576;
+
+// The extensions that change nothing of what is read or written here.
+const KNOWN: [&[u8]; 5] = [
+    b"noop",
+    b"noop-v1",
+    b"preciousobjects",
+    b"relativeworktrees",
+    b"worktreeconfig",
+];
+
+/// Opens the objects of the Git directory with this path, unless the repository has a form that is
+/// not read: it is shallow or a partial clone, it has SHA-256 ids or a reftable, or its
+/// configuration names another version or extension (git-config(1), "core.repositoryFormatVersion",
+/// "extensions"). Alternates are read.
+///
+/// It fails with `Form` at such a repository, and as [`ObjectStore::open`] does.
+pub fn open_store<'f, F: ObjectFiles, A: Allocator + Copy>(
+    files: &'f F,
+    alloc: A,
+    git_dir: &str,
+) -> Result<ObjectStore<'f, F, A>, RepositoryFault<A>> {
+    check_form(files, alloc, git_dir)?;
+    Ok(ObjectStore::open(files, alloc, git_dir)?)
+}
+
+// Whether the repository of a Git directory has a form that is read.
+fn check_form<F: ObjectFiles, A: Allocator + Copy>(
+    files: &F,
+    alloc: A,
+    git_dir: &str,
+) -> Result<(), RepositoryFault<A>> {
+    check_config(files, alloc, git_dir)?;
+    check_shallow(files, alloc, git_dir)?;
+    check_promisors(files, alloc, git_dir)
+}
+
+// The path of a file of a Git directory.
+fn path_of<A: Allocator + Copy>(
+    alloc: A,
+    git_dir: &str,
+    name: &str,
+) -> Result<String<A>, AllocError> {
+    let mut path = String::from_str(alloc, git_dir)?;
+    path.push_str("/")?;
+    path.push_str(name)?;
+    Ok(path)
+}
+
+// Checks the configuration. Git takes a repository without one for one of version 0.
+fn check_config<F: ObjectFiles, A: Allocator + Copy>(
+    files: &F,
+    alloc: A,
+    git_dir: &str,
+) -> Result<(), RepositoryFault<A>> {
+    let path = path_of(alloc, git_dir, "config")?;
+    let text = match files.read(alloc, path.as_str(), MAX_CONFIG) {
+        Ok(Some(text)) => text,
+        Ok(None) => return Ok(()),
+        Err(cause) => return Err(RepositoryFault::of_cause(alloc, path.as_str(), cause)),
+    };
+    match form_of(alloc, text.as_slice()) {
+        Ok(None) => Ok(()),
+        Ok(Some(fault)) => Err(RepositoryFault::of_form(alloc, path.as_str(), fault)),
+        Err(_) => Err(RepositoryFault::Memory),
+    }
+}
+
+// A shallow repository has a file `shallow` (gitrepository-layout(5), "shallow").
+fn check_shallow<F: ObjectFiles, A: Allocator + Copy>(
+    files: &F,
+    alloc: A,
+    git_dir: &str,
+) -> Result<(), RepositoryFault<A>> {
+    let path = path_of(alloc, git_dir, "shallow")?;
+    match files.exists(path.as_str()) {
+        Ok(false) => Ok(()),
+        Ok(true) => Err(RepositoryFault::of_form(alloc, path.as_str(), FormFault::Shallow)),
+        Err(cause) => Err(RepositoryFault::of_cause(alloc, path.as_str(), cause)),
+    }
+}
+
+// A partial clone has packs of objects that are promised (git-index-pack(1), `--promisor`).
+fn check_promisors<F: ObjectFiles, A: Allocator + Copy>(
+    files: &F,
+    alloc: A,
+    git_dir: &str,
+) -> Result<(), RepositoryFault<A>> {
+    let path = path_of(alloc, git_dir, "objects/pack")?;
+    match files.list(alloc, path.as_str()) {
+        Ok(names) if lists_promisor(names.as_slice()) => {
+            Err(RepositoryFault::of_form(alloc, path.as_str(), FormFault::PartialClone))
+        }
+        Ok(_) => Ok(()),
+        Err(cause) => Err(RepositoryFault::of_cause(alloc, path.as_str(), cause)),
+    }
+}
+
+// Whether one of the names, each of which has a NUL after it, ends with `.promisor`.
+fn lists_promisor(names: &[u8]) -> bool {
+    names
+        .split(|byte| *byte == 0)
+        .any(|name| name.ends_with(b".promisor"))
+}
+
+// Why a repository with this configuration is not read; `None` if it is. It fails out of memory.
+fn form_of<A: Allocator + Copy>(alloc: A, text: &[u8]) -> Result<Option<FormFault>, AllocError>
+    ensures { IfOk result (λ fault. MatchOption fault
+        ((sets : List Setting) × IsConfig text.now sets × AreRead sets)
+        (IsFormFault text.now)) }
+{
+    match parse_config(alloc, text) {
+        Ok(settings) => Ok(fault_of_all(settings.as_slice())),
+        Err(ConfigFault::Malformed) => Ok(Some(FormFault::Config)),
+        Err(ConfigFault::Memory) => Err(AllocError),
+    }
+}
+
+// Why a repository with these settings is not read; `None` if it is.
+fn fault_of_all<A: Allocator + Copy>(settings: &[Setting<A>]) -> Option<FormFault> {
+    let is_version_1 = settings.iter().any(|setting| sets_version_1(setting));
+    settings
+        .iter()
+        .find_map(|setting| fault_of(setting, is_version_1))
+}
+
+// Whether the setting is that of version 1.
+fn sets_version_1<A: Allocator + Copy>(setting: &Setting<A>) -> bool
+    ensures { result ≡ sets_version_1 (setting_of setting.now) }
+{
+    is_version(setting) && has_value(setting, b"1")
+}
+
+fn is_version<A: Allocator + Copy>(setting: &Setting<A>) -> bool
+    ensures { result ≡ is_version (setting_of setting.now) }
+{
+    setting.section.as_slice() == b"core".as_slice()
+        && setting.name.as_slice() == b"repositoryformatversion".as_slice()
+}
+
+fn has_value<A: Allocator + Copy>(setting: &Setting<A>, value: &[u8]) -> bool
+    ensures { result ≡ has_value value.now (setting_of setting.now) }
+{
+    match &setting.value {
+        Some(own) => own.as_slice() == value,
+        None => false,
+    }
+}
+
+// Why a repository with this setting is not read; `None` if it is.
+fn fault_of<A: Allocator + Copy>(setting: &Setting<A>, is_version_1: bool) -> Option<FormFault>
+    ensures { result ≡ form_fault is_version_1 (setting_of setting.now) }
+{
+    if is_version(setting) {
+        if has_value(setting, b"0") || has_value(setting, b"1") {
+            return None;
+        }
+        return Some(FormFault::Version);
+    }
+    if setting.section.as_slice() == b"extensions".as_slice() {
+        return extension_fault(setting, is_version_1);
+    }
+    None
+}
+
+fn extension_fault<A: Allocator + Copy>(
+    setting: &Setting<A>,
+    is_version_1: bool,
+) -> Option<FormFault>
+    ensures { result ≡ extension_fault is_version_1 (setting_of setting.now) }
+{
+    match setting.name.as_slice() {
+        b"objectformat" if has_value(setting, b"sha1") => None,
+        b"objectformat" => Some(FormFault::ObjectFormat),
+        b"refstorage" if has_value(setting, b"files") => None,
+        b"refstorage" => Some(FormFault::RefStorage),
+        b"partialclone" => Some(FormFault::PartialClone),
+        name if !is_version_1 || is_known(name) => None,
+        _ => Some(FormFault::Extension),
+    }
+}
+
+// Whether an extension changes nothing of what is read or written here.
+fn is_known(name: &[u8]) -> bool
+    ensures { result ≡ is_known name.now }
+{
+    KNOWN.iter().any(|known| *known == name)
+}

@@ -1,0 +1,220 @@
+//! The objects that go with a list of commits and tags.
+
+use crate::fates::{Fate, Fates};
+use crate::fault::{ObjectCause, RepositoryFault};
+use ggraph::Entry;
+use gitobject::{Link, ObjectType, commit_links, tree_links};
+use gitobjects::{Found, Object, ObjectFiles, ObjectReader, StoreFault};
+use gname::Oid;
+use std::alloc::Allocator;
+
+/// The fates of objects that go with a list of commits and tags. These are sent. So are the trees
+/// and blobs that they reach and that no parent outside of the list reaches.
+pub(crate) fn gather<F: ObjectFiles, A: Allocator + Copy>(
+    reader: &mut ObjectReader<'_, F, A>,
+    entries: &[Entry<A>],
+) -> Result<Fates<A>, RepositoryFault<A>> {
+    let mut gathering = Gathering::new(reader, false);
+    gathering.send_all(entries)?;
+    gathering.leave_out_parents(entries)?;
+    gathering.send_trees(entries)?;
+    Ok(gathering.fates)
+}
+
+// A tree that was settled, and whose entries are not.
+#[derive(Clone, Copy, Drop)]
+struct Tree {
+    id: Oid,
+    found: Found,
+}
+
+/// The fates of objects so far.
+#[derive(Drop)]
+pub(crate) struct Gathering<'r, 'f, F: ObjectFiles, A: Allocator + Copy> {
+    alloc: A,
+    pub(crate) reader: &'r mut ObjectReader<'f, F, A>,
+    fates: Fates<A>,
+    // Whether the types of blobs are looked at.
+    checks_blobs: bool,
+}
+
+impl<'r, 'f, F: ObjectFiles, A: Allocator + Copy> Gathering<'r, 'f, F, A> {
+    /// No object is settled. If `checks_blobs` is set, an object that a tree names as a blob must be
+    /// one.
+    pub(crate) fn new(
+        reader: &'r mut ObjectReader<'f, F, A>,
+        checks_blobs: bool,
+    ) -> Gathering<'r, 'f, F, A> {
+        let alloc = reader.store().allocator();
+        let fates = Fates::new(alloc);
+        Gathering {
+            alloc,
+            reader,
+            fates,
+            checks_blobs,
+        }
+    }
+
+    /// How many objects are sent.
+    pub(crate) fn sent(&self) -> u32 {
+        self.fates.sent()
+    }
+
+    /// Sends an object and the trees and blobs that it reaches, unless it is settled.
+    pub(crate) fn send(&mut self, id: &Oid) -> Result<(), RepositoryFault<A>> {
+        match self.settle(id, Fate::Sent)? {
+            Some(_) => self.walk_from(id, Fate::Sent),
+            None => Ok(()),
+        }
+    }
+
+    // Sends the commits and tags.
+    fn send_all(&mut self, entries: &[Entry<A>]) -> Result<(), RepositoryFault<A>> {
+        for entry in entries {
+            self.settle(&entry.id, Fate::Sent)?;
+        }
+        Ok(())
+    }
+
+    // Leaves out what the parents reach that are not sent: the peer has these.
+    fn leave_out_parents(&mut self, entries: &[Entry<A>]) -> Result<(), RepositoryFault<A>> {
+        for entry in entries {
+            self.leave_out(entry.node.parents.as_slice())?;
+        }
+        Ok(())
+    }
+
+    fn leave_out(&mut self, parents: &[Oid]) -> Result<(), RepositoryFault<A>> {
+        for id in parents {
+            if let Some(_) = self.settle(id, Fate::Left)? {
+                self.walk_from(id, Fate::Left)?;
+            }
+        }
+        Ok(())
+    }
+
+    // Sends what the commits and tags reach.
+    fn send_trees(&mut self, entries: &[Entry<A>]) -> Result<(), RepositoryFault<A>> {
+        for entry in entries {
+            self.walk_from(&entry.id, Fate::Sent)?;
+        }
+        Ok(())
+    }
+
+    // The place of an object.
+    fn locate(&mut self, id: &Oid) -> Result<Found, RepositoryFault<A>> {
+        if let Some(found) = self.reader.store().find(id)? {
+            return Ok(found);
+        }
+        // Reading an object that is not found lists the packs anew.
+        let _object = self.reader.read(id)?;
+        match self.reader.store().find(id)? {
+            Some(found) => Ok(found),
+            None => Err(RepositoryFault::Store(StoreFault::Missing(*id))),
+        }
+    }
+
+    // Settles the fate of an object, and answers its place; `None` if the fate was settled.
+    fn settle(&mut self, id: &Oid, fate: Fate) -> Result<Option<Found>, RepositoryFault<A>> {
+        if self.fates.of_loose(id) != Fate::Open {
+            return Ok(None);
+        }
+        let found = self.locate(id)?;
+        if self.fates.of(id, found) != Fate::Open {
+            return Ok(None);
+        }
+        self.fates.settle(self.reader.store(), (id, found), fate)?;
+        Ok(Some(found))
+    }
+
+    // Settles what the tree of a commit reaches, or a tree. A tag is settled alone, as the object
+    // that it names is in the list too.
+    fn walk_from(&mut self, id: &Oid, fate: Fate) -> Result<(), RepositoryFault<A>> {
+        let object = self.reader.read(id)?;
+        let body = object.body.as_slice();
+        let mut trees = Vec::new(self.alloc);
+        match object.kind {
+            ObjectType::Commit => {
+                let tree = self.tree_of(id, body)?;
+                self.settle_link(tree, fate, &mut trees)?;
+            }
+            ObjectType::Tree => self.walk_entries(id, body, fate, &mut trees)?,
+            ObjectType::Blob | ObjectType::Tag => {}
+        }
+        self.walk_trees(trees, fate)
+    }
+
+    // The link of a commit to its tree.
+    fn tree_of(&self, id: &Oid, body: &[u8]) -> Result<Link, RepositoryFault<A>> {
+        match commit_links(self.alloc, body) {
+            Ok(links) => Ok(Link {
+                id: links.tree,
+                kind: ObjectType::Tree,
+            }),
+            Err(fault) => Err(RepositoryFault::of_object(id, fault)),
+        }
+    }
+
+    // Settles what some trees reach. Each object is settled once, so this ends.
+    fn walk_trees(&mut self, trees: Vec<Tree, A>, fate: Fate) -> Result<(), RepositoryFault<A>> {
+        let mut trees = trees;
+        for _ in 0..u64::MAX {
+            let Some(tree) = trees.pop() else {
+                break;
+            };
+            let object = self.read_tree(tree)?;
+            self.walk_entries(&tree.id, object.body.as_slice(), fate, &mut trees)?;
+        }
+        Ok(())
+    }
+
+    fn read_tree(&mut self, tree: Tree) -> Result<Object<A>, RepositoryFault<A>> {
+        let object = match self.reader.read_found(&tree.id, tree.found)? {
+            Some(object) => object,
+            None => self.reader.read(&tree.id)?,
+        };
+        if object.kind != ObjectType::Tree {
+            return Err(RepositoryFault::refused(&tree.id, ObjectCause::Type));
+        }
+        Ok(object)
+    }
+
+    // Settles what a tree names, and adds the trees among it to those that are to be walked.
+    fn walk_entries(
+        &mut self,
+        id: &Oid,
+        body: &[u8],
+        fate: Fate,
+        trees: &mut Vec<Tree, A>,
+    ) -> Result<(), RepositoryFault<A>> {
+        let links = match tree_links(self.alloc, body) {
+            Ok(links) => links,
+            Err(fault) => return Err(RepositoryFault::of_object(id, fault)),
+        };
+        for link in &links {
+            self.settle_link(*link, fate, trees)?;
+        }
+        Ok(())
+    }
+
+    // Settles an object that is named, and adds it to the trees that are to be walked if it is a
+    // tree that was open.
+    fn settle_link(
+        &mut self,
+        link: Link,
+        fate: Fate,
+        trees: &mut Vec<Tree, A>,
+    ) -> Result<(), RepositoryFault<A>> {
+        let Some(found) = self.settle(&link.id, fate)? else {
+            return Ok(());
+        };
+        if link.kind == ObjectType::Tree {
+            trees.push(Tree { id: link.id, found })?;
+            return Ok(());
+        }
+        if self.checks_blobs && self.reader.kind_of(&link.id)? != link.kind {
+            return Err(RepositoryFault::refused(&link.id, ObjectCause::Type));
+        }
+        Ok(())
+    }
+}

@@ -1,0 +1,93 @@
+//! Installing a pack that came.
+
+ghost use Rattle.std.specs.Prelude.{◌≡◌, MatchResult};
+ghost use Rattle.gitrepository.specs.Installing.{Installs, WhereKnown, Writes};
+ghost use Rattle.gitrepository.specs.declared.folder.Stage.TheVariants.{Start, Done, Failed, Ready};
+
+use crate::fault::RepositoryFault;
+use crate::folder::PackFolder;
+use crate::indexer::Received;
+use crate::stored_folder::StoredFolder;
+use std::alloc::Allocator;
+use std::fs::Files;
+
+/// Brings a pack and its index to a folder of packs. Both are written to temporary files and synced
+/// before one gets its name, and the pack gets its name before the index does.
+///
+/// It fails as the folder does. The folder then has none of the files, or the pack alone, or both.
+pub fn install_files<P: PackFolder>(
+    folder: &mut P,
+    pack: &[u8],
+    index: &[u8],
+) -> Result<(), P::Fault>
+    requires { P.stage folder.old ≡ Start }
+    ensures installs { WhereKnown (P.known folder.old) (P.known folder.new)
+        (λ before after. Installs pack.now index.now before after result) }
+    ensures stage { MatchResult result (λ _. P.stage folder.new ≡ Done)
+        (λ _. P.stage folder.new ≡ Start) }
+{
+    match write_and_name(folder, pack, index) {
+        Ok(()) => Ok(()),
+        Err(fault) => {
+            folder.clean();
+            Err(fault)
+        }
+    }
+}
+
+// Writes both files, and then names them.
+fn write_and_name<P: PackFolder>(folder: &mut P, pack: &[u8], index: &[u8]) -> Result<(), P::Fault>
+    requires { P.stage folder.old ≡ Start }
+    ensures installs { WhereKnown (P.known folder.old) (P.known folder.new)
+        (λ before after. Installs pack.now index.now before after result) }
+    ensures stage { MatchResult result (λ _. P.stage folder.new ≡ Done)
+        (λ _. P.stage folder.new ≡ Failed) }
+{
+    write_both(folder, pack, index)?;
+    name_both(folder)
+}
+
+// Writes both files, and syncs them.
+fn write_both<P: PackFolder>(folder: &mut P, pack: &[u8], index: &[u8]) -> Result<(), P::Fault>
+    requires { P.stage folder.old ≡ Start }
+    ensures written { WhereKnown (P.known folder.old) (P.known folder.new)
+        (λ before after. Writes pack.now index.now before after result) }
+    ensures stage { MatchResult result (λ _. P.stage folder.new ≡ Ready)
+        (λ _. P.stage folder.new ≡ Failed) }
+{
+    folder.write_pack(pack)?;
+    folder.sync_pack()?;
+    folder.write_index(index)?;
+    folder.sync_index()
+}
+
+// Names both files, the pack first.
+fn name_both<P: PackFolder>(folder: &mut P) -> Result<(), P::Fault>
+    requires { P.stage folder.old ≡ Ready }
+    ensures installs { WhereKnown (P.known folder.old) (P.known folder.new)
+        (λ before after. Installs before.pack before.index before after result) }
+    ensures stage { MatchResult result (λ _. P.stage folder.new ≡ Done)
+        (λ _. P.stage folder.new ≡ Failed) }
+{
+    folder.name_pack()?;
+    folder.name_index()
+}
+
+/// Installs a pack that came in a Git directory, as `objects/pack/pack-SUM.pack` and its index.
+/// `SUM` is the trailer of the pack. A pack of no objects is not installed.
+///
+/// It fails with `File` if the system refuses a call, and with `Memory`. Then there is no new pack
+/// that Git finds, or the whole one. A process that is killed can leave temporary files.
+pub fn install_pack<R: Files, A: Allocator + Copy>(
+    alloc: A,
+    files: &R,
+    git_dir: &str,
+    received: &Received<A>,
+) -> Result<(), RepositoryFault<A>> {
+    if received.index.entries().is_empty() {
+        return Ok(());
+    }
+    let index = received.index.write_index(alloc)?;
+    let mut folder = StoredFolder::new(alloc, files, git_dir, &received.index.checksum())?;
+    install_files(&mut folder, received.bytes.as_slice(), index.as_slice())
+}

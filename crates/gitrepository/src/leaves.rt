@@ -1,0 +1,76 @@
+//! The trees and blobs at which refs of a peer are.
+
+ghost use Rattle.std.specs.Prelude.{◌≡◌, ◌↔◌, ◌∷◌, [], IsTrue};
+ghost use Rattle.gitrepository.specs.Entries.{IsLeafType};
+ghost use Rattle.gitrepository.specs.Leaves.{AddsLeaves};
+ghost use Rattle.gitrepository.specs.Repositories.{IsHistory};
+
+use crate::fault::{ObjectCause, RepositoryFault};
+use crate::nodes::leaf;
+use crate::tips::Tips;
+use ggraph::{Entry, Graph};
+use gitobject::ObjectType;
+use gitobjects::{ObjectFiles, ObjectReader};
+use gname::Oid;
+use std::alloc::Allocator;
+
+/// Adds to a graph the trees and blobs at which refs of a peer are and that are here. They count as
+/// commits without parents, so that a client does not ask for them.
+///
+/// It fails with `Store` if an object is not read, with `Objects` if the graph is full, and with
+/// `Memory`. Then some of them may have been added.
+pub fn add_leaves<F: ObjectFiles, A: Allocator + Copy>(
+    reader: &mut ObjectReader<'_, F, A>,
+    graph: &mut Graph<A>,
+    tips: &Tips<A>,
+) -> Result<(), RepositoryFault<A>>
+    ensures leaves { AddsLeaves tips.now graph.old graph.new }
+    ensures history { IsHistory graph.old → IsHistory graph.new }
+{
+    for id in tips.as_slice() {
+        if !graph.contains(id) && is_leaf(reader, id)? {
+            add_leaf(reader, graph, id)?;
+        }
+    }
+    Ok(())
+}
+
+// Whether a tree or a blob with this id is here.
+fn is_leaf<F: ObjectFiles, A: Allocator + Copy>(
+    reader: &mut ObjectReader<'_, F, A>,
+    id: &Oid,
+) -> Result<bool, RepositoryFault<A>> {
+    if reader.store().find(id)?.is_none() {
+        return Ok(false);
+    }
+    Ok(is_leaf_type(reader.kind_of(id)?))
+}
+
+// Whether objects of this type are leaves of a graph.
+fn is_leaf_type(kind: ObjectType) -> bool
+    ensures { IsTrue result ↔ IsLeafType kind }
+{
+    match kind {
+        ObjectType::Tree | ObjectType::Blob => true,
+        ObjectType::Commit | ObjectType::Tag => false,
+    }
+}
+
+// Adds the tree or the blob with this id. Its id is computed.
+fn add_leaf<F: ObjectFiles, A: Allocator + Copy>(
+    reader: &mut ObjectReader<'_, F, A>,
+    graph: &mut Graph<A>,
+    id: &Oid,
+) -> Result<(), RepositoryFault<A>>
+    ensures { AddsLeaves (id.now ∷ []) graph.old graph.new }
+{
+    let object = reader.read_checked(id)?;
+    if !is_leaf_type(object.kind) {
+        return Err(RepositoryFault::refused(id, ObjectCause::Type));
+    }
+    let node = leaf(reader.store().allocator());
+    match graph.insert(Entry { id: *id, node }) {
+        Ok(_) => Ok(()),
+        Err(fault) => Err(RepositoryFault::of_node(id, fault)),
+    }
+}

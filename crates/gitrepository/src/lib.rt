@@ -1,0 +1,94 @@
+//! A Git directory as a repository: the graph of its commits and tags with refs and HEAD, packs that
+//! go out, and packs that come (gitrepository-layout(5), gitformat-pack(5)).
+//!
+//! - [`open_repository`] reads the graph of all that the refs reach.
+//! - A [`StorePacker`] packs commits and tags and what goes with them. Entries of packs go out as
+//!   they lie.
+//! - A [`StoreIndexer`] indexes a pack that comes, and keeps it. [`install_pack`] brings it to the
+//!   directory.
+//!
+//! # Proved
+//!
+//! - Each entry of the graph is that of an object. Its id is the SHA-1 of a type and bytes, and its
+//!   parents are those that the bytes name, in order. Parents come first. Each ref is at an object
+//!   of the graph.
+//! - A pack that goes out has a header, as many entries as the header says, and the SHA-1 of all
+//!   bytes before. Each entry has a well-formed head. The pack has at most `MAX_PACK` bytes.
+//! - A pack is accepted only if its trailer is the SHA-1 of all bytes before. Each entry that the
+//!   indexer answers is that of an object, or is a tree or blob that a tag names.
+//! - [`install_files`] brings a pack to a [`PackFolder`] before its index. At `Ok` both are there,
+//!   with the bytes that were given. A file gets its name only once both files are written and
+//!   synced. At a fault nothing came, or the pack alone, or both.
+//! - [`MemoryFolder`] is such a folder, and knows all that came to it.
+//! - No call panics, overflows or reads out of bounds, and each returns, whatever the files have.
+//!
+//! # Differences from Git
+//!
+//! - A tree or a blob at which a ref or a tag is counts as a commit without parents.
+//! - A ref whose object is missing is left out. Git does so, too, and prints a warning. If HEAD is
+//!   at an id whose object is missing, the repository is refused.
+//! - Parents of a commit that are not sent count as known to the peer, and so does all that their
+//!   trees reach.
+//! - No delta is made. Loose objects are deflated whole, and so is an object whose base the peer
+//!   does not get.
+//! - A graph holds at most 1,048,576 commits and tags, with at most 64 parents each.
+//! - A commit-graph, a multi-pack index, bitmaps, shallow repositories, grafts and replace refs are
+//!   not read.
+//! - An object that is here counts as complete: what it names is not looked for.
+//!
+//! # What the contracts do not rule out
+//!
+//! - The packer might send other objects than those that are asked for, or send the entry of one
+//!   object for another. The reader compares the CRC-32 of each entry that is copied with that of
+//!   the index, but has no clause that says so.
+//! - The graph might hold more than the refs reach, and a ref might be left out.
+//! - The indexer might leave out an entry. It looks for the trees and blobs that are named, and
+//!   compares objects that are here already; no clause says so.
+//! - No contract can say what a file of the system has: only the order of the calls of
+//!   [`install_pack`] is proved.
+//! - Any call may fail out of memory. The contracts say nothing of which fault comes, of time, or of
+//!   how much memory a call takes.
+//!
+//! There are no tests here.
+//!
+//! # Stands on
+//!
+//! `gitobjects` for objects, `gitrefs` for refs, `gitpack` for packs, `gitobject` for links, `gzlib`
+//! to deflate. `ggraph` with `gdag`, `gobject` and `grefs` for graphs and packers, `gname` for ids,
+//! `indexmap` for maps by id. The specs cite `sha1`.
+#![tactic(auto)]
+
+mod arrival;
+mod checking;
+mod copying;
+mod fates;
+mod fault;
+mod folder;
+mod form;
+mod gather;
+mod history;
+mod indexer;
+mod install;
+mod leaves;
+mod memory_folder;
+mod new_repository;
+mod nodes;
+mod opening;
+mod outgoing;
+mod packer;
+mod stored_folder;
+mod tips;
+
+pub use crate::checking::{Checked, check_refs, check_repository};
+pub use crate::copying::PackCounts;
+pub use crate::fault::{CheckFault, FormFault, ObjectCause, RepositoryFault};
+pub use crate::folder::{PackFolder, Stage};
+pub use crate::form::open_store;
+pub use crate::indexer::{Received, StoreIndexer};
+pub use crate::install::{install_files, install_pack};
+pub use crate::leaves::add_leaves;
+pub use crate::memory_folder::{MemoryFolder, PackFile};
+pub use crate::new_repository::NewRepository;
+pub use crate::opening::open_repository;
+pub use crate::packer::StorePacker;
+pub use crate::tips::Tips;

@@ -1,0 +1,106 @@
+//! Opening a repository: the graph of all that its refs reach, the refs, and HEAD.
+
+ghost use Rattle.std.specs.Prelude.{◌≡◌, IfOk, OnOk};
+ghost use Rattle.gdag.specs.Graphs.{Holds};
+ghost use Rattle.gitrepository.specs.Repositories.{AreHeld, IsHistory};
+
+use crate::fault::RepositoryFault;
+use crate::history::History;
+use ggraph::{Graph, Head, Refs, Repository};
+use gitobjects::{ObjectFiles, ObjectReader, StoreFault};
+use gitrefs::GitDirectory;
+use gname::{Oid, RefName};
+use std::alloc::Allocator;
+use std::fs::Files;
+
+/// The repository of a Git directory: its refs, HEAD, and the commits and tags that these reach,
+/// parents first. A tree or a blob at which a ref or a tag is counts as a commit without parents. A
+/// ref whose object is not there is left out, as Git leaves it out.
+///
+/// The reader is that of the same directory. It can be used again after each fault.
+///
+/// It fails with `Refs` if the refs are not read. It fails with `Store` if an object that is
+/// reached is missing or is not read, and with `Object` if one is refused. It fails with `Objects`
+/// if there are more commits and tags than a graph holds, and with `Memory`.
+pub fn open_repository<R: Files, F: ObjectFiles, A: Allocator + Copy>(
+    directory: &GitDirectory<'_, R, A>,
+    reader: &mut ObjectReader<'_, F, A>,
+) -> Result<Repository<A>, RepositoryFault<A>>
+    ensures graph { IfOk result (λ repository. IsHistory repository.graph) }
+    ensures refs { IfOk result (λ repository. AreHeld repository.graph repository.refs) }
+{
+    let (listed, head) = directory.read_refs()?;
+    let graph = graph_of(reader, &listed, &head)?;
+    let refs = held_refs(reader.store().allocator(), &graph, &listed)?;
+    Ok(Repository { graph, refs, head })
+}
+
+// The graph of all that the refs and HEAD reach.
+fn graph_of<F: ObjectFiles, A: Allocator + Copy>(
+    reader: &mut ObjectReader<'_, F, A>,
+    refs: &Refs<A>,
+    head: &Head<A>,
+) -> Result<Graph<A>, RepositoryFault<A>>
+    ensures { IfOk result (λ graph. IsHistory graph) }
+{
+    let mut history = History::new(reader.store().allocator());
+    for pair in refs.as_slice() {
+        if is_there(reader, &pair.1)? {
+            history.add(reader, &pair.1)?;
+        }
+    }
+    if let Head::Id(id) = head {
+        history.add(reader, id)?;
+    }
+    history.into_graph()
+}
+
+// Whether an object is there. Git may have packed it since the packs were listed.
+fn is_there<F: ObjectFiles, A: Allocator + Copy>(
+    reader: &mut ObjectReader<'_, F, A>,
+    id: &Oid,
+) -> Result<bool, RepositoryFault<A>> {
+    if reader.store().find(id)?.is_some() {
+        return Ok(true);
+    }
+    match reader.read(id) {
+        Ok(_) => Ok(true),
+        Err(StoreFault::Missing(_)) => Ok(false),
+        Err(fault) => Err(RepositoryFault::from(fault)),
+    }
+}
+
+// The refs whose objects the graph holds.
+fn held_refs<A: Allocator + Copy>(
+    alloc: A,
+    graph: &Graph<A>,
+    listed: &Refs<A>,
+) -> Result<Refs<A>, RepositoryFault<A>>
+    ensures { IfOk result (λ refs. AreHeld graph.now refs) }
+{
+    let mut refs = Refs::new(alloc);
+    for pair in listed.as_slice() {
+        if graph.contains(&pair.1) {
+            let name = pair.0.copy_in(alloc)?;
+            set_held(graph, &mut refs, name, pair.1)?;
+        }
+    }
+    Ok(refs)
+}
+
+// Puts a ref at an object of the graph.
+#[tactic(auto, using(crate::proofs::RefLemmas::AreHeld_set))]
+fn set_held<A: Allocator + Copy>(
+    graph: &Graph<A>,
+    refs: &mut Refs<A>,
+    name: RefName<A>,
+    id: Oid,
+) -> Result<(), RepositoryFault<A>>
+    requires { Holds graph.now.entries id }
+    ensures { AreHeld graph.now refs.old → OnOk result (AreHeld graph.now refs.new) }
+{
+    match refs.set(name, id) {
+        Ok(()) => Ok(()),
+        Err(_) => Err(RepositoryFault::Memory),
+    }
+}

@@ -1,0 +1,246 @@
+//! The folder of packs of a Git directory.
+
+ghost use Rattle.std.specs.Prelude.{◌≡◌, None, IfOk};
+ghost use Rattle.gitrepository.specs.declared.folder.Stage.TheVariants.{Start};
+
+use crate::fault::RepositoryFault;
+use crate::folder::{PackFolder, Stage};
+use gname::{MAX_ID_TEXT, Oid};
+use std::alloc::{AllocError, Allocator};
+use std::fs::{File, Files, OpenFile, OpenOptions};
+use std::io::{ErrorKind, Write};
+use std::marker::Model;
+use std::os::unix::fs::OpenOptionsExt;
+use std::{fs, io};
+
+// How many names of temporary files are tried.
+const MAX_TRIES: usize = 1_000;
+
+// The permissions of both files, as Git has them: all may read, and none may write.
+const READ_ALONE: u32 = 0o444;
+
+/// The folder of packs of a Git directory, and the names of the files of a pack there.
+#[derive(Drop)]
+pub(crate) struct StoredFolder<'r, R: Files, A: Allocator + Copy> {
+    files: &'r R,
+    alloc: A,
+    path: String<A>,
+    // The paths of the pack and of the index.
+    pack_path: String<A>,
+    index_path: String<A>,
+    pack: Option<Temporary<R, A>>,
+    index: Option<Temporary<R, A>>,
+    stage: Stage,
+}
+
+// A temporary file that this run made.
+#[derive(Drop)]
+struct Temporary<R: Files, A: Allocator + Copy> {
+    path: String<A>,
+    file: R::File,
+}
+
+impl<'r, R: Files, A: Allocator + Copy> Model for StoredFolder<'r, R, A> {
+    ghost use Rattle.gitrepository.specs.declared.folder.Stage.{Stage};
+
+    ghost Value = { Stage };
+
+    ghost view = { λ f. f.stage };
+}
+
+impl<'r, R: Files, A: Allocator + Copy> StoredFolder<'r, R, A> {
+    /// The folder of packs of a Git directory, which is made if it is not there, and the names of
+    /// the files of the pack with this trailer.
+    pub(crate) fn new(
+        alloc: A,
+        files: &'r R,
+        git_dir: &str,
+        checksum: &Oid,
+    ) -> Result<StoredFolder<'r, R, A>, RepositoryFault<A>>
+        ensures { IfOk result (λ folder. folder ≡ Start) }
+    {
+        let mut path = String::from_str(alloc, git_dir)?;
+        path.push_str("/objects/pack")?;
+        if let Err(error) = fs::create_dir_all(files, path.as_str()) {
+            return Err(RepositoryFault::of_file(alloc, path.as_str(), error));
+        }
+        let pack_path = file_path(alloc, path.as_str(), checksum, ".pack")?;
+        let index_path = file_path(alloc, path.as_str(), checksum, ".idx")?;
+        let (pack, index, stage) = (None, None, Stage::Start);
+        Ok(StoredFolder {
+            files,
+            alloc,
+            path,
+            pack_path,
+            index_path,
+            pack,
+            index,
+            stage,
+        })
+    }
+
+    // Makes a new temporary file with these bytes.
+    fn write(&self, name: &str, bytes: &[u8]) -> Result<Temporary<R, A>, RepositoryFault<A>> {
+        for number in 0..MAX_TRIES {
+            let folder = self.path.as_str();
+            let path = format!(in self.alloc; "{folder}/tmp_{name}_{number}")?;
+            match create(self.files, path.as_str()) {
+                Ok(file) => return self.fill(Temporary { path, file }, bytes),
+                Err(error) if error.kind() == ErrorKind::AlreadyExists => {}
+                Err(error) => return Err(RepositoryFault::of_file(
+                    self.alloc,
+                    path.as_str(),
+                    error,
+                )),
+            }
+        }
+        let error = io::Error::from(ErrorKind::AlreadyExists);
+        Err(RepositoryFault::of_file(self.alloc, self.path.as_str(), error))
+    }
+
+    // Writes bytes to a new temporary file. It is removed if that fails.
+    fn fill(
+        &self,
+        temporary: Temporary<R, A>,
+        bytes: &[u8],
+    ) -> Result<Temporary<R, A>, RepositoryFault<A>> {
+        let mut temporary = temporary;
+        match temporary.file.write_all(bytes) {
+            Ok(()) => Ok(temporary),
+            Err(error) => {
+                let path = temporary.path.as_str();
+                let _ = fs::remove_file(self.files, path);
+                Err(RepositoryFault::of_file(self.alloc, path, error))
+            }
+        }
+    }
+
+    // Renames a temporary file, and brings its new name to the disk. The file is removed if it
+    // can't be renamed.
+    fn name(
+        &self,
+        temporary: Option<Temporary<R, A>>,
+        path: &str,
+    ) -> Result<(), RepositoryFault<A>> {
+        let Some(temporary) = temporary else {
+            return Err(RepositoryFault::Busy);
+        };
+        if let Err(error) = fs::rename(self.files, temporary.path.as_str(), path) {
+            let _ = fs::remove_file(self.files, temporary.path.as_str());
+            return Err(RepositoryFault::of_file(self.alloc, path, error));
+        }
+        match sync_folder(self.files, self.path.as_str()) {
+            Ok(()) => Ok(()),
+            Err(error) => Err(RepositoryFault::of_file(self.alloc, self.path.as_str(), error)),
+        }
+    }
+
+    // Brings a temporary file to the disk.
+    fn sync(&self, temporary: &Option<Temporary<R, A>>) -> Result<(), RepositoryFault<A>> {
+        let Some(temporary) = temporary else {
+            return Err(RepositoryFault::Busy);
+        };
+        match temporary.file.sync_all() {
+            Ok(()) => Ok(()),
+            Err(error) => {
+                let path = temporary.path.as_str();
+                Err(RepositoryFault::of_file(self.alloc, path, error))
+            }
+        }
+    }
+}
+
+// Makes a new file.
+fn create<R: Files>(files: &R, path: &str) -> io::Result<R::File> {
+    OpenOptions::new()
+        .write(true)
+        .create_new(true)
+        .mode(READ_ALONE)
+        .open(files, path)
+}
+
+// Brings the names in a folder to the disk.
+fn sync_folder<R: Files>(files: &R, path: &str) -> io::Result<()> {
+    File::open(files, path)?.sync_all()
+}
+
+// The path of a file of the pack with this trailer.
+fn file_path<A: Allocator + Copy>(
+    alloc: A,
+    folder: &str,
+    checksum: &Oid,
+    extension: &str,
+) -> Result<String<A>, AllocError> {
+    let mut digits = [0; MAX_ID_TEXT];
+    let count = checksum.to_hex(&mut digits);
+    let mut path = String::from_str(alloc, folder)?;
+    path.push_str("/pack-")?;
+    path.push_str(str::from_utf8(&digits[..count]).unwrap_or(""))?;
+    path.push_str(extension)?;
+    Ok(path)
+}
+
+// Removes a temporary file, if there is one.
+fn remove<R: Files, A: Allocator + Copy>(files: &R, temporary: Option<Temporary<R, A>>) {
+    if let Some(temporary) = temporary {
+        let _ = fs::remove_file(files, temporary.path.as_str());
+    }
+}
+
+impl<R: Files, A: Allocator + Copy> PackFolder for StoredFolder<'_, R, A> {
+    type Fault = RepositoryFault<A>;
+
+    ghost known = { λ _. None };
+
+    ghost stage = { λ f. f };
+
+    fn write_pack(&mut self, bytes: &[u8]) -> Result<(), RepositoryFault<A>> {
+        self.stage = Stage::Failed;
+        self.pack = Some(self.write("pack", bytes)?);
+        self.stage = Stage::PackWritten;
+        Ok(())
+    }
+
+    fn sync_pack(&mut self) -> Result<(), RepositoryFault<A>> {
+        self.stage = Stage::Failed;
+        self.sync(&self.pack)?;
+        self.stage = Stage::PackSynced;
+        Ok(())
+    }
+
+    fn write_index(&mut self, bytes: &[u8]) -> Result<(), RepositoryFault<A>> {
+        self.stage = Stage::Failed;
+        self.index = Some(self.write("idx", bytes)?);
+        self.stage = Stage::IndexWritten;
+        Ok(())
+    }
+
+    fn sync_index(&mut self) -> Result<(), RepositoryFault<A>> {
+        self.stage = Stage::Failed;
+        self.sync(&self.index)?;
+        self.stage = Stage::Ready;
+        Ok(())
+    }
+
+    fn name_pack(&mut self) -> Result<(), RepositoryFault<A>> {
+        self.stage = Stage::Failed;
+        let pack = self.pack.take();
+        self.name(pack, self.pack_path.as_str())?;
+        self.stage = Stage::PackNamed;
+        Ok(())
+    }
+
+    fn name_index(&mut self) -> Result<(), RepositoryFault<A>> {
+        self.stage = Stage::Failed;
+        let index = self.index.take();
+        self.name(index, self.index_path.as_str())?;
+        self.stage = Stage::Done;
+        Ok(())
+    }
+
+    fn clean(&mut self) {
+        remove(self.files, self.pack.take());
+        remove(self.files, self.index.take());
+        self.stage = Stage::Start;
+    }
+}

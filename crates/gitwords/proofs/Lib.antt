@@ -1,0 +1,4 @@
+mod CleanLemmas
+mod CutLemmas
+mod ServedLemmas
+mod UrlLemmas

@@ -1,0 +1,23 @@
+-- What is true of each command that arguments ask for.
+use Rattle.std.specs.Prelude.{ℕ, ◌≤◌, List, length, IfSome}
+use Rattle.gitwords.specs.Urls.{IsGitUrl, IsListenAddress}
+use Rattle.gitwords.specs.declared.command.Command.{Command}
+use Rattle.gitwords.specs.declared.command.Command.TheVariants.{Check, Clone, Fetch, Ls, Serve, UploadPack}
+use Rattle.gitwords.specs.declared.url.GitUrl.{GitUrl}
+
+-- the parts of a URL
+abbrev pub IsUrl : GitUrl → Type 0
+IsUrl url = (text : List ℕ) × IsGitUrl text url.host.now url.port url.path.now
+
+-- a number of connections that are served
+abbrev pub IsServed : ℕ → Type 0
+IsServed count = (1 ≤ count) × (count ≤ 1_000_000)
+
+-- A URL is one, there is a refspec for a fetch, connections are accepted at HOST:PORT, and there is at least one.
+abbrev pub IsCommand : Command → Type 0
+IsCommand (Check dir) = Unit {0}
+IsCommand (Clone asked) = IsUrl asked.url
+IsCommand (Fetch asked) = IsUrl asked.url × (1 ≤ length asked.specs.items)
+IsCommand (Ls asked) = IsUrl asked.url
+IsCommand (Serve asked) = IsListenAddress asked.listen.now × IfSome asked.connections IsServed
+IsCommand (UploadPack dir) = Unit {0}

@@ -1,0 +1,113 @@
+//! Why a text is no URL.
+
+ghost use Rattle.std.specs.Prelude.{◌≡◌, Some};
+ghost use Rattle.gitwords.specs.Faults.{cause_text, transport_text, url_fault_text};
+
+use std::error::Error;
+use std::fmt;
+
+/// A URL that `gitrepo` cannot fetch from. Its text is one sentence, which names the URL and says
+/// what to do.
+#[derive(Clone, Copy, Debug, Drop)]
+pub struct UrlFault<'a> {
+    /// The URL.
+    pub url: &'a str,
+    /// The cause.
+    pub cause: Cause,
+}
+
+/// The cause for which a URL is refused.
+#[derive(Clone, Copy, Debug, PartialEq, Eq, Drop)]
+pub enum Cause {
+    /// It does not begin with `git://`.
+    Transport(Transport),
+    /// No slash follows the host.
+    NoPath,
+    /// No host comes before the path: no name, no IPv4 address, and no IPv6 address in brackets.
+    BadHost,
+    /// No number from 1 to 65,535 follows the host and its colon.
+    BadPort,
+    /// The path has more than 1,000 bytes, a percent sign, or a byte that is no printable ASCII.
+    BadPath,
+}
+
+/// How Git reaches a repository whose URL does not begin with `git://` (git-clone(1), "GIT URLS").
+#[derive(Clone, Copy, Debug, PartialEq, Eq, Drop)]
+pub enum Transport {
+    /// By ssh: `ssh://`, or the form `HOST:PATH`.
+    Ssh,
+    /// By HTTP or HTTPS.
+    Http,
+    /// As a file: `file://`, or a path.
+    File,
+    /// In no way that Git itself knows.
+    Unknown,
+}
+
+impl Cause {
+    // The rest of the sentence, after the URL.
+    fn phrase(self) -> &'static str
+        ensures { result.now ≡ cause_text self }
+    {
+        match self {
+            Cause::Transport(transport) => transport.phrase(),
+            Cause::NoPath => "names no repository: write git://HOST[:PORT]/PATH",
+            Cause::BadHost => {
+                "has a malformed host: write a name, an IPv4 address, or [an IPv6 address]"
+            }
+            Cause::BadPort => "has a malformed port: write a number from 1 to 65535",
+            Cause::BadPath => {
+                "has a malformed path: write at most 1000 printable ASCII characters, and no %"
+            }
+        }
+    }
+}
+
+impl Transport {
+    /// The transport of a URL that does not begin with `git://`.
+    pub(crate) fn of(url: &str) -> Transport {
+        match url.split_once("://") {
+            Some((scheme, _)) => Transport::of_scheme(scheme),
+            None if has_host(url) => Transport::Ssh,
+            None => Transport::File,
+        }
+    }
+
+    fn of_scheme(scheme: &str) -> Transport {
+        match scheme {
+            "ssh" | "git+ssh" | "ssh+git" => Transport::Ssh,
+            "http" | "https" => Transport::Http,
+            "file" => Transport::File,
+            _ => Transport::Unknown,
+        }
+    }
+
+    fn phrase(self) -> &'static str
+        ensures { result.now ≡ transport_text self }
+    {
+        match self {
+            Transport::Ssh => "is reached by ssh: use git, since gitrepo has no ssh",
+            Transport::Http => "is reached by HTTP: use git, since gitrepo has no HTTP",
+            Transport::File => "is a file: use git, since gitrepo has no local transport",
+            Transport::Unknown => "has an unknown transport: write git://HOST[:PORT]/PATH",
+        }
+    }
+}
+
+// Whether a text has a colon before its first slash, as HOST:PATH has.
+fn has_host(text: &str) -> bool {
+    match text.split_once(':') {
+        Some((host, _)) => !host.contains('/'),
+        None => false,
+    }
+}
+
+impl fmt::Display for UrlFault<'_> {
+    ghost output = { λ fault. Some (url_fault_text fault) };
+
+    fn fmt<W: fmt::Write>(&self, f: &mut fmt::Formatter<W>) -> fmt::Result {
+        write!(f, "'{}' {}", self.url, self.cause.phrase())
+    }
+}
+
+impl Error for UrlFault<'_> {}

@@ -1,0 +1,56 @@
+//! Bytes of a peer, for a terminal.
+
+ghost use Rattle.std.specs.Prelude.{◌≡◌, ◌++◌, IfOk, OnOk};
+ghost use Rattle.gitwords.specs.Clean.{clean_byte, clean_text};
+
+use std::alloc::{AllocError, Allocator};
+
+/// The kinds of text that a terminal shows.
+#[derive(Clone, Copy, Debug, PartialEq, Eq, Drop)]
+pub enum Shown {
+    /// Lines of text.
+    Lines,
+    /// Lines of progress: a carriage return begins a line anew.
+    Progress,
+}
+
+/// The byte itself where it is printable ASCII, a line feed or a tab, or a carriage return of a
+/// progress line. A question mark for each other byte.
+pub fn clean_byte(byte: u8, shown: Shown) -> u8
+    ensures { result ≡ clean_byte shown byte }
+{
+    match byte {
+        b' '..=b'~' | b'\n' | b'\t' => byte,
+        b'\r' if shown == Shown::Progress => byte,
+        _ => b'?',
+    }
+}
+
+/// The bytes of a peer, each one cleaned. It fails only when out of memory.
+pub fn clean<A: Allocator + Copy>(
+    alloc: A,
+    bytes: &[u8],
+    shown: Shown,
+) -> Result<Vec<u8, A>, AllocError>
+    ensures { IfOk result (λ text. text.items ≡ clean_text shown bytes.now) }
+{
+    bytes
+        .iter()
+        .map(|byte| clean_byte(*byte, shown))
+        .collect(alloc)
+}
+
+/// Adds the bytes of a peer to a text, each one cleaned. It fails only when out of memory, and has
+/// then added some of them.
+pub fn push_clean<A: Allocator + Copy>(
+    text: &mut Vec<u8, A>,
+    bytes: &[u8],
+    shown: Shown,
+) -> Result<(), AllocError>
+    ensures { OnOk result (text.new.items ≡ text.old.items ++ clean_text shown bytes.now) }
+{
+    for byte in bytes {
+        text.push(clean_byte(*byte, shown))?;
+    }
+    Ok(())
+}
