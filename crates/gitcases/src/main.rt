@@ -15,11 +15,12 @@
 //!
 //! # Stands on
 //!
-//! `gitpack` and `gitobjects`, which it tries. `gitobject`, `gname`, `gzlib` and `sha1` make packs
-//! and stores; `scarce` is memory that ends.
+//! `gitpack`, `gitobjects` and `gitrepository`, which it tries. `gitobject`, `gname`, `gzlib` and
+//! `sha1` make packs and stores; `ggraph` has graphs and indexers; `scarce` is memory that ends.
 #![tactic(auto)]
 
 mod answers;
+mod arrivals;
 mod deltas;
 mod indexes;
 mod names;

@@ -36,6 +36,9 @@ pub(crate) struct Row<'a> {
     pub(crate) index: Option<Vec<u8>>,
     /// Objects that the index has.
     pub(crate) has: Vec<Oid>,
+    /// The answer to the pack when it comes to the store, from a peer whose refs are at these ids.
+    pub(crate) kept: Option<Vec<u8>>,
+    pub(crate) tips: Vec<Oid>,
     /// The answer to opening the store.
     pub(crate) open: Option<Vec<u8>>,
     pub(crate) reads: Vec<Read>,
@@ -66,6 +69,8 @@ impl<'a> Row<'a> {
             limits: LIMITS,
             index: None,
             has: Vec::new(alloc),
+            kept: None,
+            tips: Vec::new(alloc),
             open: None,
             reads: Vec::new(alloc),
             memory: Vec::new(alloc),

@@ -316,7 +316,7 @@ impl<'a> Script<'a> {
     fn add_to_row(&mut self, word: &str, rest: &'a str) -> Result<(), Trouble> {
         match word {
             "read" | "raw" => return self.add_read(word, rest),
-            "has" => return self.add_has(rest),
+            "has" | "tips" => return self.add_ids(word, rest),
             "limits" => return self.set_limits(rest),
             _ => {}
         }
@@ -328,6 +328,7 @@ impl<'a> Script<'a> {
             "of" => row.pack = rest,
             "in" => row.store = rest,
             "index" => row.index = Some(due),
+            "kept" => row.kept = Some(due),
             "open" => row.open = Some(due),
             "memory" => row.memory.push(due)?,
             "sweep" => row.is_swept = true,
@@ -351,11 +352,12 @@ impl<'a> Script<'a> {
         }
     }
 
-    fn add_has(&mut self, rest: &str) -> Result<(), Trouble> {
+    fn add_ids(&mut self, word: &str, rest: &str) -> Result<(), Trouble> {
         for name in rest.split(' ') {
             let id = self.names.object(name)?.id;
             match self.rows.last_mut() {
-                Some(row) => row.has.push(id)?,
+                Some(row) if word == "has" => row.has.push(id)?,
+                Some(row) => row.tips.push(id)?,
                 None => return Err(Trouble::NotBegun),
             }
         }
@@ -396,6 +398,17 @@ fn offset_of(start: usize, offset: &str) -> Result<u64, Trouble> {
 fn is_of_row(word: &str) -> bool {
     matches!(
         word,
-        "of" | "in" | "index" | "has" | "limits" | "open" | "read" | "raw" | "memory" | "large" | "sweep"
+        "of" | "in"
+            | "index"
+            | "has"
+            | "limits"
+            | "kept"
+            | "tips"
+            | "open"
+            | "read"
+            | "raw"
+            | "memory"
+            | "large"
+            | "sweep"
     )
 }

@@ -1,6 +1,7 @@
 //! Rows, tried in each way.
 
 use crate::answers::{MEMORY, OK, missing_of, of_index, of_opening, of_reading};
+use crate::arrivals::{Arrival, of_arrival};
 use crate::packs::mend_trailer;
 use crate::row::{Read, Row};
 use crate::script::Script;
@@ -36,11 +37,20 @@ pub(crate) fn try_row<R: Print + AllocGlobal>(
         let pack = script.pack_bytes(row.pack)?;
         try_pack(rt, row, pack.as_slice(), due.as_slice(), tally)?;
     }
-    if !row.store.is_empty() {
-        let store = script.store(row.store)?;
-        try_store(rt, row, store.files.as_slice(), tally)?;
+    if row.store.is_empty() {
+        return Ok(());
     }
-    Ok(())
+    let files = script.store(row.store)?.files.as_slice();
+    if let Some(due) = &row.kept {
+        let pack = script.pack_bytes(row.pack)?;
+        let arrival = Arrival {
+            files,
+            pack: pack.as_slice(),
+            tips: row.tips.as_slice(),
+        };
+        try_arrival(rt, row, arrival, due.as_slice(), tally)?;
+    }
+    try_store(rt, row, files, tally)
 }
 
 // Compares an answer with the one that has to come.
@@ -229,6 +239,96 @@ fn is_among(row: &Row<'_>, answer: &str) -> bool {
         }
     }
     false
+}
+
+// Tries a pack that comes to a store in all ways.
+fn try_arrival<R: Print + AllocGlobal>(
+    rt: &R,
+    row: &Row<'_>,
+    arrival: Arrival<'_>,
+    due: &[u8],
+    tally: &mut Tally,
+) -> Result<(), Trouble> {
+    let alloc = rt.alloc();
+    let mut attempt = Attempt {
+        row,
+        way: Way::Plain,
+        place: 0,
+    };
+    let answer = of_arrival(alloc, alloc, arrival)?;
+    compare(rt, attempt, answer.as_str(), due, tally)?;
+    if row.is_swept {
+        attempt.way = Way::Changed;
+        try_changed_arrivals(rt, attempt, arrival, due, tally)?;
+    }
+    if row.is_large {
+        return Ok(());
+    }
+    attempt.way = Way::Scarce;
+    try_scarce_arrival(rt, attempt, arrival, due, tally)
+}
+
+// Tries a pack that comes with each bit changed, and a right trailer. It is refused, or one of as many
+// commits and tags.
+fn try_changed_arrivals<R: Print + AllocGlobal>(
+    rt: &R,
+    attempt: Attempt<'_, '_>,
+    arrival: Arrival<'_>,
+    due: &[u8],
+    tally: &mut Tally,
+) -> Result<(), Trouble> {
+    let mut attempt = attempt;
+    for place in 0..arrival.pack.len() {
+        attempt.place = place;
+        for bit in BITS {
+            let mut changed = arrival.pack.to_vec(rt.alloc())?;
+            change(&mut changed, place, bit);
+            mend_trailer(&mut changed)?;
+            let other = Arrival {
+                files: arrival.files,
+                pack: changed.as_slice(),
+                tips: arrival.tips,
+            };
+            try_changed_arrival(rt, attempt, other, due, tally)?;
+        }
+    }
+    Ok(())
+}
+
+fn try_changed_arrival<R: Print + AllocGlobal>(
+    rt: &R,
+    attempt: Attempt<'_, '_>,
+    arrival: Arrival<'_>,
+    due: &[u8],
+    tally: &mut Tally,
+) -> Result<(), Trouble> {
+    let alloc = rt.alloc();
+    tally.count(attempt.way);
+    let answer = of_arrival(alloc, alloc, arrival)?;
+    if answer.as_str().starts_with(OK) && answer.as_bytes() != due {
+        tell_wrong(rt, attempt, answer.as_str(), tally)?;
+    }
+    Ok(())
+}
+
+// Tries a pack that comes with each allocation refused in turn.
+fn try_scarce_arrival<R: Print + AllocGlobal>(
+    rt: &R,
+    attempt: Attempt<'_, '_>,
+    arrival: Arrival<'_>,
+    due: &[u8],
+    tally: &mut Tally,
+) -> Result<(), Trouble> {
+    for number in 1..MAX_REFUSED {
+        let memory = Scarce::new(rt.alloc());
+        memory.refuse(number);
+        let answer = of_arrival(rt.alloc(), &memory, arrival)?;
+        if memory.is_due() {
+            break;
+        }
+        judge_scarce(rt, attempt, answer.as_str(), due, tally)?;
+    }
+    Ok(())
 }
 
 // Tries a store in all ways.
