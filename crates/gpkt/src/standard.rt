@@ -48,8 +48,10 @@ impl<R: Read> Source for FromRead<'_, R> {
         if self.down.is_down() {
             return Err(Down);
         }
-        let answer = self.reader.read(buf);
-        self.down.note(answer)
+        match self.reader.read(buf) {
+            Ok(count) => Ok(count),
+            Err(_) => self.down.fail(),
+        }
     }
 }
 
@@ -99,15 +101,20 @@ impl<W: Write> Sink for ToWrite<'_, W> {
         if self.down.is_down() {
             return Err(Down);
         }
-        let answer = self.writer.write(buf);
-        self.down.note_write(answer, buf)
+        match self.writer.write(buf) {
+            Ok(0) if !buf.is_empty() => self.down.fail(),
+            Ok(count) => Ok(count),
+            Err(_) => self.down.fail(),
+        }
     }
 
     fn flush(&mut self) -> Result<(), Down> {
         if self.down.is_down() {
             return Err(Down);
         }
-        let answer = self.writer.flush();
-        self.down.note(answer)
+        match self.writer.flush() {
+            Ok(()) => Ok(()),
+            Err(_) => self.down.fail(),
+        }
     }
 }

@@ -1,4 +1,3 @@
-pub mod Deadlines
 pub mod Telling
 pub mod Listing
 pub mod Messages
