@@ -1,6 +1,6 @@
 //! What an event does.
 
-ghost use Rattle.std.specs.Prelude.{◌≡◌, ◌≢◌, ◌≤◌, [], MatchResult, length, vec_capacity};
+ghost use Rattle.std.specs.Prelude.{◌≡◌, ◌≢◌, ◌≤◌, [], MatchResult, length, vec_capacity, vec_len};
 ghost use Rattle.gworld.specs.Promises.{Promises};
 ghost use Rattle.gworld.specs.Runs.{NeedsMemory, RunWith, RunsFront, outcomes_before};
 ghost use Rattle.gworld.specs.Sound.{AreEndsWhole, IsSound};
@@ -85,7 +85,8 @@ impl<A: Allocator + Copy> Parts<A> {
     // No outcomes yet, with room for those of the events.
     fn no_outcomes(&self, events: &[Event<A>]) -> Result<Vec<Outcome, A>, RunFault<A>>
         ensures { MatchResult result
-            (λ outcomes. (outcomes.items ≡ []) × (length events.now ≤ vec_capacity outcomes))
+            (λ outcomes. (outcomes.items ≡ []) × (vec_len outcomes ≡ 0)
+            × (length events.now ≤ vec_capacity outcomes))
             (λ fault. (outcomes_before fault ≡ []) × (events.now ≢ [])) }
     {
         let alloc = self.repo.graph().allocator();

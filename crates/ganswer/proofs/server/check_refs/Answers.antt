@@ -7,10 +7,10 @@ use Rattle.ganswer.proofs.PeelLemmas.{knows_next}
 use Rattle.ganswer.proofs.ServerLemmas.{dangles_at, holds_refs}
 use Rattle.ganswer.proofs.server.check_refs.Goals as goal
 
-pub returns-in_None-clause-held : goal.returns-in_None-clause-held
-returns-in_None-clause-held g c =
+pub returns-in-None-clause-held : goal.returns-in-None-clause-held
+returns-in-None-clause-held g c =
     let ref : List ℕ × List ℕ = c.index-refs-place.result in
-    dangles_at c.args.graph.now.entries c.args.refs.now c.loop-place.place ref c.loop-place-test.true c.index-refs-place.is c.loop-place.invariant.0 c.in_None.ensures
+    dangles_at c.args.graph.now.entries c.args.refs.now c.loop-place.place ref c.loop-place-test.true c.index-refs-place.is c.loop-place.invariant.0 c.in-None.ensures
 
 pub loop-place-preserved : goal.loop-place-preserved
 loop-place-preserved g c =
