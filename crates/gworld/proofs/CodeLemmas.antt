@@ -77,15 +77,9 @@ module _ {A : Type 0} {w now : WorldState A} (same : w ≡ now) where
 
   -- so that none may be asked for
   pub not_due_step : (s : SessionState A) → w.session ≡ Some s → IsSome s.pending
-      → AsksNext now now.session (Fault 83) now
+      → AsksNext now now.session (Fault 83) (record w { session = Some s })
   not_due_step s is waits =
-      rw (← same) (subst (λ (o : Option (SessionState A)). AsksNext w o (Fault 83) w) (sym is) (
-        s,
-        client.NoOpenRequest,
-        (not_due s.stage s.pending waits, refl),
-        refl,
-        ap (λ (o : Option (SessionState A)). record w { session = o }) is,
-      ))
+      rw (← same, is) (s, client.NoOpenRequest, (not_due s.stage s.pending waits, refl), refl, refl)
 
   -- where none waits, memory is needed to ask for one
   pub may_ask : (s : SessionState A) → w.session ≡ Some s → s.pending ≡ None → NeedsMemory now event.Ask

@@ -1,6 +1,6 @@
 -- A run that goes on, and what holds after any run.
 use Rattle.std.proofs.Common.{Result, Ok, Err, is_err, OnOk, false, ◌≡◌, ℕ, ◌+◌, ◌<◌, List, [], ◌∷◌, ◌++◌, length, take}
-use Rattle.std.proofs.Common.{drop, get_or, refl, sym, subst, Bool, All, Option, Some, None, ap, ◌∙◌}
+use Rattle.std.proofs.Common.{drop, get_or, refl, sym, subst, inl, inr, Bool, All, Option, Some, None, ap, ◌∙◌, ◌≢◌}
 use Rattle.std.proofs.lemmas.Bool.{false≢true}
 use Rattle.gdag.proofs.Growing.{at_front}
 use Rattle.gworld.specs.steps.Bringing.{RunsSoundly}
@@ -44,6 +44,14 @@ module _ {A : Type 0} (tools : PackTools A) where
     parts = at_front events count next inside at;
     run = runs.run;
     memory = inr needs;
+  }
+
+  -- no event was done yet
+  pub begins_soundly : {w : WorldState A} (events : List (Event A)) (told : List Outcome) → IsSound tools w
+      → told ≡ [] → RunsSoundly tools w (take 0 events) told w
+  begins_soundly {w} events told sound is = record {
+    sound = sound;
+    run = subst (λ (list : List Outcome). RunWith (Promises tools) w [] list w) (sym is) refl;
   }
 
   -- none was done, for want of memory for the outcomes

@@ -116,13 +116,41 @@ impl<A: Allocator + Copy> Parts<A> {
             (K.indexes tools.now) (K.index_fails tools.now)))
             self.old events.now (outcomes_before fault) self.new) }
     {
-        let mut outcomes = self.no_outcomes(events)?;
+        match self.no_outcomes(events) {
+            Ok(outcomes) => self.run_each(events, tools, outcomes),
+            Err(fault) => Err(fault),
+        }
+    }
+
+    // Does events, one after the other. There is room for their outcomes.
+    fn run_each<K: Packer<A> + Indexer<A>>(
+        &mut self,
+        events: &[Event<A>],
+        tools: &K,
+        outcomes: Vec<Outcome, A>,
+    ) -> Result<Vec<Outcome, A>, RunFault<A>>
+        requires none { outcomes.items ≡ [] }
+        requires empty { vec_len outcomes ≡ 0 }
+        requires room { length events.now ≤ vec_capacity outcomes }
+        requires sound { IsSound (tools_of (K.packs tools.now) (K.pack_fails tools.now)
+            (K.indexes tools.now) (K.index_fails tools.now)) self.old }
+        ensures sound { IsSound (tools_of (K.packs tools.now) (K.pack_fails tools.now)
+            (K.indexes tools.now) (K.index_fails tools.now)) self.new }
+        ensures runs { MatchResult result
+            (λ outcomes. RunWith (Promises (tools_of (K.packs tools.now) (K.pack_fails tools.now)
+            (K.indexes tools.now) (K.index_fails tools.now)))
+            self.old events.now outcomes.items self.new)
+            (λ fault. RunsFront (Promises (tools_of (K.packs tools.now) (K.pack_fails tools.now)
+            (K.indexes tools.now) (K.index_fails tools.now)))
+            self.old events.now (outcomes_before fault) self.new) }
+    {
+        let mut told = outcomes;
         for event in events {
             match self.step(event, tools) {
-                Ok(outcome) => outcomes.push_reserved(outcome),
-                Err(_) => return Err(RunFault::Memory { outcomes }),
+                Ok(outcome) => told.push_reserved(outcome),
+                Err(_) => return Err(RunFault::Memory { outcomes: told }),
             }
         }
-        Ok(outcomes)
+        Ok(told)
     }
 }
