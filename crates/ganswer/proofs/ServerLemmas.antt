@@ -1,12 +1,12 @@
 -- What is missing of a server's parts, and how a server changes.
 use Rattle.std.proofs.Common.{◌≡◌, ℕ, ◌+◌, ◌<◌, zero, suc, List, [], ◌∷◌, ◌++◌, length, get_or, take, drop, sym, ap}
 use Rattle.std.proofs.Common.{◌∙◌, subst, append_assoc, append-nil, Some, None, All, Contains, ◌⊎◌, inl, inr, Bool}
-use Rattle.std.proofs.Common.{Result, Ok, Err}
+use Rattle.std.proofs.Common.{Result, Ok, Err, refl}
 use Rattle.std.proofs.lemmas.List.{take_more}
 use Rattle.std.proofs.lemmas.List.Concat.{flat_map-append}
 use Rattle.std.proofs.lemmas.List.Elements.{All-append, All-contains, All-map, Contains-append_left}
 use Rattle.std.proofs.lemmas.List.Elements.{Contains-append_right, All-weaker}
-use Rattle.std.proofs.lemmas.Option.{none-some, same_Some, slice_get_within, get_or_from_slice_get}
+use Rattle.std.proofs.lemmas.Option.{none-some, same_Some, slice_get-get_or, slice_get_read, slice_get_within, get_or_from_slice_get}
 use Rattle.gobject.specs.declared.node.Entry.{Entry}
 use Rattle.gobject.specs.Objects.{node_at, entry_of, IdsDiffer}
 use Rattle.gdag.proofs.ClosedLemmas.{parents_entry}
@@ -20,10 +20,8 @@ use Rattle.grefs.specs.RefLists.{RefList, IsRefs, SetsRef}
 use Rattle.grefs.specs.declared.fault.RefsFault.{RefsFault}
 use Rattle.grefs.specs.declared.head.Head.{Head}
 use Rattle.ganswer.specs.Servers.{HoldsRefs, IsFirstDangling, parents_in, HoldsHead, IsServer, served}
-use Rattle.ganswer.specs.steps.Answers.{MissesRef, ReportsRef}
-use Rattle.ganswer.specs.declared.fault.BuildFault.{BuildFault}
-use Rattle.ganswer.specs.declared.fault.BuildFault.TheVariants as build
-use Rattle.std.specs.Prelude.{OnErr, OnOk, slice_get, option_map}
+use Rattle.ganswer.specs.steps.Answers.{DanglesAt}
+use Rattle.std.specs.Prelude.{IfSome, Option, OnErr, OnOk, slice_get, option_map}
 use Rattle.std.specs.Map.{values_of}
 use Rattle.grefs.specs.declared.head.Head.TheVariants as heads
 use Rattle.ganswer.proofs.FitLemmas.{unmap}
@@ -93,10 +91,21 @@ module _ {A : Type 0} where
     absent = missing;
   }
 
-  pub dangling : (g : List (Entry A)) (refs : RefList) (name : List ℕ) (cause : BuildFault A) → IsFirstDangling g refs name → ReportsRef name cause → MissesRef g refs cause
-  dangling g refs name (build.RefMissing missing) first is = subst (IsFirstDangling g refs) (sym is) first
-  dangling g refs name build.Memory first is = (name, first)
-  dangling g refs name _ first is = absurd is
+  pub dangles_at : (g : List (Entry A)) (refs : RefList) (k : ℕ) (ref : List ℕ × List ℕ) → k < length refs → ref ≡ get_or refs k ref
+      → All (λ (ref : List ℕ × List ℕ). Holds g ref.1) (take k refs) → node_at g ref.1 ≡ None → DanglesAt g refs k
+  dangles_at g refs k ref inside is before missing =
+      let first = first_dangling g refs k ref inside is before missing in
+      let here : slice_get refs k ≡ Some ref = slice_get_read refs (length refs) k ref refl inside is in
+      (inside, λ other at. subst (λ (r : List ℕ × List ℕ). IsFirstDangling g refs r.0) (same_Some ref other (sym here ∙ at)) first)
+
+  -- its name is that of the ref at this position
+  pub named_dangling : (g : List (Entry A)) (refs : RefList) (k : ℕ) (name : List ℕ) → DanglesAt g refs k
+      → IfSome (slice_get refs k) (λ (ref : List ℕ × List ℕ). name ≡ ref.0) → IsFirstDangling g refs name
+  named_dangling g refs k name dangles named =
+      let ref : List ℕ × List ℕ = get_or refs k ([], []) in
+      let at : slice_get refs k ≡ Some ref = slice_get-get_or refs k ([], []) dangles.0 in
+      let same : name ≡ ref.0 = subst (λ (o : Option (List ℕ × List ℕ)). IfSome o (λ (r : List ℕ × List ℕ). name ≡ r.0)) at named in
+      subst (IsFirstDangling g refs) (sym same) (dangles.1 ref at)
 
 -- ---- a server to which an object came, or of which a ref was set, is one
 

@@ -1,7 +1,6 @@
 -- A packer that is asked for one pack at most. What it answered shows in the answer to a request.
 use Rattle.std.specs.Prelude.{Bool, true, false}
 use Rattle.gfetchreply.specs.FetchReplies.{FetchReply, Acks, Ready, Pack}
-use Rattle.ganswer.specs.Answers.{Reply, Nothing, Ls, Fetch}
 use Rattle.ganswer.specs.declared.fault.ServeFault.{ServeFault}
 use Rattle.ganswer.specs.declared.one_pack.Packing.{Packing}
 use Rattle.ganswer.specs.declared.fault.ServeFault.TheVariants as serve
@@ -22,12 +21,6 @@ abbrev pub packing_of_reply : FetchReply → Packing
 packing_of_reply (Acks commons) = packing.Unasked
 packing_of_reply (Ready commons pack) = packing.Packed
 packing_of_reply (Pack pack) = packing.Packed
-
--- only fetch asks for a pack
-abbrev pub packing_of_answer : Reply → Packing
-packing_of_answer Nothing = packing.Unasked
-packing_of_answer (Ls reply) = packing.Unasked
-packing_of_answer (Fetch reply) = packing_of_reply reply
 
 -- a fault of its own is reported as it is, and any other where it was not asked
 abbrev pub packing_of_fault : ServeFault → Packing

@@ -1,6 +1,6 @@
 -- What a server has: a graph, refs and HEAD (gitglossary(7), "ref", "HEAD"), none of which leads to an id that is not
 -- held.
-use Rattle.std.specs.Prelude.{◌≡◌, ◌⊎◌, ⊤, List, ◌∷◌, ◌++◌, All, None, Result, Ok, Err, flat_map}
+use Rattle.std.specs.Prelude.{◌≡◌, ⊤, List, ◌∷◌, ◌++◌, All, None, Result, Ok, Err, flat_map}
 use Rattle.std.specs.Map.{values_of}
 use Rattle.gname.specs.Ids.{Id}
 use Rattle.gname.specs.Names.{Name}
@@ -59,8 +59,8 @@ pub record IsFirstDangling {A : Type 0} (g : List (Entry A)) (refs : RefList) (n
   pub held : HoldsRefs g front
   pub absent : node_at g id ≡ None
 
--- why there is no such server: a missing parent comes first, then a ref, then HEAD; of several the first. For the name
--- of a ref, and for that of HEAD, it may be out of memory.
+-- Why there is no such server: a missing parent comes first, then a ref, then HEAD; of several the first. Where nothing
+-- is missing it may be out of memory for the name HEAD.
 abbrev pub IsUnserved : {A : Type 0} → Server A → BuildFault A → Type 0
 IsUnserved server (build.NotClosed id) = IsFirstAbsent server.graph.entries (parents_in server.graph.entries) id
 IsUnserved server (build.RefMissing name) =
@@ -68,10 +68,7 @@ IsUnserved server (build.RefMissing name) =
 IsUnserved server build.HeadMissing =
     IsClosed server.graph.entries × HoldsRefs server.graph.entries server.refs
     × ¬ (HoldsHead server.graph.entries server.head)
-IsUnserved server build.Memory =
-    IsClosed server.graph.entries
-    × (((name : Name) × IsFirstDangling server.graph.entries server.refs name)
-    ⊎ (HoldsRefs server.graph.entries server.refs × HoldsHead server.graph.entries server.head))
+IsUnserved server build.Memory = IsServer server
 IsUnserved server _ = ⊥
 
 -- what making a server of some parts answers: one of exactly these, or why there is none

@@ -3,8 +3,6 @@
 ghost use Rattle.std.specs.Prelude.{◌≡◌, IfOk, MatchResult};
 ghost use Rattle.grequest.specs.RequestValues.{asked_by_request};
 ghost use Rattle.ganswer.specs.Answers.{Answers, HasFormat, Refuses, reply_of};
-ghost use Rattle.ganswer.specs.OnePack.{packing_of_answer, packing_of_fault};
-ghost use Rattle.ganswer.specs.declared.one_pack.Packing.TheVariants as packing;
 
 use crate::fault::ServeFault;
 use crate::one_pack::OnePack;
@@ -38,8 +36,9 @@ impl<A: Allocator + Copy> Server<A> {
     /// a common id, the common ids and that pack, and else the common ids alone. With `include-tag` the pack has the
     /// tags, too, that lead from the ids of refs to commits of it.
     ///
-    /// It fails with `NoWants` where a fetch wants nothing; else with `NotOurs` for the first want that is not held;
-    /// else with `Pack` where the packer fails for the objects to send; and with `Memory`.
+    /// It fails with `NoWants` where a fetch wants nothing. Otherwise it fails with `NotOurs` for the first want that is
+    /// not held. Otherwise it fails with `Pack` where the packer fails for the objects to send, with the fault of the
+    /// packer as [`Server::answer_fetch`] takes it. `Memory` comes where the packer was not asked.
     pub fn answer<K: Packer<A>>(
         &self,
         request: &Request<A>,
@@ -51,32 +50,13 @@ impl<A: Allocator + Copy> Server<A> {
             (Refuses self.now (K.pack_fails packer.now) (asked_by_request request.now)) }
         ensures format { IfOk result (HasFormat self.now.graph.format) }
     {
-        let mut packer = OnePack::new(packer);
-        self.answer_with(request, &mut packer)
-    }
-
-    /// As `answer`, by a packer of which is known what it answered: where it fails its fault is the one that is reported,
-    /// and `Memory` comes only where it was not asked.
-    pub fn answer_with<K: Packer<A>>(
-        &self,
-        request: &Request<A>,
-        packer: &mut OnePack<'_, K>,
-    ) -> Result<Reply<A>, ServeFault>
-        requires { packer.old.answered ≡ packing.Unasked }
-        ensures answer { MatchResult result
-            (λ reply. Answers self.now (K.packs packer.old.packer) (asked_by_request request.now)
-            (reply_of reply))
-            (Refuses self.now (K.pack_fails packer.old.packer) (asked_by_request request.now)) }
-        ensures format { IfOk result (HasFormat self.now.graph.format) }
-        ensures packing { MatchResult result
-            (λ reply. packer.new.answered ≡ packing_of_answer (reply_of reply))
-            (λ fault. packer.new.answered ≡ packing_of_fault fault) }
-        ensures packer { packer.new.packer ≡ packer.old.packer }
-    {
         match request {
             Request::Empty => Ok(Reply::Nothing),
             Request::Ls(asked) => Ok(Reply::Ls(self.answer_ls(asked)?)),
-            Request::Fetch(asked) => Ok(Reply::Fetch(self.answer_fetch(asked, packer)?)),
+            Request::Fetch(asked) => {
+                let reply = self.answer_fetch(asked, &mut OnePack::new(packer))?;
+                Ok(Reply::Fetch(reply))
+            }
         }
     }
 }

@@ -13,9 +13,9 @@
 //!   fetch the common ids, the pack of the objects to send, or both. It refuses a fetch exactly where nothing is
 //!   wanted, or with the first want that is not held; where the packer may refuse the objects to send; or out of
 //!   memory. The ids of an answer have the format of the graph, and an answer is never refused for its length.
-//! - [`Server::answer_with`] and [`Server::answer_fetch`] take one answer of the packer where a pack is sent, and
-//!   where a fault of the packer is reported, which is the one that it answered; else they take none. So out of memory
-//!   never hides such a fault. A packer that has failed is asked no more ([`OnePack`]).
+//! - [`Server::answer_fetch`], which [`Server::answer`] calls, takes one answer of the packer where a pack is sent, and
+//!   where a fault of the packer is reported, which is the one that it answered. Otherwise it takes none. So out of
+//!   memory never hides such a fault. A packer that has failed is asked no more ([`OnePack`]).
 //! - [`Server::write_ls_answer`] writes the answer to ls-refs, or a beginning of it where the sink fails.
 //! - [`Server::advert`] fails only out of memory, and else advertises `agent=gitv2/1`, `ls-refs=unborn`,
 //!   `fetch`, and the format of the graph's ids.
@@ -37,8 +37,7 @@
 //! # What the contracts do not rule out
 //!
 //! It may report out of memory: `answer` for a request for refs, and for a fetch whose wants are all held, but not once
-//! it has asked the packer; `advert` at any time; `new` for the name of a ref that it reports, or where nothing is
-//! missing; `add` for an object that is new, and `set_ref` for a name that is. A call may take as long as it likes, and
+//! it has asked the packer; `advert` at any time; `new` where nothing is missing; `add` for an object that is new, and `set_ref` for a name that is. A call may take as long as it likes, and
 //! more memory than it needs. `OnePack` may call its packer more than once for the one answer that it takes.
 //! Formatting a fault may answer an error (`fmt::Error`) where the text would be right.
 //!

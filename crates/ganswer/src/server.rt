@@ -1,6 +1,6 @@
 //! The repository that is served, and its changes.
 
-ghost use Rattle.std.specs.Prelude.{◌≡◌, ◌↔◌, slice_get, IfOk, IfSome, IsTrue, MatchOption, MatchResult, All, None, Some};
+ghost use Rattle.std.specs.Prelude.{◌≡◌, ◌↔◌, slice_get, IfOk, IfSome, IsTrue, MatchOption, MatchResult, Some};
 ghost use Rattle.gname.specs.Ids.{Id};
 ghost use Rattle.gobject.specs.Objects.{node_at};
 ghost use Rattle.gdag.specs.Graphs.{Holds, IsFirstAbsent};
@@ -8,8 +8,8 @@ ghost use Rattle.gdag.specs.Reach.{Grows, IsClosed};
 ghost use Rattle.grefs.specs.RefLists.{IsRefs};
 ghost use Rattle.ganswer.specs.Changes.{Adds, Sets, SetsHead};
 ghost use Rattle.ganswer.specs.LsAnswers.{KnowsPeels, IsPeeled};
-ghost use Rattle.ganswer.specs.Servers.{HoldsHead, HoldsRefs, IsServer, IsUnserved, Makes, parents_in, served};
-ghost use Rattle.ganswer.specs.steps.Answers.{MissesRef, ReportsRef};
+ghost use Rattle.ganswer.specs.Servers.{HoldsHead, HoldsRefs, IsServer, Makes, parents_in, served};
+ghost use Rattle.ganswer.specs.steps.Answers.{DanglesAt};
 ghost use Rattle.gname.specs.Names.{Name, head_name};
 
 use crate::fault::BuildFault;
@@ -51,13 +51,45 @@ impl<A: Allocator + Copy> Server<A> {
     /// A server of these parts.
     ///
     /// It fails with `NotClosed` where the parent of an object is not held, and reports the first in the order of the
-    /// objects and of their parents; else with `RefMissing` where the id of a ref is not held, and reports the
-    /// first by name; else with `HeadMissing` where HEAD is detached at an id that is not held; and with `Memory` out
-    /// of memory for that name, or for the name HEAD. The parts are lost then.
+    /// objects and of their parents. Otherwise it fails with `RefMissing` where the id of a ref is not held, and
+    /// reports the first by name. Otherwise it fails with `HeadMissing` where HEAD is detached at an id that is not
+    /// held. These faults take no memory. `Memory` comes where nothing is missing: out of memory for the name HEAD.
+    /// The parts are lost then.
     pub fn new(graph: Graph<A>, refs: Refs<A>, head: Head<A>) -> Result<Server<A>, BuildFault<A>>
         ensures { Makes (served graph refs head) result }
     {
-        let peels = check_parts(&graph, &refs, &head)?;
+        // Laws.
+        graph.laws();
+        if let Some(id) = missing_parent(&graph) {
+            return Err(BuildFault::NotClosed { id });
+        }
+        match check_refs(&graph, refs.as_slice()) {
+            Ok(peels) => Server::with_refs(graph, refs, head, peels),
+            Err(place) => Err(BuildFault::RefMissing {
+                name: refs.into_name(place),
+            }),
+        }
+    }
+
+    // A server of parts of which at most HEAD is missing.
+    fn with_refs(
+        graph: Graph<A>,
+        refs: Refs<A>,
+        head: Head<A>,
+        peels: Vec<Option<Oid>, A>,
+    ) -> Result<Server<A>, BuildFault<A>>
+        requires closed { IsClosed graph.entries }
+        requires held { HoldsRefs graph.entries refs }
+        requires peels { KnowsPeels graph.entries refs peels.items }
+        ensures { Makes (served graph refs head) result }
+    {
+        // Laws.
+        graph.laws();
+        refs.laws();
+        head.laws();
+        if !holds_head(&graph, &head) {
+            return Err(BuildFault::HeadMissing);
+        }
         let name_of_head = RefName::head(graph.allocator())?;
         Ok(Server {
             graph,
@@ -172,30 +204,6 @@ impl<A: Allocator + Copy> Server<A> {
     }
 }
 
-// Whether nothing is missing of these parts, and what the ids of the refs peel to.
-fn check_parts<A: Allocator + Copy>(
-    graph: &Graph<A>,
-    refs: &Refs<A>,
-    head: &Head<A>,
-) -> Result<Vec<Option<Oid>, A>, BuildFault<A>>
-    ensures parts { let parts = served graph.now refs.now head.now
-        in MatchResult result (λ _. IsServer parts) (IsUnserved parts) }
-    ensures peels { IfOk result (λ peels. KnowsPeels graph.now.entries refs.now peels.items) }
-{
-    // Laws.
-    graph.laws();
-    head.laws();
-    if let Some(id) = missing_parent(graph) {
-        return Err(BuildFault::NotClosed { id });
-    }
-    let peels = check_refs(graph, refs.as_slice())?;
-    if holds_head(graph, head) {
-        Ok(peels)
-    } else {
-        Err(BuildFault::HeadMissing)
-    }
-}
-
 // The first parent that is missing.
 fn missing_parent<A: Allocator + Copy>(graph: &Graph<A>) -> Option<Oid>
     ensures { MatchOption result (IsClosed graph.now.entries)
@@ -224,33 +232,23 @@ fn first_missing_parent<A: Allocator + Copy>(graph: &Graph<A>) -> Option<Oid>
     None
 }
 
-// Whether the id of each ref is held, and what it peels to where there is memory for that.
+// What the ids of the refs peel to where there is memory for that; or where the first ref is whose id is not held.
 fn check_refs<A: Allocator + Copy>(
     graph: &Graph<A>,
     refs: &[(RefName<A>, Oid)],
-) -> Result<Vec<Option<Oid>, A>, BuildFault<A>>
+) -> Result<Vec<Option<Oid>, A>, usize>
     ensures held { MatchResult result (λ _. HoldsRefs graph.now.entries refs.now)
-        (MissesRef graph.now.entries refs.now) }
+        (DanglesAt graph.now.entries refs.now) }
     ensures peels { IfOk result (λ peels. KnowsPeels graph.now.entries refs.now peels.items) }
 {
     let mut peels = no_peels(graph.allocator(), refs.len());
     for (place, reference) in refs.iter().enumerate() {
-        let Some(peeled) = look_up(graph, &reference.1) else {
-            return Err(ref_missing(&reference.0));
-        };
-        keep_peeled(&mut peels, place, peeled);
+        match look_up(graph, &reference.1) {
+            Some(peeled) => keep_peeled(&mut peels, place, peeled),
+            None => return Err(place),
+        }
     }
     Ok(peels)
-}
-
-// The fault of a ref of this name, or out of memory for the name.
-fn ref_missing<A: Allocator + Copy>(name: &RefName<A>) -> BuildFault<A>
-    ensures { ReportsRef name.now result }
-{
-    match name.clone() {
-        Ok(name) => BuildFault::RefMissing { name },
-        Err(_) => BuildFault::Memory,
-    }
 }
 
 // Whether the id of a detached HEAD is held.

@@ -16,7 +16,7 @@ use Rattle.gsession.specs.Bounds.{BeganOn, BeganStaysOn, BeginsCounted, BeganBeg
 use Rattle.gsession.specs.Bounds.{IsCounted}
 use Rattle.gsession.specs.Calls.{HasCalled, heard as heard_call, requested, took_refs, took_reply}
 use Rattle.gsession.specs.declared.taken.Taken.TheVariants.{Round, PackTaken}
-use Rattle.gsession.specs.Sessions.{SessionState, max_specs, tips_of}
+use Rattle.gsession.specs.Sessions.{SessionState, max_specs, tips_of, new_session}
 use Rattle.gsession.specs.declared.taken.Taken.{Taken}
 use Rattle.gsession.specs.Laws.{EachGoesOn}
 use Rattle.gsession.specs.Requesting.{waiting_for}
@@ -161,12 +161,16 @@ module _ {A : Type 0} (indexes : Indexes A) (index_fails : IndexFails) where
     }
 
     begun_going : IsWhole start.repo → length start.refspecs ≤ max_specs → IsGoing start (begun start) start.repo
-    begun_going whole few = record {
-      counted = laws.begins start.repo start.refspecs start.limit start.ends (begun start) (few, refl);
-      began = laws.begins_on start.repo start.refspecs start.limit start.ends (begun start) whole (few, refl);
-      grows = still start;
-      tips = refl;
-    }
+    begun_going whole few =
+        let plain : SessionState A =
+        new_session start.repo.graph.format start.refspecs start.limit start.ends (tips_of start.repo) in
+        let counted = laws.begins start.repo start.refspecs start.limit start.ends plain (few, refl) in
+        let began = laws.begins_on start.repo start.refspecs start.limit start.ends plain whole (few, refl) in record {
+          counted = record { once = counted.once; few = counted.few; due = counted.due };
+          began = record { full = began.full; sent = began.sent };
+          grows = still start;
+          tips = refl;
+        }
 
     heard_going : (capabilities : List Capability) → IsWhole start.repo → length start.refspecs ≤ max_specs
         → IsGoing start (heard start capabilities).session start.repo

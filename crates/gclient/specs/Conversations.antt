@@ -20,7 +20,9 @@ use Rattle.gclientrepo.specs.Repos.{RepoState}
 use Rattle.gclientrepo.specs.declared.fault.RepoFault.{RepoFault}
 use Rattle.grequest.specs.Asked.{Asked, Empty}
 use Rattle.grequest.specs.RequestWriting.{canonical_request}
-use Rattle.gsession.specs.Sessions.{SessionState, Begins, max_specs, new_session, no_memory, tells_unborn, tips_of}
+use Rattle.gsession.specs.Sessions.{SessionState, Begins, max_specs, new_session, no_memory, no_options}
+use Rattle.gsession.specs.Sessions.{tells_unborn, tips_of}
+use Rattle.gsession.specs.declared.options.PackOptions.{PackOptions}
 use Rattle.gsession.specs.declared.stage.Stage.TheVariants.{Settling}
 use Rattle.gsession.specs.declared.fault.ClientFault.{ClientFault}
 use Rattle.gsession.specs.Requesting.{Requests}
@@ -30,12 +32,13 @@ use Rattle.gclient.specs.declared.fault.FetchFault.{FetchFault}
 use Rattle.gclient.specs.declared.fetched.Fetched.{Fetched}
 use Rattle.gclient.specs.declared.fault.FetchFault.TheVariants as fetch
 
--- what a conversation begins with: the client's repository, what it fetches and how
+-- what a conversation begins with: the client's repository, what it fetches and how, and how it asks for packs
 pub record Start (A : Type 0) : Type 0 where
   pub repo : RepoState A
   pub refspecs : List Refspec
   pub limit : ℕ
   pub ends : Ends
+  pub options : PackOptions
 
 -- ---- what is written
 
@@ -97,15 +100,22 @@ pub record IsLeft (rest : Input) : Type 0 where
 
 -- ---- a conversation so far
 
--- what a conversation over this repository begins with
+-- what a conversation over this repository begins with, with options for packs
+abbrev pub start_for : {A : Type 0} → RepoState A → List Refspec → ℕ → Ends → PackOptions → Start A
+start_for repo refspecs limit ends options =
+    record { repo = repo; refspecs = refspecs; limit = limit; ends = ends; options = options }
+
+-- and without them
 abbrev pub start_of : {A : Type 0} → RepoState A → List Refspec → ℕ → Ends → Start A
-start_of repo refspecs limit ends = record { repo = repo; refspecs = refspecs; limit = limit; ends = ends }
+start_of repo refspecs limit ends = start_for repo refspecs limit ends no_options
 
 module _ {A : Type 0} (start : Start A) where
   -- the session as it begins
   abbrev pub begun : SessionState A
   begun =
-      new_session start.repo.graph.format start.refspecs start.limit start.ends (tips_of start.repo)
+      record (new_session start.repo.graph.format start.refspecs start.limit start.ends (tips_of start.repo)) {
+        options = start.options;
+      }
 
   -- the client that has heard the server's advertisement
   abbrev pub heard : List Capability → ClientState A

@@ -10,7 +10,7 @@ ghost use Rattle.gclientrepo.specs.Settling.{Settles};
 ghost use Rattle.gsession.specs.Bounds.{BeganOn};
 ghost use Rattle.gsession.specs.Sessions.{max_specs, tips_of};
 ghost use Rattle.gsession.specs.declared.stage.Stage.TheVariants.{Fetching, Settling};
-ghost use Rattle.gclient.specs.Conversations.{FetchesOver, Start, start_of};
+ghost use Rattle.gclient.specs.Conversations.{FetchesOver, Start, start_for, start_of};
 ghost use Rattle.gclient.specs.steps.Conversations.{Closes, HasBegun, HasTalked, Talks, TalksTo, client_of, start_with};
 
 use crate::fault::FetchFault;
@@ -28,7 +28,7 @@ use gpkt::{LineBuffer, LineReader, LineWriter, Sink, Source};
 use grefspec::Spec;
 use grequest::Request;
 use gsession::laws::{began_stays, rounds_are_few};
-use gsession::{Session, Settled, Taken};
+use gsession::{FetchPlan, PackOptions, Session, Settled, Taken};
 use std::alloc::Allocator;
 
 /// Fetches by refspecs from a server (gitprotocol-v2(5)): reads its advertisement, asks for its refs, asks for the
@@ -66,23 +66,44 @@ pub fn fetch_over<S: Source, W: Sink, A: Allocator + Copy, K: Indexer<A>>(
     ensures source_loans { S.loans source.new ≡ S.loans source.old }
     ensures sink_loans { W.loans sink.new ≡ W.loans sink.old }
 {
+    let plan = FetchPlan {
+        specs,
+        limit,
+        ends,
+        options: PackOptions::default(),
+    };
+    fetch_over_with(repo, source, sink, indexer, &plan)
+}
+
+/// Fetches as [`fetch_over`] does, with options for packs.
+pub fn fetch_over_with<S: Source, W: Sink, A: Allocator + Copy, K: Indexer<A>>(
+    repo: &mut Repo<A>,
+    source: &mut S,
+    sink: &mut W,
+    indexer: &K,
+    plan: &FetchPlan<'_, A>,
+) -> Result<Fetched<A>, FetchFault<A>>
+    ensures fetches { FetchesOver (K.indexes indexer.now) (K.index_fails indexer.now)
+        (start_for repo.old plan.now.specs.now plan.now.limit plan.now.ends plan.now.options)
+        (input_of S.remaining S.is_down source.old source.new)
+        (output_of W.contents W.passed_on W.is_down sink.old sink.new) repo.new result }
+    ensures settled { IfOk result (λ fetched. Settles repo.new.graph.entries repo.old.refs
+        fetched.settled.asks fetched.settled.updates.items repo.new.refs) }
+    ensures refs { OnErr result (repo.new.refs ≡ repo.old.refs) }
+    ensures grows { Grows repo.old.graph.entries repo.new.graph.entries }
+    ensures safe { IsWhole repo.new }
+    ensures bound { IfOk result (λ fetched. (held parents : ℕ)
+        → CountsReached repo.old.graph.entries (tips_of repo.old) held parents
+        → fetched.requests ≤ held + 1) }
+    ensures source_loans { S.loans source.new ≡ S.loans source.old }
+    ensures sink_loans { W.loans sink.new ≡ W.loans sink.old }
+{
     let mut writer = LineWriter::new(sink);
-    let options = FetchOptions { specs, limit, ends };
-    let fetched = fetch_to(repo, source, &mut writer, indexer, &options);
+    let fetched = fetch_to(repo, source, &mut writer, indexer, plan);
     let _sink = writer.into_inner();
     // Laws.
     repo.laws();
     fetched
-}
-
-// What is fetched, and how.
-#[derive(Clone, Copy)]
-struct FetchOptions<'a, A: Allocator + Copy> {
-    specs: &'a [Spec<A>],
-    // The most bytes of a pack.
-    limit: PackLimit,
-    // How each reply ends.
-    ends: Ends,
 }
 
 // Fetches over a writer that is well.
@@ -91,11 +112,11 @@ fn fetch_to<S: Source, W: Sink, A: Allocator + Copy, K: Indexer<A>>(
     source: &mut S,
     writer: &mut LineWriter<W>,
     indexer: &K,
-    options: &FetchOptions<'_, A>,
+    plan: &FetchPlan<'_, A>,
 ) -> Result<Fetched<A>, FetchFault<A>>
     requires { writer.old.failed ≡ false }
     ensures fetches { FetchesOver (K.indexes indexer.now) (K.index_fails indexer.now)
-        (start_of repo.old options.now.specs.now options.now.limit options.now.ends)
+        (start_for repo.old plan.now.specs.now plan.now.limit plan.now.ends plan.now.options)
         (input_of S.remaining S.is_down source.old source.new)
         (output_of W.contents W.passed_on W.is_down writer.old.sink writer.new.sink) repo.new
         result }
@@ -106,7 +127,7 @@ fn fetch_to<S: Source, W: Sink, A: Allocator + Copy, K: Indexer<A>>(
     ensures sink_loans { W.loans writer.new.sink ≡ W.loans writer.old.sink }
 {
     let alloc = repo.graph().allocator();
-    let mut session = Session::begin(alloc, repo, options.specs, options.limit, options.ends)?;
+    let mut session = Session::begin_with(alloc, repo, plan)?;
     let buffer = match LineBuffer::new(alloc) {
         Ok(buffer) => buffer,
         Err(_) => return Err(FetchFault::NoBuffer),

@@ -7,6 +7,7 @@
 //!   replies are those that the bytes spell, in whatever pieces they come, and nothing after the last reply is read.
 //!   What is written is the next request of the session each time, in its one spelling, and a lone flush after the
 //!   last reply was taken; each is passed on before a reply is read. Then the refs here are settled.
+//!   [`fetch_over_with`] does the same with options for packs.
 //! - [`Fetched`] has what became of each ask, how many times objects were asked for, and what the server says of an
 //!   unborn `HEAD`.
 //! - The first fault ends a conversation: too many refspecs, or out of memory to begin, and nothing is read; an
@@ -48,10 +49,12 @@ pub mod laws;
 mod send;
 mod turn;
 
-pub use crate::conversation::fetch_over;
+pub use crate::conversation::{fetch_over, fetch_over_with};
 pub use crate::fault::FetchFault;
 pub use crate::fetched::Fetched;
 pub use crate::send::send_request;
 pub use gclientrepo::{Ask, Asks, RefUpdate, Repo, RepoFault};
 pub use grefspec::{Spec, SpecFault};
-pub use gsession::{ClientFault, LsTaken, MAX_SPECS, Session, Settled, Taken};
+pub use gsession::{
+    ClientFault, FetchPlan, LsTaken, MAX_SPECS, PackOptions, Session, Settled, Taken,
+};

@@ -1,10 +1,12 @@
 -- Refs in a map, in the order of their names.
-use Rattle.std.proofs.Common.{◌≡◌, ◌≢◌, ◌⊎◌, inl, inr, ℕ, ◌+◌, ◌<◌, Bool, true, false, cond, if◌then◌else◌, ◌≤◌, List, [], ◌∷◌, ◌++◌, length, take, drop, get_or, All, Contains, Option, None, Some, refl, sym, ap, ◌∙◌, subst, arith}
+use Rattle.std.proofs.Common.{◌≡◌, ◌≢◌, ◌⊎◌, inl, inr, ℕ, ◌+◌, ◌<◌, Bool, true, false, cond, if◌then◌else◌, ◌≤◌, List, [], ◌∷◌, ◌++◌, length, take, drop, get_or, All, Contains, Option, None, Some, nat_lt, refl, sym, ap, ◌∙◌, subst, arith}
+use Rattle.std.proofs.lemmas.Bool.{ltb-false, ltb-true}
 use Rattle.std.proofs.lemmas.Cmp.{nat_list_eq_equiv}
 use Rattle.std.proofs.lemmas.List.{drop_more, take-append-drop, take_more}
 use Rattle.std.proofs.lemmas.List.Elements.{All-cons, All-contains, All-contains_itself, All-nil, All-weaker}
 use Rattle.std.proofs.lemmas.Map.Lookups.{exact_bytes}
 use Rattle.std.proofs.lemmas.Map.Text.{is_eq-slice_cmp}
+use Rattle.std.proofs.lemmas.Option.{none-some}
 use Rattle.std.specs.BTreeMap.{insert_entry, is_at}
 use Rattle.std.specs.List.{find}
 use Rattle.std.specs.Map.{lookup}
@@ -14,9 +16,9 @@ use Rattle.std.specs.Str.{bytes_eq}
 use Rattle.std.specs.declared.cmp.Ordering.{Ordering}
 use Rattle.std.specs.declared.cmp.Ordering.TheVariants.{Less, Equal, Greater}
 use Rattle.grefs.specs.Laws.{RefsComeInOrder}
-use Rattle.grefs.specs.RefLists.{AreBelow, IsBelowRefs, IsRefs, RefList, SetsRef, has_name, max_refs, ref_at}
+use Rattle.grefs.specs.RefLists.{AreBelow, CannotSet, IsBelowRefs, IsRefs, RefList, SetsRef, has_name, max_refs, ref_at}
 use Rattle.grefs.proofs.RefLemmas.{flipped, order, other_false}
-use Rattle.gdag.proofs.IdLists.{contains_head, contains_tail}
+use Rattle.gdag.proofs.IdLists.{contains_head, contains_tail, either_way}
 
 -- ---- look-ups
 
@@ -105,6 +107,14 @@ count_there (Some id) some = refl
 -- one ref more, where the name is new
 abbrev pub CountsSet : RefList → List ℕ → RefList → Type 0
 CountsSet old name new = length new ≡ length old + more_where (lookup (is_at (order name)) old)
+
+-- a name that can be set is there, or there is room for one more
+pub room_for : (old : RefList) (name : List ℕ) (there : Option (List ℕ)) → ref_at old name ≡ there → ¬ (CannotSet old name)
+    → length old ≤ max_refs → (length old < max_refs) ⊎ (ref_at old name ≢ None)
+room_for old name (Some id) is can few = inr (λ none. none-some id (sym none ∙ is))
+room_for old name None is can few =
+    either_way (nat_lt (length old) max_refs) (λ low. inl (ltb-true (length old) max_refs low))
+    (λ full. absurd (can (inr (is, (let least = ltb-false (length old) max_refs full in omega (arith, least, few))))))
 
 pub few_set : (old new : RefList) (name : List ℕ) → (length old < max_refs) ⊎ (ref_at old name ≢ None) → length old ≤ max_refs → CountsSet old name new → length new ≤ max_refs
 few_set old new name (inl low) few count = let one = grown (lookup (is_at (order name)) old) in omega (arith, low, one, count)

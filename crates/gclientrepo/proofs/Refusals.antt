@@ -20,7 +20,7 @@ module _ {A : Type 0} where
   setting old new name id (NotHeld missing) is = is.0
   setting old new name id (Refs refs.Refs) is = is.0
   setting old new name id (Refs refs.Memory) is = is.0
-  setting old new name id (Graph graph.Memory) is = is
+  setting old new name id (Graph graph.Memory) is = is.0
   setting old new name id (Graph cause) is = absurd is
   setting old new name id fault is = absurd is
 
@@ -28,7 +28,7 @@ module _ {A : Type 0} where
   settling old new asks (NotConnected missing) is = is.0
   settling old new asks (Refs refs.Refs) is = is.0
   settling old new asks (Refs refs.Memory) is = is.0
-  settling old new asks (Graph graph.Memory) is = is
+  settling old new asks (Graph graph.Memory) is = is.0
   settling old new asks (Graph cause) is = absurd is
   settling old new asks fault is = absurd is
 

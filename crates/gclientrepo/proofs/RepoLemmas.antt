@@ -1,19 +1,25 @@
 -- Facts on connected repositories.
-use Rattle.std.proofs.Common.{◌≡◌, ◌⊎◌, inl, inr, ℕ, ◌+◌, ◌<◌, Bool, true, false, List, [], ◌∷◌, ◌++◌, length, take, drop, get_or, All, Contains, Option, None, Some, refl, sym, ap, ◌∙◌, subst, arith}
+use Rattle.std.proofs.Common.{◌≡◌, ◌↔◌, ◌⊎◌, IsTrue, inl, inr, ℕ, ◌+◌, ◌<◌, Bool, true, false, List, [], ◌∷◌, ◌++◌, length, take, drop, get_or, All, Contains, Option, None, Some, Result, Ok, Err, IfErr, IfSome, refl, sym, ap, ◌∙◌, subst, arith}
 use Rattle.std.proofs.lemmas.Bool.{false≢true}
-use Rattle.std.proofs.lemmas.List.{drop_more, get_or-map, length-map, take-append-drop, take-map}
-use Rattle.std.proofs.lemmas.List.Elements.{All-contains, All-map, All-more, All-weaker}
+use Rattle.std.proofs.lemmas.List.{drop_more, get_or-map, length-map, take-append-drop, take-map, take_more}
+use Rattle.std.proofs.lemmas.List.Elements.{All-contains, All-map, All-more, All-weaker, Contains-append_right}
+use Rattle.std.proofs.lemmas.Option.{get_or_from_slice_get, none-some, slice_get_cases}
+use Rattle.std.specs.List.{slice_get}
 use Rattle.std.specs.Map.{values_of}
 use Rattle.std.specs.Option.{is_some}
-use Rattle.gobject.specs.Objects.{node_at}
+use Rattle.gobject.specs.Objects.{IdsDiffer, node_at}
 use Rattle.gobject.specs.declared.node.Entry.{Entry}
 use Rattle.ggraph.specs.SafeRefs.{SafeStays}
-use Rattle.gdag.specs.Graphs.{History}
-use Rattle.gdag.specs.Laws.{GrowingKeeps}
-use Rattle.gdag.specs.Reach.{IsFull}
+use Rattle.gdag.specs.Graphs.{History, Holds, IsFirstAbsent, IsOrdered}
+use Rattle.gdag.specs.Laws.{ClosedIsFull, GrowingKeeps, OrderedIsClosed}
+use Rattle.gdag.specs.Reach.{IsFull, here}
 use Rattle.gdag.specs.Walks.{Misses}
+use Rattle.gdag.specs.declared.fault.GraphFault.{GraphFault}
+use Rattle.gdag.specs.declared.fault.GraphFault.TheVariants.{Memory}
 use Rattle.grefs.specs.RefLists.{RefList, SetsRef}
+use Rattle.gdag.proofs.IdLists.{contains_head}
 use Rattle.gwalk.specs.Marks.{AreFull, CoveringStays, MarksReached, MarksStayFull}
+use Rattle.gclientrepo.specs.Changes.{NeedsWalk}
 use Rattle.gclientrepo.specs.Laws.{WholeStays}
 use Rattle.gclientrepo.specs.Repos.{IsFirstUnsafe, IsWhole}
 use Rattle.gclientrepo.specs.steps.Repos.{ComeFrom, IsFirstLost}
@@ -35,6 +41,11 @@ values_from others ids refs from =
     (All-weaker (λ ref. Contains others ref ⊎ Contains ids ref.1) (λ ref. P ref.1)
     (λ ref there. elim there [ inl old ↦ inl (value_there others ref old) | inr asked ↦ inr asked ]) refs from)
 
+-- why a call is out of memory, where nothing else can be wrong
+pub with_reason : {X P : Type 0} (r : Result X GraphFault) → IfErr r (λ fault. fault ≡ Memory) → P → IfErr r (λ fault. (fault ≡ Memory) × P)
+with_reason (Ok x) is p = tt
+with_reason (Err fault) is p = (is, p)
+
 module _ {A : Type 0} where
   pub whole_stays : GrowingKeeps A → SafeStays A → MarksStayFull A → CoveringStays A → WholeStays A
   whole_stays keeps safe full covers g h refs known grows differ whole = record {
@@ -53,6 +64,30 @@ module _ {A : Type 0} where
   not_all_held g ids (Some b) misses is = λ full.
       let held : is_some (node_at g b) ≡ true = All-contains (IsFull g) ids misses.0.0 full misses.0.1 b misses.0.2 in
       false≢true (sym (ap is_some misses.1) ∙ held)
+
+  -- where parents came first each id that is held is connected
+  pub held_full : OrderedIsClosed A → ClosedIsFull A → (g : List (Entry A)) → IdsDiffer g → IsOrdered g → (a : List ℕ) → Holds g a → IsFull g a
+  held_full closed full g differ ordered = (full g).0 (closed g differ ordered)
+
+  -- an id that is not held is missing
+  pub first_misses : (g : List (Entry A)) (ids : List (List ℕ)) (a : List ℕ) → IsFirstAbsent g ids a → Misses g ids (Some a)
+  first_misses g ids a first =
+      let there : Contains (first.front ++ a ∷ first.rest) a = Contains-append_right first.front (a ∷ first.rest) a (contains_head a first.rest) in
+      ((a, subst (λ (l : List (List ℕ)). Contains l a) (sym first.parts) there, here), first.absent)
+
+  -- where parents came first ids that are held are connected
+  pub all_full : OrderedIsClosed A → ClosedIsFull A → (g : List (Entry A)) → IdsDiffer g → (ordered : Bool) → IsTrue ordered ↔ IsOrdered g → ordered ≡ true
+      → (ids : List (List ℕ)) → All (Holds g) ids → All (IsFull g) ids
+  all_full closed full g differ ordered is true_is ids held =
+      All-weaker (Holds g) (IsFull g) (held_full closed full g differ (is.0 true_is)) ids held
+
+  -- out of memory for a walk that is needed
+  pub needs_walk : (g : List (Entry A)) (ids : List (List ℕ)) (ordered : Bool) → All (Holds g) ids → IsTrue ordered ↔ IsOrdered g → ordered ≡ false → NeedsWalk g ids
+  needs_walk g ids ordered held is out = record { held = held; unordered = λ first. false≢true (sym out ∙ is.1 first) }
+
+  -- an asked id that is not held is missing
+  pub absent_misses : (g : List (Entry A)) (ids : List (List ℕ)) (a : List ℕ) → Contains ids a → node_at g a ≡ None → Misses g ids (Some a)
+  absent_misses g ids a there absent = ((a, there, here), absent)
 
   -- marks of all that the refs reach
   pub whole_opened : (g : History A) (refs : RefList) (known : List Bool) → All (IsFull g.entries) (values_of refs) → AreFull g.entries known
@@ -81,6 +116,18 @@ module _ {A : Type 0} where
             ]);
       }
 
+  -- the ids up to one that is not held are connected, where parents came first
+  pub lost_at : (g : List (Entry A)) (ids : List (List ℕ)) (place : ℕ) (a : List ℕ) → place < length ids → get_or ids place a ≡ a
+      → All (IsFull g) (take place ids) → ¬ (Holds g a) → IsFirstLost g ids place
+  lost_at g ids place a inside is held absent = record {
+    inside = inside;
+    held = held;
+    lost = λ full.
+        let next : take (place + 1) ids ≡ take place ids ++ a ∷ [] = take_more ids place a inside ∙ ap (λ (b : List ℕ). take place ids ++ b ∷ []) is in
+        absent (All-contains (IsFull g) (take place ids ++ a ∷ []) a (subst (All (IsFull g)) next full)
+        (Contains-append_right (take place ids) (a ∷ []) a (contains_head a [])) a here);
+  }
+
   -- the first ref that is not connected
   pub unsafe_at : (g : List (Entry A)) (refs : RefList) (place : ℕ) (ref : List ℕ × List ℕ) → IsFirstLost g (values_of refs) place → get_or refs place ref ≡ ref → IsFirstUnsafe g refs ref.0
   unsafe_at g refs place ref first is =
@@ -96,6 +143,42 @@ module _ {A : Type 0} where
             let there : get_or (values_of refs) place ref.1 ≡ ref.1 = get_or-map value refs place ref ref.1 inside ∙ ap value is in
             first.lost (All-more (IsFull g) (values_of refs) place ref.1 first.inside first.held (subst (IsFull g) (sym there) full));
       }
+
+-- something stands at each position of a list
+none_inside : {X : Type 0} (xs : List X) (i : ℕ) → i < length xs → slice_get xs i ≡ None → ⊥
+none_inside xs i low empty =
+    elim (slice_get_cases xs i).1 [
+      | inl inside ↦ none-some inside.0 (sym empty ∙ inside.2)
+      | inr past ↦ omega (arith, past.0, low)
+    ]
+
+module _ {A : Type 0} (g : List (Entry A)) (refs : RefList) (place : ℕ) where
+  -- so is the name at that position
+  named_at : (name : List ℕ) (there : Option (List ℕ × List ℕ)) → IsFirstLost g (values_of refs) place → slice_get refs place ≡ there
+      → place < length refs → IfSome there (λ ref. name ≡ ref.0) → IsFirstUnsafe g refs name
+  named_at name None first is inside named = absurd (none_inside refs place inside is)
+  named_at name (Some ref) first is inside named =
+      subst (IsFirstUnsafe g refs) (sym named) (unsafe_at g refs place ref first (get_or_from_slice_get refs place ref ref is))
+
+  pub unsafe_named : (name : List ℕ) → IsFirstLost g (values_of refs) place → IfSome (slice_get refs place) (λ ref. name ≡ ref.0)
+      → IsFirstUnsafe g refs name
+  unsafe_named name first named =
+      let inside : place < length refs = let low = first.inside in let long = length-map refs (λ (r : List ℕ × List ℕ). r.1) in omega (arith, low, long) in
+      named_at name (slice_get refs place) first refl inside named
+
+  -- the ref at a position, after refs that are connected
+  module _ (ref : List ℕ × List ℕ) (inside : place < length refs) (is : get_or refs place ref ≡ ref) (held : All (IsFull g) (take place (values_of refs))) where
+    within : place < length (values_of refs)
+    within = let long = length-map refs (λ (r : List ℕ × List ℕ). r.1) in omega (arith, inside, long)
+
+    there : get_or (values_of refs) place ref.1 ≡ ref.1
+    there = get_or-map (λ (r : List ℕ × List ℕ). r.1) refs place ref ref.1 inside ∙ ap (λ (r : List ℕ × List ℕ). r.1) is
+
+    pub lost_ref : ¬ (Holds g ref.1) → IsFirstLost g (values_of refs) place
+    lost_ref absent = lost_at g (values_of refs) place ref.1 within there held absent
+
+    pub full_ref : IsFull g ref.1 → All (IsFull g) (take (place + 1) (values_of refs))
+    full_ref full = All-more (IsFull g) (values_of refs) place ref.1 within held (subst (IsFull g) (sym there) full)
 
 -- refs of which one was set come from the others, or stand at its id
 pub set_from : (others old new : RefList) (name id : List ℕ) → old ≡ others → SetsRef old new name id → ComeFrom others (id ∷ []) new

@@ -1,5 +1,5 @@
 -- Settling ask by ask.
-use Rattle.std.proofs.Common.{◌≡◌, ◌≢◌, inl, inr, ℕ, ◌+◌, ◌<◌, Bool, true, false, cond, List, [], ◌∷◌, ◌++◌, length, take, get_or, map, All, Contains, count_by, Option, None, Some, Err, refl, sym, ap, ◌∙◌, subst, arith}
+use Rattle.std.proofs.Common.{◌≡◌, ◌≢◌, inl, inr, ℕ, ◌+◌, ◌<◌, Bool, true, false, cond, List, [], ◌∷◌, ◌++◌, length, take, get_or, map, All, Contains, count_by, Option, None, Some, refl, sym, ap, ◌∙◌, subst, arith}
 use Rattle.std.proofs.lemmas.List.{get_or_default, get_or-map, get_or-take, length-map, length-take}
 use Rattle.std.proofs.lemmas.List.Elements.{All-contains, All-map, All-more, All-nil, All-push}
 use Rattle.std.proofs.lemmas.List.Sums.{count_by_more_yes, sum_by_push, sum_by-take-le}
@@ -8,20 +8,12 @@ use Rattle.std.specs.Option.{is_none}
 use Rattle.gname.specs.Names.{head_name}
 use Rattle.gname.proofs.ListLemmas.{All-parts}
 use Rattle.gobject.specs.declared.node.Entry.{Entry}
-use Rattle.gdag.specs.Reach.{IsFull}
-use Rattle.gdag.specs.declared.fault.GraphFault.TheVariants as graph
 use Rattle.grefs.specs.RefLists.{RefList, CannotSet, SetsRef, ref_at}
-use Rattle.grefs.specs.declared.fault.RefsFault.{RefsFault}
-use Rattle.grefs.specs.declared.fault.RefsFault.TheVariants as refs
-use Rattle.gclientrepo.specs.Changes.{SetsLocal, SettlesAsks}
-use Rattle.gclientrepo.specs.Repos.{RepoState}
 use Rattle.gclientrepo.specs.Settling.{CannotSettle, IsUpdate, MayMove, NamesDiffer, asked_ids, is_new}
 use Rattle.gclientrepo.specs.declared.ask.Ask.{Ask}
 use Rattle.gclientrepo.specs.declared.ask.RefUpdate.{RefUpdate}
 use Rattle.gclientrepo.specs.declared.ask.RefUpdate.TheVariants.{Moved, Same, NotForward}
-use Rattle.gclientrepo.specs.declared.fault.RepoFault.{RepoFault}
-use Rattle.gclientrepo.specs.declared.fault.RepoFault.TheVariants.{Graph, Refs}
-use Rattle.gclientrepo.specs.steps.Settling.{HasSettled, IsRefusal, Sets, TakesAsk}
+use Rattle.gclientrepo.specs.steps.Settling.{HasSettled, Sets}
 
 -- one more pair of two lists
 pub zip_push : {X Y : Type 0} (R : X → Y → Type 0) (xs : List X) (ys : List Y) (x : X) (y : Y) → AllZip R xs ys → R x y → AllZip R (xs ++ x ∷ []) (ys ++ y ∷ [])
@@ -139,6 +131,12 @@ module _ {A : Type 0} where
       let Other : List ℕ → Type 0 = λ name. name ≢ head_name in
       All-contains Other (map (λ (a : Ask A). a.name) asks) head_name (All-map Other (λ (a : Ask A). a.name) asks none) there refl
 
+  -- the id of an ask is one of the asked ids
+  pub asked_there : (asks : List (Ask A)) (place : ℕ) (ask : Ask A) → place < length asks → get_or asks place ask ≡ ask → Contains (asked_ids asks) ask.id
+  asked_there asks place ask inside is =
+      let id : Ask A → List ℕ = λ a. a.id in
+      (place, (let same = length-map asks id in omega (arith, inside, same)), get_or-map id asks place ask ask.id inside ∙ ap id is)
+
   -- a ref that can't be set stands in the way of settling
   pub cannot_settle : (g : List (Entry A)) (old : RefList) (asks : List (Ask A)) (place : ℕ) (updates : List RefUpdate) (before : RefList) (ask : Ask A)
       → NamesDiffer asks → place < length asks → get_or asks place ask ≡ ask → HasSettled g old (take place asks) updates before → CannotSet before ask.name → CannotSettle old asks
@@ -150,27 +148,3 @@ module _ {A : Type 0} where
       let all = sum_by-take-le (λ (a : Ask A). cond (is_new old a) 1 0) asks (place + 1) in
       let count = settled.count in
       inr (omega (arith, next, all, count, full.1))
-
-  -- why an ask is not taken is why the asks are not settled
-  pub refuses_ask : (g : List (Entry A)) (old : RefList) (asks : List (Ask A)) (ask : Ask A) (before after : RefList) (fault : RepoFault A)
-      → ¬ (CannotSettle old asks) → (CannotSet before ask.name → CannotSettle old asks) → TakesAsk g old ask before after (Err fault) → IsRefusal old asks fault
-  refuses_ask g old asks ask before after (Refs refs.Refs) can why takes = why takes
-  refuses_ask g old asks ask before after (Refs refs.Memory) can why takes = can
-  refuses_ask g old asks ask before after (Graph graph.Memory) can why takes = tt
-  refuses_ask g old asks ask before after (Graph cause) can why takes = absurd takes
-  refuses_ask g old asks ask before after fault can why takes = absurd takes
-
-  -- and why the repository stays
-  pub refuses_asks : (old : RepoState A) (asks : List (Ask A)) (fault : RepoFault A) → All (IsFull old.graph.entries) (asked_ids asks)
-      → IsRefusal old.refs asks fault → SettlesAsks old asks old (Err fault)
-  refuses_asks old asks (Refs refs.Refs) full why = (refl, full, why)
-  refuses_asks old asks (Refs refs.Memory) full why = (refl, full, why)
-  refuses_asks old asks (Graph graph.Memory) full why = refl
-  refuses_asks old asks (Graph cause) full why = absurd why
-  refuses_asks old asks fault full why = absurd why
-
-  -- where it is because of the refs
-  pub cannot_set_local : (old : RepoState A) (name id : List ℕ) (cause : RefsFault) → IsFull old.graph.entries id → (cause ≡ refs.Refs → CannotSet old.refs name)
-      → (CannotSet old.refs name → cause ≡ refs.Refs) → SetsLocal old name id old (Err (Refs cause))
-  cannot_set_local old name id refs.Refs full why only = (refl, full, why refl)
-  cannot_set_local old name id refs.Memory full why only = (refl, full, λ cannot. (let same = only cannot in cc))

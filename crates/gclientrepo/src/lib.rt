@@ -3,7 +3,7 @@
 //! # Proved
 //!
 //! - [`Repo::new`] holds exactly the objects and the refs that it is given, where each ref is
-//!   connected, and else reports the first ref that is not, in the order of the names.
+//!   connected. Otherwise it reports the first ref that is not, in the order of the names.
 //! - Each call keeps that each ref and each marked object is connected, and that all that a ref
 //!   reaches is marked. Each call that changes a repository says so of what it leaves, and
 //!   [`Repo::format`] of what is there.
@@ -12,13 +12,16 @@
 //! - [`Repo::insert_all`] adds the objects of a pack, all or none, whether or not their parents are held; it marks
 //!   nothing, and the refs stay.
 //! - [`Repo::set_local_ref`] sets a ref exactly where the id is connected and such a ref can be
-//!   set.
+//!   set. It judges both before it takes memory to set it.
 //! - [`Asks`] has one ask a ref, the first that was added; its ref, its id and whether it is forced
 //!   are looked up by its position.
 //! - [`Repo::settle`] moves all refs that may move to the ids that are asked for, at once, and
 //!   leaves all others: it moves none where one id is not connected, or where the refs can't all be
 //!   set. It answers what became of each ask. What the ids reach is marked, and all other marks
-//!   stay. Out of memory for refs (`RepoFault::Refs`) is reported only where they can all be set.
+//!   stay. It judges whether it can settle before it takes memory to do so. Out of memory for
+//!   that (`RepoFault::Refs`) is reported only where all ids are connected and the refs can be set.
+//! - Out of memory hides no fault of a graph in which parents came first, since no walk is needed to judge. In any other
+//!   graph out of memory for a walk (`RepoFault::Graph`) may hide one, but no id that is not held.
 //! - After a fault of any call the repository is as it was, the marks too.
 //! - [`Repo::missing`] answers what is missing of the ancestries of some ids.
 //! - Each fault has the number, the name and the text of its row.
@@ -35,9 +38,8 @@
 //! # What the contracts do not rule out
 //!
 //! Where several ids are missing it may answer any. It may report out of memory as often as it
-//! likes, but not of an object that is held: what is missing of an ancestry takes memory to find,
-//! so that out of memory for walks and copies (`RepoFault::Graph`) may stand for a ref or ids that
-//! are not connected, and for refs that can't be set. A walk may go on from marked objects. A call
+//! likes, but not of an object that is held. If an object came before one of its parents, out of memory for a walk
+//! may hide that a ref or ids are not connected, or that refs can't be set. A walk may go on from marked objects. A call
 //! may take as long as it likes, and more memory than it needs. No clause says where memory comes
 //! from: [`Asks::allocator`] may answer any allocator of its kind, and [`Asks::ids`] may take its
 //! memory from that of the asks. Formatting a fault may answer an error (`fmt::Error`) where the

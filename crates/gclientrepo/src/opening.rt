@@ -1,33 +1,58 @@
 //! Which ref is the first that is not connected.
 
-ghost use Rattle.std.specs.Prelude.{◌≡◌, All, IfErr, IfOk};
+ghost use Rattle.std.specs.Prelude.{◌≡◌, All, IfErr, IfOk, MatchOption};
 ghost use Rattle.std.specs.Map.{values_of};
 ghost use Rattle.gdag.specs.declared.fault.GraphFault.TheVariants.{Memory};
+ghost use Rattle.gdag.specs.Graphs.{IsOrdered};
 ghost use Rattle.gdag.specs.Reach.{IsFull};
 ghost use Rattle.gclientrepo.specs.steps.Repos.{IsFirstLost};
-ghost use Rattle.gclientrepo.specs.Repos.{IsFirstUnsafe};
 
+use ggraph::graph_laws::{closed_is_full, ordered_is_closed};
 use ggraph::{Graph, GraphFault, Refs, missing};
-use gname::{Oid, RefName};
+use gname::Oid;
 use std::alloc::Allocator;
 
-/// The name of the first ref that is not connected, where there is one. The ids are those of the
-/// refs.
+/// The position of the first ref that is not connected, where there is one.
 ///
-/// It fails with `Memory` alone.
+/// It fails with `Memory` alone, and only where some object came before one of its parents.
 pub(crate) fn first_unsafe<A: Allocator + Copy>(
     graph: &Graph<A>,
     refs: &Refs<A>,
-    ids: &[Oid],
-) -> Result<RefName<A>, GraphFault>
-    requires ids { ids.now ≡ values_of refs.now }
-    requires some { ¬ (All (IsFull graph.now.entries) ids.now) }
-    ensures name { IfOk result (IsFirstUnsafe graph.now.entries refs.now) }
-    ensures fault { IfErr result (λ fault. fault ≡ Memory) }
+) -> Result<Option<usize>, GraphFault>
+    ensures place { IfOk result (λ place. MatchOption place
+        (All (IsFull graph.now.entries) (values_of refs.now))
+        (IsFirstLost graph.now.entries (values_of refs.now))) }
+    ensures fault { IfErr result (λ fault. (fault ≡ Memory)
+        × ¬ (IsOrdered graph.now.entries)) }
 {
-    let place = first_lost(graph, ids)?;
-    let name = refs.as_slice()[place].0.copy_in(graph.allocator())?;
-    Ok(name)
+    if graph.is_ordered() {
+        return Ok(first_absent(graph, refs));
+    }
+    let targets = refs.ids(graph.allocator())?;
+    let ids = targets.as_slice();
+    if missing(graph, ids)?.is_none() {
+        return Ok(None);
+    }
+    Ok(Some(first_lost(graph, ids)?))
+}
+
+// The position of the first ref whose id is not held. Where parents came first each other id is connected.
+fn first_absent<A: Allocator + Copy>(graph: &Graph<A>, refs: &Refs<A>) -> Option<usize>
+    requires { IsOrdered graph.now.entries }
+    ensures { MatchOption result (All (IsFull graph.now.entries) (values_of refs.now))
+        (IsFirstLost graph.now.entries (values_of refs.now)) }
+{
+    // Laws.
+    ordered_is_closed::<A>();
+    closed_is_full::<A>();
+    graph.laws();
+    let pairs = refs.as_slice();
+    for place in 0..pairs.len() {
+        if !graph.contains(&pairs[place].1) {
+            return Some(place);
+        }
+    }
+    None
 }
 
 // The position of the first id that is not connected.

@@ -1,10 +1,9 @@
 //! Refs while they are set one after the other.
 
-ghost use Rattle.std.specs.Prelude.{◌≡◌, ◌≢◌, ◌≤◌, ◌<◌, ◌⊎◌, false, IfOk, IsTrue, None, is_some, length};
-ghost use Rattle.grefs.specs.RefLists.{IsRefs, max_refs, ref_at};
-ghost use Rattle.gclientrepo.specs.steps.Settling.{SetsOne};
+ghost use Rattle.std.specs.Prelude.{◌≡◌, ◌<◌, IfOk, OnOk, length};
+ghost use Rattle.grefs.specs.RefLists.{CannotSet, IsRefs, SetsRef, max_refs};
 
-use ggraph::{MAX_REFS, Refs, RefsFault};
+use ggraph::Refs;
 use gname::laws::names_are_clean;
 use gname::{Oid, RefName};
 use grefs::laws::refs_come_in_order;
@@ -37,39 +36,16 @@ impl<A: Allocator + Copy> RefMap<A> {
         Ok(RefMap { refs })
     }
 
-    /// Puts a name at an id.
-    ///
-    /// It fails as `Refs::set` does.
-    pub(crate) fn set(&mut self, name: RefName<A>, id: Oid) -> Result<(), RefsFault>
-        ensures { SetsOne self.old name id self.new result }
+    /// Puts a name at an id. The name can be set. It fails where there is no memory.
+    pub(crate) fn set(&mut self, name: RefName<A>, id: Oid) -> Result<(), AllocError>
+        requires { ¬ (CannotSet self.old name) }
+        ensures { OnOk result (SetsRef self.old self.new name id) }
     {
         // Laws.
         names_are_clean();
-        if name.is_head() {
-            return Err(RefsFault::Refs);
-        }
-        if !self.has_room(&name) {
-            return Err(RefsFault::Refs);
-        }
+        name.laws();
         self.refs.insert(name, id)?;
         Ok(())
-    }
-
-    // Whether the name is there, or there is room for one more.
-    fn has_room(&self, name: &RefName<A>) -> bool
-        ensures room { IsTrue result
-            → (length self.now < max_refs) ⊎ (ref_at self.now name.now ≢ None) }
-        ensures full { result ≡ false
-            → (ref_at self.now name.now ≡ None) × (length self.now ≡ max_refs) }
-    {
-        self.refs.len() < MAX_REFS || self.is_there(name)
-    }
-
-    // Whether the name is there.
-    fn is_there(&self, name: &RefName<A>) -> bool
-        ensures { result ≡ is_some (ref_at self.now name.now) }
-    {
-        self.refs.contains_key(name)
     }
 
     /// The refs, in the order of their names. It fails where there is no memory.

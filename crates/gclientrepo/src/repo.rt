@@ -8,20 +8,23 @@ ghost use Rattle.gdag.specs.Graphs.{IsGraph, IsNode};
 ghost use Rattle.gdag.specs.Insert.{Adds, AddsOnly, AddsOnlyParents};
 ghost use Rattle.gdag.specs.Reach.{Grows, IsFull, Keeps};
 ghost use Rattle.gdag.specs.Walks.{Misses};
-ghost use Rattle.grefs.specs.RefLists.{IsRefs};
+ghost use Rattle.ggraph.specs.SafeRefs.{IsSafe};
+ghost use Rattle.grefs.specs.RefLists.{IsRefs, SetsRef};
 ghost use Rattle.gwalk.specs.Marks.{MarksReached};
 ghost use Rattle.gclientrepo.specs.Asks.{asked_ids};
-ghost use Rattle.gclientrepo.specs.Changes.{AddsLocal, Marks, Opens, SetsLocal, SettlesAsks};
+ghost use Rattle.gclientrepo.specs.Changes.{AddsLocal, NeedsWalk, Marks, Opens, SetsLocal, SettlesAsks};
 ghost use Rattle.gclientrepo.specs.steps.Repos.{ComeFrom};
 ghost use Rattle.gclientrepo.specs.Repos.{IsWhole};
+ghost use Rattle.gclientrepo.specs.Settling.{CannotSettle, Settles};
 
 use crate::ask::RefUpdate;
 use crate::asks::Asks;
 use crate::fault::RepoFault;
 use crate::laws::whole_stays;
 use crate::opening::first_unsafe;
-use crate::settling::settled;
-use ggraph::{Entry, FullMarks, Graph, GraphFault, Refs, mark_full, missing, missing_known};
+use crate::settling::{cannot_set, cannot_settle, first_absent, settled};
+use ggraph::graph_laws::{closed_is_full, ordered_is_closed};
+use ggraph::{Entry, FullMarks, Graph, GraphFault, Refs, RefsFault, mark_full, missing_known};
 use gname::{Format, Oid, RefName};
 use grefs::laws::refs_come_in_order;
 use std::alloc::{Allocator, Global};
@@ -50,15 +53,19 @@ impl<A: Allocator + Copy> Repo<A> {
     /// A repository of these objects and refs. What the refs reach is marked.
     ///
     /// It fails with `UnsafeRef` and the first ref, in the order of the names, that is not
-    /// connected, and where there is no memory. The graph and the refs are then gone.
+    /// connected, and where out of memory. Where parents came first, that is reported only where each ref is
+    /// connected. The graph and the refs are then gone.
     pub fn new(graph: Graph<A>, refs: Refs<A>) -> Result<Repo<A>, RepoFault<A>>
         ensures opens { Opens graph refs result }
         ensures whole { IfOk result IsWhole }
     {
-        match marks_of(&graph, &refs) {
-            Ok(known) => Ok(Repo { graph, refs, known }),
-            Err(fault) => Err(fault),
+        if let Some(place) = first_unsafe(&graph, &refs)? {
+            return Err(RepoFault::UnsafeRef {
+                name: refs.into_name(place),
+            });
         }
+        let known = marks_of(&graph, &refs)?;
+        Ok(Repo { graph, refs, known })
     }
 
     /// The objects.
@@ -105,11 +112,30 @@ impl<A: Allocator + Copy> Repo<A> {
     }
 
     /// What is missing of the ancestries of some ids: `None` where each of them is connected, and
-    /// else an id that one of them reaches and that is not held. The walk does not go on from
-    /// marked objects.
+    /// else an id that one of them reaches and that is not held. An id that is not held is looked up first. Where
+    /// parents came first, no walk is needed; another walk does not go on from marked objects.
     ///
-    /// It fails with `Memory` alone.
+    /// It fails with `Memory` alone, and only where all of the ids are held and some object came before one of its
+    /// parents.
     pub fn missing(&self, ids: &[Oid]) -> Result<Option<Oid>, GraphFault>
+        ensures answer { IfOk result (Misses self.now.graph.entries ids.now) }
+        ensures fault { IfErr result (λ fault. (fault ≡ Memory)
+            × NeedsWalk self.now.graph.entries ids.now) }
+    {
+        // Laws.
+        ordered_is_closed::<A>();
+        closed_is_full::<A>();
+        if let Some(id) = self.graph.first_absent(ids) {
+            return Ok(Some(id));
+        }
+        if self.graph.is_ordered() {
+            return Ok(None);
+        }
+        self.missing_by_walk(ids)
+    }
+
+    // What is missing of the ancestries of some ids, by a walk. It fails with `Memory` alone.
+    fn missing_by_walk(&self, ids: &[Oid]) -> Result<Option<Oid>, GraphFault>
         ensures answer { IfOk result (Misses self.now.graph.entries ids.now) }
         ensures fault { IfErr result (λ fault. fault ≡ Memory) }
     {
@@ -161,19 +187,36 @@ impl<A: Allocator + Copy> Repo<A> {
     /// Sets a ref to a connected id, whether or not that is a fast-forward. What the id reaches is
     /// marked first.
     ///
-    /// It fails with `NotHeld` and an id that is missing of the ancestry, then with the fault of `Refs::set` for a
-    /// ref that can't be set, and where there is no memory. The repository is then as it was.
+    /// It fails with `NotHeld` and an id that is missing of the ancestry, then with `Refs` where the ref is HEAD or
+    /// there would be too many refs, and only then where out of memory to set it. Out of memory for a walk
+    /// (`Graph`) comes before these, and only where `missing` needs one. The repository is then as it was.
     pub fn set_local_ref(&mut self, name: RefName<A>, id: Oid) -> Result<(), RepoFault<A>>
         ensures sets { SetsLocal self.old name id self.new result }
         ensures whole { IsWhole self.new }
     {
-        let ids = [id];
-        if let Some(missing) = self.missing(&ids)? {
+        if let Some(missing) = self.missing(&[id])? {
             return Err(RepoFault::NotHeld { missing });
         }
+        if cannot_set(&self.refs, &name) {
+            return Err(RepoFault::Refs(RefsFault::Refs));
+        }
+        match self.put(name, id) {
+            Ok(()) => Ok(()),
+            Err(_) => Err(RepoFault::Refs(RefsFault::Memory)),
+        }
+    }
+
+    // Sets a ref, which can be set, to a connected id. It fails only where out of memory.
+    fn put(&mut self, name: RefName<A>, id: Oid) -> Result<(), RepoFault<A>>
+        requires { All (IsFull self.old.graph.entries) (id ∷ []) }
+        ensures puts { MatchResult result
+            (λ _. Marks self.old (id ∷ []) self.new × SetsRef self.old.refs self.new.refs name id)
+            (λ _. self.new ≡ self.old) }
+        ensures whole { IsWhole self.new }
+    {
         let mut refs = self.refs.copy_in(self.graph.allocator())?;
         refs.set(name, id)?;
-        self.install(refs, &ids)?;
+        self.install(refs, &[id])?;
         Ok(())
     }
 
@@ -183,33 +226,62 @@ impl<A: Allocator + Copy> Repo<A> {
     /// before a ref moves.
     ///
     /// It fails with `NotConnected` and an id that is missing of the ancestries of the asked ids, then with `Refs`
-    /// where an ask is for HEAD or there would be too many refs, before memory is taken for refs; and where there is no
-    /// memory. The repository is then as it was.
+    /// where an ask is for HEAD or there would be too many refs, and only then where out of memory to settle. Out of
+    /// memory for a walk (`Graph`) comes before these, and only where `missing` needs one. The repository is then as
+    /// it was.
     pub fn settle(&mut self, asks: &Asks<A>) -> Result<Vec<RefUpdate, A>, RepoFault<A>>
         ensures settles { MatchResult result
             (λ updates. SettlesAsks self.old asks.now self.new (Ok updates.items))
             (λ fault. SettlesAsks self.old asks.now self.new (Err fault)) }
         ensures whole { IsWhole self.new }
     {
-        let targets = asks.ids(self.graph.allocator())?;
-        self.settle_at(asks, targets.as_slice())
+        if let Some(missing) = self.missing_of(asks)? {
+            return Err(RepoFault::NotConnected { missing });
+        }
+        if cannot_settle(&self.refs, asks) {
+            return Err(RepoFault::Refs(RefsFault::Refs));
+        }
+        match self.move_refs(asks) {
+            Ok(updates) => Ok(updates),
+            Err(_) => Err(RepoFault::Refs(RefsFault::Memory)),
+        }
     }
 
-    // Settles asks, whose ids are these.
-    fn settle_at(&mut self, asks: &Asks<A>, ids: &[Oid]) -> Result<Vec<RefUpdate, A>, RepoFault<A>>
-        requires { ids.now ≡ asked_ids asks.now }
-        ensures settles { MatchResult result
-            (λ updates. SettlesAsks self.old asks.now self.new (Ok updates.items))
-            (λ fault. SettlesAsks self.old asks.now self.new (Err fault)) }
+    // What `missing` answers of the asked ids. Only a walk takes memory.
+    fn missing_of(&self, asks: &Asks<A>) -> Result<Option<Oid>, GraphFault>
+        ensures answer { IfOk result (Misses self.now.graph.entries (asked_ids asks.now)) }
+        ensures fault { IfErr result (λ fault. (fault ≡ Memory)
+            × NeedsWalk self.now.graph.entries (asked_ids asks.now)) }
+    {
+        // Laws.
+        ordered_is_closed::<A>();
+        closed_is_full::<A>();
+        if let Some(id) = first_absent(&self.graph, asks) {
+            return Ok(Some(id));
+        }
+        if self.graph.is_ordered() {
+            return Ok(None);
+        }
+        let ids = asks.ids(self.graph.allocator())?;
+        self.missing_by_walk(ids.as_slice())
+    }
+
+    // Moves the refs that are asked for, where they may move, to ids that are connected. The refs can be set, so it
+    // fails only where out of memory.
+    fn move_refs(&mut self, asks: &Asks<A>) -> Result<Vec<RefUpdate, A>, GraphFault>
+        requires full { All (IsFull self.old.graph.entries) (asked_ids asks.now) }
+        requires can { ¬ (CannotSettle self.old.refs asks.now) }
+        ensures moves { MatchResult result
+            (λ updates. Marks self.old (asked_ids asks.now) self.new
+            × Settles self.old.graph.entries self.old.refs asks.now updates.items self.new.refs)
+            (λ _. self.new ≡ self.old) }
         ensures whole { IsWhole self.new }
     {
         // Laws.
         refs_come_in_order();
-        if let Some(missing) = self.missing(ids)? {
-            return Err(RepoFault::NotConnected { missing });
-        }
+        let ids = asks.ids(self.graph.allocator())?;
         let (refs, updates) = settled(&self.graph, &self.refs, asks)?;
-        self.install(refs, ids)?;
+        self.install(refs, ids.as_slice())?;
         Ok(updates)
     }
 
@@ -229,25 +301,20 @@ impl<A: Allocator + Copy> Repo<A> {
     }
 }
 
-// Marks of what the refs reach; each of them has to be connected.
+// Marks of what the refs reach, each of which is connected. It fails only where out of memory.
 fn marks_of<A: Allocator + Copy>(
     graph: &Graph<A>,
     refs: &Refs<A>,
-) -> Result<FullMarks<A>, RepoFault<A>>
-    ensures marks { MatchResult result
-        (MarksReached graph.now.entries (values_of refs.now) [])
-        (λ fault. Opens graph.now refs.now (Err fault)) }
+) -> Result<FullMarks<A>, GraphFault>
+    requires { IsSafe graph.now.entries refs.now }
+    ensures marks { IfOk result (MarksReached graph.now.entries (values_of refs.now) []) }
+    ensures fault { IfErr result (λ fault. fault ≡ Memory) }
     ensures whole { IfOk result (λ known. IsWhole
         (record { graph = graph.now; refs = refs.now; known = known })) }
 {
     let alloc = graph.allocator();
     let targets = refs.ids(alloc)?;
-    let ids = targets.as_slice();
-    if missing(graph, ids)?.is_some() {
-        let name = first_unsafe(graph, refs, ids)?;
-        return Err(RepoFault::UnsafeRef { name });
-    }
     let mut known = FullMarks::new(alloc);
-    mark_full(graph, ids, &mut known)?;
+    mark_full(graph, targets.as_slice(), &mut known)?;
     Ok(known)
 }

@@ -1,38 +1,34 @@
 //! What becomes of the refs that are asked for (git-fetch(1), "<refspec>").
 
-ghost use Rattle.std.specs.Prelude.{◌≡◌, ◌↔◌, Contains, IfErr, IfOk, IsTrue, MatchResult, count_by, map};
+ghost use Rattle.std.specs.Prelude.{◌≡◌, ◌↔◌, All, Contains, IfErr, IfOk, IsTrue, MatchOption, None, count_by, map};
 ghost use Rattle.gdag.specs.declared.fault.GraphFault.TheVariants.{Memory};
+ghost use Rattle.gdag.specs.Graphs.{Holds};
 ghost use Rattle.gname.specs.Names.{head_name};
-ghost use Rattle.grefs.specs.RefLists.{IsRefs};
-ghost use Rattle.gclientrepo.specs.steps.Settling.{HasSettled, IsRefusal, TakesAsk};
-ghost use Rattle.gclientrepo.specs.Asks.{aimed};
+ghost use Rattle.gobject.specs.Objects.{node_at};
+ghost use Rattle.grefs.specs.RefLists.{CannotSet, IsRefs};
+ghost use Rattle.gclientrepo.specs.steps.Settling.{HasSettled, TakesAsk};
+ghost use Rattle.gclientrepo.specs.Asks.{aimed, asked_ids};
 ghost use Rattle.gclientrepo.specs.Settling.{CannotSettle, IsUpdate, is_new};
 
 use crate::ask::RefUpdate;
 use crate::asks::{Aim, Asks};
-use crate::fault::RepoFault;
 use crate::ref_map::RefMap;
-use ggraph::{Graph, GraphFault, MAX_REFS, Refs, RefsFault, reaches};
-use gname::RefName;
+use ggraph::{Graph, GraphFault, MAX_REFS, Refs, reaches};
+use gname::{Oid, RefName};
 use grefs::laws::limits_are_the_constants;
 use std::alloc::Allocator;
 
-/// The refs once the asks are settled, and what becomes of each ask.
-///
-/// Whether the refs can be set is judged first, which takes no memory.
+/// The refs once the asks, which can be settled, are; and what becomes of each ask. It fails with `Memory` alone.
 pub(crate) fn settled<A: Allocator + Copy>(
     graph: &Graph<A>,
     refs: &Refs<A>,
     asks: &Asks<A>,
-) -> Result<(Refs<A>, Vec<RefUpdate, A>), RepoFault<A>>
-    ensures settles { MatchResult result
-        (λ pair. HasSettled graph.now.entries refs.now asks.now pair.1.items pair.0)
-        (IsRefusal refs.now asks.now) }
+) -> Result<(Refs<A>, Vec<RefUpdate, A>), GraphFault>
+    requires { ¬ (CannotSettle refs.now asks.now) }
+    ensures settles { IfOk result (λ pair.
+        HasSettled graph.now.entries refs.now asks.now pair.1.items pair.0) }
     ensures valid { IfOk result (λ pair. IsRefs pair.0) }
 {
-    if cannot_settle(refs, asks) {
-        return Err(RepoFault::Refs(RefsFault::Refs));
-    }
     let alloc = graph.allocator();
     let mut new = RefMap::copy_of(alloc, refs)?;
     let updates = take_asks(graph, refs, asks, &mut new)?;
@@ -46,12 +42,11 @@ fn take_asks<A: Allocator + Copy>(
     old: &Refs<A>,
     asks: &Asks<A>,
     refs: &mut RefMap<A>,
-) -> Result<Vec<RefUpdate, A>, RepoFault<A>>
+) -> Result<Vec<RefUpdate, A>, GraphFault>
     requires can { ¬ (CannotSettle old.now asks.now) }
     requires copy { refs.old ≡ old.now }
-    ensures { MatchResult result
-        (λ updates. HasSettled graph.now.entries old.now asks.now updates.items refs.new)
-        (IsRefusal old.now asks.now) }
+    ensures { IfOk result (λ updates.
+        HasSettled graph.now.entries old.now asks.now updates.items refs.new) }
 {
     let mut updates = Vec::new(graph.allocator());
     for place in 0..asks.len() {
@@ -62,8 +57,29 @@ fn take_asks<A: Allocator + Copy>(
     Ok(updates)
 }
 
-// Whether the refs can't be set: an ask is for HEAD, or there would be too many.
-fn cannot_settle<A: Allocator + Copy>(refs: &Refs<A>, asks: &Asks<A>) -> bool
+/// The first asked id that the graph does not hold. It takes no memory.
+pub(crate) fn first_absent<A: Allocator + Copy>(graph: &Graph<A>, asks: &Asks<A>) -> Option<Oid>
+    ensures { MatchOption result (All (Holds graph.now.entries) (asked_ids asks.now))
+        (λ id. Contains (asked_ids asks.now) id × (node_at graph.now.entries id ≡ None)) }
+{
+    for place in 0..asks.len() {
+        let (_name, aim) = asks.aim(place);
+        if !graph.contains(&aim.id) {
+            return Some(aim.id);
+        }
+    }
+    None
+}
+
+/// Whether a ref can't be set: the name is HEAD, or it is new where there are as many refs as can be.
+pub(crate) fn cannot_set<A: Allocator + Copy>(refs: &Refs<A>, name: &RefName<A>) -> bool
+    ensures { IsTrue result ↔ CannotSet refs.now name.now }
+{
+    name.is_head() || (refs.get(name).is_none() && refs.len() == MAX_REFS)
+}
+
+/// Whether the refs can't be set: an ask is for HEAD, or there would be too many.
+pub(crate) fn cannot_settle<A: Allocator + Copy>(refs: &Refs<A>, asks: &Asks<A>) -> bool
     ensures { IsTrue result ↔ CannotSettle refs.now asks.now }
 {
     // Laws.
@@ -105,9 +121,10 @@ fn take_ask<A: Allocator + Copy>(
     name: &RefName<A>,
     aim: &Aim,
     refs: &mut RefMap<A>,
-) -> Result<RefUpdate, RepoFault<A>>
-    ensures { TakesAsk graph.now.entries old.now (aimed (name.now, aim.now)) refs.old refs.new
-        result }
+) -> Result<RefUpdate, GraphFault>
+    requires { ¬ (CannotSet refs.old name.now) }
+    ensures { IfOk result (TakesAsk graph.now.entries old.now (aimed (name.now, aim.now)) refs.old
+        refs.new) }
 {
     let update = update_of(graph, old, name, aim)?;
     if update == RefUpdate::Moved {

@@ -7,11 +7,11 @@ ghost use Rattle.gdag.specs.Walks.{CountsReached};
 ghost use Rattle.gclientrepo.specs.Repos.{IsWhole};
 ghost use Rattle.gclientrepo.specs.Settling.{Settles};
 ghost use Rattle.gsession.specs.Sessions.{tips_of};
-ghost use Rattle.gclient.specs.Conversations.{start_of};
+ghost use Rattle.gclient.specs.Conversations.{start_for};
 ghost use Rattle.gconnect.specs.GitFetches.{FetchesGit};
 
 use crate::greeting::greet;
-use gclient::{FetchFault, Fetched, Repo, Spec, fetch_over};
+use gclient::{FetchFault, FetchPlan, Fetched, PackOptions, Repo, Spec, fetch_over_with};
 use gfetchreply::PackLimit;
 use ggrammar::Ends;
 use ggraph::Indexer;
@@ -30,13 +30,15 @@ pub struct GitFetch<'a, A: Allocator + Copy> {
     pub limit: PackLimit,
     /// How each reply ends.
     pub ends: Ends,
+    /// How packs are asked for.
+    pub options: PackOptions,
 }
 
 /// Fetches by refspecs from a server (gitprotocol-pack(5), "Git Transport"): writes the first line, which names the
-/// path that is asked for, passes it on, and goes on as [`fetch_over`].
+/// path that is asked for, passes it on, and goes on as [`fetch_over_with`].
 ///
 /// It fails with 27 where the first line can't be sent: then nothing is read, and the repository is as it was. Else it
-/// fails as `fetch_over` does. After every fault the refs are as before, and the graph has at most gained objects.
+/// fails as `fetch_over_with` does. After every fault the refs are as before, and the graph has at most gained objects.
 pub fn fetch_git<S: Source, W: Sink, A: Allocator + Copy, K: Indexer<A>>(
     repo: &mut Repo<A>,
     source: &mut S,
@@ -45,7 +47,8 @@ pub fn fetch_git<S: Source, W: Sink, A: Allocator + Copy, K: Indexer<A>>(
     fetch: &GitFetch<'_, A>,
 ) -> Result<Fetched<A>, FetchFault<A>>
     ensures fetches { FetchesGit (K.indexes indexer.now) (K.index_fails indexer.now)
-        (start_of repo.old fetch.now.specs.now fetch.now.limit fetch.now.ends) fetch.now.hello.now
+        (start_for repo.old fetch.now.specs.now fetch.now.limit fetch.now.ends fetch.now.options)
+        fetch.now.hello.now
         (input_of S.remaining S.is_down source.old source.new)
         (output_of W.contents W.passed_on W.is_down sink.old sink.new) repo.new result }
     ensures settled { IfOk result (λ fetched. Settles repo.new.graph.entries repo.old.refs
@@ -61,9 +64,14 @@ pub fn fetch_git<S: Source, W: Sink, A: Allocator + Copy, K: Indexer<A>>(
 {
     // Laws.
     repo.laws();
-    let (specs, limit, ends) = (fetch.specs, fetch.limit, fetch.ends);
+    let plan = FetchPlan {
+        specs: fetch.specs,
+        limit: fetch.limit,
+        ends: fetch.ends,
+        options: fetch.options,
+    };
     match greet(fetch.hello, sink) {
-        Ok(()) => fetch_over(repo, source, sink, indexer, specs, limit, ends),
+        Ok(()) => fetch_over_with(repo, source, sink, indexer, &plan),
         Err(_) => Err(FetchFault::WriteFailed),
     }
 }

@@ -11,7 +11,7 @@
 //! - Out of memory before the first line, nothing is read, and the packet that says so is written all the same: it
 //!   takes none.
 //! - [`fetch_git`] passes the first line on before anything is read, and the rest is a conversation as `gclient`
-//!   says, with every promise of [`gclient::fetch_over`] (`specs/GitFetches.antt`). Where the first line can't be
+//!   says, with every promise of [`gclient::fetch_over_with`] (`specs/GitFetches.antt`). Where the first line can't be
 //!   sent nothing is read, and the repository is as it was.
 //! - [`list_git`] and [`list_over`] hold a conversation that only asks for refs (`specs/Listings.antt`). The reply is
 //!   read in the one format that the advertisement names, an unborn `HEAD` is asked for exactly where it is offered,

@@ -1,6 +1,6 @@
 //! Where bytes come from and go to.
 
-ghost use Rattle.std.specs.Prelude.{◌≡◌, ℕ, ◌∷◌, List, Bool, Option, Some, OnErr, OnOk, IsErr, is_err, true, false};
+ghost use Rattle.std.specs.Prelude.{◌≡◌, ◌≢◌, ◌⊎◌, ◌↔◌, ℕ, ◌∷◌, [], List, Bool, Option, Some, IfOk, OnErr, OnOk, IsErr, is_err, true, false};
 ghost use Rattle.std.specs.Io.{ReadsAtMost, WritesAtMost};
 ghost use Rattle.std.specs.Io.KnownBytes.{Keeps, ReadConsumes, WriteAppends};
 ghost use Rattle.gpkt.specs.Change.{change_of};
@@ -8,8 +8,8 @@ ghost use Rattle.gpkt.specs.Devices.{AnswersDown, KeepsPassed, PassesAll, TakesS
 ghost use Rattle.gpkt.specs.Faults.{down_text};
 
 use std::error::Error;
-use std::fmt;
 use std::marker::Model;
+use std::{fmt, io};
 
 /// A device failed. It is down from this call on, and every later call answers the same.
 #[derive(Clone, Copy, Debug, PartialEq, Eq)]
@@ -141,6 +141,38 @@ impl Latch {
         ensures { result ≡ self.now }
     {
         self.down
+    }
+
+    /// Notes what the inner call answered: the device fails exactly where that call failed.
+    pub(crate) fn note<T>(&mut self, answer: io::Result<T>) -> Result<T, Down>
+        ensures failed { IsErr result ↔ IsErr answer }
+        ensures value { IfOk result (λ value. answer ≡ Ok value) }
+        ensures down { OnErr result (self.new ≡ true) }
+        ensures same { OnOk result (self.new ≡ self.old) }
+    {
+        match answer {
+            Ok(value) => Ok(value),
+            Err(_) => self.fail(),
+        }
+    }
+
+    /// Notes what the inner write of `buf` answered: the device fails exactly where that write failed, or
+    /// took none of some bytes.
+    pub(crate) fn note_write(
+        &mut self,
+        answer: io::Result<usize>,
+        buf: &[u8],
+    ) -> Result<usize, Down>
+        ensures failed { IsErr result ↔ (IsErr answer ⊎ (answer ≡ Ok 0 × buf.now ≢ [])) }
+        ensures count { IfOk result (λ count. answer ≡ Ok count) }
+        ensures down { OnErr result (self.new ≡ true) }
+        ensures same { OnOk result (self.new ≡ self.old) }
+    {
+        match answer {
+            Ok(0) if !buf.is_empty() => self.fail(),
+            Ok(count) => Ok(count),
+            Err(_) => self.fail(),
+        }
     }
 
     /// Notes that the device has failed, and reports so.

@@ -25,6 +25,8 @@
 //! - Where it is known which bytes were passed on, writing passes on nothing, and a
 //!   [`push`](LineWriter::push) that succeeds all that was written (`HasPushed`).
 //! - [`write_all`] writes all of the bytes, or a beginning of them where the sink goes down.
+//! - A device over std's readers and writers goes down exactly where the inner call answers an error, or where a
+//!   write took none of some bytes. Two private functions, which take that answer, say so.
 //! - Bytes spell at most one packet at their front, in one way; where reading is refused they spell
 //!   none, and for one reason; what is written is a spelling; of two lists of packets at the front
 //!   of the same bytes one begins the other; bytes are empty, or spell a packet at their front, or
@@ -34,8 +36,8 @@
 //!
 //! # Only tested
 //!
-//! - A device over std's readers and writers goes down only where these failed, or where a write took none
-//!   of some bytes; its flush is a flush of the writer.
+//! - A device over std's readers and writers makes one inner call for each of its own; its flush is a flush of
+//!   the writer.
 //! - A call that failed is not tried again, of whatever kind its error is, and none asks for no bytes.
 //!
 //! # What the contracts do not rule out

@@ -48,10 +48,8 @@ impl<R: Read> Source for FromRead<'_, R> {
         if self.down.is_down() {
             return Err(Down);
         }
-        match self.reader.read(buf) {
-            Ok(count) => Ok(count),
-            Err(_) => self.down.fail(),
-        }
+        let answer = self.reader.read(buf);
+        self.down.note(answer)
     }
 }
 
@@ -101,20 +99,15 @@ impl<W: Write> Sink for ToWrite<'_, W> {
         if self.down.is_down() {
             return Err(Down);
         }
-        match self.writer.write(buf) {
-            Ok(0) if !buf.is_empty() => self.down.fail(),
-            Ok(count) => Ok(count),
-            Err(_) => self.down.fail(),
-        }
+        let answer = self.writer.write(buf);
+        self.down.note_write(answer, buf)
     }
 
     fn flush(&mut self) -> Result<(), Down> {
         if self.down.is_down() {
             return Err(Down);
         }
-        match self.writer.flush() {
-            Ok(()) => Ok(()),
-            Err(_) => self.down.fail(),
-        }
+        let answer = self.writer.flush();
+        self.down.note(answer)
     }
 }

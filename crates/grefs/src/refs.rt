@@ -1,6 +1,6 @@
 //! Refs: names below `refs/` with the ids at which they stand.
 
-ghost use Rattle.std.specs.Prelude.{◌≡◌, ◌≤◌, ◌↔◌, [], length, IsTrue, IsErrOf, OnOk, OnErr, IfOk, IfErr, ◌⊎◌, ◌≢◌, None, is_ok, MatchOption, MatchResult, slice_get, ◌<◌, ◌++◌, ◌∷◌};
+ghost use Rattle.std.specs.Prelude.{◌≡◌, ◌≤◌, ◌↔◌, [], length, IsTrue, IsErrOf, OnOk, OnErr, IfOk, IfErr, IfSome, ◌⊎◌, ◌≢◌, None, is_ok, MatchOption, MatchResult, slice_get, ◌<◌, ◌++◌, ◌∷◌};
 ghost use Rattle.std.specs.Map.{values_of};
 ghost use Rattle.grefs.specs.RefLists.{AreBelow, CannotSet, IsBelowRefs, IsRefs, SetsRef, max_refs, ref_at};
 ghost use Rattle.grefs.specs.steps.RefPlaces.{IsFound, IsGap};
@@ -105,6 +105,16 @@ impl<A: Allocator + Copy> Refs<A> {
     {
         let pair = self.refs.get(place)?;
         Some((&pair.0, pair.1))
+    }
+
+    /// The name of the ref at a position in the order of the names, from 0. It takes no memory, and the refs are
+    /// given up.
+    pub fn into_name(self, place: usize) -> RefName<A>
+        requires { place < length self }
+        ensures { IfSome (slice_get self place) (λ ref. result ≡ ref.0) }
+    {
+        let Refs { mut refs } = self;
+        refs.swap_remove(place).0
     }
 
     /// Whether a name of these bytes is above every name of the refs.

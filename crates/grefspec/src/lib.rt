@@ -6,7 +6,7 @@
 //! - [`Spec::parse`] accepts exactly the texts of refspecs, and keeps what they say; a text is that of one
 //!   refspec at most. Out of memory is reported of the text of a refspec alone.
 //! - [`Spec::matches`] says which names the source matches, and [`Spec::destination`] where such a name goes,
-//!   or why that is no ref name.
+//!   or why that is no ref name. [`Spec::can_take`] says whether it is one, and takes no memory.
 //! - Each fault has the number, the name and the text of its row.
 //! - No call panics, overflows or reads out of bounds, and each returns.
 //!

@@ -51,6 +51,18 @@ pub(crate) fn join(front: &[u8], back: &[u8]) -> Option<ArrayVec<u8, MAX_NAME>>
     Some(text)
 }
 
+/// Whether the bytes of both, one after the other, are a ref name.
+pub(crate) fn are_name(front: &[u8], back: &[u8]) -> bool
+    ensures { IsTrue result ↔ IsRefName (front.now ++ back.now) }
+{
+    // Laws.
+    names_are_clean();
+    match join(front, back) {
+        Some(text) => is_name(text.as_slice()),
+        None => false,
+    }
+}
+
 /// The ref name of the bytes of both, one after the other.
 ///
 /// It fails with the first fault of these bytes.

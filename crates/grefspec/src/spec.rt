@@ -1,14 +1,14 @@
 //! Refspecs, and what they do with the names of refs.
 
-ghost use Rattle.std.specs.Prelude.{◌≡◌, ◌↔◌, IfOk, IfSome, IsTrue, MatchResult};
-ghost use Rattle.gname.specs.Names.{head_name};
+ghost use Rattle.std.specs.Prelude.{◌≡◌, ◌↔◌, IfOk, IfSome, IsTrue, MatchResult, true};
+ghost use Rattle.gname.specs.Names.{IsRefName, head_name};
 ghost use Rattle.grefs.specs.RefLists.{IsBelowRefs};
 ghost use Rattle.grefspec.specs.declared.fault.SpecFault.TheVariants.{Memory};
-ghost use Rattle.grefspec.specs.Refspecs.{AreSides, FindsDestination, IsRefspec, IsSpec, Reads, matches};
+ghost use Rattle.grefspec.specs.Refspecs.{AreSides, FindsDestination, IsRefspec, IsSpec, Reads, destination_of, matches};
 
 use crate::fault::SpecFault;
 use crate::parse::read_spec;
-use crate::side::name_of;
+use crate::side::{are_name, name_of};
 use gname::laws::names_are_clean;
 use gname::{HEAD, NameFault, Prefix, RefName};
 use std::alloc::{AllocError, Allocator, Global};
@@ -125,6 +125,21 @@ impl<A: Allocator + Copy> Spec<A> {
         } else {
             name == source
         }
+    }
+
+    /// Whether it can take a name to its destination: that is a ref name, or the source does not match the name. It
+    /// takes no memory.
+    pub fn can_take<B: Allocator + Copy>(&self, name: &RefName<B>) -> bool
+        ensures { IsTrue result ↔ (matches self.now name.now ≡ true
+            → IsRefName (destination_of self.now name.now)) }
+    {
+        // Laws.
+        names_are_clean();
+        if !self.matches(name) {
+            return true;
+        }
+        let rest = &name.as_bytes()[self.source.as_bytes().len()..];
+        are_name(self.destination.as_bytes(), rest)
     }
 
     /// Where a name goes: to the destination, or where the spec is a pattern, to the destination with the rest of

@@ -1,7 +1,6 @@
 pub mod Conversations
 pub mod Exchanges
 pub mod Laws
-pub mod Packings
 pub mod Refusals
 pub mod Replies
 pub mod Talks

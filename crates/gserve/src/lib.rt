@@ -14,8 +14,9 @@
 //!   [`MAX_REQUESTS`]; at the first request that is refused, whose packet is then the last thing
 //!   written, and is passed on; or where the sink fails. The fault is the one of the request's
 //!   grammar, of the server's answer, or the source's.
-//! - [`serve_with`] and [`serve_one_with`] do the same by a packer of which is known what it answered: where it fails
-//!   its fault is the one that is reported, and out of memory never in its place (`specs/Packings.antt`).
+//! - Where the packer fails its fault is the one that is reported, and out of memory never in its place. The private
+//!   functions of which [`serve`] and [`serve_one`] consist say so: they take the packer with a record of what it
+//!   answered (`specs/steps/Packings.antt`).
 //! - Where it is out of memory for the buffer or for the advertisement, the packet that reports so
 //!   stands in the advertisement's place, and nothing is read.
 //! - Where the sink fails a beginning of what was due stands written: of the advertisement, of a
@@ -63,8 +64,8 @@ mod refusal;
 mod send;
 mod write;
 
-pub use crate::connection::{End, MAX_REQUESTS, Served, serve, serve_with};
-pub use crate::exchange::{ExchangeEnd, serve_one, serve_one_with};
+pub use crate::connection::{End, MAX_REQUESTS, Served, serve};
+pub use crate::exchange::{ExchangeEnd, serve_one};
 pub use crate::refusal::{MAX_ERR_TEXT, err_text};
 pub use crate::write::write_reply;
 pub use ganswer::{BuildFault, OnePack, Packing, Reply, ServeFault, Server};

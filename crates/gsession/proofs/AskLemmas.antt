@@ -1,6 +1,6 @@
 -- What is asked for, refspec by refspec and line by line, and which asks are the first for their refs.
-use Rattle.std.proofs.Common.{◌≡◌, ◌≢◌, ℕ, ◌+◌, ◌<◌, true, false, if◌then◌else◌, inl, inr, List, [], ◌∷◌, ◌++◌, length}
-use Rattle.std.proofs.Common.{get_or, map, filter, take, drop, All, Contains, Ok, Err, refl, sym, ap, subst, append_assoc}
+use Rattle.std.proofs.Common.{◌≡◌, ◌≢◌, ◌↔◌, ℕ, ◌+◌, ◌<◌, true, false, if◌then◌else◌, List, [], ◌∷◌, ◌++◌, length}
+use Rattle.std.proofs.Common.{get_or, map, filter, take, drop, All, Contains, Ok, refl, sym, ap, subst, append_assoc}
 use Rattle.std.proofs.Common.{arith, ◌∙◌}
 use Rattle.std.specs.Str.{bytes_eq}
 use Rattle.std.proofs.lemmas.Grind.{flat_map-append}
@@ -10,14 +10,11 @@ use Rattle.std.proofs.lemmas.List.Elements.{All-head, All-map, All-nil, All-push
 use Rattle.std.proofs.lemmas.List.Elements.{Contains-append_right, Contains-get_or, Contains-push, filter-append}
 use Rattle.std.proofs.lemmas.List.Elements.{filter_passes}
 use Rattle.std.proofs.lemmas.List.Folds.{Any-from_list_any}
-use Rattle.std.proofs.lemmas.Option.{none-some}
+use Rattle.std.proofs.lemmas.Bool.{false≢true}
 use Rattle.std.proofs.lemmas.Slice.Eq.{bytes_eq-Decides}
 use Rattle.gname.specs.Ids.{IsIdOf}
-use Rattle.gname.specs.Laws.{RulesNeverReportMemory}
 use Rattle.gname.specs.Names.{IsRefName, Owns, name_fault}
 use Rattle.gname.specs.declared.formats.Format.{Format}
-use Rattle.gname.specs.declared.faults.NameFault.{NameFault}
-use Rattle.gname.specs.declared.faults.NameFault.TheVariants.{Memory}
 use Rattle.glsreply.specs.RefTexts.{RefLine}
 use Rattle.glsreply.specs.WellFormed.{IsRefLine}
 use Rattle.gdag.proofs.Growing.{at_front, take_one}
@@ -28,28 +25,6 @@ use Rattle.gclientrepo.specs.Asks.{NamesDiffer, is_asked, with_ask}
 use Rattle.gclientrepo.proofs.AskLemmas.{differ_push, with_ask_new, with_ask_there}
 use Rattle.gsession.specs.Asking.{AreNamed, ask_of, asked_of, asks_by, asks_by_all, line_matches, with_asks}
 use Rattle.gsession.specs.Laws.{AsksAreOfLines, FirstIsAsked, IsAskOf, IsFirstFor, LeadsElsewhere}
-use Rattle.gsession.specs.steps.Calls.{IsAskFault}
-
--- the ask of one line: its destination is no ref name; or it is one, out of memory
-pub fails_one : (A : Type 0) → RulesNeverReportMemory → (spec : Refspec) (line : RefLine) (fault : NameFault)
-    → matches spec line.name ≡ true
-    → Owns name_fault (destination_of spec line.name) (Err fault)
-    → IsAskFault {A = A} (asks_by spec (line ∷ [])) fault
-fails_one A law spec line Memory e owns = rw e (elim owns [
-  | inl found ↦ absurd ((law (destination_of spec line.name)).0 found)
-  | inr out ↦ record {
-    front = [];
-    ask = ask_of spec line;
-    rest = [];
-    parts = refl;
-    named = All-cons (λ (ask : Ask A). IsRefName ask.name) (ask_of spec line) [] out.1
-        (All-nil (λ (ask : Ask A). IsRefName ask.name));
-  }
-])
-fails_one A law spec line _ e owns = rw e (λ named. elim owns [
-  | inl found ↦ none-some _ (sym (All-head (λ (ask : Ask A). IsRefName ask.name) (ask_of spec line) [] named) ∙ found)
-  | inr memory ↦ cc
-])
 
 module _ {A : Type 0} where
   -- ---- asks of more lines, and of more refspecs
@@ -102,20 +77,18 @@ module _ {A : Type 0} where
         All-cons P (ask_of spec line) [] owns.1 (All-nil P),
       )
 
-  -- a fault of some asks is one of all, where those before them are named
-  fails_among : (before more rest : List (Ask A)) (fault : NameFault) → AreNamed before → IsAskFault more fault
-      → IsAskFault (before ++ (more ++ rest)) fault
-  fails_among before more rest Memory first to = record {
-    front = before ++ to.front;
-    ask = to.ask;
-    rest = to.rest ++ rest;
-    parts = ap (λ (l : List (Ask A)). before ++ (l ++ rest)) to.parts ∙ simp append_assoc;
-    named = subst AreNamed (sym (append_assoc before to.front (to.ask ∷ [])))
-        (All-append (λ (ask : Ask A). IsRefName ask.name) before (to.front ++ to.ask ∷ []) first to.named);
-  }
-  fails_among before more rest _ first unnamed = λ named. unnamed (λ k d low.
-      All-contains (λ (ask : Ask A). IsRefName ask.name) (before ++ (more ++ rest)) _ named
-      (Contains-append_right before (more ++ rest) _ (Contains-append_left more rest _ (Contains-get_or more k d low))))
+  -- a refspec can take a line exactly where what it asks for of the line is for a ref name
+  pub named_line : (spec : Refspec) (line : RefLine)
+      → (matches spec line.name ≡ true → IsRefName (destination_of spec line.name))
+      ↔ AreNamed {A = A} (asks_by spec (line ∷ []))
+  named_line spec line =
+      let P : Ask A → Type 0 = λ ask. IsRefName ask.name in
+      either_way (matches spec line.name)
+      (λ e. rw e (
+        λ is. All-cons P (ask_of spec line) [] (is refl) (All-nil P),
+        λ named yes. All-head P (ask_of spec line) [] named,
+      ))
+      (λ e. rw e (λ is. All-nil P, λ named yes. absurd (false≢true yes)))
 
   -- of the asks that lines or refspecs give: those up to a position, and those at it
   module _ {X : Type 0} (f : List X → List (Ask A)) (joins : (xs ys : List X) → f (xs ++ ys) ≡ f xs ++ f ys)
@@ -130,12 +103,21 @@ module _ {A : Type 0} where
           All-append (λ (ask : Ask A). IsRefName ask.name) (f (take i xs)) one first.1 next.1,
         )
 
-    pub fails_at : (fault : NameFault) → AreNamed (f (take i xs)) → IsAskFault one fault → IsAskFault (f xs) fault
-    fails_at fault first fails =
-        subst (λ (l : List (Ask A)). IsAskFault l fault)
-        (sym (ap f (at_front xs i x low at) ∙ joins (take i xs) (x ∷ drop (i + 1) xs)
-        ∙ ap (λ l. f (take i xs) ++ l) (joins (x ∷ []) (drop (i + 1) xs) ∙ ap (λ l. l ++ f (drop (i + 1) xs)) is_one)))
-        (fails_among (f (take i xs)) one (f (drop (i + 1) xs)) fault first fails)
+    pub named_more : AreNamed (f (take i xs)) → AreNamed one → AreNamed (f (take (i + 1) xs))
+    named_more first next =
+        subst (AreNamed {A = A})
+        (sym (ap f (take_one xs i x low at) ∙ joins (take i xs) (x ∷ []) ∙ ap (λ l. f (take i xs) ++ l) is_one))
+        (All-append (λ (ask : Ask A). IsRefName ask.name) (f (take i xs)) one first next)
+
+    pub named_one : AreNamed (f xs) → AreNamed one
+    named_one named =
+        let rest = f (drop (i + 1) xs) in
+        let all = subst (AreNamed {A = A})
+        (ap f (at_front xs i x low at) ∙ joins (take i xs) (x ∷ drop (i + 1) xs)
+        ∙ ap (λ l. f (take i xs) ++ l) (joins (x ∷ []) (drop (i + 1) xs) ∙ ap (λ l. l ++ rest) is_one)) named in
+        λ k d low. All-contains (λ (ask : Ask A). IsRefName ask.name) (f (take i xs) ++ (one ++ rest)) _ all
+        (Contains-append_right (f (take i xs)) (one ++ rest) _
+        (Contains-append_left one rest _ (Contains-get_or one k d low)))
 
   -- ---- of which refspecs and lines asks are
 

@@ -85,7 +85,7 @@ module _ {A : Type 0} where
 
   -- a request for objects is the next one while objects are fetched
   pub fetches_next : (s new : SessionState A) (g : List (Entry A)) (asked : Asked) (batch : List (List ℕ))
-      → s.stage ≡ Fetching → IsBatch s g batch → asked ≡ Fetches (fetch_request s.wants s.commons batch)
+      → s.stage ≡ Fetching → IsBatch s g batch → asked ≡ Fetches (fetch_request s.options s.wants s.commons batch)
       → new ≡ waiting_for s asked batch → MakesNext s g new asked
   fetches_next s new g asked batch stage batched is after =
       (batch, subst (λ (a : Asked). IsNext s g a batch) (sym is) (stage, refl, batched), after)

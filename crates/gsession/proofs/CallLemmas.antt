@@ -117,6 +117,7 @@ module _ {A : Type 0} where
     refspecs : new.refspecs ≡ old.refspecs;
     limit : new.limit ≡ old.limit;
     ends : new.ends ≡ old.ends;
+    options : new.options ≡ old.options;
     tips : new.tips ≡ old.tips;
     sent : new.sent ≡ old.sent;
     rounds : new.rounds ≡ old.rounds;
@@ -135,6 +136,7 @@ module _ {A : Type 0} where
         refspecs = refl;
         limit = refl;
         ends = refl;
+        options = refl;
         tips = refl;
         sent = refl;
         rounds = refl;
@@ -158,6 +160,7 @@ module _ {A : Type 0} where
       refspecs = k.refspecs;
       limit = k.limit;
       ends = k.ends;
+      options = k.options;
       tips = k.tips;
       sent = ([], k.sent ∙ sym (append-nil old.sent));
     }
@@ -166,6 +169,7 @@ module _ {A : Type 0} where
       refspecs = refl;
       limit = refl;
       ends = refl;
+      options = refl;
       tips = refl;
       sent = (made.0, refl);
     })

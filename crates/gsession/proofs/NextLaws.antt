@@ -1,24 +1,27 @@
 -- How a session begins, and its next request: what is offered in it, and that there is one.
 use Rattle.std.proofs.Common.{◌≡◌, ◌⊎◌, ◌∙◌, ℕ, ◌+◌, true, false, List, [], ◌∷◌, length, All, Contains, bytes_eq}
-use Rattle.std.proofs.Common.{nat_le, if◌then◌else◌, inl, inr, sym, ap, ap₂, get_or}
+use Rattle.std.proofs.Common.{nat_le, if◌then◌else◌, inl, inr, Result, Ok, Err, refl, sym, ap, ap₂, get_or}
 use Rattle.std.specs.List.{IsDistinct}
 use Rattle.std.specs.Map.{values_of}
 use Rattle.std.proofs.lemmas.Bool.{false≢true}
 use Rattle.std.proofs.lemmas.List.Elements.{All-append, All-contains, All-head, All-nil}
 use Rattle.std.proofs.lemmas.List.Elements.{Contains-append_right, Contains-get_or}
+use Rattle.ggrammar.specs.declared.ends.Ends.{Ends}
 use Rattle.gobject.specs.declared.node.Entry.{Entry}
 use Rattle.gdag.specs.Graphs.{Holds}
 use Rattle.gdag.specs.Laws.{DistinctAreOnce, FullStaysFull, GrowingKeeps, OffersAreExact, ReachingGoesOn}
 use Rattle.gdag.specs.Levels.{distinct_of}
 use Rattle.gdag.specs.Reach.{IsFull, SomeReaches}
 use Rattle.gdag.proofs.IdLists.{contains_head}
+use Rattle.grefspec.specs.Refspecs.{Refspec}
 use Rattle.gclientrepo.specs.Repos.{RepoState, IsWhole}
 use Rattle.grequest.specs.declared.flag.FetchFlag.TheVariants.{Done}
 use Rattle.grequest.specs.Asked.{Asked, Empty, Ls, Fetches, FetchAsked, fetch_has, max_haves}
 use Rattle.gsession.specs.Bounds.{BeganBegins, BeganStays, OffersAreNew}
-use Rattle.gsession.specs.Laws.{HavesAreFull, HavesAreNew, OneNext}
+use Rattle.gsession.specs.Laws.{HavesAreFull, HavesAreNew, OneNext, OptionsAreAsked}
 use Rattle.gsession.specs.Requesting.{IsBatch, IsNext, batch_of, batch_size, fetch_request, waiting_for}
-use Rattle.gsession.specs.Sessions.{SessionState}
+use Rattle.gsession.specs.Sessions.{SessionState, Begins, BeginsWith, no_options}
+use Rattle.gsession.specs.declared.fault.ClientFault.{ClientFault}
 use Rattle.gsession.proofs.CommonLemmas.{all_distinct}
 
 module _ {A : Type 0} where
@@ -54,7 +57,7 @@ module _ {A : Type 0} where
   -- ---- each request offers something new
 
   new_id : (s : SessionState A) (asked : FetchAsked) (batch : List (List ℕ))
-      → asked ≡ fetch_request s.wants s.commons batch → All (λ a. ¬ (Contains s.sent a)) batch
+      → asked ≡ fetch_request s.options s.wants s.commons batch → All (λ a. ¬ (Contains s.sent a)) batch
       → fetch_has asked Done ≡ false
       → ((a : List ℕ) × Contains asked.haves a × ¬ (Contains s.sent a))
   new_id s asked [] is fresh goes_on =
@@ -81,6 +84,18 @@ module _ {A : Type 0} where
       (λ k d low. inl (Contains-get_or old.commons k d low))
       (λ k d low. inr (batch_unsent exact g old made.0 made.1.2 k d low)))
 
+  -- ---- the options
+
+  -- a session without options begins as it does by default
+  pub begins_plain : (r : RepoState A) (refspecs : List Refspec) (limit : ℕ) (ends : Ends)
+      (result : Result (SessionState A) (ClientFault A)) → BeginsWith r refspecs limit ends no_options result
+      → Begins r refspecs limit ends result
+  begins_plain r refspecs limit ends (Ok session) begins = begins
+  begins_plain r refspecs limit ends (Err fault) begins = begins
+
+  pub options_are_asked : OptionsAreAsked A
+  options_are_asked g old new asked made = rw made.1.1 (record { ofs_delta = refl; progress = refl })
+
   -- ---- there is one next request
 
   one_request : OffersAreExact A → (s : SessionState A) (g : List (Entry A)) (asked also : Asked)
@@ -95,7 +110,7 @@ module _ {A : Type 0} where
       let offers = exact g s.tips s.commons s.sent (batch_size s.rounds) in
       let offer = offers.one is.2.offer too.2.offer is.2.offered too.2.offered in
       let same : batch ≡ other = is.2.is ∙ ap (batch_of s.commons) offer ∙ sym too.2.is in
-      (ap Fetches (is.1 ∙ ap (fetch_request s.wants s.commons) same ∙ sym too.1), same)
+      (ap Fetches (is.1 ∙ ap (fetch_request s.options s.wants s.commons) same ∙ sym too.1), same)
 
   pub one_next : OffersAreExact A → OneNext A
   one_next exact g old new other asked also made too =

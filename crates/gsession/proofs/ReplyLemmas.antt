@@ -30,7 +30,7 @@ use Rattle.grequest.specs.Asked.{FetchAsked}
 use Rattle.grequest.specs.RequestValues.{asked_by_request}
 use Rattle.grequest.specs.declared.request.Request.{Request}
 use Rattle.gsession.specs.Sessions.{SessionState, AreCommons, IsOpenFetch, LeavesReplies}
-use Rattle.gsession.specs.steps.Calls.{AnswersLs, AnswersRead, AnswersRefs, AnswersReply, IsAcksFault}
+use Rattle.gsession.specs.steps.Calls.{AnswersLs, AnswersRead, AnswersRefs, AnswersReply, IsAcksFault, IsStrangeAck}
 use Rattle.gsession.specs.TakingRefs.{AwaitsRefs, IsLsFault, IsRefsFault, ReadsRefs}
 use Rattle.gsession.specs.TakingReplies.{Awaits, HasPack, IsFirstStrange, IsReplyFault, IsTakeFault, ReadsFetch}
 use Rattle.gsession.specs.TakingReplies.{RefusesPack, TakesHead, after_acks, reading_for}
@@ -114,6 +114,12 @@ module _ {A : Type 0} where
       ∙ ap (λ (o : SessionState A). record o { stage = stage; pending = None; commons = list }) same
       ∙ ap (λ (l : List (List ℕ)). record s { stage = stage; pending = None; commons = l }) is
 
+  -- why an acknowledged id that the request did not name is not taken
+  pub strange_acks : (haves acks : List (List ℕ)) (fault : ClientFault A) → IsStrangeAck haves acks fault
+      → IsAcksFault haves acks fault
+  strange_acks haves acks (StrangeAck id) is = is
+  strange_acks haves acks _ is = absurd is
+
   -- ---- the repository
 
   pub same_repo : (new old : RepoState A) → new.graph ≡ old.graph → new.refs ≡ old.refs → new.known ≡ old.known
@@ -146,19 +152,26 @@ module _ {A : Type 0} where
     -- ---- faults
 
     pub acks_fault : (haves acks : List (List ℕ)) (s : RepoState A) (reply : FetchReply) (fault : ClientFault A)
-        → acknowledged_by reply ≡ acks
+        → acknowledged_by reply ≡ acks → ¬ (HasPack reply)
         → IsAcksFault haves acks fault → IsReplyFault indexes index_fails haves s reply fault
-    acks_fault haves acks s reply (StrangeAck id) same is =
+    acks_fault haves acks s reply (StrangeAck id) same none is =
         subst (λ (l : List (List ℕ)). IsFirstStrange haves l id) (sym same) is
-    acks_fault haves acks s reply (Repo (repo.Graph graph.Memory)) same is =
-        subst (λ (l : List (List ℕ)). All (Contains haves) l) (sym same) is
-    acks_fault haves acks s reply _ same is = absurd is
+    acks_fault haves acks s reply (Repo (repo.Graph graph.Memory)) same none is =
+        (subst (λ (l : List (List ℕ)). All (Contains haves) l) (sym same) is, λ has. absurd (none has))
+    acks_fault haves acks s reply _ same none is = absurd is
+
+    pub strange_fault : (haves acks : List (List ℕ)) (s : RepoState A) (reply : FetchReply) (fault : ClientFault A)
+        → acknowledged_by reply ≡ acks
+        → IsStrangeAck haves acks fault → IsReplyFault indexes index_fails haves s reply fault
+    strange_fault haves acks s reply (StrangeAck id) same is =
+        subst (λ (l : List (List ℕ)). IsFirstStrange haves l id) (sym same) is
+    strange_fault haves acks s reply _ same is = absurd is
 
     pub graph_fault : (haves : List (List ℕ)) (s : RepoState A) (reply : FetchReply) (fault : GraphFault)
         → All (Contains haves) (acknowledged_by reply) → HasPack reply
         → RefusesPack indexes index_fails s (pack_of reply) fault
         → IsReplyFault indexes index_fails haves s reply (Repo (repo.Graph fault))
-    graph_fault haves s reply graph.Memory named has refuses = named
+    graph_fault haves s reply graph.Memory named has refuses = (named, λ _. (refuses.0, refuses.1))
     graph_fault haves s reply _ named has refuses = (named, has, refuses)
 
     -- ---- acknowledgments alone
@@ -175,8 +188,11 @@ module _ {A : Type 0} where
         subst (λ r. AnswersRead indexes index_fails haves old s r new s (Ok taken)) (sym is)
         (subst (λ t. AnswersRead indexes index_fails haves old s (Acks acks) new s (Ok t)) (sym answers.2)
         (answers.0, ((λ none. none), answers.1, refl, refl)))
-    acks_answer haves acks old s reply new (Err fault) is answers =
-        (acks_fault haves acks s reply fault (ap acknowledged_by is) answers.0, answers.1, refl)
+    acks_answer haves acks old s reply new (Err fault) is answers = (
+      acks_fault haves acks s reply fault (ap acknowledged_by is) (λ has. subst HasPack is has) answers.0,
+      answers.1,
+      refl,
+    )
 
     -- ---- a reply that was read
 

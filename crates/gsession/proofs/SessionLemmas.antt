@@ -14,6 +14,7 @@ use Rattle.gsession.specs.Requesting.{fetch_request}
 use Rattle.gsession.specs.Sessions.{SessionState, AreCommons, FitsStage, IsOpenFetch, IsSession, max_specs}
 use Rattle.gsession.specs.steps.Calls.{FitsBatch}
 use Rattle.gsession.specs.TakingRefs.{AwaitsRefs, stage_for}
+use Rattle.gsession.specs.declared.options.PackOptions.{PackOptions}
 use Rattle.gsession.specs.declared.stage.Stage.{Stage}
 use Rattle.gsession.specs.declared.stage.Stage.TheVariants.{Listing, Fetching, Settling}
 
@@ -77,14 +78,14 @@ more_sent n sent [] some few = absurd (cc)
 more_sent n sent (id ∷ batch) some few = omega (arith, few, length-append sent (id ∷ batch))
 
 -- a request that is not direct has a batch
-has_batch : (wants commons batch : List (List ℕ)) → is_direct (fetch_request wants commons batch) ≡ false
-    → length batch == 0 ≡ false
-has_batch wants commons [] direct = direct
-has_batch wants commons (id ∷ batch) direct = ne_eqb (length (id ∷ batch)) 0 (λ same. omega arith)
+has_batch : (options : PackOptions) (wants commons batch : List (List ℕ))
+    → is_direct (fetch_request options wants commons batch) ≡ false → length batch == 0 ≡ false
+has_batch options wants commons [] direct = direct
+has_batch options wants commons (id ∷ batch) direct = ne_eqb (length (id ∷ batch)) 0 (λ same. omega arith)
 
 pub objects_asked : {A : Type 0} (s : SessionState A) (batch sent : List (List ℕ)) (p : Option Asked) → IsSession s
     → s.stage ≡ Fetching → s.pending ≡ None
-    → FitsBatch s batch → p ≡ Some (Fetches (fetch_request s.wants s.commons batch)) → sent ≡ s.sent ++ batch
+    → FitsBatch s batch → p ≡ Some (Fetches (fetch_request s.options s.wants s.commons batch)) → sent ≡ s.sent ++ batch
     → IsSession (record s { pending = p; sent = sent; rounds = s.rounds + 1 })
 objects_asked s batch sent p is stage pending fits waits more =
     let few : s.rounds ≤ length s.sent = rw (stage, pending) at is.stage in
@@ -104,7 +105,7 @@ objects_asked s batch sent p is stage pending fits waits more =
         commons = λ k d low. Contains-append_left s.commons batch _ (Contains-get_or s.commons k d low);
         ids = All-append (IsIdOf s.format) s.commons batch is.commons.ids fits.ids;
         few = omega (arith, haves, fits.room);
-        goes_on = λ direct. more_sent s.rounds s.sent batch (has_batch s.wants s.commons batch direct) few;
+        goes_on = λ direct. more_sent s.rounds s.sent batch (has_batch s.options s.wants s.commons batch direct) few;
       });
     })
 

@@ -1,7 +1,7 @@
 -- What a session asks for: which refs here are to stand at which ids, and which objects are wanted for that. The refs
 -- of a reply are matched refspec by refspec, and of each in the order of the reply; the first ask for a ref counts.
 -- Both are our own rules.
-use Rattle.std.specs.Prelude.{◌≡◌, Bool, List, [], ◌∷◌, ◌++◌, map, filter, All, if◌then◌else◌, Option, None}
+use Rattle.std.specs.Prelude.{Bool, List, [], ◌∷◌, map, filter, All, if◌then◌else◌, Option, None}
 use Rattle.std.specs.List.{flat_map, list_any}
 use Rattle.std.specs.Str.{bytes_eq}
 use Rattle.gname.specs.Names.{Name, IsRefName, head_name}
@@ -43,14 +43,6 @@ asked_of specs lines = with_asks [] (asks_by_all specs lines)
 -- each ask is for a ref name; else the reply is refused
 abbrev pub AreNamed : {A : Type 0} → List (Ask A) → Type 0
 AreNamed asks = All (λ ask. IsRefName ask.name) asks
-
--- one of the asks, and those before it, are each for a ref name
-pub record AreNamedTo {A : Type 0} (asks : List (Ask A)) : Type 0 where
-  pub front : List (Ask A)
-  pub ask : Ask A
-  pub rest : List (Ask A)
-  pub parts : asks ≡ front ++ ask ∷ rest
-  pub named : AreNamed (front ++ ask ∷ [])
 
 -- the wants: the distinct asked ids that are not connected, in order
 abbrev pub AreWants : {A : Type 0} → List (Entry A) → List (Ask A) → List Id → Type 0

@@ -52,12 +52,13 @@ pub data Does {A : Type 0} (g : List (Entry A)) (old new : SessionState A) : Typ
       → (fetch_has asked Done ≡ true → stage ≡ Settling) → new ≡ after_acks old stage acks → Does g old new
   does_settle : old.stage ≡ Settling → new ≡ record (over old) { asks = [] } → Does g old new
 
--- what a call leaves as it is: what is fetched and how, and the tips; of the ids that were offered none is forgotten
+-- what a call leaves as it is: what is fetched and how, the options, and the tips; of the ids that were offered none is forgotten
 pub record GoesOn {A : Type 0} (old new : SessionState A) : Type 0 where
   pub format : new.format ≡ old.format
   pub refspecs : new.refspecs ≡ old.refspecs
   pub limit : new.limit ≡ old.limit
   pub ends : new.ends ≡ old.ends
+  pub options : new.options ≡ old.options
   pub tips : new.tips ≡ old.tips
   pub sent : (more : List Id) × (new.sent ≡ old.sent ++ more)
 

@@ -1,5 +1,5 @@
 -- What follows from the definitions of a session's calls.
-use Rattle.std.specs.Prelude.{◌≡◌, ◌≢◌, ◌⊎◌, true, List, ◌∷◌, ◌++◌, All, Contains, Result}
+use Rattle.std.specs.Prelude.{◌≡◌, ◌≢◌, ◌⊎◌, true, not, List, ◌∷◌, ◌++◌, All, Contains, Result}
 use Rattle.gname.specs.Ids.{Id}
 use Rattle.gname.specs.Names.{Name}
 use Rattle.gpkt.specs.Change.{Change}
@@ -16,7 +16,8 @@ use Rattle.gclientrepo.specs.declared.ask.Ask.{Ask}
 use Rattle.gclientrepo.specs.declared.ask.RefUpdate.{RefUpdate}
 use Rattle.gclientrepo.specs.Asks.{NamesDiffer, asked_ids}
 use Rattle.gclientrepo.specs.Repos.{RepoState}
-use Rattle.grequest.specs.Asked.{Asked, Fetches, FetchAsked}
+use Rattle.grequest.specs.Asked.{Asked, Fetches, FetchAsked, fetch_has}
+use Rattle.grequest.specs.declared.flag.FetchFlag.TheVariants.{NoProgress, OfsDelta}
 use Rattle.gsession.specs.Asking.{AreWants, ask_of, asked_of}
 use Rattle.gsession.specs.Calls.{Does, GoesOn, HasCalled, IsOpenHave, IsOutOfTurn, IsOver}
 use Rattle.gsession.specs.Requesting.{MakesNext, Requests}
@@ -25,6 +26,7 @@ use Rattle.gsession.specs.SettlingRefs.{SettlesSession}
 use Rattle.gsession.specs.TakingRefs.{TakesLs}
 use Rattle.gsession.specs.TakingReplies.{Awaits, TakesRead, TakesReply}
 use Rattle.gfetchreply.specs.FetchHeads.{acknowledged_by}
+use Rattle.gsession.specs.declared.options.PackOptions.{PackOptions}
 use Rattle.gsession.specs.declared.fault.ClientFault.{ClientFault}
 use Rattle.gsession.specs.declared.taken.LsTaken.{LsTaken}
 use Rattle.gsession.specs.declared.taken.Taken.{Taken}
@@ -112,6 +114,17 @@ abbrev pub OneNext : Type 0 → Type 0
 OneNext A =
     (g : List (Entry A)) (old new other : SessionState A) (asked also : Asked) → MakesNext old g new asked
     → MakesNext old g other also → (asked ≡ also) × (new ≡ other)
+
+-- each next request for objects has the arguments that the session's options say: `ofs-delta` where that is wanted, and
+-- `no-progress` where no progress is
+pub record AsksAsOptioned (options : PackOptions) (asked : FetchAsked) : Type 0 where
+  pub ofs_delta : fetch_has asked OfsDelta ≡ options.ofs_delta
+  pub progress : fetch_has asked NoProgress ≡ not options.progress
+
+abbrev pub OptionsAreAsked : Type 0 → Type 0
+OptionsAreAsked A =
+    (g : List (Entry A)) (old new : SessionState A) (asked : FetchAsked) → MakesNext old g new (Fetches asked)
+    → AsksAsOptioned old.options asked
 
 -- ---- haves
 

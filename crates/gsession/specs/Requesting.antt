@@ -1,7 +1,7 @@
 -- The next request of a session. gitprotocol-v2(5), "ls-refs" and "fetch", says what a request has; which ids are
 -- offered as haves, and when the client is done, is our own rule: batches of 16, 32, 64, 128 and then 256 ids.
 use Rattle.std.specs.Prelude.{◌≡◌, ℕ, ◌+◌, Bool, true, false, List, [], ◌++◌, length, map, nat_le, ◌==◌}
-use Rattle.std.specs.Prelude.{if◌then◌else◌, Option, Some, None, Result, Ok, Err}
+use Rattle.std.specs.Prelude.{if◌then◌else◌, not, Option, Some, None, Result, Ok, Err}
 use Rattle.gname.specs.Ids.{Id}
 use Rattle.gobject.specs.declared.node.Entry.{Entry}
 use Rattle.gdag.specs.Levels.{distinct_of}
@@ -10,10 +10,11 @@ use Rattle.gdag.specs.declared.fault.GraphFault.TheVariants as graph
 use Rattle.grefspec.specs.Refspecs.{Refspec}
 use Rattle.gclientrepo.specs.declared.fault.RepoFault.TheVariants as repo
 use Rattle.grequest.specs.declared.flag.LsRefsFlag.TheVariants.{Unborn}
-use Rattle.grequest.specs.declared.flag.FetchFlag.TheVariants.{NoProgress, IncludeTag, Done}
+use Rattle.grequest.specs.declared.flag.FetchFlag.TheVariants.{NoProgress, IncludeTag, OfsDelta, Done}
 use Rattle.grequest.specs.Building.{no_ls_refs, no_fetch}
 use Rattle.grequest.specs.Asked.{Asked, Empty, Ls, Fetches, LsRefsAsked, FetchAsked, max_haves, ls_with, fetch_with}
 use Rattle.gsession.specs.Sessions.{SessionState, over}
+use Rattle.gsession.specs.declared.options.PackOptions.{PackOptions}
 use Rattle.gsession.specs.declared.stage.Stage.{Stage}
 use Rattle.gsession.specs.declared.stage.Stage.TheVariants.{Listing, Fetching}
 use Rattle.gsession.specs.declared.fault.ClientFault.{ClientFault}
@@ -44,20 +45,29 @@ pub record IsBatch {A : Type 0} (s : SessionState A) (g : List (Entry A)) (batch
   pub offered : IsOffer g s.tips s.commons s.sent (batch_size s.rounds) offer
   pub is : batch ≡ batch_of s.commons offer
 
--- the request for the wanted objects: the client has the common ids and those of the batch, and is done without a
--- batch
-abbrev pub fetch_request : List Id → List Id → List Id → FetchAsked
-fetch_request wants commons batch =
-    let quiet = fetch_with no_fetch NoProgress true in
+-- a request for objects that names no ids yet: tags are to come with the commits that they lead to; progress, and deltas
+-- by offset, only where the options say so
+abbrev pub blank_request : PackOptions → FetchAsked
+blank_request options =
+    let quiet = fetch_with no_fetch NoProgress (not options.progress) in
     let tagged = fetch_with quiet IncludeTag true in
-    record (fetch_with tagged Done (length batch == 0)) { wants = wants; haves = commons ++ batch }
+    fetch_with tagged OfsDelta options.ofs_delta
+
+-- the same with ids: the client wants these, and has the common ids and those of the batch; it is done without a batch
+abbrev pub with_ids : FetchAsked → List Id → List Id → List Id → FetchAsked
+with_ids blank wants commons batch =
+    record (fetch_with blank Done (length batch == 0)) { wants = wants; haves = commons ++ batch }
+
+-- the request for the wanted objects
+abbrev pub fetch_request : PackOptions → List Id → List Id → List Id → FetchAsked
+fetch_request options wants commons batch = with_ids (blank_request options) wants commons batch
 
 -- the next request, with its batch: for refs first, then for objects, as often as the server only acknowledged
 abbrev pub IsNext : {A : Type 0} → SessionState A → List (Entry A) → Asked → List Id → Type 0
 IsNext s g Empty batch = ⊥
 IsNext s g (Ls asked) batch = (s.stage ≡ Listing) × (asked ≡ ls_request s.refspecs s.offers_unborn) × (batch ≡ [])
 IsNext s g (Fetches asked) batch =
-    (s.stage ≡ Fetching) × (asked ≡ fetch_request s.wants s.commons batch) × IsBatch s g batch
+    (s.stage ≡ Fetching) × (asked ≡ fetch_request s.options s.wants s.commons batch) × IsBatch s g batch
 
 -- the request waits for its reply; one for objects is a round
 abbrev pub waiting_for : {A : Type 0} → SessionState A → Asked → List Id → SessionState A

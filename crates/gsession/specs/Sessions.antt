@@ -19,12 +19,13 @@ use Rattle.gclientrepo.specs.declared.ask.Ask.{Ask}
 use Rattle.gclientrepo.specs.declared.fault.RepoFault.TheVariants as repo
 use Rattle.gclientrepo.specs.Repos.{RepoState}
 use Rattle.grequest.specs.Asked.{Asked, Ls, Fetches, FetchAsked, is_direct, max_haves, max_wants}
+use Rattle.gsession.specs.declared.options.PackOptions.{PackOptions}
 use Rattle.gsession.specs.declared.stage.Stage.{Stage}
 use Rattle.gsession.specs.declared.stage.Stage.TheVariants.{Listing, Fetching, Settling, Over}
 use Rattle.gsession.specs.declared.fault.ClientFault.{ClientFault}
 use Rattle.gsession.specs.declared.fault.ClientFault.TheVariants.{Message, NoOpenRequest, TooManySpecs, Repo}
 
--- what a session knows: what it fetches and how; the tips, which are the distinct ids of the refs when it began;
+-- what a session knows: what it fetches and how, and how it asks for packs; the tips, which are the distinct ids of the refs when it began;
 -- whether the server offers to report an unborn HEAD; how far it is, and the request that waits for its reply; what
 -- is asked for, and which objects are wanted for it; the ids that the server has acknowledged, those that were
 -- offered to it, and how many times objects were asked for
@@ -33,6 +34,7 @@ pub record SessionState (A : Type 0) : Type 0 where
   pub refspecs : List Refspec
   pub limit : ℕ
   pub ends : Ends
+  pub options : PackOptions
   pub tips : List Id
   pub offers_unborn : Bool
   pub stage : Stage
@@ -115,6 +117,10 @@ no_memory = Repo (repo.Graph graph.Memory)
 abbrev pub tips_of : {A : Type 0} → RepoState A → List Id
 tips_of repo = distinct_of (values_of repo.refs)
 
+-- no option for packs: this is the default
+abbrev pub no_options : PackOptions
+no_options = record { ofs_delta = false; progress = false }
+
 -- a session as it begins
 abbrev pub new_session : {A : Type 0} → Format → List Refspec → ℕ → Ends → List Id → SessionState A
 new_session format refspecs limit ends tips = record {
@@ -122,6 +128,7 @@ new_session format refspecs limit ends tips = record {
   refspecs = refspecs;
   limit = limit;
   ends = ends;
+  options = no_options;
   tips = tips;
   offers_unborn = false;
   stage = Listing;
@@ -142,6 +149,14 @@ Begins r refspecs limit ends (Ok session) =
 Begins r refspecs limit ends (Err TooManySpecs) = max_specs < length refspecs
 Begins r refspecs limit ends (Err (Repo (repo.Graph graph.Memory))) = length refspecs ≤ max_specs
 Begins r refspecs limit ends (Err _) = ⊥
+
+-- what beginning with options answers
+abbrev pub BeginsWith : {A : Type 0} → RepoState A → List Refspec → ℕ → Ends → PackOptions
+    → Result (SessionState A) (ClientFault A) → Type 0
+BeginsWith r refspecs limit ends options (Ok session) =
+    (length refspecs ≤ max_specs)
+    × (session ≡ record (new_session r.graph.format refspecs limit ends (tips_of r)) { options = options })
+BeginsWith r refspecs limit ends options (Err fault) = Begins r refspecs limit ends (Err fault)
 
 -- ---- the advertisement
 

@@ -13,7 +13,7 @@ use Rattle.gobject.specs.declared.node.Entry.{Entry}
 use Rattle.gdag.specs.declared.fault.GraphFault.TheVariants as graph
 use Rattle.gclientrepo.specs.declared.fault.RepoFault.TheVariants as repo
 use Rattle.grequest.specs.Asked.{Ls, LsRefsAsked, max_wants}
-use Rattle.gsession.specs.Asking.{AreNamed, AreNamedTo, AreWants, asked_of, asks_by_all, unborn_told}
+use Rattle.gsession.specs.Asking.{AreNamed, AreWants, asked_of, asks_by_all, unborn_told}
 use Rattle.gsession.specs.Sessions.{SessionState, after_fault}
 use Rattle.gsession.specs.declared.stage.Stage.{Stage}
 use Rattle.gsession.specs.declared.stage.Stage.TheVariants.{Fetching, Settling}
@@ -61,13 +61,12 @@ pub record WantsTooMuch {A : Type 0} (s : SessionState A) (g : List (Entry A)) (
   pub wanted : AreWants {A = A} g (asked_of s.refspecs reply.lines) wants
   pub many : max_wants < length wants
 
--- why the refs of a reply are not taken: a ref can't have its name; or too much is wanted; or it is out of memory. That
--- is met at an ask, where this and those before it are for ref names, or after all of them are
+-- why the refs of a reply are not taken: a ref can't have its name; or too much is wanted; or it is out of memory,
+-- where each ref can have its name
 abbrev pub IsRefsFault : {A : Type 0} → SessionState A → List (Entry A) → LsReply → ClientFault A → Type 0
 IsRefsFault s g reply (Message fault) = IsMisnamed s reply fault
 IsRefsFault s g reply TooManyWants = WantsTooMuch s g reply
-IsRefsFault {A} s g reply (Repo (repo.Graph graph.Memory)) =
-    AreNamed {A = A} (asks_by_all s.refspecs reply.lines) ⊎ AreNamedTo {A = A} (asks_by_all s.refspecs reply.lines)
+IsRefsFault {A} s g reply (Repo (repo.Graph graph.Memory)) = AreNamed {A = A} (asks_by_all s.refspecs reply.lines)
 IsRefsFault s g reply _ = ⊥
 
 -- a complete reply is read

@@ -64,13 +64,18 @@ module _ {A : Type 0} (indexes : Indexes A) (index_fails : IndexFails) where
   RefusesPack repo pack fault =
       (entries : List (Entry A)) × indexes pack entries × IsRefused repo.graph.format repo.graph.entries entries fault
 
+  -- the indexer takes the pack of a reply, where it has one
+  abbrev pub TakesPack : FetchReply → Type 0
+  TakesPack reply = HasPack reply → ((entries : List (Entry A)) × indexes (pack_of reply) entries)
+
   -- why a reply is not taken that was read: an id is acknowledged that the request did not name; or else the indexer
-  -- refuses its pack, or the graph the pack's objects, or it is out of memory
+  -- refuses its pack; or else the graph refuses the pack's objects, or it is out of memory
   abbrev pub IsReplyFault : List Id → RepoState A → FetchReply → ClientFault A → Type 0
   IsReplyFault haves repo reply (StrangeAck id) = IsFirstStrange haves (acknowledged_by reply) id
   IsReplyFault haves repo reply (Index fault) =
       All (Contains haves) (acknowledged_by reply) × HasPack reply × index_fails (pack_of reply) fault
-  IsReplyFault haves repo reply (Repo (Graph Memory)) = All (Contains haves) (acknowledged_by reply)
+  IsReplyFault haves repo reply (Repo (Graph Memory)) =
+      All (Contains haves) (acknowledged_by reply) × TakesPack reply
   IsReplyFault haves repo reply (Repo (Graph fault)) =
       All (Contains haves) (acknowledged_by reply) × HasPack reply × RefusesPack repo (pack_of reply) fault
   IsReplyFault haves repo reply _ = ⊥

@@ -1,31 +1,56 @@
 //! What a session asks for.
 
-ghost use Rattle.std.specs.Prelude.{◌≡◌, ◌↔◌, ◌∷◌, [], true, All, IfErr, IfOk, IsTrue};
+ghost use Rattle.std.specs.Prelude.{◌≡◌, ◌↔◌, ◌∷◌, [], true, All, IfErr, IfOk, IsTrue, Ok, OnOk};
 ghost use Rattle.gname.specs.Ids.{IsIdOf};
 ghost use Rattle.gname.specs.declared.formats.Format.{Format};
 ghost use Rattle.glsreply.specs.WellFormed.{IsRefLine};
 ghost use Rattle.gdag.specs.Reach.{IsFull};
-ghost use Rattle.gdag.specs.Walks.{Misses};
 ghost use Rattle.gdag.specs.declared.fault.GraphFault.TheVariants.{Memory};
-ghost use Rattle.gsession.specs.Asking.{AreWants, asks_by, takes_head, unborn_told};
+ghost use Rattle.grefspec.specs.Refspecs.{FindsDestination};
+ghost use Rattle.gsession.specs.Asking.{AreNamed, AreWants, asks_by, asks_by_all, takes_head, unborn_told};
 ghost use Rattle.gsession.specs.steps.Calls.{AddsAsks, FindsAsks};
 
 use gclientrepo::{Ask, Asks, Repo};
 use ggraph::graph_laws::{distinct_are_once, places_are_nodes};
-use ggraph::{GraphFault, distinct_ids, missing};
+use ggraph::{GraphFault, distinct_ids};
 use glsreply::{LsReply, RefLine};
-use gname::laws::rules_never_report_memory;
-use gname::{NameFault, Oid, RefName};
+use gname::{Oid, RefName};
 use grefspec::Spec;
 use std::alloc::{AllocError, Allocator};
 
-/// What refspecs ask for of the refs of a reply. It fails with the name fault of a destination, and with `Memory`.
+/// Whether each ref that refspecs ask for of the refs of a reply can have its name. It takes no memory.
+pub(crate) fn are_named<A: Allocator + Copy>(specs: &[Spec<A>], reply: &LsReply<A>) -> bool
+    ensures { IsTrue result ↔ AreNamed {A = A} (asks_by_all specs.now reply.now.lines) }
+{
+    for spec in specs {
+        if !leads_to_names(spec, reply) {
+            return false;
+        }
+    }
+    true
+}
+
+// Whether each ref to which a refspec takes a ref of a reply can have its name.
+fn leads_to_names<A: Allocator + Copy>(spec: &Spec<A>, reply: &LsReply<A>) -> bool
+    ensures { IsTrue result ↔ AreNamed {A = A} (asks_by spec.now reply.now.lines) }
+{
+    for place in 0..reply.len() {
+        if let Some(line) = reply.at(place) {
+            if !spec.can_take(&line.name) {
+                return false;
+            }
+        }
+    }
+    true
+}
+
+/// What refspecs ask for of the refs of a reply. It fails where out of memory, or where a ref can't have its name.
 pub(crate) fn asked_of<A: Allocator + Copy>(
     alloc: A,
     specs: &[Spec<A>],
     reply: &LsReply<A>,
-) -> Result<Asks<A>, NameFault>
-    ensures asks { FindsAsks specs.now reply.now.lines result }
+) -> Result<Asks<A>, AllocError>
+    ensures asks { IfOk result (FindsAsks specs.now reply.now.lines) }
     ensures ids { IfOk result (λ asks. (format : Format) → All (IsRefLine format) reply.now.lines
         → All (λ ask. IsIdOf format ask.id) asks) }
 {
@@ -41,8 +66,8 @@ fn add_asks<A: Allocator + Copy>(
     spec: &Spec<A>,
     reply: &LsReply<A>,
     asks: &mut Asks<A>,
-) -> Result<(), NameFault>
-    ensures { AddsAsks asks.old (asks_by spec.now reply.now.lines) asks.new result }
+) -> Result<(), AllocError>
+    ensures { OnOk result (AddsAsks asks.old (asks_by spec.now reply.now.lines) asks.new) }
 {
     for place in 0..reply.len() {
         if let Some(line) = reply.at(place) {
@@ -57,12 +82,10 @@ fn add_line<A: Allocator + Copy>(
     spec: &Spec<A>,
     line: &RefLine<A>,
     asks: &mut Asks<A>,
-) -> Result<(), NameFault>
-    ensures { AddsAsks asks.old (asks_by spec.now (line.now ∷ [])) asks.new result }
+) -> Result<(), AllocError>
+    ensures { OnOk result (AddsAsks asks.old (asks_by spec.now (line.now ∷ [])) asks.new) }
 {
-    // Laws.
-    rules_never_report_memory();
-    let Some(name) = spec.destination(asks.allocator(), &line.name)? else {
+    let Some(name) = destination_of(asks.allocator(), spec, &line.name)? else {
         return Ok(());
     };
     let ask = Ask {
@@ -72,6 +95,20 @@ fn add_line<A: Allocator + Copy>(
     };
     asks.add(ask)?;
     Ok(())
+}
+
+// Where a refspec takes a ref. It fails where out of memory, or where that is no ref name.
+fn destination_of<A: Allocator + Copy>(
+    alloc: A,
+    spec: &Spec<A>,
+    name: &RefName<A>,
+) -> Result<Option<RefName<A>>, AllocError>
+    ensures { IfOk result (λ found. FindsDestination spec.now name.now (Ok found)) }
+{
+    match spec.destination(alloc, name) {
+        Ok(found) => Ok(found),
+        Err(_) => Err(AllocError),
+    }
 }
 
 /// The distinct asked ids that are not connected, in order. It fails with `Memory` alone.
@@ -110,21 +147,7 @@ fn is_full<A: Allocator + Copy>(repo: &Repo<A>, id: &Oid) -> Result<bool, GraphF
     if is_known(repo, id) {
         return Ok(true);
     }
-    Ok(missing_of(repo, id)?.is_none())
-}
-
-// What is missing of the ancestry of an id. Where parents came first it is only looked up; else the walk does not go on
-// from marked objects.
-fn missing_of<A: Allocator + Copy>(repo: &Repo<A>, id: &Oid) -> Result<Option<Oid>, GraphFault>
-    ensures answer { IfOk result (Misses repo.now.graph.entries (id.now ∷ [])) }
-    ensures fault { IfErr result (λ fault. fault ≡ Memory) }
-{
-    let ids = [*id];
-    if repo.graph().is_ordered() {
-        missing(repo.graph(), &ids)
-    } else {
-        repo.missing(&ids)
-    }
+    Ok(repo.missing(&[*id])?.is_none())
 }
 
 // Whether the id is marked, and so connected.

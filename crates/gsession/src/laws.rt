@@ -2,7 +2,7 @@
 
 ghost use Rattle.std.specs.Prelude.{◌≡◌};
 ghost use Rattle.gsession.specs.Bounds.{BeganBegins, BeganStays, BeganStaysOn, BeginsCounted, BeginsOffered, CountedAreFew, CountedStays, DoneAsksLast, LastStays, NoneFollows, OfferedStays, OffersAreNew, RoundsAreFew};
-ghost use Rattle.gsession.specs.Laws.{EachDoes, FirstIsAsked, OpenIsTheSessions, AsksAreOfLines, CommonsAreHaves, EachGoesOn, HavesAreFull, HavesAreNew, ListingIsDecided, OneNext, OverHearsNone, OverRequestsNone, OverSettlesNone, OverTakesNoRefs, OverTakesNoReply, RepliesAddCommons, TakingOnlyGrows, WantsAreExact};
+ghost use Rattle.gsession.specs.Laws.{EachDoes, FirstIsAsked, OpenIsTheSessions, AsksAreOfLines, CommonsAreHaves, EachGoesOn, HavesAreFull, HavesAreNew, ListingIsDecided, OneNext, OptionsAreAsked, OverHearsNone, OverRequestsNone, OverSettlesNone, OverTakesNoRefs, OverTakesNoReply, RepliesAddCommons, TakingOnlyGrows, WantsAreExact};
 ghost use Rattle.gsession.specs.TakingReplies.{DoneIsLast, TakingIsDecided};
 ghost use Rattle.gsession.specs.Sessions.{max_specs};
 
@@ -144,6 +144,12 @@ pub fn one_next<A: Allocator + Copy>()
 {
     offers_are_exact::<A>();
 }
+
+/// A request for objects has the arguments that the session's options say.
+#[tactic(auto, using(crate::proofs::NextLaws::options_are_asked))]
+pub fn options_are_asked<A: Allocator + Copy>()
+    ensures { OptionsAreAsked A }
+{}
 
 /// The haves of a request are connected, where the tips and the common ids are. Each is a common id, or
 /// was not offered before.

@@ -8,19 +8,19 @@
 //!   are more than 16 refspecs. [`Session::hear`] keeps whether the server reports an unborn `HEAD`.
 //! - [`Session::request`] makes the one request that is due. For refs it has the sources of the refspecs, each once,
 //!   and asks for an unborn `HEAD` exactly where the server offers to report it. For objects it has the wants, the
-//!   common ids, and a batch of ids that were not offered before; without a batch the client is done. The
+//!   common ids, and a batch of ids that were not offered before; without a batch the client is done. It has
+//!   `ofs-delta`, and lacks `no-progress`, exactly where the session's options say so ([`Session::begin_with`]). The
 //!   session and the graph decide the request, and the session that then waits for its reply ([`laws`]).
 //! - [`Session::take_ls`] reads one reply to its end, and nothing after it. Something is asked of each ref to which a
 //!   refspec takes a line, and one thing alone: what the first refspec and line ask for that lead there, refspec by
 //!   refspec and line by line ([`laws`]). Wanted is each asked id that is not connected. A ref that can't have
-//!   its name is reported at the reply's last packet, and before too many wants are; out of memory stands in for none but
-//!   one that comes later.
+//!   its name is reported at the reply's last packet, before too many wants and out of memory are.
 //! - [`Session::take_reply`] reads one reply to its end, whatever its bytes are, and nothing after it. Each id that is
 //!   common from then on was a have of the request. What comes to the repository is a list that the indexer may answer
 //!   for the pack, all of it or none. A reply that is refused is reported first, then an id that the request did not
 //!   name, then the indexer's fault, then the graph's. Out of memory a reply is refused only at an acknowledged id,
-//!   and for what the indexer says of its pack at no packet; once it was read, out of memory is reported only where no
-//!   id is strange.
+//!   and for what the indexer says of its pack at no packet. Once it was read, out of memory is reported only where no
+//!   id is strange and the indexer took the pack.
 //! - [`Session::settle`] moves the refs as `Repo::settle` does, once a pack was taken or nothing is wanted.
 //! - [`Session::pending`] lends the request that waits, whose ids are of the session's format, so that it can be written;
 //!   [`Session::asks`] and [`Session::wants`] lend what is asked for.
@@ -40,10 +40,11 @@
 //!
 //! # What the contracts do not rule out
 //!
-//! It may report out of memory as often as it likes where no fault stands before: while a reply to fetch is read, at an
-//! acknowledged id; once it was read, in place of the fault of the indexer or of the graph, too. It may keep all of a pack
-//! and feed it once, start the indexer more often than it has to, or feed it after its fault; take as long as it likes,
-//! and more memory than it needs. Formatting a fault may answer an error (`fmt::Error`) where the text would be right.
+//! It may report out of memory as often as it likes where no fault comes before: while a reply to fetch is read, at an
+//! acknowledged id; once it was read, in place of the fault of the graph, too; and in place of too many wants. It may
+//! keep all of a pack and feed it once, start the indexer more often than it has to, or feed it after its fault; take as
+//! long as it likes, and more memory than it needs. Formatting a fault may answer an error (`fmt::Error`) where the text
+//! would be right.
 //!
 //! No clause speaks of the work. A request for objects walks from the tips anew. Of the ids that are asked for, one
 //! that is not held, one that the refs reach, and each one in a graph in which parents came first is only looked up;
@@ -60,11 +61,13 @@ mod asks;
 mod fault;
 mod feed;
 pub mod laws;
+mod options;
 mod requests;
 mod session;
 mod stage;
 mod taken;
 
 pub use crate::fault::ClientFault;
+pub use crate::options::{FetchPlan, PackOptions};
 pub use crate::session::{MAX_SPECS, Session};
 pub use crate::taken::{LsTaken, Settled, Taken};

@@ -1,19 +1,20 @@
 //! The requests that a session makes.
 
-ghost use Rattle.std.specs.Prelude.{◌≡◌, ◌+◌, ◌<◌, ◌≤◌, ◌++◌, All, length, IfOk, OnOk, Some, None};
+ghost use Rattle.std.specs.Prelude.{◌≡◌, ◌+◌, ◌<◌, ◌≤◌, ◌++◌, [], All, length, IfOk, OnOk, Some, None};
 ghost use Rattle.gname.specs.Ids.{IsIdOf};
 ghost use Rattle.ggrammar.specs.declared.fault.Why.TheVariants.{Memory};
 ghost use Rattle.grequest.specs.Asked.{Ls, Fetches, max_haves, max_prefixes, max_wants};
 ghost use Rattle.grequest.specs.RequestValues.{asked_by_request, ids_format};
 ghost use Rattle.gdag.specs.Levels.{is_in};
-ghost use Rattle.gsession.specs.Requesting.{batch_size, fetch_request, ls_request};
+ghost use Rattle.gsession.specs.Requesting.{batch_size, blank_request, ls_request, with_ids};
 ghost use Rattle.gsession.specs.Sessions.{max_specs};
 ghost use Rattle.gsession.specs.steps.Calls.{with_prefix};
 
+use crate::options::PackOptions;
 use ggrammar::MessageFault;
 use gname::{Format, Oid, Prefix};
 use grefspec::Spec;
-use grequest::{FetchRequest, LsRefsRequest, Request};
+use grequest::{FetchFlag, FetchRequest, LsRefsRequest, Request};
 use std::alloc::{AllocError, Allocator};
 
 /// How many ids are offered after so many rounds.
@@ -79,27 +80,40 @@ fn has_prefix<A: Allocator + Copy>(prefixes: &[Prefix<A>], prefix: &Prefix<A>) -
         .any(|other| other.as_bytes() == prefix.as_bytes())
 }
 
-/// The request for the wanted objects: the client has the common ids and those of the batch, and is done without a
-/// batch. It fails where out of memory.
-pub(crate) fn objects_request<A: Allocator + Copy>(
+/// A request for objects that names no ids yet. It takes no memory.
+pub(crate) fn blank_request<A: Allocator + Copy>(
     alloc: A,
     format: Format,
+    options: PackOptions,
+) -> FetchRequest<A>
+    ensures { result ≡ record { format = format; asked = blank_request options } }
+{
+    let mut request = FetchRequest::new(alloc, format);
+    request.set_no_progress(!options.progress);
+    request.set_include_tag(true);
+    request.set(FetchFlag::OfsDelta, options.ofs_delta);
+    request
+}
+
+/// The request for the wanted objects, from one that names no ids: the client has the common ids and those of the
+/// batch, and is done without a batch. It fails where out of memory.
+pub(crate) fn objects_request<A: Allocator + Copy>(
+    blank: FetchRequest<A>,
     wants: &[Oid],
     commons: &[Oid],
     batch: &[Oid],
 ) -> Result<Request<A>, AllocError>
-    requires wants { All (IsIdOf format) wants.now }
+    requires blank { (blank.asked.wants ≡ []) × (blank.asked.haves ≡ []) }
+    requires wants { All (IsIdOf blank.format) wants.now }
     requires few_wants { length wants.now ≤ max_wants }
-    requires commons { All (IsIdOf format) commons.now }
-    requires batch { All (IsIdOf format) batch.now }
+    requires commons { All (IsIdOf blank.format) commons.now }
+    requires batch { All (IsIdOf blank.format) batch.now }
     requires room { length commons.now + length batch.now ≤ max_haves }
     ensures asked { IfOk result (λ request. asked_by_request request
-        ≡ Fetches (fetch_request wants.now commons.now batch.now)) }
-    ensures format { IfOk result (λ request. ids_format request ≡ Some format) }
+        ≡ Fetches (with_ids blank.asked wants.now commons.now batch.now)) }
+    ensures format { IfOk result (λ request. ids_format request ≡ Some blank.format) }
 {
-    let mut request = FetchRequest::new(alloc, format);
-    request.set_no_progress(true);
-    request.set_include_tag(true);
+    let mut request = blank;
     request.set_done(batch.is_empty());
     add_wants(wants, &mut request)?;
     add_haves(commons, &mut request)?;

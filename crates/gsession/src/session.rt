@@ -11,6 +11,7 @@ mod objects;
 mod refs;
 
 use crate::fault::ClientFault;
+use crate::options::{FetchPlan, PackOptions};
 use crate::stage::Stage;
 use crate::taken::Settled;
 use gclientrepo::{Asks, Repo};
@@ -38,6 +39,7 @@ pub struct Session<A: Allocator + Copy = Global> {
     refspecs: Vec<Spec<A>, A>,
     limit: PackLimit,
     ends: Ends,
+    options: PackOptions,
     // The distinct ids of the refs when it began.
     tips: Vec<Oid, A>,
     offers_unborn: bool,
@@ -70,14 +72,14 @@ impl<A: Allocator + Copy> Model for Session<A> {
 
 impl<A: Allocator + Copy> Session<A> {
     ghost use Rattle.grequest.specs.RequestValues.{IsOfFormat, asked_by_request};
-    ghost use Rattle.gsession.specs.Sessions.{Begins, Hears, IsBegun, IsSession, after_fault, over};
+    ghost use Rattle.gsession.specs.Sessions.{Begins, BeginsWith, Hears, IsBegun, IsSession, after_fault, over};
     ghost use Rattle.gsession.specs.SettlingRefs.{SettlesSession};
 
     /// A session that fetches by these refspecs from a server; nothing was sent to it yet. It keeps the distinct ids
     /// of the refs, in the order of their names: from them it goes on to what it offers. A session without refspecs
     /// asks for nothing.
     ///
-    /// It fails with `TooManySpecs` over 16, and where out of memory.
+    /// It has no option for packs. It fails with `TooManySpecs` over 16, and where out of memory.
     pub fn begin(
         alloc: A,
         repo: &Repo<A>,
@@ -87,16 +89,37 @@ impl<A: Allocator + Copy> Session<A> {
     ) -> Result<Session<A>, ClientFault<A>>
         ensures { Begins repo.now specs.now limit ends result }
     {
-        if specs.len() > MAX_SPECS {
+        let plan = FetchPlan {
+            specs,
+            limit,
+            ends,
+            options: PackOptions::default(),
+        };
+        Session::begin_with(alloc, repo, &plan)
+    }
+
+    /// A session that [`Session::begin`] would begin, with options for packs.
+    ///
+    /// It fails as `begin` does.
+    pub fn begin_with(
+        alloc: A,
+        repo: &Repo<A>,
+        plan: &FetchPlan<'_, A>,
+    ) -> Result<Session<A>, ClientFault<A>>
+        ensures { BeginsWith repo.now plan.now.specs.now plan.now.limit plan.now.ends
+            plan.now.options result }
+    {
+        if plan.specs.len() > MAX_SPECS {
             return Err(ClientFault::TooManySpecs);
         }
-        let refspecs = copy_specs(alloc, specs)?;
+        let refspecs = copy_specs(alloc, plan.specs)?;
         let tips = tips_of(alloc, repo)?;
         Ok(Session {
             format: repo.format(),
             refspecs,
-            limit,
-            ends,
+            limit: plan.limit,
+            ends: plan.ends,
+            options: plan.options,
             tips,
             offers_unborn: false,
             stage: Stage::Listing,

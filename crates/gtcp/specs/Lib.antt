@@ -1,3 +1,4 @@
+pub mod Deadlines
 pub mod Telling
 pub mod Listing
 pub mod Messages

@@ -3,7 +3,8 @@
 ghost use Rattle.std.specs.Prelude.{◌≡◌, ◌≤◌};
 ghost use Rattle.std.specs.Duration.{as_nanos};
 ghost use Rattle.std.specs.Time.{instant_nanos};
-ghost use Rattle.gtcp.specs.steps.Deadlines.{LeavesOf, first_line_time, longest_wait, request_time};
+ghost use Rattle.gtcp.specs.Deadlines.{longest_wait};
+ghost use Rattle.gtcp.specs.steps.Deadlines.{LeavesOf, first_line_time, request_time};
 
 use std::marker::Model;
 use std::time::{Duration, Instant};
@@ -33,7 +34,7 @@ impl Model for TimeLeft {
     ghost use Rattle.std.specs.Prelude.{ℕ, ◌≤◌};
     ghost use Rattle.std.specs.Duration.{as_nanos};
     ghost use Rattle.std.specs.Time.{instant_nanos};
-    ghost use Rattle.gtcp.specs.steps.Deadlines.{longest_wait};
+    ghost use Rattle.gtcp.specs.Deadlines.{longest_wait};
 
     ghost Value = { ℕ × ℕ };
 

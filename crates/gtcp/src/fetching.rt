@@ -7,14 +7,14 @@ ghost use Rattle.gpkt.specs.Change.{change_of};
 ghost use Rattle.gclientrepo.specs.Repos.{IsWhole};
 ghost use Rattle.gclientrepo.specs.Settling.{Settles};
 ghost use Rattle.gsession.specs.Sessions.{tips_of};
-ghost use Rattle.gclient.specs.Conversations.{start_of};
+ghost use Rattle.gclient.specs.Conversations.{start_for, start_of};
 ghost use Rattle.gtcp.specs.steps.Sockets.{FetchesBetween, ListsBetween};
 ghost use Rattle.gtcp.specs.Sockets.{FetchesFrom, FetchesOn, ListsFrom, ListsOn};
 ghost use Rattle.gtcp.specs.steps.Remote.{MakesRequest};
 
 use crate::stream::{MESSAGE_BUFFER, Peer};
 use crate::timer::Silence;
-use gclient::{FetchFault, Fetched, Repo, Spec};
+use gclient::{FetchFault, Fetched, PackOptions, Repo, Spec};
 use gconnect::{GitFetch, fetch_git, list_git};
 use gfetchreply::PackLimit;
 use ggrammar::{Ends, MessageFault};
@@ -72,8 +72,37 @@ where
         specs,
         limit,
         ends,
+        options: PackOptions::default(),
     };
-    fetch_from(&Peer::new(stream, Silence), repo, indexer, &fetch)
+    fetch_git_on(stream, repo, indexer, &fetch)
+}
+
+/// Fetches as [`fetch_on`] does, with a first line that is made, and with options for packs.
+///
+/// It fails as `fetch_on` does, but not for the host or the path.
+pub fn fetch_git_on<A, K, S>(
+    stream: S,
+    repo: &mut Repo<A>,
+    indexer: &K,
+    fetch: &GitFetch<'_, A>,
+) -> Result<Fetched<A>, FetchFault<A>>
+where
+    A: Allocator + Copy,
+    K: Indexer<A>,
+    S: Read + Write + OpenStream + Drop,
+    ensures fetches { FetchesFrom (K.indexes indexer.now) (K.index_fails indexer.now)
+        (start_for repo.old fetch.now.specs.now fetch.now.limit fetch.now.ends fetch.now.options)
+        fetch.now.hello.now repo.new result }
+    ensures settled { IfOk result (λ fetched. Settles repo.new.graph.entries repo.old.refs
+        fetched.settled.asks fetched.settled.updates.items repo.new.refs) }
+    ensures refs { OnErr result (repo.new.refs ≡ repo.old.refs) }
+    ensures grows { Grows repo.old.graph.entries repo.new.graph.entries }
+    ensures safe { IsWhole repo.new }
+    ensures bound { IfOk result (λ fetched. (held parents : ℕ)
+        → CountsReached repo.old.graph.entries (tips_of repo.old) held parents
+        → fetched.requests ≤ held + 1) }
+{
+    fetch_from(&Peer::new(stream, Silence), repo, indexer, fetch)
 }
 
 /// Fetches as [`fetch_on`] does, with a first line that is made.
@@ -88,7 +117,7 @@ where
     K: Indexer<A>,
     S: Read + Write + OpenStream,
     ensures fetches { FetchesFrom (K.indexes indexer.now) (K.index_fails indexer.now)
-        (start_of repo.old fetch.now.specs.now fetch.now.limit fetch.now.ends)
+        (start_for repo.old fetch.now.specs.now fetch.now.limit fetch.now.ends fetch.now.options)
         fetch.now.hello.now repo.new result }
     ensures settled { IfOk result (λ fetched. Settles repo.new.graph.entries repo.old.refs
         fetched.settled.asks fetched.settled.updates.items repo.new.refs) }
@@ -123,7 +152,7 @@ fn fetch_between<A: Allocator + Copy, K: Indexer<A>, R: Read, W: Write>(
     fetch: &GitFetch<'_, A>,
 ) -> Result<Fetched<A>, FetchFault<A>>
     ensures fetches { FetchesBetween (K.indexes indexer.now) (K.index_fails indexer.now)
-        (start_of repo.old fetch.now.specs.now fetch.now.limit fetch.now.ends)
+        (start_for repo.old fetch.now.specs.now fetch.now.limit fetch.now.ends fetch.now.options)
         fetch.now.hello.now
         (change_of R.remaining reader.old reader.new) (change_of W.contents writer.old writer.new)
         repo.new result }

@@ -14,7 +14,8 @@
 //!   with `Socket` alone, and then it served fewer.
 //! - [`fetch_on`] holds a fetch by the refspecs, the limit and the end of replies that it is given, from the first line
 //!   of this host and path on, with every promise of `gclient::fetch_over`. Or there is no such first line, or out of
-//!   memory for its buffers, and nothing came. [`ls_on`] holds a listing likewise, of these prefixes. Both refuse a host
+//!   memory for its buffers, and nothing came. [`fetch_git_on`] does the same with a first line that is made, and with
+//!   options for packs. [`ls_on`] holds a listing likewise, of these prefixes. Both refuse a host
 //!   or a path that is not well-formed, and more than 64 prefixes.
 //! - [`cmd_ls_remote`] writes the lines of the reply to such a listing and passes them on; or nothing, save where its
 //!   output fails (`specs/Listing.antt`, `Remote.antt`). It refuses more than 64 prefixes as such, or out of memory, and
@@ -29,9 +30,10 @@
 //! - Each program ends with status 0 and prints nothing more, or with 1 and the line of the fault that was met, or a
 //!   beginning of it: why the file is refused, how the conversation failed, no socket, out of memory, or a failed
 //!   output. Before that [`cmd_serve`] prints the faults of connections alone, and the others print nothing.
-//! - The time that a client of the server has left shrinks by what the clock shows to have passed. It has none where
-//!   the clock went back, and all of it again only for a request that the server begins to wait for. No timer lets a read
-//!   wait longer than 60 seconds (`specs/steps/Deadlines.antt`, `Turns.antt`; these clauses are private).
+//! - A [`Timer`] lets each read wait for more than nothing, and for 60 seconds at most (`specs/Deadlines.antt`). The time
+//!   that [`Turns`] leave a client shrinks by what the clock shows to have passed. It has none where the clock went back,
+//!   and all of it again only for a request that the server begins to wait for (`specs/steps/Deadlines.antt`,
+//!   `Turns.antt`; these clauses are private).
 //! - A [`Place`] has the address and the path that it is given. Its host is the text before a port, which is a decimal
 //!   number up to 65,535 (`specs/Places.antt`).
 //! - A [`MessageSink`] wrote and holds all the bytes that it was given. It holds bytes without writing any, and none of a
@@ -57,7 +59,8 @@
 //!
 //! [`serve_listener`] may accept other connections between those that it serves. [`cmd_serve`] may listen at another
 //! address than it is given, and show another port, and at another time. A body may forget a deadline, or the clock.
-//! [`Place::new`] may answer none.
+//! [`Place::new`] may answer none. [`connect_to`] may connect to another address, or fail. A [`Peer`] may read and write
+//! other bytes than those of its stream.
 //!
 //! A [`MessageSink`] need not flush the sink inside, and at a flush that fails it may write a part of what it holds. Where
 //! the bytes of the sink inside are not known, nothing is said of when it writes. `is_too_long` and `bytes_written` may
@@ -82,11 +85,13 @@ mod stream;
 mod timer;
 
 pub use crate::deadline::{MAX_CONNECT, MAX_FIRST_LINE, MAX_REQUEST, MAX_SILENCE};
-pub use crate::fetching::{fetch_on, ls_on};
+pub use crate::fetching::{fetch_git_on, fetch_on, ls_on};
 pub use crate::message::{MAX_MESSAGE, MessageSink};
 pub use crate::place::Place;
 pub use crate::remote::{
     Listing, Pair, RemoteFetch, Service, cmd_fetch_remote, cmd_ls_remote, cmd_pair, cmd_serve,
 };
 pub use crate::serving::serve_listener;
+pub use crate::stream::{Peer, connect_to};
+pub use crate::timer::{Silence, Timer, Turns};
 pub use ganswer::Server;

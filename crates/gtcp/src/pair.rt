@@ -11,7 +11,7 @@ use crate::message::MessageSink;
 use crate::stream::Peer;
 use crate::timer::Silence;
 use ganswer::Server;
-use gclient::{FetchFault, Fetched, Repo, Spec};
+use gclient::{FetchFault, Fetched, PackOptions, Repo, Spec};
 use gcmd::ProgramFault;
 use gconnect::{GitFetch, fetch_git, hear};
 use gfetchreply::PackLimit;
@@ -362,6 +362,7 @@ fn fetch_as_client<A: Allocator + Copy, S: Source, W: Sink>(
         specs,
         limit: PackLimit::default(),
         ends: Ends::Plain,
+        options: PackOptions::default(),
     };
     fetch_git(repo, answers, requests, &PlainPack, &fetch)
 }

@@ -21,7 +21,7 @@ use crate::serving::serve_listener;
 use crate::stream::{Peer, connect_to};
 use crate::timer::Silence;
 use ganswer::Server;
-use gclient::{FetchFault, Fetched, Repo, Spec};
+use gclient::{FetchFault, Fetched, PackOptions, Repo, Spec};
 use gcmd::{
     OpenedFile, ProgramFault, conclude_stored, finish, load_server, open_client, open_stored,
     send_report, send_text,
@@ -230,7 +230,7 @@ where
         Ok(asked) => asked,
         Err(fault) => return Err(ProgramFault::Fetch(FetchFault::from(fault))),
     };
-    let Some(stream) = connect_to(net, listing.place.address()) else {
+    let Some(stream) = connect_to(net, listing.place.address()).ok() else {
         return Err(ProgramFault::Socket);
     };
     let peer = Peer::new(stream, Silence);
@@ -374,7 +374,7 @@ where
         fetched.settled.asks fetched.settled.updates.items repo.new.refs) }
     ensures grows { Grows repo.old.graph.entries repo.new.graph.entries }
 {
-    let Some(stream) = connect_to(net, fetch.place.address()) else {
+    let Some(stream) = connect_to(net, fetch.place.address()).ok() else {
         return Err(ProgramFault::Socket);
     };
     let peer = Peer::new(stream, Silence);
@@ -383,6 +383,7 @@ where
         specs: fetch.specs,
         limit: fetch.limit,
         ends: fetch.ends,
+        options: PackOptions::default(),
     };
     match fetch_from(&peer, repo, &PlainPack, &git_fetch) {
         Ok(fetched) => Ok(fetched),

@@ -25,28 +25,32 @@ const MAX_INTERRUPTS: u32 = 1_024;
 const TAKING_WAIT: u64 = 5;
 
 /// Connects to the first of the addresses of a text, HOST:PORT, that takes a connection within [`MAX_CONNECT`] seconds.
-pub(crate) fn connect_to<N: Net>(net: &N, address: &str) -> Option<N::Stream> {
+///
+/// It fails as the look-up of the host does. If no address takes a connection, it fails as the last one did.
+pub fn connect_to<N: Net>(net: &N, address: &str) -> io::Result<N::Stream> {
     let limit = Duration::from_secs(MAX_CONNECT);
-    for address in address.to_socket_addrs(net).ok()? {
-        if let Ok(stream) = TcpStream::connect_timeout(net, &address, limit) {
-            return Some(stream);
+    let mut last = io::Error::from(ErrorKind::AddrNotAvailable);
+    for address in address.to_socket_addrs(net)? {
+        match TcpStream::connect_timeout(net, &address, limit) {
+            Ok(stream) => return Ok(stream),
+            Err(error) => last = error,
         }
     }
-    None
+    Err(last)
 }
 
-/// The stream to a peer, shared by a reader and a writer. A read fails where the peer gives nothing in the time that the
-/// timer leaves it, and a write where it takes nothing for [`MAX_SILENCE`] seconds; or where the system refuses such a
-/// limit.
+/// The stream to a peer, shared by a reader and a writer: `&Peer` reads and writes. A read fails if the peer sends
+/// nothing in the time that the timer leaves it. A write fails if the peer accepts nothing for [`MAX_SILENCE`] seconds.
+/// Both fail if the system refuses such a limit, and if they are called while another call is under way.
 #[derive(Drop)]
-pub(crate) struct Peer<S, T> {
+pub struct Peer<S, T> {
     stream: RefCell<S>,
     timer: T,
 }
 
 impl<S: OpenStream, T> Peer<S, T> {
     /// The peer at the other end of a stream. Each message is sent at once, without waiting for the next.
-    pub(crate) fn new(stream: S, timer: T) -> Peer<S, T> {
+    pub fn new(stream: S, timer: T) -> Peer<S, T> {
         let _ = stream.set_nodelay(true);
         Peer {
             stream: RefCell::new(stream),
@@ -59,7 +63,7 @@ impl<S: Read + OpenStream, T> Peer<S, T> {
     /// Ends what is written, so that the last message and the end go out, and then drops what has come and was not read,
     /// waiting for nothing. A socket that is closed over such input resets the connection, and the peer might then lose
     /// the last message. It may lose it still where more comes before the socket is closed, or after it.
-    pub(crate) fn hang_up(&self) {
+    pub fn hang_up(&self) {
         if let Ok(mut stream) = self.stream.try_borrow_mut() {
             let _ = stream.shutdown(Shutdown::Write);
             if stream.set_nonblocking(true).is_ok() {

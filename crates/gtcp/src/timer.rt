@@ -3,7 +3,7 @@
 ghost use Rattle.std.specs.Prelude.{◌≤◌, ◌<◌, IfOk, IfSome};
 ghost use Rattle.std.specs.Duration.{as_nanos};
 ghost use Rattle.std.specs.Time.{instant_nanos};
-ghost use Rattle.gtcp.specs.steps.Deadlines.{longest_wait};
+ghost use Rattle.gtcp.specs.Deadlines.{longest_wait};
 ghost use Rattle.gtcp.specs.steps.Turns.{LeavesTurn};
 
 use crate::deadline::{MAX_SILENCE, TimeLeft};
@@ -11,20 +11,21 @@ use std::cell::Cell;
 use std::io;
 use std::time::{Clock, Duration, Instant};
 
-/// What says how long the reads of one stream may wait.
-pub(crate) trait Timer {
-    /// How long the next read may wait. It fails where the peer has no time left.
+/// How long the reads of one stream may wait.
+pub trait Timer {
+    /// How long the next read may wait: more than nothing, and 60 seconds at most. It fails with `TimedOut` if the peer
+    /// has no time left.
     fn next_read(&self) -> io::Result<Duration>
         ensures some { IfOk result (λ limit. 0 < as_nanos limit) }
         ensures most { IfOk result (λ limit. as_nanos limit ≤ longest_wait) };
 
-    /// Notes that bytes were written: the peer has given what it was to give.
+    /// Notes that bytes were written: the peer has sent what it was to send.
     fn note_write(&self);
 }
 
 /// The timer of a server that its client waits for: each read may wait for [`MAX_SILENCE`] seconds.
 #[derive(Clone, Copy)]
-pub(crate) struct Silence;
+pub struct Silence;
 
 impl Timer for Silence {
     fn next_read(&self) -> io::Result<Duration> {
@@ -58,17 +59,17 @@ impl Turn {
     }
 }
 
-/// The timer of a client that the server waits for. The client has [`MAX_FIRST_LINE`] seconds for its first line, and
-/// [`MAX_REQUEST`] for each request after it, however many reads they take.
+/// The timer of a client that the server waits for. The client has [`MAX_FIRST_LINE`](crate::MAX_FIRST_LINE) seconds for
+/// its first line, and [`MAX_REQUEST`](crate::MAX_REQUEST) for each request after it, however many reads they take.
 #[derive(Drop)]
-pub(crate) struct Turns<'c, C> {
+pub struct Turns<'c, C> {
     clock: &'c C,
     turn: Cell<Turn>,
 }
 
 impl<'c, C: Clock> Turns<'c, C> {
     /// The timer of a connection that is accepted now.
-    pub(crate) fn from_accept(clock: &'c C) -> Turns<'c, C> {
+    pub fn from_accept(clock: &'c C) -> Turns<'c, C> {
         let turn = match Instant::now(clock) {
             Ok(now) => Turn::Given(TimeLeft::for_first_line(now)),
             Err(_) => Turn::Over,

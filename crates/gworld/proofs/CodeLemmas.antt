@@ -1,12 +1,18 @@
 -- What the code did is a step.
-use Rattle.std.specs.Prelude.{slice_get, Result, MatchResult}
+use Rattle.std.specs.Prelude.{slice_get, IsSome, Result, MatchResult}
 use Rattle.std.proofs.Common.{inr, true, ◌∙◌, ◌≡◌, ℕ, Bool, false, List, [], ◌∷◌, ◌++◌, length, Option, Some, None, Ok}
 use Rattle.std.proofs.Common.{Err, refl, sym, ap, subst}
 use Rattle.gclientrepo.specs.Repos.{RepoState}
 use Rattle.gclientrepo.specs.declared.ask.Ask.{Ask}
 use Rattle.gclientrepo.specs.declared.ask.RefUpdate.{RefUpdate}
 use Rattle.grequest.specs.Asked.{Asked}
-use Rattle.gsession.specs.Requesting.{Requests}
+use Rattle.gsession.specs.Requesting.{Requests, is_due}
+use Rattle.gsession.specs.declared.stage.Stage.{Stage}
+use Rattle.gsession.specs.declared.stage.Stage.TheVariants as stages
+use Rattle.std.proofs.lemmas.Bool.{false≢true}
+use Rattle.gscenario.specs.declared.event.Event.TheVariants as event
+use Rattle.gworld.specs.Runs.{NeedsMemory}
+use Rattle.gworld.specs.declared.incoming.Due.TheVariants.{Refs, Objects}
 use Rattle.gsession.specs.Sessions.{SessionState, LeavesReplies}
 use Rattle.gsession.specs.SettlingRefs.{SettlesSession}
 use Rattle.gsession.specs.declared.fault.ClientFault.{ClientFault}
@@ -32,7 +38,7 @@ use Rattle.gclientrepo.specs.Changes.{AddsLocal}
 use Rattle.gclientrepo.specs.Faults.{repo_fault_row}
 use Rattle.gclientrepo.specs.Laws.{RefusalsChangeNothing}
 use Rattle.gclientrepo.specs.declared.fault.RepoFault.{RepoFault}
-use Rattle.gworld.specs.steps.Bringing.{BringsTo, TakesIfOpen, objects_outcome, refs_outcome}
+use Rattle.gworld.specs.steps.Bringing.{BringsTo, IsAwaited, TakesIfOpen, objects_outcome, refs_outcome}
 use Rattle.gworld.specs.Events.{AddsAtClient, AddsAtServer, AsksNext, Delivers, Forges, ServesRequest, SettlesRefs}
 use Rattle.gworld.specs.Events.{mark_after, settled_outcome, waiting, waits_for}
 use Rattle.gworld.specs.Taking.{TakesObjects, TakesRefs, code_of}
@@ -40,8 +46,44 @@ use Rattle.gworld.specs.Worlds.{Kept, WorldState}
 use Rattle.gworld.specs.declared.outcome.Outcome.{Outcome}
 use Rattle.gworld.specs.declared.outcome.Outcome.TheVariants.{Done, Asked as Asks, Served, Fault}
 
+-- ---- a request that waits
+
+some_waits : {A : Type 0} (s : SessionState A) (pending : Option Asked) → IsSome pending → IsSome (waits_for s pending)
+some_waits s None waits = waits
+some_waits s (Some asked) waits = refl
+
+not_due : (stage : Stage) (pending : Option Asked) → IsSome pending → is_due stage pending ≡ false
+not_due stage None waits = absurd (false≢true waits)
+not_due stages.Listing (Some asked) waits = refl
+not_due stages.Fetching (Some asked) waits = refl
+not_due stages.Settling (Some asked) waits = refl
+not_due stages.Over (Some asked) waits = refl
+
+-- what a session waits for where it waits for refs, and where it waits for objects
+pub waits_for_refs : (pending : Option Asked) → IsAwaited pending Refs → IsSome pending
+waits_for_refs None is = absurd is
+waits_for_refs (Some asked) is = refl
+
+pub waits_for_objects : (pending : Option Asked) → IsAwaited pending Objects → IsSome pending
+waits_for_objects None is = absurd is
+waits_for_objects (Some asked) is = refl
+
 module _ {A : Type 0} {w now : WorldState A} (same : w ≡ now) where
   -- ---- the session
+
+  -- a request waits for its reply
+  pub waits_on : (s : SessionState A) → w.session ≡ Some s → IsSome s.pending → IsSome (waiting now.session)
+  waits_on s is waits = rw (← same, is) (some_waits s s.pending waits)
+
+  -- so that none may be asked for
+  pub not_due_step : (s : SessionState A) → w.session ≡ Some s → IsSome s.pending
+      → AsksNext now now.session (Fault 83) (record w { session = Some s })
+  not_due_step s is waits =
+      rw (← same, is) (s, client.NoOpenRequest, (not_due s.stage s.pending waits, refl), refl, refl)
+
+  -- where none waits, memory is needed to ask for one
+  pub may_ask : (s : SessionState A) → w.session ≡ Some s → s.pending ≡ None → NeedsMemory now event.Ask
+  may_ask s is none = rw (← same) (s, is, none)
 
   pub asked_step : (s after : SessionState A) (asked : Asked) (sent : List Asked) (number : ℕ)
       → w.session ≡ Some s → Requests s w.repo.graph.entries after (Ok asked) → number ≡ length w.sent
@@ -111,12 +153,12 @@ module _ {A : Type 0} {w now : WorldState A} (same : w ≡ now) where
         → MatchResult result (λ (o : Outcome). (o ≡ Served (length w.kept)) ×
         (kept ≡ w.kept ++ record { asked = asked; reply = reply } ∷ [])) (λ (e : E). kept ≡ w.kept)
         → MatchResult result (λ (o : Outcome). ServesRequest packs pack_fails now (slice_get now.sent number) o
-        (record w { kept = kept })) (λ (e : E). record w { kept = kept } ≡ now)
+        (record w { kept = kept })) (λ (e : E). (record w { kept = kept } ≡ now) × IsSome (slice_get now.sent number))
     served_result number asked reply kept (Ok outcome) is answers keeps =
         let new = λ (list : List Kept). record w { kept = list } in
         rw (← same, is, keeps.0) (reply, answers, refl, ap new keeps.1)
     served_result number asked reply kept (Err e) is answers keeps =
-        ap (λ (list : List Kept). record w { kept = list }) keeps ∙ same
+        (ap (λ (list : List Kept). record w { kept = list }) keeps ∙ same, rw (← same, is) refl)
 
     pub refused_step : (number : ℕ) (asked : Asked) (fault : ServeFault) (outcome : Outcome)
         → slice_get w.sent number ≡ Some asked → Refuses w.server pack_fails asked fault
@@ -151,17 +193,18 @@ module _ {A : Type 0} {w now : WorldState A} (same : w ≡ now) where
     pub brought_result : {E : Type 0} (number count : ℕ) (kept : Kept) (s after : SessionState A) (repo : RepoState A)
         (mark : Bool) (result : Result Outcome E) → slice_get w.kept number ≡ Some kept → w.session ≡ Some s
         → MatchResult result (λ (o : Outcome). BringsTo indexes index_fails kept count s.pending s w.repo w.answered o
-        after repo mark) (λ (e : E). (after ≡ s) × (repo ≡ w.repo) × (mark ≡ w.answered))
+        after repo mark) (λ (e : E). (after ≡ s) × (repo ≡ w.repo) × (mark ≡ w.answered) × IsSome s.pending)
         → MatchResult result (λ (o : Outcome). Delivers indexes index_fails now (slice_get now.kept number) count
         (waiting now.session) o (record w { session = Some after; repo = repo; answered = mark }))
-        (λ (e : E). record w { session = Some after; repo = repo; answered = mark } ≡ now)
+        (λ (e : E). (record w { session = Some after; repo = repo; answered = mark } ≡ now)
+        × IsSome (slice_get now.kept number) × IsSome (waiting now.session))
     brought_result number count kept s after repo mark (Ok outcome) at is brings =
         let new : WorldState A = record w { session = Some after; repo = repo; answered = mark } in
         let to = brought_to kept count s after repo s.pending outcome mark is brings in
         rw (← same, at) (subst (λ (o : Option (SessionState A)). Delivers indexes index_fails w (Some kept) count
         (waiting o) outcome new) (sym is) to)
     brought_result number count kept s after repo mark (Err e) at is brings =
-        as_before s after repo mark is brings.0 brings.1 brings.2 ∙ same
+        (as_before s after repo mark is brings.0 brings.1 brings.2 ∙ same, rw (← same, at) refl, waits_on s is brings.3)
 
     pub none_delivered : (number count : ℕ) → slice_get w.kept number ≡ None
         → Delivers indexes index_fails now (slice_get now.kept number) count (waiting now.session) (Fault 93) now

@@ -1,6 +1,7 @@
 -- Rounds of a fetch, up to its settle.
 use Rattle.std.proofs.Common.{[], ◌∷◌, ◌++◌, ◌≡◌, ◌⊎◌, ◌∙◌, ℕ, ◌+◌, ◌≤◌, zero, suc, true, List, length}
-use Rattle.std.proofs.Common.{Option, Some, None, inl, inr, refl, sym, ap, subst, arith, take}
+use Rattle.std.proofs.Common.{Option, Some, None, Err, inl, inr, refl, sym, ap, subst, arith, take}
+use Rattle.std.proofs.lemmas.Bool.{false≢true}
 use Rattle.std.specs.Prelude.{IfSome, slice_get}
 use Rattle.std.proofs.lemmas.List.Elements.{All-cons, All-nil}
 use Rattle.gobject.specs.declared.node.Entry.{Entry}
@@ -9,18 +10,24 @@ use Rattle.gdag.specs.Walks.{CountsReached}
 use Rattle.grequest.specs.Asked.{Asked, Empty, Ls, Fetches}
 use Rattle.gclientrepo.specs.Repos.{RepoState}
 use Rattle.gsession.specs.Bounds.{RoundsAreFew}
-use Rattle.gsession.specs.Requesting.{MakesNext}
+use Rattle.gsession.specs.Requesting.{MakesNext, Requests, is_due}
 use Rattle.gsession.specs.Sessions.{IsBegun, IsSession, SessionState}
 use Rattle.gsession.specs.TakingRefs.{stage_for}
 use Rattle.gsession.specs.declared.stage.Stage.TheVariants.{Fetching, Listing, Settling}
-use Rattle.ganswer.specs.Answers.{Reply}
+use Rattle.gsession.specs.declared.fault.ClientFault.{ClientFault}
+use Rattle.gsession.specs.declared.fault.ClientFault.TheVariants as client
+use Rattle.gclientrepo.specs.declared.fault.RepoFault.TheVariants as repos
+use Rattle.gdag.specs.declared.fault.GraphFault.TheVariants as graph
+use Rattle.ganswer.specs.Answers.{Answers, Reply, Nothing, Fetch, Ls as Refs}
 use Rattle.gworld.specs.Events.{AsksNext, Delivers, ServesRequest, waiting, waits_for}
-use Rattle.gworld.specs.Fetching.{CanSettle, HasFetched, IsDone, IsRound, Rounds}
+use Rattle.gworld.specs.Faults.{memory_refused}
+use Rattle.gworld.specs.Fetching.{CanSettle, HasFetched, IsDone, IsReplyTakenOrDeclined, IsRound, IsTried, Rounds}
+use Rattle.gworld.specs.Fetching.{StopsByLimits}
 use Rattle.gworld.specs.Laws.{GraphsOnlyGrow, IsNoForge, StepsKeep}
-use Rattle.gworld.specs.Promises.{IsSettledOrRefused, IsUpToDate, Promises}
+use Rattle.gworld.specs.Promises.{IsServedOrRefused, IsSettledOrRefused, IsUpToDate, Promises}
 use Rattle.gworld.specs.Runs.{RunWith}
 use Rattle.gworld.specs.Sound.{AreEndsWhole, IsSound, IsSoundSession, IsUnforgedAndFaithful}
-use Rattle.gworld.specs.Taking.{IsPackTaken, TakesBytes}
+use Rattle.gworld.specs.Taking.{IsPackTaken, TakesBytes, code_of}
 use Rattle.gworld.specs.Worlds.{Kept, PackTools, WorldState, reply_bytes}
 use Rattle.gscenario.specs.declared.event.Event.{Event}
 use Rattle.gscenario.specs.declared.event.Event.TheVariants as event
@@ -167,6 +174,7 @@ module _ {A : Type 0} (tools : PackTools A) where
   -- the server kept a reply to it
   pub record HasServed (w v : WorldState A) (request : Asked) : Type 0 where
     pub reply : Reply
+    pub answers : Answers w.server tools.packs request reply
     pub session : v.session ≡ w.session
     pub kept : v.kept ≡ w.kept ++ record { asked = request; reply = reply } ∷ []
 
@@ -175,6 +183,7 @@ module _ {A : Type 0} (tools : PackTools A) where
       → HasServed w v request
   has_served w v request (Served number) step done = record {
     reply = step.0;
+    answers = step.1;
     session = ap (λ (x : WorldState A). x.session) step.3;
     kept = ap (λ (x : WorldState A). x.kept) step.3;
   }
@@ -206,43 +215,159 @@ module _ {A : Type 0} (tools : PackTools A) where
         tips = next.1 ∙ made_tips g s after request made;
       }
 
+  -- the request is the last that was sent, and its reply the last that is kept
+  last_sent : (w v : WorldState A) (s : SessionState A) (asked : HasAsked w v s)
+      → slice_get v.sent (length w.sent) ≡ Some asked.request
+  last_sent w v s asked =
+      ap (λ (l : List Asked). slice_get l (length w.sent)) asked.sent ∙ at_end w.sent asked.request
+
+  last_kept : (w v u : WorldState A) (s : SessionState A) (asked : HasAsked w v s)
+      (served : HasServed v u asked.request)
+      → slice_get u.kept (length w.kept) ≡ Some (record { asked = asked.request; reply = served.reply })
+  last_kept w v u s asked served =
+      let kept : Kept = record { asked = asked.request; reply = served.reply } in
+      let all : u.kept ≡ w.kept ++ kept ∷ [] =
+      served.kept ∙ ap (λ (l : List Kept). l ++ kept ∷ []) asked.kept in
+      ap (λ (l : List Kept). slice_get l (length w.kept)) all ∙ at_end w.kept kept
+
+  -- the client asked
+  asked_of : (w new : WorldState A) (s : SessionState A) → w.session ≡ Some s → (tried : IsTried tools w new)
+      → IsDone tried.asked → HasAsked w tried.after_asking s
+  asked_of w new s is tried done = has_asked w tried.after_asking s tried.asked
+      (subst (λ (o : Option (SessionState A)). AsksNext w o tried.asked tried.after_asking) is tried.asks.step) done
+
+  -- the server served what it asked for
+  served_of : (w new : WorldState A) (s : SessionState A) (tried : IsTried tools w new)
+      (asked : HasAsked w tried.after_asking s) → IsDone tried.served
+      → HasServed tried.after_asking tried.after_serving asked.request
+  served_of w new s tried asked done =
+      let one = tried.after_asking in
+      let two = tried.after_serving in
+      has_served one two asked.request tried.served
+      (subst (λ (o : Option Asked). ServesRequest tools.packs tools.pack_fails one o tried.served two)
+      (last_sent w one s asked) tried.serves.step) done
+
   -- a round
   round_at : (n : ℕ) (w v : WorldState A) (s : SessionState A) → w.session ≡ Some s → IsAt n w s → IsRound tools w v
       → Stands_at (n + 1) s v
   round_at n w v s is at round =
-      let one = round.run.0 in
-      let two = round.run.2.0 in
-      let three = round.run.2.2.0 in
-      let last : v ≡ three = round.run.2.2.2 in
-      let count = round.count in
-      let asked = has_asked w one s round.asked
-      (subst (λ (o : Option (SessionState A)). AsksNext w o round.asked one) is round.run.1.step) round.is_asked in
+      let tried = round.tried in
+      let two = tried.after_serving in
+      let count = tried.count in
+      let asked = asked_of w v s is tried round.is_asked in
+      let served = served_of w v s tried asked round.is_served in
       let request = asked.request in
-      let found : slice_get one.sent (length w.sent) ≡ Some request =
-      ap (λ (l : List Asked). slice_get l (length w.sent)) asked.sent ∙ at_end w.sent request in
-      let served = has_served one two request round.served
-      (subst (λ (o : Option Asked). ServesRequest tools.packs tools.pack_fails one o round.served two) found
-      round.run.2.1.step) round.is_served in
       let kept : Kept = record { asked = request; reply = served.reply } in
-      let all_kept : two.kept ≡ w.kept ++ kept ∷ [] =
-      served.kept ∙ ap (λ (l : List Kept). l ++ kept ∷ []) asked.kept in
-      let held : slice_get two.kept (length w.kept) ≡ Some kept =
-      ap (λ (l : List Kept). slice_get l (length w.kept)) all_kept ∙ at_end w.kept kept in
+      let held = last_kept w tried.after_asking two s asked served in
       let session : two.session ≡ Some asked.after = served.session ∙ asked.session in
       let waits : waiting two.session ≡ Some (asked.after, request) =
       ap waiting session
       ∙ ap (waits_for asked.after) (made_waits w.repo.graph.entries s asked.after request asked.made) in
       let Comes = Delivers tools.indexes tools.index_fails two in
-      let comes : Comes (Some kept) count (Some (asked.after, request)) round.brought three =
-      subst (λ (o : Option (SessionState A × Asked)). Comes (Some kept) count o round.brought three) waits
-      (subst (λ (o : Option Kept). Comes o count (waiting two.session) round.brought three) held
-      round.run.2.2.1.step) in
-      let kept_last : v.kept ≡ two.kept =
-      ap (λ (x : WorldState A). x.kept) last ∙ ap (λ (x : WorldState A). x.kept) comes.2.is in
-      let all = round.whole kept (ap (λ (l : List Kept). slice_get l (length w.kept)) kept_last ∙ held) in
-      subst (Stands_at (n + 1) s) (sym last)
-      (has_brought n count w.repo.graph.entries two three s asked.after request served.reply round.brought
-      (counts_of n w s at) asked.made comes round.is_brought all)
+      let comes : Comes (Some kept) count (Some (asked.after, request)) tried.brought v =
+      subst (λ (o : Option (SessionState A × Asked)). Comes (Some kept) count o tried.brought v) waits
+      (subst (λ (o : Option Kept). Comes o count (waiting two.session) tried.brought v) held tried.brings.step) in
+      has_brought n count w.repo.graph.entries two v s asked.after request served.reply tried.brought
+      (counts_of n w s at) asked.made comes round.is_brought (tried.whole kept held)
+
+  -- the three events are a run
+  pub run_of : (w v : WorldState A) (tried : IsTried tools w v) → RunWith (Promises tools) w
+      (event.Ask ∷ event.Serve (length w.sent) ∷ event.Deliver (length w.kept) tried.count ∷ [])
+      (tried.asked ∷ tried.served ∷ tried.brought ∷ []) v
+  run_of w v tried = (tried.after_asking, tried.asks, (tried.after_serving, tried.serves, (v, tried.brings, refl)))
+
+  -- ---- why an event of a round is refused
+
+  -- a session whose next request is due is refused only out of memory
+  refused_asking : (s after : SessionState A) (g : List (Entry A)) (fault : ClientFault A)
+      → is_due s.stage s.pending ≡ true → Requests s g after (Err fault) → code_of fault ≡ 64
+  refused_asking s after g client.NoOpenRequest due requests = absurd (false≢true (sym requests.0 ∙ due))
+  refused_asking s after g (client.Repo (repos.Graph graph.Memory)) due requests = refl
+  refused_asking s after g _ due requests = absurd requests
+
+  asks_or_stops : (w v : WorldState A) (s : SessionState A) (outcome : Outcome) → is_due s.stage s.pending ≡ true
+      → AsksNext w (Some s) outcome v → IsDone outcome ⊎ (outcome ≡ Fault memory_refused)
+  asks_or_stops w v s (Asks number) due step = inl tt
+  asks_or_stops w v s (Fault number) due step =
+      inr (ap Fault (step.3 ∙ refused_asking s step.0 w.repo.graph.entries step.1 due step.2))
+  asks_or_stops w v s _ due step = absurd step
+
+  -- each request of a session is answered with a reply
+  no_empty_answer : (w : WorldState A) (g : List (Entry A)) (s after : SessionState A) (request : Asked)
+      → MakesNext s g after request → Answers w.server tools.packs request Nothing → ⊥
+  no_empty_answer w g s after Empty made answers = made.1
+  no_empty_answer w g s after (Ls asked) made answers = answers
+  no_empty_answer w g s after (Fetches asked) made answers = answers
+
+  -- a reply to a request of the session comes whole
+  takes_or_stops : (w one two new : WorldState A) (s : SessionState A) (asked : HasAsked w one s)
+      (served : HasServed one two asked.request) (count : ℕ) (outcome : Outcome)
+      → length (reply_bytes served.reply) ≤ count → IsUnforgedAndFaithful tools two
+      → Promises tools two (event.Deliver (length w.kept) count) outcome new
+      → (request : Asked) → asked.request ≡ request → (reply : Reply) → served.reply ≡ reply
+      → IsReplyTakenOrDeclined tools two asked.after reply outcome
+  takes_or_stops w one two new s asked served count outcome all honest promised request same Nothing is =
+      absurd (no_empty_answer one w.repo.graph.entries s asked.after request
+      (subst (MakesNext s w.repo.graph.entries asked.after) same asked.made)
+      (subst (λ (r : Reply). Answers one.server tools.packs request r) is
+      (subst (λ (a : Asked). Answers one.server tools.packs a served.reply) same served.answers)))
+  takes_or_stops w one two new s asked served count outcome all honest promised request same (Refs reply) is =
+      promised.lists reply asked.after (record {
+        kept = record { asked = asked.request; reply = served.reply };
+        at = last_kept w one two s asked served;
+        refs = is;
+        all = all;
+        goes_on = served.session ∙ asked.session;
+        waits = made_waits w.repo.graph.entries s asked.after asked.request asked.made;
+      })
+  takes_or_stops w one two new s asked served count outcome all honest promised request same (Fetch reply) is =
+      (promised.honest honest).takes reply (record {
+        kept = record { asked = asked.request; reply = served.reply };
+        at = last_kept w one two s asked served;
+        objects = is;
+        all = all;
+        session = asked.after;
+        goes_on = served.session ∙ asked.session;
+        waits = made_waits w.repo.graph.entries s asked.after asked.request asked.made;
+      })
+
+  -- two worlds later nothing was forged, either
+  honest_on : (w v : WorldState A) (event : Event A) (outcome : Outcome) → IsNoForge event
+      → IsUnforgedAndFaithful tools w → Promises tools w event outcome v → IsUnforgedAndFaithful tools v
+  honest_on w v event outcome none honest promised = record {
+    image = honest.image;
+    faithful = honest.faithful;
+    unforged = unforged_on tools w v (event ∷ []) (outcome ∷ [])
+        (All-cons IsNoForge event [] none (All-nil IsNoForge)) (v, promised, refl) ∙ honest.unforged;
+  }
+
+  pub only_limits : (w new : WorldState A) (s : SessionState A) → IsUnforgedAndFaithful tools w → w.session ≡ Some s
+      → is_due s.stage s.pending ≡ true → (tried : IsTried tools w new) → StopsByLimits tools tried
+  only_limits w new s honest is due tried =
+      let one = tried.after_asking in
+      let two = tried.after_serving in
+      let serve : Event A = event.Serve (length w.sent) in
+      let honest_one = honest_on w one event.Ask tried.asked tt honest tried.asks in
+      let honest_two = honest_on one two serve tried.served tt honest_one tried.serves in record {
+        asks = asks_or_stops w one s tried.asked due
+            (subst (λ (o : Option (SessionState A)). AsksNext w o tried.asked one) is tried.asks.step);
+        serves = λ done.
+            (let asked = asked_of w new s is tried done in (
+              asked.request,
+              subst (λ (o : Option Asked). IsServedOrRefused tools one.server o tried.served)
+                  (last_sent w one s asked) (tried.serves.honest honest_one).serves,
+            ));
+        takes = λ done served_done.
+            (let asked = asked_of w new s is tried done in
+            let served = served_of w new s tried asked served_done in (
+              asked.after,
+              served.reply,
+              takes_or_stops w one two new s asked served tried.count tried.brought
+                  (tried.whole (record { asked = asked.request; reply = served.reply })
+                  (last_kept w one two s asked served))
+                  honest_two tried.brings asked.request refl served.reply refl,
+            ));
+      }
 
 -- ---- rounds
 
@@ -269,21 +394,22 @@ module _ {A : Type 0} (tools : PackTools A) (keep : StepsKeep tools) (grow : Gra
   next_stands n w v stands round =
       let s = stands.session in
       let serve : Event A = event.Serve (length w.sent) in
-      let deliver : Event A = event.Deliver (length w.kept) round.count in
+      let deliver : Event A = event.Deliver (length w.kept) round.tried.count in
       let events : List (Event A) = event.Ask ∷ serve ∷ deliver ∷ [] in
-      let outcomes = round.asked ∷ round.served ∷ round.brought ∷ [] in
-      let led = leads_soundly tools keep w v events outcomes stands.ends stands.sound round.run in
+      let outcomes = round.tried.asked ∷ round.tried.served ∷ round.tried.brought ∷ [] in
+      let run = run_of tools w v round.tried in
+      let led = leads_soundly tools keep w v events outcomes stands.ends stands.sound run in
       let next = round_at tools n w v s stands.goes_on stands.at round in
       let g = w.repo.graph.entries in
       let h = v.repo.graph.entries in
-      let grows = (grow w v events outcomes (is_run tools w v events outcomes round.run)).1 in record {
+      let grows = (grow w v events outcomes (is_run tools w v events outcomes run)).1 in record {
         honest = record {
           image = stands.honest.image;
           faithful = stands.honest.faithful;
           unforged = unforged_on tools w v events outcomes
               (All-cons IsNoForge event.Ask (serve ∷ deliver ∷ []) tt
               (All-cons IsNoForge serve (deliver ∷ []) tt (All-cons IsNoForge deliver [] tt (All-nil IsNoForge))))
-              round.run ∙ stands.honest.unforged;
+              run ∙ stands.honest.unforged;
         };
         ends = led.0;
         sound = led.1;

@@ -1,12 +1,12 @@
 -- A run that goes on, and what holds after any run.
 use Rattle.std.proofs.Common.{Result, Ok, Err, is_err, OnOk, false, ◌≡◌, ℕ, ◌+◌, ◌<◌, List, [], ◌∷◌, ◌++◌, length, take}
-use Rattle.std.proofs.Common.{drop, get_or, refl, sym, subst, Bool, All, Option, Some, None, ap, ◌∙◌}
+use Rattle.std.proofs.Common.{drop, get_or, refl, sym, subst, inl, inr, Bool, All, Option, Some, None, ap, ◌∙◌, ◌≢◌}
 use Rattle.std.proofs.lemmas.Bool.{false≢true}
 use Rattle.gdag.proofs.Growing.{at_front}
 use Rattle.gworld.specs.steps.Bringing.{RunsSoundly}
 use Rattle.gworld.specs.Promises.{Promises}
 use Rattle.gworld.specs.Sound.{IsSound, IsUnforgedAndFaithful}
-use Rattle.gworld.specs.Runs.{RunWith, RunsFront, Run}
+use Rattle.gworld.specs.Runs.{NeedsMemory, RunWith, RunsFront, Run}
 use Rattle.gworld.specs.Worlds.{PackTools, WorldState, Kept}
 use Rattle.gscenario.specs.declared.event.Event.{Event}
 use Rattle.gworld.specs.declared.outcome.Outcome.{Outcome}
@@ -21,11 +21,6 @@ use Rattle.gworld.specs.declared.outcome.Outcome.TheVariants.{Done, Asked as Ask
 
 -- ---- a run goes on
 
--- room was made where making it did not fail
-pub room_left : {T E : Type 0} (r : Result T E) (P : Type 0) → is_err r ≡ false → OnOk r P → P
-room_left (Ok t) P well room = room
-room_left (Err e) P well room = absurd (false≢true (sym well))
-
 run_goes_on : {A : Type 0} (R : WorldState A → Event A → Outcome → WorldState A → Type 0) (w v u : WorldState A)
     (events : List (Event A)) (outcomes : List Outcome) (event : Event A) (outcome : Outcome)
     → RunWith R w events outcomes v → R v event outcome u
@@ -39,15 +34,37 @@ run_goes_on R w v u _ _ event outcome run step = absurd run
 module _ {A : Type 0} (tools : PackTools A) where
   -- the first events were done, and the next one is there
   pub front_runs : {w v : WorldState A} (events : List (Event A)) (count : ℕ) (next : Event A)
-      (outcomes same : List Outcome) → count < length events → next ≡ get_or events count next
-      → RunsSoundly tools w (take count events) outcomes v → same ≡ outcomes
-      → RunsFront (Promises tools) w events same v
-  front_runs {w} {v} events count next outcomes same inside at runs is = record {
+      (outcomes : List Outcome) → count < length events → next ≡ get_or events count next
+      → RunsSoundly tools w (take count events) outcomes v → NeedsMemory v next
+      → RunsFront (Promises tools) w events outcomes v
+  front_runs {w} {v} events count next outcomes inside at runs needs = record {
     front = take count events;
     next = next;
     rest = drop (count + 1) events;
     parts = at_front events count next inside at;
-    run = subst (λ (told : List Outcome). RunWith (Promises tools) w (take count events) told v) (sym is) runs.run;
+    run = runs.run;
+    memory = inr needs;
+  }
+
+  -- no event was done yet
+  pub begins_soundly : {w : WorldState A} (events : List (Event A)) (told : List Outcome) → IsSound tools w
+      → told ≡ [] → RunsSoundly tools w (take 0 events) told w
+  begins_soundly {w} events told sound is = record {
+    sound = sound;
+    run = subst (λ (list : List Outcome). RunWith (Promises tools) w [] list w) (sym is) refl;
+  }
+
+  -- none was done, for want of memory for the outcomes
+  pub none_runs : {w : WorldState A} (events : List (Event A)) (told : List Outcome) → told ≡ [] → events ≢ []
+      → RunsFront (Promises tools) w events told w
+  none_runs [] told is some = absurd (some refl)
+  none_runs {w} (event ∷ events) told is some = record {
+    front = [];
+    next = event;
+    rest = events;
+    parts = refl;
+    run = subst (λ (list : List Outcome). RunWith (Promises tools) w [] list w) (sym is) refl;
+    memory = inl is;
   }
 
   -- one more event was done

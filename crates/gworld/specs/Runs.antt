@@ -1,8 +1,11 @@
 -- Runs: events one after the other, with the outcome of each.
-use Rattle.std.specs.Prelude.{◌≡◌, List, [], ◌∷◌, ◌++◌}
-use Rattle.gworld.specs.Events.{Step}
+use Rattle.std.specs.Prelude.{◌≡◌, ◌⊎◌, ⊤, List, [], ◌∷◌, ◌++◌, slice_get, IsSome, None, Some}
+use Rattle.gdag.specs.Laws.{AgreesWith}
+use Rattle.gsession.specs.Sessions.{SessionState}
+use Rattle.gworld.specs.Events.{Step, waiting}
 use Rattle.gworld.specs.Worlds.{PackTools, WorldState}
 use Rattle.gscenario.specs.declared.event.Event.{Event}
+use Rattle.gscenario.specs.declared.event.Event.TheVariants as event
 use Rattle.gworld.specs.declared.fault.RunFault.{RunFault}
 use Rattle.gworld.specs.declared.fault.RunFault.TheVariants as run
 use Rattle.gworld.specs.declared.outcome.Outcome.{Outcome}
@@ -20,7 +23,25 @@ RunWith P w (event ∷ events) [] new = ⊥
 abbrev pub Run : {A : Type 0} → PackTools A → WorldState A → List (Event A) → List Outcome → WorldState A → Type 0
 Run tools w events outcomes new = RunWith (Step tools) w events outcomes new
 
--- the first of the events were done, as many as there are outcomes; there is a next one, which did not begin
+-- The world needs memory of its own before the event begins. An event needs none where it is refused with 83, 90 or 93
+-- for what is there already.
+abbrev pub NeedsMemory : {A : Type 0} → WorldState A → Event A → Type 0
+NeedsMemory w (event.Begin specs) = ⊥
+NeedsMemory {A} w event.Ask = (s : SessionState A) × (w.session ≡ Some s) × (s.pending ≡ None)
+NeedsMemory w (event.Serve number) = IsSome (slice_get w.sent number)
+NeedsMemory w (event.Deliver number count) = IsSome (slice_get w.kept number) × IsSome (waiting w.session)
+NeedsMemory w (event.Forge bytes) = IsSome (waiting w.session)
+NeedsMemory w (event.StrangeRequest bytes) = ⊤
+NeedsMemory w event.Settle = ⊥
+NeedsMemory w event.RestartClient = ⊥
+NeedsMemory w event.RestartServer = ⊥
+NeedsMemory w (event.ServerAdd entry) = AgreesWith w.repo.graph.entries entry
+NeedsMemory w (event.ServerRef name id) = ⊤
+NeedsMemory w (event.ClientAdd entry) = AgreesWith w.server.graph.entries entry
+NeedsMemory w (event.ClientRef name id) = ⊤
+
+-- The first of the events were done, as many as there are outcomes. There is a next one, which did not begin: it needs
+-- memory; or it is the first, and there was none for the outcomes.
 pub record RunsFront {A : Type 0} (P : WorldState A → Event A → Outcome → WorldState A → Type 0) (w : WorldState A)
     (events : List (Event A)) (outcomes : List Outcome) (new : WorldState A) : Type 0 where
   pub front : List (Event A)
@@ -28,6 +49,7 @@ pub record RunsFront {A : Type 0} (P : WorldState A → Event A → Outcome → 
   pub rest : List (Event A)
   pub parts : events ≡ front ++ next ∷ rest
   pub run : RunWith P w front outcomes new
+  pub memory : (outcomes ≡ []) ⊎ NeedsMemory new next
 
 -- the outcomes of the events that were done before a run stopped
 abbrev pub outcomes_before : {A : Type 0} → RunFault A → List Outcome

@@ -1,6 +1,6 @@
 //! Bytes come as the reply to the request that waits.
 
-ghost use Rattle.std.specs.Prelude.{◌≡◌, MatchResult, take, Some};
+ghost use Rattle.std.specs.Prelude.{◌≡◌, IsOkUnless, IsSome, MatchResult, alloc_error, take, Some};
 ghost use Rattle.gworld.specs.steps.Bringing.{IsAwaited, TakesIfOpen, objects_outcome, refs_outcome};
 ghost use Rattle.gworld.specs.Taking.{TakesObjects, TakesRefs, code_of};
 ghost use Rattle.gworld.specs.declared.outcome.Outcome.TheVariants as outcome;
@@ -46,7 +46,7 @@ pub(crate) fn take_bytes<A: Allocator + Copy, K: Indexer<A>>(
     ensures { MatchResult result
         (λ took. TakesIfOpen (K.indexes indexer.now) (K.index_fails indexer.now)
         session.old.pending session.old repo.old bytes.now took session.new repo.new)
-        (λ _. (session.new ≡ session.old) × (repo.new ≡ repo.old)) }
+        (λ _. (session.new ≡ session.old) × (repo.new ≡ repo.old) × IsSome session.old.pending) }
 {
     match awaited(session) {
         Due::Nothing => Ok(None),
@@ -127,7 +127,9 @@ fn objects_outcome<A: Allocator + Copy>(taking: Result<Taken, ClientFault<A>>) -
 }
 
 // A buffer for packets.
-fn line_buffer<A: Allocator + Copy>(alloc: A) -> Result<LineBuffer<A>, AllocError> {
+fn line_buffer<A: Allocator + Copy>(alloc: A) -> Result<LineBuffer<A>, AllocError>
+    ensures { IsOkUnless result alloc_error }
+{
     match LineBuffer::new(alloc) {
         Ok(buffer) => Ok(buffer),
         Err(_) => Err(AllocError),

@@ -1,7 +1,7 @@
 //! The laws of worlds: functions without effect, whose contracts they are.
 
 ghost use Rattle.std.specs.Prelude.{◌≡◌, false};
-ghost use Rattle.gworld.specs.Fetching.{FetchesComplete};
+ghost use Rattle.gworld.specs.Fetching.{FetchesComplete, OnlyLimitsRefuse};
 ghost use Rattle.gworld.specs.Laws.{CommonsStayShared, EndsStayWhole, FrontsAreRuns, FrontsKeepPromises, GraphsOnlyGrow, HonestRunsKeepAll, NewWorldsAreSound, OthersLeaveRefs, PromisesAreRuns, RefsAreAlwaysWhole, RefsStayWhole, RefusalsLeaveBothEnds, RequestsStayFew, RunsKeepPromises, StepsKeep};
 ghost use Rattle.gworld.specs.Sound.{IsUnforgedAndFaithful};
 ghost use Rattle.gworld.specs.Worlds.{WorldState, tools_of};
@@ -201,3 +201,10 @@ pub fn fetches_complete<A: Allocator + Copy, K: Packer<A> + Indexer<A>>()
     counts_stay::<A>();
     reached_are_counted::<A>();
 }
+
+/// Only limits and want of memory refuse an event of a round, if no bytes were forged, and packer and indexer are
+/// faithful. So a fetch that does not complete met one of these.
+pub fn only_limits_refuse<A: Allocator + Copy, K: Packer<A> + Indexer<A>>()
+    ensures { (k : K) → OnlyLimitsRefuse (tools_of (K.packs k) (K.pack_fails k) (K.indexes k)
+        (K.index_fails k)) }
+{}

@@ -11,7 +11,8 @@
 //!   objects: at the first such id in the order of the server's objects.
 //! - [`World::run`] does the events in order, with one outcome each. What an event does, and with which outcome, is
 //!   said by `Step` (specs/Events.antt). Where the world's own lists or buffers can't grow, the run stops at an event
-//!   that has not begun, with the outcomes of those before it.
+//!   that has not begun, with the outcomes of those before it. That event needs memory (`NeedsMemory`, specs/Runs.antt):
+//!   the world looks first whether it is refused for what is there already, with 83, 90 or 93.
 //! - **Whatever is answered, whatever bytes are forged, and whatever packer and indexer do: each ref of the client
 //!   is connected**, and the session asked for objects at most once more than there are ids that its tips reach.
 //!   Where no bytes were forged, server and client hold each common id.
@@ -33,7 +34,7 @@
 //!   forges bytes, and packer and indexer are faithful.
 //! - **A fetch completes** ([`laws::fetches_complete`]): a session asks at most N + 2 times, N being how many ids its
 //!   tips reach, and can then settle. Each ref that may move does. The premise is that each reply arrives whole, and
-//!   nothing is refused.
+//!   nothing is refused. Only limits and want of memory refuse an event of such a fetch ([`laws::only_limits_refuse`]).
 //! - The promises follow from the definition of a step ([`laws::runs_keep_promises`]), and a packer and an indexer that
 //!   are faithful are so in each world.
 //! - Each fault has the number, the name and the text of the tables (specs/Faults.antt). No call panics, overflows
@@ -45,8 +46,8 @@
 //!
 //! # What the contracts do not rule out
 //!
-//! A run may stop at any event as if out of memory, and an event that takes memory may report that there is none,
-//! whatever memory there is. What is kept of requests and replies may take its memory from either end's allocator. A
+//! A run may stop at its first event, and at each that needs memory, as if out of memory. An event that takes memory may
+//! report that there is none, whatever memory there is. What is kept of requests and replies may take its memory from either end's allocator. A
 //! call may take as long as it likes, and more memory than it needs. Formatting a fault may answer an error
 //! (`fmt::Error`) where the text would be right.
 //!

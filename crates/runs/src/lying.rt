@@ -8,7 +8,7 @@ use crate::handed::Handed;
 use crate::program::{Devices, Job, Ran, limit_of, ran_without_file};
 use crate::report::report_of;
 use cases::{Liar, Program, Trouble};
-use gclient::{FetchFault, Fetched, Repo, fetch_over};
+use gclient::{FetchFault, Fetched, PackOptions, Repo, fetch_over};
 use gcmd::{ProgramFault, Spec, cmd_failed, finish, send_text};
 use gconnect::{GitFetch, fetch_git};
 use ggraph::{Head, Indexer, SaveFault, save};
@@ -150,6 +150,7 @@ fn converse<A: Allocator + Copy, K: Indexer<A>, I: Source, O: Sink>(
         specs,
         limit,
         ends,
+        options: PackOptions::default(),
     };
     fetch_git(repo, input, output, indexer, &fetch)
 }

@@ -1,5 +1,5 @@
 -- The steps by which a server is made, and by which fetch and ls-refs are answered.
-use Rattle.std.specs.Prelude.{◌≡◌, ◌≢◌, ⊤, List, [], All, Result, Ok, Err, ◌∷◌, ◌++◌, Option, Some, None}
+use Rattle.std.specs.Prelude.{◌≡◌, ◌≢◌, ◌<◌, ⊤, ℕ, List, [], All, Result, Ok, Err, ◌∷◌, ◌++◌, Option, Some, None, length, slice_get}
 use Rattle.gname.specs.Ids.{Id}
 use Rattle.gname.specs.Names.{Name}
 use Rattle.gpkt.specs.Packets.{Bytes}
@@ -12,11 +12,9 @@ use Rattle.grequest.specs.Asked.{FetchAsked, LsRefsAsked}
 use Rattle.ganswer.specs.LsAnswers.{ShowsLines, all_refs, unborn_of}
 use Rattle.ganswer.specs.FetchAnswers.{FailsToPack, SendsPack}
 use Rattle.ganswer.specs.Servers.{Server, IsFirstDangling}
-use Rattle.ganswer.specs.declared.fault.BuildFault.{BuildFault}
 use Rattle.ganswer.specs.declared.fault.ServeFault.{ServeFault}
 use Rattle.ganswer.specs.declared.one_pack.Packing.{Packing}
 use Rattle.ganswer.specs.declared.fault.ServeRow.{ServeRow}
-use Rattle.ganswer.specs.declared.fault.BuildFault.TheVariants as build
 use Rattle.ganswer.specs.declared.fault.ServeFault.TheVariants as serve
 use Rattle.ganswer.specs.declared.one_pack.Packing.TheVariants as packing
 use Rattle.ggrammar.specs.Faults.{WhyRow}
@@ -27,17 +25,10 @@ use Rattle.glsreply.specs.declared.lent.LentLine.{LentLine}
 
 -- ---- making a server
 
--- why looking the refs up finds no server: the id of a ref is not held, the first; for its name it may be out of memory
-abbrev pub MissesRef : {A : Type 0} → List (Entry A) → RefList → BuildFault A → Type 0
-MissesRef g refs (build.RefMissing name) = IsFirstDangling g refs name
-MissesRef g refs build.Memory = (name : Name) × IsFirstDangling g refs name
-MissesRef g refs _ = ⊥
-
--- the fault of a ref at an id that is not held, or out of memory for its name
-abbrev pub ReportsRef : {A : Type 0} → Name → BuildFault A → Type 0
-ReportsRef name (build.RefMissing missing) = missing ≡ name
-ReportsRef name build.Memory = ⊤
-ReportsRef name _ = ⊥
+-- at this position is the first ref that stands at an id which is not held
+abbrev pub DanglesAt : {A : Type 0} → List (Entry A) → RefList → ℕ → Type 0
+DanglesAt g refs place =
+    (place < length refs) × ((ref : Name × Id) → slice_get refs place ≡ Some ref → IsFirstDangling g refs ref.0)
 
 -- ---- answering a fetch
 

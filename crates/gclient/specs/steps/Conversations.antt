@@ -20,7 +20,7 @@ use Rattle.gsession.specs.declared.taken.Settled.{Settled}
 use Rattle.gsession.specs.declared.taken.Taken.{Taken}
 use Rattle.gsession.specs.declared.fault.ClientFault.TheVariants as client
 use Rattle.gclient.specs.Conversations.{Start, Advertises, Converses, Fails, FailsToSend, HasAsked, IsLeft}
-use Rattle.gclient.specs.Conversations.{RefusesAdvert, begun, request_bytes}
+use Rattle.gclient.specs.Conversations.{RefusesAdvert, begun, request_bytes, start_for}
 use Rattle.gclient.specs.Turns.{AsksNext, ClientState, IsTurn, Refuses, Turn}
 use Rattle.gclient.specs.declared.fault.FetchFault.{FetchFault}
 use Rattle.gclient.specs.declared.fault.FetchFault.TheVariants as fetch
@@ -116,7 +116,7 @@ module _ {A : Type 0} (indexes : Indexes A) (index_fails : IndexFails) (start : 
 -- what a conversation of this session begins with
 abbrev pub start_with : {A : Type 0} → SessionState A → RepoState A → Start A
 start_with session repo =
-    record { repo = repo; refspecs = session.refspecs; limit = session.limit; ends = session.ends }
+    start_for repo session.refspecs session.limit session.ends session.options
 
 -- the session has begun on the repository, and nothing was asked
 abbrev pub HasBegun : {A : Type 0} → SessionState A → RepoState A → Type 0

@@ -3,8 +3,6 @@ use Rattle.std.specs.Prelude.{◌≡◌, ◌+◌, ◌≤◌, false, cond, List, 
 use Rattle.std.specs.List.{IsDistinct}
 use Rattle.std.specs.Str.{bytes_eq}
 use Rattle.gname.specs.Ids.{Id, IsIdOf}
-use Rattle.gname.specs.declared.faults.NameFault.{NameFault}
-use Rattle.gname.specs.declared.faults.NameFault.TheVariants as name
 use Rattle.gpkt.specs.Change.{Change}
 use Rattle.gpkt.specs.Packets.{Bytes}
 use Rattle.glsreply.specs.LsReplies.{LsReply}
@@ -22,7 +20,7 @@ use Rattle.gclientrepo.specs.declared.ask.Ask.{Ask}
 use Rattle.gclientrepo.specs.declared.fault.RepoFault.TheVariants as repo
 use Rattle.gclientrepo.specs.Repos.{RepoState}
 use Rattle.grequest.specs.Asked.{FetchAsked, is_direct, max_haves}
-use Rattle.gsession.specs.Asking.{AreNamed, AreNamedTo, asked_of, asks_by_all, with_asks}
+use Rattle.gsession.specs.Asking.{AreNamed, asked_of, asks_by_all, with_asks}
 use Rattle.gsession.specs.Sessions.{SessionState}
 use Rattle.gsession.specs.TakingRefs.{IsLsFault, IsRefsFault, TakesLines, TakesLs}
 use Rattle.gsession.specs.TakingReplies.{IsFirstStrange, IsReplyFault, IsTakeFault, TakesRead, TakesReply}
@@ -33,20 +31,13 @@ use Rattle.gsession.specs.declared.taken.Taken.{Taken}
 
 -- ---- asking
 
--- why asks are not made: one is for no ref name; or it is out of memory for one, and it and those before it are
-abbrev pub IsAskFault : {A : Type 0} → List (Ask A) → NameFault → Type 0
-IsAskFault asks name.Memory = AreNamedTo asks
-IsAskFault asks _ = ¬ (AreNamed asks)
+-- the asks are added, and each is for a ref name
+abbrev pub AddsAsks : {A : Type 0} → List (Ask A) → List (Ask A) → List (Ask A) → Type 0
+AddsAsks old more new = (new ≡ with_asks old more) × AreNamed more
 
--- what adding asks answers: they are added, and each is for a ref name; or why not
-abbrev pub AddsAsks : {A : Type 0} → List (Ask A) → List (Ask A) → List (Ask A) → Result Unit NameFault → Type 0
-AddsAsks old more new (Ok _) = (new ≡ with_asks old more) × AreNamed more
-AddsAsks old more new (Err fault) = IsAskFault more fault
-
--- what asking answers: the asks; or why not
-abbrev pub FindsAsks : {A : Type 0} → List Refspec → List RefLine → Result (List (Ask A)) NameFault → Type 0
-FindsAsks {A} specs lines (Ok asks) = (asks ≡ asked_of specs lines) × AreNamed {A = A} (asks_by_all specs lines)
-FindsAsks {A} specs lines (Err fault) = IsAskFault {A = A} (asks_by_all specs lines) fault
+-- the asks are what is asked for, and each is for a ref name
+abbrev pub FindsAsks : {A : Type 0} → List Refspec → List RefLine → List (Ask A) → Type 0
+FindsAsks {A} specs lines asks = (asks ≡ asked_of specs lines) × AreNamed {A = A} (asks_by_all specs lines)
 
 -- ---- the next request
 
@@ -80,6 +71,11 @@ AnswersLs old g change new (Err fault) = IsLsFault old g change fault × (new �
 abbrev pub MayHaveFed : {F : Type 0} → (F → Bytes → Type 0) → IndexFails → Result F IndexFault → Bytes → Type 0
 MayHaveFed fed index_fails (Ok feed) bytes = fed feed bytes
 MayHaveFed fed index_fails (Err fault) bytes = (more : Bytes) → index_fails (bytes ++ more) fault
+
+-- an id is acknowledged that the request did not name
+abbrev pub IsStrangeAck : {A : Type 0} → List Id → List Id → ClientFault A → Type 0
+IsStrangeAck haves acks (StrangeAck id) = IsFirstStrange haves acks id
+IsStrangeAck haves acks _ = ⊥
 
 -- why acknowledgments are not taken: one is of an id that the request did not name; or each is of a have, and it is
 -- out of memory

@@ -11,6 +11,7 @@ session_of it = record {
   refspecs = it.refspecs.items;
   limit = it.limit;
   ends = it.ends;
+  options = it.options;
   tips = it.tips.items;
   offers_unborn = it.offers_unborn;
   stage = it.stage;

@@ -6,7 +6,7 @@ ghost use Rattle.gobject.specs.declared.node.Entry.{Entry};
 ghost use Rattle.grequest.specs.Asked.{Fetches};
 
 use crate::fault::ClientFault;
-use crate::requests::{batch_size, objects_request, refs_request};
+use crate::requests::{batch_size, blank_request, objects_request, refs_request};
 use crate::session::{Session, set_pending};
 use crate::stage::Stage;
 use gclientrepo::Repo;
@@ -98,19 +98,15 @@ impl<A: Allocator + Copy> Session<A> {
         requires fits { FitsBatch self.old batch.now }
         ensures made { MatchResult result
             (λ request. (asked_by_request request
-            ≡ Fetches (fetch_request self.old.wants self.old.commons batch.now))
+            ≡ Fetches (fetch_request self.old.options self.old.wants self.old.commons batch.now))
             × (self.new ≡ waiting_for self.old (asked_by_request request) batch.now))
             (λ _. self.new ≡ self.old) }
         ensures format { IfOk result (IsOfFormat self.old.format) }
     {
         let alloc = self.allocator();
-        let request = objects_request(
-            alloc,
-            self.format,
-            self.wants.as_slice(),
-            self.commons.as_slice(),
-            batch,
-        )?;
+        let blank = blank_request(alloc, self.format, self.options);
+        let wants = self.wants.as_slice();
+        let request = objects_request(blank, wants, self.commons.as_slice(), batch)?;
         let copy = request.copy_in(alloc)?;
         self.keep_request(request, batch)?;
         Ok(copy)
@@ -147,7 +143,7 @@ impl<A: Allocator + Copy> Session<A> {
         requires stage { self.old.stage ≡ Stage.Fetching }
         requires pending { self.old.pending ≡ None }
         requires asked { asked_by_request request
-            ≡ Fetches (fetch_request self.old.wants self.old.commons batch.now) }
+            ≡ Fetches (fetch_request self.old.options self.old.wants self.old.commons batch.now) }
         requires fits { FitsBatch self.old batch.now }
         requires format { IsOfFormat self.old.format request }
         ensures { MatchResult result

@@ -1,6 +1,6 @@
 //! How a session takes the reply to fetch.
 
-ghost use Rattle.std.specs.Prelude.{◌≡◌, ◌++◌, false, All, Contains, MatchOption, MatchResult, IfOk, length};
+ghost use Rattle.std.specs.Prelude.{◌≡◌, ◌++◌, false, All, Contains, MatchOption, MatchResult, OnOk, length};
 ghost use Rattle.gpkt.specs.Change.{change_of};
 
 use crate::acks::{first_strange, with_acks};
@@ -26,7 +26,7 @@ impl<A: Allocator + Copy> Session<A> {
     ghost use Rattle.gdag.specs.Reach.{Grows};
     ghost use Rattle.grequest.specs.Asked.{FetchAsked, is_direct};
     ghost use Rattle.gsession.specs.Sessions.{AreCommons, LeavesReplies};
-    ghost use Rattle.gsession.specs.steps.Calls.{AnswersRead, AnswersReply, FitsHead, IsAcksFault, MayHaveFed};
+    ghost use Rattle.gsession.specs.steps.Calls.{AnswersRead, AnswersReply, FitsHead, IsAcksFault, IsStrangeAck, MayHaveFed};
     ghost use Rattle.gsession.specs.TakingReplies.{Awaits, AwaitsObjects, HasPack, TakesReply, after_acks, reading_for};
 
     /// Takes the reply to a request for objects, and nothing after it. Its pack goes to the indexer as it comes. Once
@@ -36,8 +36,8 @@ impl<A: Allocator + Copy> Session<A> {
     /// It fails with `NoOpenRequest` where no such reply is due, and nothing is read then. Else the session is over,
     /// and the repository as before: with `Message` where the reply is refused, out of memory only at an
     /// acknowledged id; with `StrangeAck`; with `Index` where the indexer refused the pack; and with `Repo` where the
-    /// graph refuses its objects, or it is out of memory. The first of these is reported; for a reply without a pack
-    /// nothing of the indexer's.
+    /// graph refuses its objects, or it is out of memory, which is reported only where the indexer took the pack. The
+    /// first of these is reported; for a reply without a pack nothing of the indexer's.
     pub fn take_reply<S: Source, K: Indexer<A>, B: Allocator + Copy>(
         &mut self,
         repo: &mut Repo<A>,
@@ -130,7 +130,8 @@ impl<A: Allocator + Copy> Session<A> {
             × (taken ≡ Taken.Round (length self.new.commons)))
             (λ fault. IsAcksFault asked.haves acks.now fault × (self.new ≡ self.old)) }
     {
-        let joined = self.commons_with(acks)?;
+        self.check_acks(acks)?;
+        let joined = with_acks(self.allocator(), self.commons.as_slice(), acks)?;
         let common = joined.len();
         self.commons = joined;
         self.stage = Stage::Fetching;
@@ -154,8 +155,9 @@ impl<A: Allocator + Copy> Session<A> {
             → AnswersRead (K.indexes feed.entry.indexer.now) (K.index_fails feed.entry.indexer.now)
             asked.haves self.old repo.old reply self.new repo.new result }
     {
-        let commons = self.commons_with(acks)?;
+        self.check_acks(acks)?;
         let entries = feed.finish()?;
+        let commons = with_acks(self.allocator(), self.commons.as_slice(), acks)?;
         let added = repo.insert_all(entries.as_slice())?;
         self.commons = commons;
         self.stage = Stage::Settling;
@@ -163,22 +165,22 @@ impl<A: Allocator + Copy> Session<A> {
         Ok(Taken::PackTaken { added })
     }
 
-    // The common ids with those that are acknowledged, of which each must be a have of the request.
-    fn commons_with(&self, acks: &[Oid]) -> Result<Vec<Oid, A>, ClientFault<A>>
+    // Checks that each acknowledged id is a have of the request.
+    fn check_acks(&self, acks: &[Oid]) -> Result<(), ClientFault<A>>
         requires { AwaitsObjects self.now }
-        ensures counts { (asked : FetchAsked) → Awaits self.now asked → MatchResult result
-            (λ commons. All (Contains asked.haves) acks.now
-            × (commons.items ≡ distinct_of (self.now.commons ++ acks.now)))
-            (IsAcksFault asked.haves acks.now) }
-        ensures commons { IfOk result (λ commons. AreCommons self.now.format commons.items) }
+        ensures checks { (asked : FetchAsked) → Awaits self.now asked → MatchResult result
+            (λ _. All (Contains asked.haves) acks.now)
+            (IsStrangeAck asked.haves acks.now) }
+        ensures commons { OnOk result (AreCommons self.now.format
+            (distinct_of (self.now.commons ++ acks.now))) }
     {
         // Laws.
         distinct_are_once();
-        let alloc = self.allocator();
-        if let Some(id) = first_strange(alloc, self.open_haves(), acks) {
-            return Err(ClientFault::StrangeAck { id });
+        self.laws();
+        match first_strange(self.allocator(), self.open_haves(), acks) {
+            Some(id) => Err(ClientFault::StrangeAck { id }),
+            None => Ok(()),
         }
-        Ok(with_acks(alloc, self.commons.as_slice(), acks)?)
     }
 
     // The haves of the request for objects that waits.

@@ -1,11 +1,12 @@
 //! How a session takes the reply to ls-refs.
 
-ghost use Rattle.std.specs.Prelude.{◌≡◌, ◌≤◌, List, All, MatchBool, MatchResult, IfOk, None, Ok, Err, length};
+ghost use Rattle.std.specs.Prelude.{◌≡◌, ◌≤◌, List, All, MatchBool, MatchResult, IfOk, None, length};
 ghost use Rattle.gobject.specs.declared.node.Entry.{Entry};
 ghost use Rattle.gpkt.specs.Change.{change_of};
+ghost use Rattle.gsession.specs.Asking.{AreNamed, asks_by_all};
 ghost use Rattle.gsession.specs.TakingRefs.{stage_for};
 
-use crate::asks::{asked_of, unborn_of, wants_of};
+use crate::asks::{are_named, asked_of, unborn_of, wants_of};
 use crate::fault::ClientFault;
 use crate::session::{Session, set_pending};
 use crate::stage::Stage;
@@ -13,10 +14,10 @@ use crate::taken::LsTaken;
 use gclientrepo::{Asks, Repo};
 use ggrammar::{MessageFault, Why};
 use glsreply::{LsReply, read_ls_reply_in};
-use gname::{NameFault, Oid};
+use gname::Oid;
 use gpkt::{LineReader, Source};
 use grequest::{MAX_WANTS, Request};
-use std::alloc::{AllocError, Allocator};
+use std::alloc::Allocator;
 
 impl<A: Allocator + Copy> Session<A> {
     ghost use Rattle.glsreply.specs.WellFormed.{IsLsReplyIn};
@@ -32,7 +33,7 @@ impl<A: Allocator + Copy> Session<A> {
     ///
     /// It fails with `NoOpenRequest` where no such reply is due, and nothing is read then. Else the session is over:
     /// with `Message` where the reply is refused, or, at its last packet, where a ref that is asked for can't have
-    /// its name; with `TooManyWants` over 1,024; and where out of memory.
+    /// its name; with `TooManyWants` over 1,024; and where out of memory, but not where a ref can't have its name.
     pub fn take_ls<S: Source, B: Allocator + Copy>(
         &mut self,
         repo: &Repo<A>,
@@ -89,10 +90,11 @@ impl<A: Allocator + Copy> Session<A> {
         requires formed { IsLsReplyIn self.old.format reply.now }
         ensures { AnswersRefs self.old repo.now.graph.entries reply.now self.new result }
     {
-        match asked_of(self.allocator(), self.refspecs.as_slice(), reply) {
-            Ok(asks) => self.take_asked(repo, reply, asks),
-            Err(fault) => Err(self.unnamed(reply, fault)),
+        if !are_named(self.refspecs.as_slice(), reply) {
+            return Err(self.misnamed(reply));
         }
+        let asks = asked_of(self.allocator(), self.refspecs.as_slice(), reply)?;
+        self.take_asked(repo, reply, asks)
     }
 
     // Takes what is asked for of the refs of a reply.
@@ -103,7 +105,7 @@ impl<A: Allocator + Copy> Session<A> {
         asks: Asks<A>,
     ) -> Result<LsTaken<A>, ClientFault<A>>
         requires waits { AwaitsRefs self.old }
-        requires asked { FindsAsks self.old.refspecs reply.now.lines (Ok asks) }
+        requires asked { FindsAsks self.old.refspecs reply.now.lines asks }
         requires ids { All (λ ask. IsIdOf self.old.format ask.id) asks }
         ensures { AnswersRefs self.old repo.now.graph.entries reply.now self.new result }
     {
@@ -123,7 +125,7 @@ impl<A: Allocator + Copy> Session<A> {
         reply: &LsReply<A>,
         asks: &Asks<A>,
     ) -> Result<(Vec<Oid, A>, LsTaken<A>), ClientFault<A>>
-        requires asked { FindsAsks self.now.refspecs reply.now.lines (Ok asks.now) }
+        requires asked { FindsAsks self.now.refspecs reply.now.lines asks.now }
         requires ids { All (λ ask. IsIdOf self.now.format ask.id) asks.now }
         ensures wanted { MatchResult result
             (λ pair. TakesLines self.now repo.now.graph.entries reply.now
@@ -162,19 +164,15 @@ impl<A: Allocator + Copy> Session<A> {
         self.wants = wants;
     }
 
-    // Why the refs of a reply are not asked for: one can't have its name, as is reported at the reply's last packet; or
-    // out of memory.
-    fn unnamed(&self, reply: &LsReply<A>, fault: NameFault) -> ClientFault<A>
-        requires { FindsAsks {A = A} self.now.refspecs reply.now.lines (Err fault) }
+    // That a ref which is asked for can't have its name, as is reported at the reply's last packet.
+    fn misnamed(&self, reply: &LsReply<A>) -> ClientFault<A>
+        requires { ¬ (AreNamed {A = A} (asks_by_all self.now.refspecs reply.now.lines)) }
         ensures { (g : List (Entry A)) → IsRefsFault self.now g reply.now result }
     {
-        match fault {
-            NameFault::Memory => ClientFault::from(AllocError),
-            _ => ClientFault::Message(MessageFault {
-                frame: reply.last_frame(self.ends),
-                why: Why::BadName,
-            }),
-        }
+        ClientFault::Message(MessageFault {
+            frame: reply.last_frame(self.ends),
+            why: Why::BadName,
+        })
     }
 }
 

@@ -11,10 +11,6 @@ first_line_time = 10_000_000_000
 abbrev pub request_time : ℕ
 request_time = 60_000_000_000
 
--- the longest that a read waits
-abbrev pub longest_wait : ℕ
-longest_wait = 60_000_000_000
-
 -- ---- what is left
 
 -- How much is left now, if so much was left at an earlier moment: the time that has passed by the clock is taken off.

@@ -24,7 +24,7 @@ impl<A: Allocator + Copy> Parts<A> {
     pub(crate) fn add_at_server(&mut self, entry: &Entry<A>) -> Result<Outcome, AllocError>
         ensures { MatchResult result
             (λ outcome. AddsAtServer self.old entry.now outcome self.new)
-            (λ _. self.new ≡ self.old) }
+            (λ _. (self.new ≡ self.old) × AgreesWith self.old.repo.graph.entries entry.now) }
     {
         if !agrees(self.repo.graph(), &entry.id, &entry.node) {
             return Ok(Outcome::Fault { code: DISAGREE });
@@ -65,7 +65,7 @@ impl<A: Allocator + Copy> Parts<A> {
     pub(crate) fn add_at_client(&mut self, entry: &Entry<A>) -> Result<Outcome, AllocError>
         ensures { MatchResult result
             (λ outcome. AddsAtClient self.old entry.now outcome self.new)
-            (λ _. self.new ≡ self.old) }
+            (λ _. (self.new ≡ self.old) × AgreesWith self.old.server.graph.entries entry.now) }
     {
         if !agrees(self.server.graph(), &entry.id, &entry.node) {
             return Ok(Outcome::Fault { code: DISAGREE });

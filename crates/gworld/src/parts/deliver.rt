@@ -1,6 +1,6 @@
 //! Replies that come.
 
-ghost use Rattle.std.specs.Prelude.{◌≡◌, ◌↔◌, MatchResult, slice_get, IsTrue, IfOk, Some};
+ghost use Rattle.std.specs.Prelude.{◌≡◌, ◌↔◌, MatchResult, slice_get, IsSome, IsTrue, IfOk, Some};
 ghost use Rattle.gworld.specs.Taking.{IsPackTaken};
 ghost use Rattle.gworld.specs.steps.Bringing.{BringsTo};
 ghost use Rattle.gworld.specs.Events.{Delivers, Forges, waiting};
@@ -55,7 +55,8 @@ impl<A: Allocator + Copy> Parts<A> {
         ensures { MatchResult result
             (λ outcome. Delivers (K.indexes indexer.now) (K.index_fails indexer.now) self.old
             (slice_get self.old.kept number) count (waiting self.old.session) outcome self.new)
-            (λ _. self.new ≡ self.old) }
+            (λ _. (self.new ≡ self.old)
+            × IsSome (slice_get self.old.kept number) × IsSome (waiting self.old.session)) }
     {
         match kept_at(&self.kept, number) {
             None => Ok(Outcome::Fault { code: NO_SUCH }),
@@ -80,7 +81,7 @@ impl<A: Allocator + Copy> Parts<A> {
         ensures { MatchResult result
             (λ outcome. Forges (K.indexes indexer.now) (K.index_fails indexer.now) self.old
             bytes.now (waiting self.old.session) outcome self.new)
-            (λ _. self.new ≡ self.old) }
+            (λ _. (self.new ≡ self.old) × IsSome (waiting self.old.session)) }
     {
         match &mut self.session {
             None => {
@@ -125,8 +126,14 @@ fn bring<A: Allocator + Copy, K: Indexer<A>>(
         (λ outcome. BringsTo (K.indexes indexer.now) (K.index_fails indexer.now)
         coming.entry.kept.now coming.entry.count
         session.old.pending session.old repo.old mark.old outcome session.new repo.new mark.new)
-        (λ _. (session.new ≡ session.old) × (repo.new ≡ repo.old) × (mark.new ≡ mark.old)) }
+        (λ _. (session.new ≡ session.old) × (repo.new ≡ repo.old) × (mark.new ≡ mark.old)
+        × IsSome session.old.pending) }
 {
+    if session.pending().is_none() {
+        return Ok(Outcome::Fault {
+            code: NO_OPEN_REQUEST,
+        });
+    }
     let bytes = coming.kept.bytes(repo.graph().allocator())?;
     let same = coming.kept.answers_open(session);
     let all = bytes.len() <= coming.count;

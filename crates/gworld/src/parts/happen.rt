@@ -1,8 +1,8 @@
 //! What an event does.
 
-ghost use Rattle.std.specs.Prelude.{◌≡◌, MatchResult};
+ghost use Rattle.std.specs.Prelude.{◌≡◌, ◌≢◌, ◌≤◌, [], MatchResult, length, vec_capacity, vec_len};
 ghost use Rattle.gworld.specs.Promises.{Promises};
-ghost use Rattle.gworld.specs.Runs.{RunWith, RunsFront, outcomes_before};
+ghost use Rattle.gworld.specs.Runs.{NeedsMemory, RunWith, RunsFront, outcomes_before};
 ghost use Rattle.gworld.specs.Sound.{AreEndsWhole, IsSound};
 ghost use Rattle.gworld.specs.Events.{Step};
 ghost use Rattle.gworld.specs.Worlds.{tools_of};
@@ -26,7 +26,7 @@ impl<A: Allocator + Copy> Parts<A> {
             (λ outcome. Step (tools_of (K.packs tools.now) (K.pack_fails tools.now)
             (K.indexes tools.now) (K.index_fails tools.now))
             self.old event.now outcome self.new)
-            (λ _. self.new ≡ self.old) }
+            (λ _. (self.new ≡ self.old) × NeedsMemory self.old event.now) }
     {
         match event {
             Event::Begin(specs) => Ok(self.begin(specs.as_slice())),
@@ -71,7 +71,7 @@ impl<A: Allocator + Copy> Parts<A> {
             × Promises (tools_of (K.packs tools.now) (K.pack_fails tools.now)
             (K.indexes tools.now) (K.index_fails tools.now))
             self.old event.now outcome self.new)
-            (λ _. self.new ≡ self.old) }
+            (λ _. (self.new ≡ self.old) × NeedsMemory self.old event.now) }
     {
         // Laws.
         steps_keep::<A, K>();
@@ -82,7 +82,23 @@ impl<A: Allocator + Copy> Parts<A> {
         Ok(outcome)
     }
 
-    /// Does events, one after the other.
+    // No outcomes yet, with room for those of the events.
+    fn no_outcomes(&self, events: &[Event<A>]) -> Result<Vec<Outcome, A>, RunFault<A>>
+        ensures { MatchResult result
+            (λ outcomes. (outcomes.items ≡ []) × (vec_len outcomes ≡ 0)
+            × (length events.now ≤ vec_capacity outcomes))
+            (λ fault. (outcomes_before fault ≡ []) × (events.now ≢ [])) }
+    {
+        let alloc = self.repo.graph().allocator();
+        match Vec::with_capacity(alloc, events.len()) {
+            Ok(outcomes) => Ok(outcomes),
+            Err(_) => Err(RunFault::Memory {
+                outcomes: Vec::new(alloc),
+            }),
+        }
+    }
+
+    /// Does events, one after the other. The memory of their outcomes is taken before the first.
     pub(crate) fn run<K: Packer<A> + Indexer<A>>(
         &mut self,
         events: &[Event<A>],
@@ -100,16 +116,41 @@ impl<A: Allocator + Copy> Parts<A> {
             (K.indexes tools.now) (K.index_fails tools.now)))
             self.old events.now (outcomes_before fault) self.new) }
     {
-        let mut outcomes = Vec::new(self.repo.graph().allocator());
+        match self.no_outcomes(events) {
+            Ok(outcomes) => self.run_each(events, tools, outcomes),
+            Err(fault) => Err(fault),
+        }
+    }
+
+    // Does events, one after the other. There is room for their outcomes.
+    fn run_each<K: Packer<A> + Indexer<A>>(
+        &mut self,
+        events: &[Event<A>],
+        tools: &K,
+        outcomes: Vec<Outcome, A>,
+    ) -> Result<Vec<Outcome, A>, RunFault<A>>
+        requires none { outcomes.items ≡ [] }
+        requires empty { vec_len outcomes ≡ 0 }
+        requires room { length events.now ≤ vec_capacity outcomes }
+        requires sound { IsSound (tools_of (K.packs tools.now) (K.pack_fails tools.now)
+            (K.indexes tools.now) (K.index_fails tools.now)) self.old }
+        ensures sound { IsSound (tools_of (K.packs tools.now) (K.pack_fails tools.now)
+            (K.indexes tools.now) (K.index_fails tools.now)) self.new }
+        ensures runs { MatchResult result
+            (λ outcomes. RunWith (Promises (tools_of (K.packs tools.now) (K.pack_fails tools.now)
+            (K.indexes tools.now) (K.index_fails tools.now)))
+            self.old events.now outcomes.items self.new)
+            (λ fault. RunsFront (Promises (tools_of (K.packs tools.now) (K.pack_fails tools.now)
+            (K.indexes tools.now) (K.index_fails tools.now)))
+            self.old events.now (outcomes_before fault) self.new) }
+    {
+        let mut told = outcomes;
         for event in events {
-            if outcomes.try_reserve(1).is_err() {
-                return Err(RunFault::Memory { outcomes });
-            }
             match self.step(event, tools) {
-                Ok(outcome) => outcomes.push_reserved(outcome),
-                Err(_) => return Err(RunFault::Memory { outcomes }),
+                Ok(outcome) => told.push_reserved(outcome),
+                Err(_) => return Err(RunFault::Memory { outcomes: told }),
             }
         }
-        Ok(outcomes)
+        Ok(told)
     }
 }

@@ -1,6 +1,6 @@
 //! The server at work.
 
-ghost use Rattle.std.specs.Prelude.{◌≡◌, ◌≢◌, ◌∷◌, ◌++◌, [], IfOk, MatchResult, length, slice_get};
+ghost use Rattle.std.specs.Prelude.{◌≡◌, ◌≢◌, ◌∷◌, ◌++◌, [], IfOk, IsSome, MatchResult, length, slice_get};
 ghost use Rattle.ganswer.specs.Answers.{reply_of};
 ghost use Rattle.ganswer.specs.Faults.{serve_fault_row};
 ghost use Rattle.grequest.specs.RequestValues.{asked_by_request};
@@ -42,7 +42,7 @@ impl<A: Allocator + Copy> Parts<A> {
         ensures { MatchResult result
             (λ outcome. ServesRequest (K.packs packer.now) (K.pack_fails packer.now) self.old
             (slice_get self.old.sent number) outcome self.new)
-            (λ _. self.new ≡ self.old) }
+            (λ _. (self.new ≡ self.old) × IsSome (slice_get self.old.sent number)) }
     {
         let alloc = self.repo.graph().allocator();
         match sent_at(&self.sent, number) {

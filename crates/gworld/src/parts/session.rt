@@ -8,6 +8,8 @@ ghost use Rattle.ggrammar.specs.declared.ends.Ends.TheVariants.{Plain};
 ghost use Rattle.ganswer.specs.Adverts.{advertised};
 ghost use Rattle.gsession.specs.Sessions.{Begins, Hears, IsBegun, SessionState};
 ghost use Rattle.gsession.specs.declared.fault.ClientFault.TheVariants as client;
+ghost use Rattle.gscenario.specs.declared.event.Event.TheVariants as Event;
+ghost use Rattle.gworld.specs.Runs.{NeedsMemory};
 ghost use Rattle.gworld.specs.Events.{AsksNext, BeginsSession, Restarts, SettlesRefs, settled_outcome, is_moved, is_same, is_not_forward};
 
 use super::{Parts, Sent, refuse};
@@ -71,25 +73,33 @@ impl<A: Allocator + Copy> Parts<A> {
         }
     }
 
-    /// Makes the session's next request, and keeps it as sent.
+    /// Makes the session's next request, and keeps it as sent. It looks first whether one may be asked for, and then
+    /// makes room.
     pub(crate) fn ask(&mut self) -> Result<Outcome, AllocError>
         ensures { MatchResult result
             (λ outcome. AsksNext self.old self.old.session outcome self.new)
-            (λ _. self.new ≡ self.old) }
+            (λ _. (self.new ≡ self.old) × NeedsMemory self.old Event.Ask) }
     {
-        self.sent.try_reserve(1)?;
         let number = self.sent.len();
         match &mut self.session {
             None => Ok(Outcome::Fault {
                 code: NO_OPEN_REQUEST,
             }),
-            Some(session) => match session.request(&self.repo) {
-                Ok(request) => {
-                    self.sent.push_reserved(Sent { request });
-                    Ok(Outcome::Asked { request: number })
+            Some(session) => {
+                if session.pending().is_some() {
+                    return Ok(Outcome::Fault {
+                        code: NO_OPEN_REQUEST,
+                    });
                 }
-                Err(fault) => Ok(refuse(fault, &mut self.answered)),
-            },
+                self.sent.try_reserve(1)?;
+                match session.request(&self.repo) {
+                    Ok(request) => {
+                        self.sent.push_reserved(Sent { request });
+                        Ok(Outcome::Asked { request: number })
+                    }
+                    Err(fault) => Ok(refuse(fault, &mut self.answered)),
+                }
+            }
         }
     }
 

@@ -4,17 +4,13 @@ use Rattle.std.proofs.lemmas.List.Elements.{All-more}
 use Rattle.std.proofs.lemmas.Option.{slice_get_read}
 use Rattle.gdag.specs.Graphs.{Holds}
 use Rattle.ganswer.proofs.PeelLemmas.{knows_next}
-use Rattle.ganswer.proofs.ServerLemmas.{dangling, first_dangling, holds_refs}
+use Rattle.ganswer.proofs.ServerLemmas.{dangles_at, holds_refs}
 use Rattle.ganswer.proofs.server.check_refs.Goals as goal
 
-pub returns-in_default-clause-held : goal.returns-in_default-clause-held
-returns-in_default-clause-held g c =
-    let entries = c.args.graph.now.entries in
-    let refs = c.args.refs.now in
+pub returns-in-None-clause-held : goal.returns-in-None-clause-held
+returns-in-None-clause-held g c =
     let ref : List ℕ × List ℕ = c.index-refs-place.result in
-    dangling entries refs ref.0 c.ref_missing.result
-    (first_dangling entries refs c.loop-place.place ref c.loop-place-test.true c.index-refs-place.is c.loop-place.invariant.0 c.in_default.ensures)
-    c.ref_missing.ensures
+    dangles_at c.args.graph.now.entries c.args.refs.now c.loop-place.place ref c.loop-place-test.true c.index-refs-place.is c.loop-place.invariant.0 c.in-None.ensures
 
 pub loop-place-preserved : goal.loop-place-preserved
 loop-place-preserved g c =

@@ -1,7 +1,7 @@
 use Rattle.std.proofs.Common.{◌≡◌, ℕ, List, ◌∷◌, refl, sym, ap, subst, ◌∙◌, Result}
 use Rattle.gpkt.specs.Sending.{input_of, output_of}
 use Rattle.gsession.specs.Sessions.{SessionState}
-use Rattle.gclient.specs.Conversations.{Start, FetchesOver, cannot_begin, no_buffer, start_of}
+use Rattle.gclient.specs.Conversations.{Start, FetchesOver, cannot_begin, no_buffer, start_for}
 use Rattle.gclient.specs.steps.Conversations.{HasBegun, start_with}
 use Rattle.gclient.specs.declared.fault.FetchFault.{FetchFault}
 use Rattle.gclient.specs.declared.fetched.Fetched.{Fetched}
@@ -13,7 +13,7 @@ pub returns-in_err-session-clause-fetches : goal.returns-in_err-session-clause-f
 returns-in_err-session-clause-fetches g c =
     let indexes = g.K.Indexer.indexes c.args.indexer.now in
     let fails = g.K.Indexer.index_fails c.args.indexer.now in
-    let start = start_of c.args.repo.now c.args.options.now.specs.now c.args.options.now.limit c.args.options.now.ends in
+    let start = start_for c.args.repo.now c.args.plan.now.specs.now c.args.plan.now.limit c.args.plan.now.ends c.args.plan.now.options in
     let input = input_of g.S.Source.remaining g.S.Source.is_down c.args.source.now c.args.source.now in
     let output = output_of g.W.Sink.contents g.W.Sink.passed_on g.W.Sink.is_down c.args.writer.now.sink
     c.args.writer.now.sink in
@@ -40,7 +40,7 @@ pub returns-clause-fetches : goal.returns-clause-fetches
 returns-clause-fetches g c =
     let indexes = g.K.Indexer.indexes c.args.indexer.now in
     let fails = g.K.Indexer.index_fails c.args.indexer.now in
-    let start = start_of c.args.repo.now c.args.options.now.specs.now c.args.options.now.limit c.args.options.now.ends in
+    let start = start_for c.args.repo.now c.args.plan.now.specs.now c.args.plan.now.limit c.args.plan.now.ends c.args.plan.now.options in
     let read = λ (s t : g.row.S.Denot). input_of g.S.Source.remaining g.S.Source.is_down s t in
     let output = output_of g.W.Sink.contents g.W.Sink.passed_on g.W.Sink.is_down c.args.writer.now.sink
     c.converse-fetched.new.writer.sink in

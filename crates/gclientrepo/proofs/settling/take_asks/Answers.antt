@@ -1,10 +1,9 @@
 use Rattle.std.proofs.Common.{◌≡◌, ℕ, ◌<◌, length, subst, ◌+◌, ◌++◌, ◌∷◌, [], take, ap, ◌∙◌}
 use Rattle.std.proofs.lemmas.List.{take_more}
 use Rattle.std.proofs.lemmas.Option.{get_or_from_slice_get}
-use Rattle.std.proofs.lemmas.Result.{err_from_is_err_and}
 use Rattle.gclientrepo.specs.Asks.{aimed}
 use Rattle.gclientrepo.specs.declared.ask.Ask.{Ask}
-use Rattle.gclientrepo.proofs.SettlingLemmas.{settles_none, settles_more, differ_before, cannot_settle, refuses_ask}
+use Rattle.gclientrepo.proofs.SettlingLemmas.{settles_none, settles_more, differ_before, cannot_settle}
 use Rattle.gclientrepo.proofs.settling.take_asks.Goals as goal
 
 pub loop-place-init : goal.loop-place-init
@@ -23,16 +22,12 @@ loop-place-preserved g c =
     (settles_more c.args.graph.now.entries c.args.old.now (take place asks) c.loop-place.updates.items c.loop-place.refs c.take_ask.new.refs ask c.in_ok-update.update
     c.loop-place.invariant (differ_before asks place ask c.len-place-end.ensures.differ inside is) c.in_ok-update.ensures.0 c.in_ok-update.ensures.1)
 
-pub returns-in_err-update : goal.returns-in_err-update
-returns-in_err-update g c =
-    let p = err_from_is_err_and c.from_residual.result c.from_residual.ensures.1 in
+pub take_ask-requires : goal.take_ask-requires
+take_ask-requires g c =
     let asks = c.args.asks.now in
     let place = c.loop-place.place in
     let ask : Ask g.row.A.Denot = aimed (c.aim.result.0.now, c.aim.result.1.now) in
     let inside : place < length asks = subst (λ (n : ℕ). place < n) c.len-place-end.ensures.count c.loop-place-test.true in
     let is = get_or_from_slice_get asks place ask ask c.aim.ensures in
-    rw (p.1, p.2)
-    (refuses_ask c.args.graph.now.entries c.args.old.now asks ask c.loop-place.refs c.take_ask.new.refs _
-    c.requires.can
-    (cannot_settle c.args.graph.now.entries c.args.old.now asks place c.loop-place.updates.items c.loop-place.refs ask c.len-place-end.ensures.differ inside is c.loop-place.invariant)
-    c.in_err-update.ensures)
+    λ cannot. c.requires.can
+    (cannot_settle c.args.graph.now.entries c.args.old.now asks place c.loop-place.updates.items c.loop-place.refs ask c.len-place-end.ensures.differ inside is c.loop-place.invariant cannot)

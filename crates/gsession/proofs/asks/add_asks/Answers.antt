@@ -1,24 +1,11 @@
 use Rattle.std.proofs.Common.{◌∙◌, ◌<◌, [], ◌∷◌, length, sym, ap, refl, arith}
 use Rattle.std.specs.Option.{option_copied}
 use Rattle.std.proofs.lemmas.Option.{get_or_from_slice_get}
-use Rattle.std.proofs.lemmas.Result.{err_from_is_err_and}
 use Rattle.gsession.specs.Asking.{asks_by}
 use Rattle.gsession.proofs.CommonLemmas.{none_inside}
-use Rattle.gsession.proofs.AskLemmas.{added_more, asks_by-append, fails_at}
+use Rattle.gsession.proofs.AskLemmas.{added_more, asks_by-append}
 use Rattle.gsession.proofs.asks.add_asks.Goals as goal
 use Rattle.gsession.proofs.asks.add_asks.Goals.{in-Some+in_ok-add_line, in_default}
-
-pub returns-in_err-add_line : goal.returns-in_err-add_line
-returns-in_err-add_line g c =
-    let p = err_from_is_err_and c.from_residual.result c.from_residual.ensures.1 in
-    let spec = c.args.spec.now in
-    let lines = c.args.reply.now.lines in
-    let place = c.loop-place.place in
-    let line = c.in-Some.line.now in
-    let low : place < length lines = omega (arith, c.loop-place-test.true, c.len-place-end.ensures.len) in
-    rw (p.1, p.2) (fails_at (asks_by spec) (asks_by-append spec) lines place line low
-    (sym (get_or_from_slice_get lines place line line (sym c.in-Some.ensures))) (asks_by spec (line ∷ [])) refl
-    c.in_err-add_line.field-0.0 c.loop-place.invariant.1 c.in_err-add_line.ensures)
 
 pub loop-place-preserved : goal.loop-place-preserved
 loop-place-preserved g c =

@@ -1,18 +1,8 @@
 use Rattle.std.proofs.Common.{◌≤◌, [], length, arith}
 use Rattle.std.proofs.lemmas.List.{append-nil, take_all}
-use Rattle.std.proofs.lemmas.Result.{err_from_is_err_and}
 use Rattle.gsession.specs.Asking.{asks_by, asks_by_all}
-use Rattle.gsession.proofs.AskLemmas.{added_more, asked_have_ids, asks_by_all-append, fails_at}
+use Rattle.gsession.proofs.AskLemmas.{added_more, asked_have_ids, asks_by_all-append}
 use Rattle.gsession.proofs.asks.asked_of.Goals as goal
-
-pub returns-in_err-add_asks-clause-asks : goal.returns-in_err-add_asks-clause-asks
-returns-in_err-add_asks-clause-asks g c =
-    let p = err_from_is_err_and c.from_residual.result c.from_residual.ensures.1 in
-    let lines = c.args.reply.now.lines in
-    let one = asks_by c.spec-item.result lines in
-    rw (p.1, p.2) (fails_at (λ s. asks_by_all s lines) (asks_by_all-append lines) c.args.specs.now
-    c.loop-spec.spec-index c.spec-item.result c.loop-spec-test.true c.spec-item.is one (append-nil one)
-    c.in_err-add_asks.field-0.0 c.loop-spec.invariant.1 c.in_err-add_asks.ensures)
 
 pub loop-spec-preserved : goal.loop-spec-preserved
 loop-spec-preserved g c =

@@ -15,6 +15,6 @@ pub returns-clause-full : goal.returns-clause-full
 returns-clause-full g c =
     let entries = c.args.repo.now.graph.entries in
     let id = c.args.id.now in
-    let found = c.in_ok-missing_of.field-0 in
+    let found = c.in_ok-missing.field-0 in
     subst (λ (b : Bool). IsTrue b ↔ IsFull entries id) (none_by found c.is_none.result c.is_none.ensures)
-    (full_unless_missing entries id found c.in_ok-missing_of.ensures.answer)
+    (full_unless_missing entries id found c.in_ok-missing.ensures.answer)

@@ -1,6 +1,7 @@
 use Rattle.std.proofs.Common.{Ok, Err, refl, subst}
 use Rattle.ghello.specs.Hello.{Hello}
-use Rattle.gclient.specs.Conversations.{start_of}
+use Rattle.gsession.specs.declared.options.PackOptions.{PackOptions}
+use Rattle.gclient.specs.Conversations.{start_for, start_of}
 use Rattle.gcmd.specs.Fetching.{plain_index_fails, plain_indexes}
 use Rattle.gtcp.specs.Sockets.{FetchesFrom}
 use Rattle.gtcp.proofs.remote.fetch_at.Goals as goal
@@ -13,11 +14,19 @@ returns-in-Ok-clause-fetches g c =
     let fetch = c.args.fetch.now in
     subst (λ (hello : Hello). FetchesFrom plain_indexes (plain_index_fails g.row.A.Denot)
     (start_of c.args.repo.now fetch.specs.now fetch.limit fetch.ends) hello c.fetch_from.new.repo (Ok c.in-Ok.fetched))
-    c.hello.ensures c.in-Ok.ensures.fetches
+    c.hello.ensures
+    (subst (λ (options : PackOptions). FetchesFrom plain_indexes (plain_index_fails g.row.A.Denot)
+    (start_for c.args.repo.now fetch.specs.now fetch.limit fetch.ends options) c.hello.result.now c.fetch_from.new.repo
+    (Ok c.in-Ok.fetched))
+    c.default.ensures c.in-Ok.ensures.fetches)
 
 pub returns-clause-fetches : goal.returns-clause-fetches
 returns-clause-fetches g c =
     let fetch = c.args.fetch.now in
     subst (λ (hello : Hello). FetchesFrom plain_indexes (plain_index_fails g.row.A.Denot)
     (start_of c.args.repo.now fetch.specs.now fetch.limit fetch.ends) hello c.fetch_from.new.repo (Err c.in-Err.fault))
-    c.hello.ensures c.in-Err.ensures.fetches
+    c.hello.ensures
+    (subst (λ (options : PackOptions). FetchesFrom plain_indexes (plain_index_fails g.row.A.Denot)
+    (start_for c.args.repo.now fetch.specs.now fetch.limit fetch.ends options) c.hello.result.now c.fetch_from.new.repo
+    (Err c.in-Err.fault))
+    c.default.ensures c.in-Err.ensures.fetches)

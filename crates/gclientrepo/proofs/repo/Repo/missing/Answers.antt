@@ -1,7 +1,14 @@
+use Rattle.std.proofs.Common.{Some, rules}
+use Rattle.gdag.specs.Reach.{IsFull}
+use Rattle.gclientrepo.proofs.RepoLemmas.{all_full, first_misses}
 use Rattle.gclientrepo.proofs.repo.Repo.missing.Goals as goal
 
-pub missing_known-requires : goal.missing_known-requires
-missing_known-requires g c = c.self.invariant.full
+pub returns-in-Some-clause-answer : goal.returns-in-Some-clause-answer
+returns-in-Some-clause-answer g c =
+    rw (← c.self.view_is) (first_misses c.self.inside.graph.entries c.args.ids.now c.in-Some.id c.in-Some.ensures)
 
-pub returns-clause-answer : goal.returns-clause-answer
-returns-clause-answer g c = rw (← c.self.view_is) c.in_ok-missing.ensures.answer
+pub returns-then-is_ordered-clause-answer : goal.returns-then-is_ordered-clause-answer
+returns-then-is_ordered-clause-answer g c =
+    rw (← c.self.view_is) (all_full c.ordered_is_closed.ensures c.closed_is_full.ensures c.self.inside.graph.entries
+    c.is_ordered.ensures.graph.differ c.is_ordered.result c.is_ordered.ensures.ordered c.if-is_ordered.true
+    c.args.ids.now c.in_default.ensures)

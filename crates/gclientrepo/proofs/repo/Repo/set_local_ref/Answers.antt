@@ -1,23 +1,29 @@
-use Rattle.std.proofs.Common.{◌≡◌, ap, ◌∙◌, [], Err, subst, sym}
+use Rattle.std.proofs.Common.{◌≡◌, [], refl, subst, sym, ◌∙◌}
+use Rattle.std.proofs.lemmas.Bool.{false≢true}
 use Rattle.std.proofs.lemmas.List.Elements.{All-head}
-use Rattle.std.proofs.lemmas.Result.{err_from_is_err_and}
 use Rattle.gdag.specs.Reach.{IsFull}
-use Rattle.grefs.specs.RefLists.{CannotSet, RefList}
+use Rattle.grefs.specs.RefLists.{CannotSet}
 use Rattle.gclientrepo.specs.Repos.{RepoState}
-use Rattle.gclientrepo.proofs.RepoLemmas.{set_from}
-use Rattle.gclientrepo.proofs.SettlingLemmas.{cannot_set_local}
 use Rattle.gclientrepo.proofs.repo.Repo.set_local_ref.Goals as goal
+use Rattle.gclientrepo.proofs.repo.Repo.set_local_ref.Goals.{in-Ok, in-Err}
 
-pub returns-in_err-set-clause-sets : goal.returns-in_err-set-clause-sets
-returns-in_err-set-clause-sets g c =
-    let p = err_from_is_err_and c.from_residual-in_err-set.result c.from_residual-in_err-set.ensures.1 in
-    let refs : c.in_ok-refs.refs ≡ c.args.self.now.refs = c.in_ok-refs.ensures ∙ ap (λ (s : RepoState g.row.A.Denot). s.refs) c.self.view_is in
-    rw (p.1, p.2) (cannot_set_local c.args.self.now c.args.name c.args.id c.in_err-set.field-0.0 (All-head (IsFull c.args.self.now.graph.entries) c.args.id [] (rw c.in_default.is at c.in_ok-missing.ensures.answer))
-    (λ is. rw refs at (c.in_err-set.ensures.refused.0 (ap Err is)))
-    (λ cannot. (let same = c.in_err-set.ensures.refused.1 (subst (λ (r : RefList). CannotSet r c.args.name) (sym refs) cannot) in cc)))
+pub returns-then-cannot_set-clause-sets : goal.returns-then-cannot_set-clause-sets
+returns-then-cannot_set-clause-sets g c =
+    let full = rw c.in_default.is at c.in_ok-missing.ensures.answer in (
+      refl,
+      All-head (IsFull c.args.self.now.graph.entries) c.args.id [] full,
+      subst (λ (s : RepoState g.row.A.Denot). CannotSet s.refs c.args.name) c.self.view_is
+          (c.cannot_set.ensures.0 c.if-cannot_set.true),
+    )
 
-pub install-requires-clause-full : goal.install-requires-clause-full
-install-requires-clause-full g c = rw c.in_default.is at c.in_ok-missing.ensures.answer
-
-pub install-requires-clause-from : goal.install-requires-clause-from
-install-requires-clause-from g c = set_from c.args.self.now.refs c.in_ok-refs.refs c.set.new.self c.args.name c.args.id (c.in_ok-refs.ensures ∙ ap (λ (s : RepoState g.row.A.Denot). s.refs) c.self.view_is) c.in_ok-set.ensures.ok
+pub returns-clause-sets : goal.returns-clause-sets
+returns-clause-sets g c =
+    let s = c.args.self.now in
+    let full = All-head (IsFull s.graph.entries) c.args.id [] (rw c.in_default.is at c.in_ok-missing.ensures.answer) in
+    let can : ¬ (CannotSet s.refs c.args.name) = λ cannot.
+    let back = subst (λ (t : RepoState g.row.A.Denot). CannotSet t.refs c.args.name) (sym c.self.view_is) cannot in
+    false≢true (sym c.if-cannot_set.false ∙ c.cannot_set.ensures.1 back) in
+    elim c.match-put.branch [
+      | in-Ok w ↦ rw w.result-is w.in-Ok.ensures.puts
+      | in-Err w ↦ rw w.result-is (w.in-Err.ensures.puts, full, can)
+    ]

@@ -1,15 +1,12 @@
-use Rattle.std.proofs.Common.{All, refl, sym, ap, subst, arith, length}
-use Rattle.gname.specs.Ids.{IsIdOf}
-use Rattle.gname.specs.declared.formats.Format.{Format}
-use Rattle.gsession.proofs.SessionLemmas.{begun}
+use Rattle.std.proofs.Common.{subst}
+use Rattle.gsession.specs.Sessions.{BeginsWith}
+use Rattle.gsession.specs.declared.options.PackOptions.{PackOptions}
+use Rattle.gsession.proofs.NextLaws.{begins_plain}
 use Rattle.gsession.proofs.session.Session.begin.Goals as goal
 
-pub invariant_of-result : goal.invariant_of-result
-invariant_of-result g c =
-    let long = ap length c.in_ok-refspecs.ensures in (
-      begun _ (omega (arith, long))
-          (subst (λ (f : Format). All (IsIdOf f) c.in_ok-tips.tips.items) (sym c.format.ensures.format)
-          c.in_ok-tips.ensures.ids)
-          (cc) (cc) (cc) refl refl refl,
-      tt,
-    )
+pub returns : goal.returns
+returns g c =
+    begins_plain c.args.repo.now c.args.specs.now c.args.limit c.args.ends c.begin_with.result
+    (subst (λ (options : PackOptions).
+    BeginsWith c.args.repo.now c.args.specs.now c.args.limit c.args.ends options c.begin_with.result)
+    c.default.ensures c.begin_with.ensures)

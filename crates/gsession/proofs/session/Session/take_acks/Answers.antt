@@ -1,21 +1,37 @@
-use Rattle.std.proofs.Common.{◌≡◌, None, length, ap, sym, subst, arith}
+use Rattle.std.proofs.Common.{◌≡◌, ◌++◌, ◌∙◌, List, ℕ, None, length, ap, sym, subst, refl, arith}
+use Rattle.std.proofs.lemmas.Result.{err_from_is_err_and}
+use Rattle.gdag.specs.Levels.{distinct_of}
 use Rattle.gsession.specs.Sessions.{AreCommons, SessionState}
 use Rattle.gsession.specs.steps.Fields.{session_of}
 use Rattle.gsession.specs.TakingReplies.{Awaits}
 use Rattle.gsession.specs.declared.stage.Stage.TheVariants.{Fetching}
 use Rattle.gsession.specs.declared.taken.Taken.TheVariants.{Round}
-use Rattle.gsession.proofs.ReplyLemmas.{acked}
+use Rattle.gsession.proofs.ReplyLemmas.{acked, strange_acks}
 use Rattle.gsession.proofs.SessionLemmas.{acks_taken, waits}
 use Rattle.gsession.proofs.session.Session.take_acks.Goals as goal
+
+pub returns-in_err-check_acks : goal.returns-in_err-check_acks
+returns-in_err-check_acks g c = λ asked waits.
+    let p = err_from_is_err_and c.from_residual.result c.from_residual.ensures.1 in
+    rw (p.1, p.2) (
+      strange_acks asked.haves c.args.acks.now _ (c.in_err-check_acks.ensures.checks asked waits),
+      refl,
+    )
+
+pub returns-in_err-joined : goal.returns-in_err-joined
+returns-in_err-joined g c = λ asked waits.
+    let p = err_from_is_err_and c.from_residual-in_err-joined.result c.from_residual-in_err-joined.ensures.1 in
+    rw (p.1, p.2) (c.in_ok-check_acks.ensures.checks asked waits, refl)
 
 pub returns : goal.returns
 returns g c = λ asked waits.
     let commons = c.in_ok-joined.joined.items in
-    let counts = c.in_ok-joined.ensures.counts asked waits in
+    let is = c.in_ok-joined.ensures ∙ ap (λ (l : List (List ℕ)). distinct_of (l ++ c.args.acks.now))
+    (c.as_slice.ensures.value ∙ ap (λ (s : SessionState g.row.A.Denot). s.commons) c.self.view_is) in
     let long : c.len-common.result ≡ length commons = omega arith in (
-      counts.0,
+      c.in_ok-check_acks.ensures.checks asked waits,
       acked Fetching c.set_pending.new.pending _ c.args.self.now c.args.acks.now commons c.set_pending.ensures
-          c.self.view_is counts.1,
+          c.self.view_is is,
       ap Round long,
     )
 
@@ -24,8 +40,11 @@ invariant_of-self g c =
     let asked = c.requires.0 in
     let commons = c.in_ok-joined.joined.items in
     let back = sym c.self.view_is in
+    let is = c.in_ok-joined.ensures ∙ ap (λ (l : List (List ℕ)). distinct_of (l ++ c.args.acks.now))
+    (c.as_slice.ensures.value ∙ ap (λ (s : SessionState g.row.A.Denot). s.commons) c.self.view_is) in
     waits (record (session_of c.self.inside) { stage = Fetching; commons = commons })
     c.set_pending.new.pending None c.set_pending.ensures
     (acks_taken _ asked commons c.self.invariant.0
     (subst (λ (s : SessionState g.row.A.Denot). Awaits s asked) back c.requires.1) c.requires.2
-    (subst (λ (s : SessionState g.row.A.Denot). AreCommons s.format commons) back c.in_ok-joined.ensures.commons)) tt
+    (subst (λ (s : SessionState g.row.A.Denot). AreCommons s.format commons) back
+    (subst (λ (l : List (List ℕ)). AreCommons c.args.self.now.format l) (sym is) c.in_ok-check_acks.ensures.commons))) tt

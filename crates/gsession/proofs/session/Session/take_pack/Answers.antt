@@ -5,16 +5,16 @@ use Rattle.gfetchreply.specs.FetchHeads.{pack_of}
 use Rattle.gsession.specs.Sessions.{AreCommons, SessionState}
 use Rattle.gsession.specs.steps.Fields.{session_of}
 use Rattle.gsession.specs.declared.stage.Stage.TheVariants.{Settling}
-use Rattle.gsession.proofs.ReplyLemmas.{acked, acks_fault, graph_fault, same_repo}
+use Rattle.gsession.proofs.ReplyLemmas.{acked, graph_fault, same_repo, strange_fault}
 use Rattle.gsession.proofs.SessionLemmas.{pack_taken, waits}
 use Rattle.gsession.proofs.session.Session.take_pack.Goals as goal
 
-pub returns-in_err-commons : goal.returns-in_err-commons
-returns-in_err-commons g c = λ asked reply waits same has fed.
+pub returns-in_err-check_acks : goal.returns-in_err-check_acks
+returns-in_err-check_acks g c = λ asked reply waits same has fed.
     let p = err_from_is_err_and c.from_residual.result c.from_residual.ensures.1 in
     rw (p.1, p.2) (
-      acks_fault (g.K.Indexer.indexes c.args.feed.indexer.now) (g.K.Indexer.index_fails c.args.feed.indexer.now)
-          asked.haves c.args.acks.now c.args.repo.now reply _ same (c.in_err-commons.ensures.counts asked waits),
+      strange_fault (g.K.Indexer.indexes c.args.feed.indexer.now) (g.K.Indexer.index_fails c.args.feed.indexer.now)
+          asked.haves c.args.acks.now c.args.repo.now reply _ same (c.in_err-check_acks.ensures.checks asked waits),
       refl,
       refl,
     )
@@ -22,16 +22,24 @@ returns-in_err-commons g c = λ asked reply waits same has fed.
 pub returns-in_err-entries : goal.returns-in_err-entries
 returns-in_err-entries g c = λ asked reply waits same has fed.
     let p = err_from_is_err_and c.from_residual-in_err-entries.result c.from_residual-in_err-entries.ensures.1 in
-    let counts = c.in_ok-commons.ensures.counts asked waits in
-    let named = subst (λ (l : List (List ℕ)). All (Contains asked.haves) l) (sym same) counts.0 in
+    let checks = c.in_ok-check_acks.ensures.checks asked waits in
+    let named = subst (λ (l : List (List ℕ)). All (Contains asked.haves) l) (sym same) checks in
     rw (p.1, p.2) ((named, has, c.in_err-entries.ensures (pack_of reply) fed), refl, refl)
+
+pub returns-in_err-commons : goal.returns-in_err-commons
+returns-in_err-commons g c = λ asked reply waits same has fed.
+    let p = err_from_is_err_and c.from_residual-in_err-commons.result c.from_residual-in_err-commons.ensures.1 in
+    let checks = c.in_ok-check_acks.ensures.checks asked waits in
+    let named = subst (λ (l : List (List ℕ)). All (Contains asked.haves) l) (sym same) checks in
+    rw (p.1, p.2)
+    ((named, λ _. (c.in_ok-entries.entries.items, c.in_ok-entries.ensures (pack_of reply) fed)), refl, refl)
 
 pub returns-in_err-added : goal.returns-in_err-added
 returns-in_err-added g c = λ asked reply waits same has fed.
     let p = err_from_is_err_and c.from_residual-in_err-added.result c.from_residual-in_err-added.ensures.1 in
-    let counts = c.in_ok-commons.ensures.counts asked waits in
-    let named = subst (λ (l : List (List ℕ)). All (Contains asked.haves) l) (sym same) counts.0 in
-    let adds = rw c.as_slice.ensures.value at c.in_err-added.ensures.adds in
+    let checks = c.in_ok-check_acks.ensures.checks asked waits in
+    let named = subst (λ (l : List (List ℕ)). All (Contains asked.haves) l) (sym same) checks in
+    let adds = rw c.as_slice-2.ensures.value at c.in_err-added.ensures.adds in
     rw (p.1, p.2) (
       graph_fault (g.K.Indexer.indexes c.args.feed.indexer.now) (g.K.Indexer.index_fails c.args.feed.indexer.now)
           asked.haves c.args.repo.now reply c.in_err-added.field-0.0 named has
@@ -43,9 +51,11 @@ returns-in_err-added g c = λ asked reply waits same has fed.
 pub returns : goal.returns
 returns g c = λ asked reply waits same has fed.
     let s = c.args.self.now in
-    let counts = c.in_ok-commons.ensures.counts asked waits in
-    let named = subst (λ (l : List (List ℕ)). All (Contains asked.haves) l) (sym same) counts.0 in
-    let commons = counts.1 ∙ ap (λ (l : List (List ℕ)). distinct_of (s.commons ++ l)) (sym same) in (
+    let checks = c.in_ok-check_acks.ensures.checks asked waits in
+    let named = subst (λ (l : List (List ℕ)). All (Contains asked.haves) l) (sym same) checks in
+    let is = c.in_ok-commons.ensures ∙ ap (λ (l : List (List ℕ)). distinct_of (l ++ c.args.acks.now))
+    (c.as_slice.ensures.value ∙ ap (λ (s : SessionState g.row.A.Denot). s.commons) c.self.view_is) in
+    let commons = is ∙ ap (λ (l : List (List ℕ)). distinct_of (s.commons ++ l)) (sym same) in (
       named,
       (
         has,
@@ -55,7 +65,7 @@ returns g c = λ asked reply waits same has fed.
           c.in_ok-entries.entries.items,
           c.in_ok-entries.ensures (pack_of reply) fed,
           record {
-            adds = rw c.as_slice.ensures.value at c.in_ok-added.ensures.adds;
+            adds = rw c.as_slice-2.ensures.value at c.in_ok-added.ensures.adds;
             refs =
                 c.in_ok-added.ensures.refs;
             marks = c.in_ok-added.ensures.known;
@@ -67,8 +77,11 @@ returns g c = λ asked reply waits same has fed.
 pub invariant_of-self : goal.invariant_of-self
 invariant_of-self g c =
     let commons = c.in_ok-commons.commons.items in
+    let is = c.in_ok-commons.ensures ∙ ap (λ (l : List (List ℕ)). distinct_of (l ++ c.args.acks.now))
+    (c.as_slice.ensures.value ∙ ap (λ (s : SessionState g.row.A.Denot). s.commons) c.self.view_is) in
     waits (record (session_of c.self.inside) { stage = Settling; commons = commons })
     c.set_pending.new.pending None c.set_pending.ensures
     (pack_taken _ commons c.self.invariant.0
     (subst (λ (s : SessionState g.row.A.Denot). AreCommons s.format commons) (sym c.self.view_is)
-    c.in_ok-commons.ensures.commons)) tt
+    (subst (λ (l : List (List ℕ)). AreCommons c.args.self.now.format l) (sym is) c.in_ok-check_acks.ensures.commons)))
+    tt

@@ -1,4 +1,4 @@
-use Rattle.std.proofs.Common.{◌≡◌, List, length, inl, refl, ap, subst, arith, ◌∙◌}
+use Rattle.std.proofs.Common.{◌≡◌, List, length, refl, ap, subst, arith, ◌∙◌}
 use Rattle.std.proofs.lemmas.Result.{err_from_is_err_and}
 use Rattle.gclientrepo.specs.declared.ask.Ask.{Ask}
 use Rattle.grefspec.specs.Refspecs.{Refspec}
@@ -9,12 +9,12 @@ use Rattle.gsession.proofs.session.Session.wanted.Goals as goal
 pub returns-in_err-wants-clause-wanted : goal.returns-in_err-wants-clause-wanted
 returns-in_err-wants-clause-wanted g c =
     let p = err_from_is_err_and c.from_residual.result c.from_residual.ensures.1 in
-    rw (p.1, p.2, c.in_err-wants.ensures.fault) (inl c.requires.asked.1)
+    rw (p.1, p.2, c.in_err-wants.ensures.fault) c.requires.asked.1
 
 pub returns-in_err-unborn_of-clause-wanted : goal.returns-in_err-unborn_of-clause-wanted
 returns-in_err-unborn_of-clause-wanted g c =
     let p = err_from_is_err_and c.from_residual-in_err-unborn_of.result c.from_residual-in_err-unborn_of.ensures.1 in
-    rw (p.1, p.2) (inl c.requires.asked.1)
+    rw (p.1, p.2) c.requires.asked.1
 
 pub returns-then-len-gt-MAX_WANTS-clause-wanted : goal.returns-then-len-gt-MAX_WANTS-clause-wanted
 returns-then-len-gt-MAX_WANTS-clause-wanted g c =

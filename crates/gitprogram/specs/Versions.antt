@@ -1,0 +1,14 @@
+-- The protocol version for which a client asks (gitprotocol-v2(5), "SSH and File Transport").
+use Rattle.std.specs.Prelude.{ℕ, Bool, ◌==◌, List, codes}
+use Rattle.std.specs.List.{list_any, slice_split}
+use Rattle.std.specs.Str.{bytes_eq}
+
+abbrev pub is_colon : ℕ → Bool
+is_colon b = b == 58
+
+abbrev pub is_version_2 : List ℕ → Bool
+is_version_2 key = bytes_eq key (codes "version=2")
+
+-- whether version 2 is one of the keys, between which colons are
+abbrev pub names_version_2 : List ℕ → Bool
+names_version_2 keys = list_any is_version_2 (slice_split is_colon keys)

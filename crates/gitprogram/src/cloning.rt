@@ -1,0 +1,264 @@
+//! `gitrepo clone`: a bare repository with the branches and tags of a server.
+
+ghost use Rattle.std.specs.Prelude.{◌≡◌, IfOk};
+ghost use Rattle.gitprogram.specs.Heads.{IsBranchOf, IsHead, IsListedHead, default_branch};
+ghost use Rattle.gitprogram.specs.declared.cloning.ServerHead.TheVariants.{Branch};
+
+use crate::directory::{Directories, open_fault};
+use crate::fault::Fault;
+use crate::fetching::{Fetch, Wanted, progress_of, receive};
+use crate::opening::repository_fault;
+use crate::progress::Progress;
+use crate::remote::{Remote, tips_of};
+use crate::sentences::Sentence;
+use gclient::Spec;
+use ggraph::{Head, Refs, Target};
+use gitrepository::{NewRepository, RepositoryFault};
+use gitwords::CloneArgs;
+use glsreply::LsReply;
+use gname::{Prefix, RefName};
+use std::alloc::Global;
+use std::fs;
+use std::io::{ErrorKind, IsTerminal, Write};
+use std::net::Net;
+use std::rt::Files;
+
+// The refspecs of a clone.
+const SPECS: [&[u8]; 2] = [b"+refs/heads/*:refs/heads/*", b"+refs/tags/*:refs/tags/*"];
+
+// The refs that a clone asks for.
+const PREFIXES: [&[u8]; 3] = [b"HEAD", b"refs/heads/", b"refs/tags/"];
+
+// The ref to which a detached HEAD goes during the fetch, and its refspec.
+const HEAD_REF: &[u8] = b"refs/clone/HEAD";
+
+const HEAD_SPEC: &[u8] = b"+HEAD:refs/clone/HEAD";
+
+// The branch at which HEAD points if the server does not say at which one its own does.
+const DEFAULT_BRANCH: &[u8] = b"refs/heads/main";
+
+// HEAD of a server.
+#[derive(Drop)]
+enum ServerHead {
+    // It points at this branch, or would.
+    Branch(Target<Global>),
+    // It is at an id.
+    Detached,
+}
+
+/// Clones a repository of a server into a new bare one. If it fails, nothing of it is left.
+pub(crate) fn clone_remote<R, E>(rt: &R, asked: &CloneArgs<'_>, errors: &mut E) -> Result<(), Fault>
+where
+    R: Files + AllocGlobal + Net,
+    E: Write + IsTerminal,
+{
+    let was_there = is_empty_directory(rt, asked.dir)?;
+    let remote = Remote::new(rt.alloc(), &asked.url)?;
+    let listed = list(rt, &remote)?;
+    if was_there {
+        let _ = fs::remove_dir(rt, asked.dir);
+    }
+    let mut progress = progress_of(rt.alloc(), asked.verbosity, errors);
+    let outcome = clone_listed(rt, asked.dir, &remote, &listed, &mut progress);
+    progress.finish();
+    if was_there && outcome.is_err() {
+        let _ = fs::create_dir(rt, asked.dir);
+    }
+    outcome
+}
+
+// HEAD, the branches and the tags of the server.
+fn list<R: AllocGlobal + Net>(rt: &R, remote: &Remote) -> Result<LsReply<Global>, Fault> {
+    let prefixes = prefixes(rt.alloc())?;
+    remote.list(rt, rt.alloc(), prefixes.as_slice())
+}
+
+// Whether there is an empty directory with this path. It fails if something else is there.
+fn is_empty_directory<R: Files + AllocGlobal>(rt: &R, dir: &str) -> Result<bool, Fault> {
+    let alloc = rt.alloc();
+    match fs::read_dir(&(rt, &alloc), dir) {
+        Ok(mut entries) => match entries.next() {
+            None => Ok(true),
+            Some(_) => Err(Fault::of(alloc, Sentence::Occupied { path: dir })),
+        },
+        Err(error) if error.kind() == ErrorKind::NotFound => Ok(false),
+        Err(error) if error.kind() == ErrorKind::NotADirectory => {
+            Err(Fault::of(alloc, Sentence::Occupied { path: dir }))
+        }
+        Err(error) => Err(open_fault(alloc, dir, &error)),
+    }
+}
+
+fn prefixes(alloc: Global) -> Result<Vec<Prefix>, Fault> {
+    let mut prefixes = Vec::new(alloc);
+    for text in PREFIXES {
+        match Prefix::new(alloc, text) {
+            Ok(prefix) => prefixes.push(prefix)?,
+            Err(_) => return Err(Fault::Memory),
+        }
+    }
+    Ok(prefixes)
+}
+
+// The refspecs of a clone. A detached HEAD goes to a ref that is not kept.
+fn specs(alloc: Global, head: &ServerHead) -> Result<Vec<Spec>, Fault> {
+    let mut specs = Vec::new(alloc);
+    for text in SPECS {
+        push_spec(alloc, &mut specs, text)?;
+    }
+    if let ServerHead::Detached = head {
+        push_spec(alloc, &mut specs, HEAD_SPEC)?;
+    }
+    Ok(specs)
+}
+
+fn push_spec(alloc: Global, specs: &mut Vec<Spec>, text: &[u8]) -> Result<(), Fault> {
+    match Spec::parse(alloc, text) {
+        Ok(spec) => {
+            specs.push(spec)?;
+            Ok(())
+        }
+        Err(_) => Err(Fault::Memory),
+    }
+}
+
+// HEAD as the server lists it.
+fn head_of(alloc: Global, reply: &LsReply<Global>) -> Result<ServerHead, Fault>
+    ensures { IfOk result (IsHead reply.now.unborn reply.now.lines) }
+{
+    match reply.unborn() {
+        Some(target) => branch_of(alloc, target),
+        None => listed_head(alloc, reply),
+    }
+}
+
+// HEAD as the first line lists it, if that is the line of HEAD.
+fn listed_head(alloc: Global, reply: &LsReply<Global>) -> Result<ServerHead, Fault>
+    ensures { IfOk result (IsListedHead reply.now.lines) }
+{
+    match reply.at(0) {
+        Some(line) if line.name.is_head() => match &line.symref {
+            Some(target) => branch_of(alloc, target),
+            None => Ok(ServerHead::Detached),
+        },
+        _ => default_branch(alloc),
+    }
+}
+
+// A HEAD that points at a name; at the default branch if that is HEAD itself.
+fn branch_of(alloc: Global, name: &RefName<Global>) -> Result<ServerHead, Fault>
+    ensures { IfOk result (IsBranchOf name.now) }
+{
+    match Target::new(name.copy_in(alloc)?) {
+        Some(target) => Ok(ServerHead::Branch(target)),
+        None => default_branch(alloc),
+    }
+}
+
+fn default_branch(alloc: Global) -> Result<ServerHead, Fault>
+    ensures { IfOk result (λ head. head ≡ Branch default_branch) }
+{
+    Ok(ServerHead::Branch(default_target(alloc)?))
+}
+
+fn default_target(alloc: Global) -> Result<Target<Global>, Fault>
+    ensures { IfOk result (λ target. target ≡ default_branch) }
+{
+    let Ok(name) = RefName::new(alloc, DEFAULT_BRANCH) else {
+        return Err(Fault::Memory);
+    };
+    match Target::new(name) {
+        Some(target) => Ok(target),
+        None => Err(Fault::Memory),
+    }
+}
+
+// Makes the repository of refs that were listed.
+fn clone_listed<R, E>(
+    rt: &R,
+    dir: &str,
+    remote: &Remote,
+    listed: &LsReply<Global>,
+    progress: &mut Progress<'_, E>,
+) -> Result<(), Fault>
+where
+    R: Files + AllocGlobal + Net,
+    E: Write,
+{
+    let alloc = rt.alloc();
+    let head = head_of(alloc, listed)?;
+    let tips = tips_of(alloc, listed)?;
+    let specs = specs(alloc, &head)?;
+    let found = Directories::of_one(alloc, dir)?;
+    let wanted = Wanted {
+        remote,
+        specs: specs.as_slice(),
+        tips: &tips,
+    };
+    match make(rt, dir, remote, &head)? {
+        Ok(new) => fill(rt, &found, new, wanted, progress),
+        Err(fault) => Err(repository_fault(alloc, dir, &fault)),
+    }
+}
+
+// Makes the repository. HEAD points at a branch at first.
+fn make<'r, R: Files + AllocGlobal>(
+    rt: &'r R,
+    dir: &'r str,
+    remote: &Remote,
+    head: &ServerHead,
+) -> Result<Result<NewRepository<'r, R, Global>, RepositoryFault<Global>>, Fault> {
+    let alloc = rt.alloc();
+    let branch = match head {
+        ServerHead::Branch(target) => target.copy_in(alloc)?,
+        ServerHead::Detached => default_target(alloc)?,
+    };
+    Ok(NewRepository::make(alloc, rt, dir, remote.url.as_str(), &branch))
+}
+
+// Fetches into the new repository, and keeps it.
+fn fill<R, E>(
+    rt: &R,
+    found: &Directories,
+    new: NewRepository<'_, R, Global>,
+    wanted: Wanted<'_>,
+    progress: &mut Progress<'_, E>,
+) -> Result<(), Fault>
+where
+    R: Files + AllocGlobal + Net,
+    E: Write,
+{
+    match receive(rt, found, wanted, progress) {
+        Ok(fetch) => keep(rt.alloc(), found, new, &fetch),
+        Err(fault) => Err(fault),
+    }
+}
+
+// Brings the pack and the refs to the new repository.
+fn keep<R: Files>(
+    alloc: Global,
+    found: &Directories,
+    new: NewRepository<'_, R, Global>,
+    fetch: &Fetch,
+) -> Result<(), Fault> {
+    let repo = &fetch.client.repo;
+    let (refs, head) = kept_refs(alloc, repo.refs())?;
+    match new.finish(fetch.received.as_ref(), repo.graph(), &refs, &head) {
+        Ok(()) => Ok(()),
+        Err(fault) => Err(repository_fault(alloc, found.own.as_str(), &fault)),
+    }
+}
+
+// The branches and tags, and a HEAD that is detached. Any other HEAD is there already.
+fn kept_refs(alloc: Global, refs: &Refs<Global>) -> Result<(Refs<Global>, Head<Global>), Fault> {
+    let mut kept = Refs::new(alloc);
+    let mut head = Head::None;
+    for pair in refs.as_slice() {
+        if pair.0.as_bytes() == HEAD_REF {
+            head = Head::Id(pair.1);
+        } else if kept.set(pair.0.copy_in(alloc)?, pair.1).is_err() {
+            return Err(Fault::Memory);
+        }
+    }
+    Ok((kept, head))
+}

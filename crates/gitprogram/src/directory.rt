@@ -1,0 +1,243 @@
+//! The repository to which a path leads.
+
+use crate::fault::Fault;
+use crate::sentences::Sentence;
+use gitrefs::{GitDirectory, parse_common_dir, parse_git_file};
+use gitwords::{Ending, ServedPath};
+use std::alloc::{AllocError, Global};
+use std::fs::Files;
+use std::io::ErrorKind;
+use std::{fs, io};
+
+// The file without which git-daemon(1) serves no repository.
+const EXPORT_OK: &str = "git-daemon-export-ok";
+
+// The most bytes of a file that leads to another directory.
+const MAX_LINK: u64 = 65_536;
+
+/// The directories of a repository (gitrepository-layout(5)).
+#[derive(Debug, Drop)]
+pub(crate) struct Directories {
+    /// The Git directory, in which HEAD is.
+    pub(crate) own: String,
+    /// The directory of objects and refs. It is another one if the first is that of a linked worktree
+    /// (git-worktree(1)).
+    pub(crate) common: String,
+}
+
+impl Directories {
+    /// The directories of a repository that is no linked worktree.
+    pub(crate) fn of_one(alloc: Global, path: &str) -> Result<Directories, AllocError> {
+        Ok(Directories {
+            own: String::from_str(alloc, path)?,
+            common: String::from_str(alloc, path)?,
+        })
+    }
+
+    /// The refs of the repository.
+    pub(crate) fn refs<'r, R: Files>(&'r self, alloc: Global, rt: &'r R) -> GitDirectory<'r, R> {
+        GitDirectory::linked(alloc, rt, self.common.as_str(), self.own.as_str())
+    }
+}
+
+/// The repository to which a path leads: a bare one, or that of a work tree (git-upload-pack(1)).
+pub(crate) fn find_repository<R>(rt: &R, path: &str) -> Result<Directories, Fault>
+where
+    R: Files + AllocGlobal,
+{
+    for ending in Ending::in_order() {
+        let mut candidate = String::from_str(rt.alloc(), path)?;
+        candidate.push_str(ending.text())?;
+        if let Some(found) = look_at(rt, candidate)? {
+            return Ok(found);
+        }
+    }
+    Err(Fault::of(rt.alloc(), Sentence::NoRepository { path }))
+}
+
+/// The repositories that are served.
+#[derive(Clone, Copy)]
+pub(crate) struct Exports<'a> {
+    /// The directory below which they are.
+    pub(crate) base: &'a str,
+    /// Whether a repository needs no file that allows it to be served.
+    pub(crate) all: bool,
+}
+
+/// The repository that a client's path names; `None` if it names none that is served
+/// (git-daemon(1)).
+pub(crate) fn find_served<R>(
+    rt: &R,
+    exports: Exports<'_>,
+    path: &[u8],
+) -> Result<Option<Directories>, Fault>
+where
+    R: Files + AllocGlobal,
+{
+    let Some(path) = served_path(path) else {
+        return Ok(None);
+    };
+    for ending in Ending::in_order() {
+        let relative = path.candidate(rt.alloc(), ending)?;
+        let candidate = below(rt.alloc(), exports.base, relative.as_str())?;
+        if let Some(found) = look_at(rt, candidate)? {
+            return exported(rt, exports, found);
+        }
+    }
+    Ok(None)
+}
+
+fn served_path(path: &[u8]) -> Option<ServedPath<'_>> {
+    match str::from_utf8(path) {
+        Ok(path) => ServedPath::parse(path),
+        Err(_) => None,
+    }
+}
+
+// The repository, if it may be served.
+fn exported<R: Files + AllocGlobal>(
+    rt: &R,
+    exports: Exports<'_>,
+    found: Directories,
+) -> Result<Option<Directories>, Fault> {
+    if exports.all || exists(rt, found.own.as_str(), EXPORT_OK)? {
+        Ok(Some(found))
+    } else {
+        Ok(None)
+    }
+}
+
+// The repository whose Git directory is at a path, or to whose Git directory the file there leads.
+fn look_at<R>(rt: &R, path: String) -> Result<Option<Directories>, Fault>
+where
+    R: Files + AllocGlobal,
+{
+    match read_link(rt, path.as_str())? {
+        Link::Absent => Ok(None),
+        Link::Directory => look_into(rt, path),
+        Link::File(text) => match parse_git_file(text.as_slice()) {
+            Some(target) => follow(rt, parent_of(path.as_str()), target),
+            None => Ok(None),
+        },
+    }
+}
+
+// The repository whose Git directory a file in a directory names.
+fn follow<R>(rt: &R, directory: &str, target: &[u8]) -> Result<Option<Directories>, Fault>
+where
+    R: Files + AllocGlobal,
+{
+    match target_path(rt.alloc(), directory, target)? {
+        Some(path) => look_into(rt, path),
+        None => Ok(None),
+    }
+}
+
+// The repository whose Git directory is at a path: it has HEAD, objects and refs.
+fn look_into<R>(rt: &R, own: String) -> Result<Option<Directories>, Fault>
+where
+    R: Files + AllocGlobal,
+{
+    let Some(common) = common_of(rt, own.as_str())? else {
+        return Ok(None);
+    };
+    if exists(rt, own.as_str(), "HEAD")?
+        && exists(rt, common.as_str(), "objects")?
+        && exists(rt, common.as_str(), "refs")?
+    {
+        Ok(Some(Directories { own, common }))
+    } else {
+        Ok(None)
+    }
+}
+
+// The directory of objects and refs of a Git directory; `None` if it names none.
+fn common_of<R: Files + AllocGlobal>(rt: &R, own: &str) -> Result<Option<String>, Fault> {
+    let path = below(rt.alloc(), own, "commondir")?;
+    match read_link(rt, path.as_str())? {
+        Link::File(text) => match parse_common_dir(text.as_slice()) {
+            Some(target) => Ok(target_path(rt.alloc(), own, target)?),
+            None => Ok(None),
+        },
+        _ => Ok(Some(String::from_str(rt.alloc(), own)?)),
+    }
+}
+
+// The thing at a path that may lead to another directory.
+#[derive(Drop)]
+enum Link {
+    // Nothing that leads anywhere.
+    Absent,
+    Directory,
+    // A file with this text.
+    File(Vec<u8>),
+}
+
+fn read_link<R: Files + AllocGlobal>(rt: &R, path: &str) -> Result<Link, Fault> {
+    match read_short(rt, path) {
+        Ok(link) => Ok(link),
+        Err(error) if is_absent(error.kind()) => Ok(Link::Absent),
+        Err(error) => Err(open_fault(rt.alloc(), path, &error)),
+    }
+}
+
+fn read_short<R: Files + AllocGlobal>(rt: &R, path: &str) -> io::Result<Link> {
+    let metadata = rt.metadata(path)?;
+    if metadata.is_dir() {
+        return Ok(Link::Directory);
+    }
+    if !metadata.is_file() || metadata.len() > MAX_LINK {
+        return Ok(Link::Absent);
+    }
+    Ok(Link::File(fs::read(rt, path)?))
+}
+
+// The path that a file in a directory names; `None` if it is not UTF-8.
+fn target_path(
+    alloc: Global,
+    directory: &str,
+    target: &[u8],
+) -> Result<Option<String>, AllocError> {
+    let Ok(target) = str::from_utf8(target) else {
+        return Ok(None);
+    };
+    if target.starts_with('/') {
+        Ok(Some(String::from_str(alloc, target)?))
+    } else {
+        Ok(Some(below(alloc, directory, target)?))
+    }
+}
+
+// The directory in which a path lies.
+fn parent_of(path: &str) -> &str {
+    match path.rsplit_once('/') {
+        Some((parent, _)) => parent,
+        None => ".",
+    }
+}
+
+// Whether there is a file with this name in a directory. A symbolic link that leads nowhere counts:
+// Git once made HEAD so.
+fn exists<R: Files + AllocGlobal>(rt: &R, directory: &str, name: &str) -> Result<bool, Fault> {
+    let path = below(rt.alloc(), directory, name)?;
+    match rt.symlink_metadata(path.as_str()) {
+        Ok(_) => Ok(true),
+        Err(error) if is_absent(error.kind()) => Ok(false),
+        Err(error) => Err(open_fault(rt.alloc(), path.as_str(), &error)),
+    }
+}
+
+/// The fault of a file that the system does not open.
+pub(crate) fn open_fault(alloc: Global, path: &str, error: &io::Error) -> Fault {
+    Fault::of(alloc, Sentence::Open { path, error })
+}
+
+// Whether an error says that there is no such file.
+fn is_absent(kind: ErrorKind) -> bool {
+    matches!(kind, ErrorKind::NotFound | ErrorKind::NotADirectory)
+}
+
+// The path of a file in a directory.
+fn below(alloc: Global, directory: &str, name: &str) -> Result<String, AllocError> {
+    format!(in alloc; "{directory}/{name}")
+}

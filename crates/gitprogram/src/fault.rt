@@ -1,0 +1,46 @@
+//! Why a command fails.
+
+use crate::sentences::Sentence;
+use gname::OUT_OF_MEMORY_TEXT;
+use std::alloc::{AllocError, AllocFailed, Global};
+use std::fmt;
+
+/// Why a command fails. It is printed as one line after the program's name.
+#[derive(Debug, Drop)]
+pub(crate) enum Fault {
+    /// Out of memory.
+    Memory,
+    /// A sentence of the table.
+    Said(String),
+}
+
+impl Fault {
+    /// The fault with this sentence.
+    pub(crate) fn of(alloc: Global, sentence: Sentence<'_>) -> Fault {
+        match format!(in alloc; "{sentence}") {
+            Ok(text) => Fault::Said(text),
+            Err(_) => Fault::Memory,
+        }
+    }
+}
+
+impl fmt::Display for Fault {
+    fn fmt<W: fmt::Write>(&self, f: &mut fmt::Formatter<W>) -> fmt::Result {
+        match self {
+            Fault::Memory => f.write_str(OUT_OF_MEMORY_TEXT),
+            Fault::Said(text) => f.write_str(text.as_str()),
+        }
+    }
+}
+
+impl From<AllocError> for Fault {
+    fn from(_refused: AllocError) -> Fault {
+        Fault::Memory
+    }
+}
+
+impl<T: Drop> From<AllocFailed<T>> for Fault {
+    fn from(_refused: AllocFailed<T>) -> Fault {
+        Fault::Memory
+    }
+}

@@ -1,0 +1,382 @@
+//! `gitrepo fetch`, and what it shares with a clone.
+
+use crate::directory::{Directories, find_repository};
+use crate::fault::Fault;
+use crate::opening::{open_client, repository_fault};
+use crate::progress::{Progress, Watched};
+use crate::remote::{Remote, tips_of};
+use crate::sentences::Sentence;
+use gclient::{FetchFault, Fetched, PackOptions, Repo, Spec};
+use gcmd::{Ends, PackLimit, ProgramFault, send_report};
+use gconnect::{GitFetch, fetch_git};
+use ggraph::{Refs, Repository};
+use gitobjects::StoredFiles;
+use gitrefs::RefUpdate;
+use gitrepository::{Received, RepositoryFault, StoreIndexer, Tips, install_pack};
+use gitwords::{FetchArgs, Verbosity};
+use glsreply::LsReply;
+use gname::MAX_PACK;
+use gpkt::{FromRead, ToWrite};
+use gtcp::{Peer, Silence};
+use std::alloc::{AllocError, Global};
+use std::io;
+use std::io::{BufReader, BufWriter, IsTerminal, Read, Write};
+use std::net::{Net, OpenStream};
+use std::rt::Files;
+
+// The bytes of a buffer of a connection.
+const BUFFER: usize = 65_536;
+
+/// What is fetched.
+#[derive(Clone, Copy)]
+pub(crate) struct Wanted<'a> {
+    /// The repository of the server.
+    pub(crate) remote: &'a Remote,
+    /// The refspecs.
+    pub(crate) specs: &'a [Spec<Global>],
+    /// The ids of the server's refs.
+    pub(crate) tips: &'a Tips<Global>,
+}
+
+/// A repository of a client, and the refs that it had.
+#[derive(Drop)]
+pub(crate) struct Client {
+    /// The refs before the fetch.
+    pub(crate) before: Refs<Global>,
+    /// The repository.
+    pub(crate) repo: Repo<Global>,
+}
+
+/// A fetch whose pack is not installed yet, and whose refs have not moved.
+#[derive(Drop)]
+pub(crate) struct Fetch {
+    /// The repository.
+    pub(crate) client: Client,
+    /// The report.
+    pub(crate) fetched: Fetched<Global>,
+    /// The pack that came.
+    pub(crate) received: Option<Received<Global>>,
+}
+
+/// Fetches refs into a repository, and prints what became of each.
+pub(crate) fn fetch_remote<R, E>(rt: &R, asked: &FetchArgs<'_>, errors: &mut E) -> Result<(), Fault>
+where
+    R: Files + Print + AllocGlobal + Net,
+    E: Write + IsTerminal,
+{
+    let found = find_repository(rt, asked.dir)?;
+    let remote = Remote::new(rt.alloc(), &asked.url)?;
+    let tips = list_tips(rt, &remote, asked.specs.as_slice())?;
+    let wanted = Wanted {
+        remote: &remote,
+        specs: asked.specs.as_slice(),
+        tips: &tips,
+    };
+    let mut progress = progress_of(rt.alloc(), asked.verbosity, errors);
+    let outcome = receive(rt, &found, wanted, &mut progress);
+    progress.finish();
+    conclude(rt, &found, asked.verbosity, outcome)
+}
+
+// The ids of the server's refs, among which each ref that refspecs name has to be.
+fn list_tips<R>(rt: &R, remote: &Remote, specs: &[Spec<Global>]) -> Result<Tips<Global>, Fault>
+where
+    R: AllocGlobal + Net,
+{
+    let listed = remote.list(rt, rt.alloc(), &[])?;
+    check_sources(rt.alloc(), remote, &listed, specs)?;
+    Ok(tips_of(rt.alloc(), &listed)?)
+}
+
+// Keeps what was fetched, and prints the report.
+fn conclude<R>(
+    rt: &R,
+    found: &Directories,
+    verbosity: Verbosity,
+    outcome: Result<Fetch, Fault>,
+) -> Result<(), Fault>
+where
+    R: Files + Print + AllocGlobal,
+{
+    match outcome {
+        Ok(fetch) => {
+            keep(rt, found, &fetch)?;
+            if verbosity.quiet {
+                return Ok(());
+            }
+            report(rt, &fetch.fetched)
+        }
+        Err(fault) => Err(fault),
+    }
+}
+
+/// The progress of a fetch.
+pub(crate) fn progress_of<E: Write + IsTerminal>(
+    alloc: Global,
+    verbosity: Verbosity,
+    errors: &mut E,
+) -> Progress<'_, E> {
+    let is_shown = verbosity.shows_progress(errors.is_terminal());
+    Progress::new(alloc, errors, is_shown)
+}
+
+// Fails at the first refspec of one ref that the server does not have (git-fetch(1)).
+fn check_sources(
+    alloc: Global,
+    remote: &Remote,
+    listed: &LsReply<Global>,
+    specs: &[Spec<Global>],
+) -> Result<(), Fault> {
+    for spec in specs {
+        if !is_pattern(spec) && !has_source(listed, spec) {
+            return Err(Fault::of(
+                alloc,
+                Sentence::NoRef {
+                    url: remote.url.as_str(),
+                    name: spec.prefix().as_bytes(),
+                },
+            ));
+        }
+    }
+    Ok(())
+}
+
+// Whether a refspec may take any number of refs.
+fn is_pattern(spec: &Spec<Global>) -> bool {
+    spec.prefix().as_bytes().ends_with(b"/")
+}
+
+// Whether the server has the source of a refspec, if only as a HEAD that is unborn.
+fn has_source(listed: &LsReply<Global>, spec: &Spec<Global>) -> bool {
+    if spec.is_head() && listed.unborn().is_some() {
+        return true;
+    }
+    (0..listed.len()).any(|place| match listed.at(place) {
+        Some(line) => spec.matches(&line.name),
+        None => false,
+    })
+}
+
+// Installs the pack, and then moves the refs.
+fn keep<R: Files + AllocGlobal>(rt: &R, found: &Directories, fetch: &Fetch) -> Result<(), Fault> {
+    match install_and_move(rt, found, fetch) {
+        Ok(()) => Ok(()),
+        Err(fault) => Err(repository_fault(rt.alloc(), found.common.as_str(), &fault)),
+    }
+}
+
+fn install_and_move<R: Files + AllocGlobal>(
+    rt: &R,
+    found: &Directories,
+    fetch: &Fetch,
+) -> Result<(), RepositoryFault<Global>> {
+    let alloc = rt.alloc();
+    if let Some(received) = &fetch.received {
+        install_pack(alloc, rt, found.common.as_str(), received)?;
+    }
+    let updates = updates_of(alloc, &fetch.client.before, fetch.client.repo.refs())?;
+    found.refs(alloc, rt).update_refs(updates.as_slice())?;
+    Ok(())
+}
+
+// The refs that have moved.
+fn updates_of(
+    alloc: Global,
+    before: &Refs<Global>,
+    after: &Refs<Global>,
+) -> Result<Vec<RefUpdate>, AllocError> {
+    let mut updates = Vec::new(alloc);
+    for pair in after.as_slice() {
+        let old = before.get(&pair.0);
+        if old != Some(pair.1) {
+            updates.push(RefUpdate {
+                name: pair.0.copy_in(alloc)?,
+                old,
+                new: pair.1,
+            })?;
+        }
+    }
+    Ok(updates)
+}
+
+// Prints what became of each ref.
+fn report<R: Print + AllocGlobal>(rt: &R, fetched: &Fetched<Global>) -> Result<(), Fault> {
+    if fetched.settled.updates.len() != fetched.settled.asks.len() {
+        return Ok(());
+    }
+    let mut stdout = io::writer(rt);
+    let mut output = ToWrite::new(&mut stdout);
+    match send_report(rt.alloc(), fetched, &mut output) {
+        Ok(()) => Ok(()),
+        Err(ProgramFault::Memory) => Err(Fault::Memory),
+        Err(_) => Err(Fault::of(rt.alloc(), Sentence::NoOutput)),
+    }
+}
+
+/// Fetches into a repository. Nothing is written yet.
+pub(crate) fn receive<R, E>(
+    rt: &R,
+    found: &Directories,
+    wanted: Wanted<'_>,
+    progress: &mut Progress<'_, E>,
+) -> Result<Fetch, Fault>
+where
+    R: Files + AllocGlobal + Net,
+    E: Write,
+{
+    let files = StoredFiles::new(rt);
+    match open_client(rt.alloc(), rt, &files, found, wanted.tips) {
+        Ok((repository, reader)) => {
+            let indexer = StoreIndexer::new(reader, wanted.tips);
+            receive_with(rt, found, repository, &indexer, wanted, progress)
+        }
+        Err(fault) => Err(fault),
+    }
+}
+
+// Fetches into a repository by an indexer.
+fn receive_with<R, E>(
+    rt: &R,
+    found: &Directories,
+    repository: Repository<Global>,
+    indexer: &StoreIndexer<'_, '_, StoredFiles<'_, R>, Global>,
+    wanted: Wanted<'_>,
+    progress: &mut Progress<'_, E>,
+) -> Result<Fetch, Fault>
+where
+    R: Files + AllocGlobal + Net,
+    E: Write,
+{
+    match make_client(rt.alloc(), found, repository) {
+        Ok(client) => receive_into(rt, client, indexer, wanted, progress),
+        Err(fault) => Err(fault),
+    }
+}
+
+fn make_client(
+    alloc: Global,
+    found: &Directories,
+    repository: Repository<Global>,
+) -> Result<Client, Fault> {
+    let Repository {
+        graph,
+        refs,
+        head: _,
+    } = repository;
+    let before = refs.copy_in(alloc)?;
+    match Repo::new(graph, refs) {
+        Ok(repo) => Ok(Client { before, repo }),
+        Err(fault) => Err(Fault::of(
+            alloc,
+            Sentence::Client {
+                path: found.own.as_str(),
+                fault: &fault,
+            },
+        )),
+    }
+}
+
+fn receive_into<R, E>(
+    rt: &R,
+    client: Client,
+    indexer: &StoreIndexer<'_, '_, StoredFiles<'_, R>, Global>,
+    wanted: Wanted<'_>,
+    progress: &mut Progress<'_, E>,
+) -> Result<Fetch, Fault>
+where
+    R: Files + AllocGlobal + Net,
+    E: Write,
+{
+    let mut client = client;
+    match converse(rt, &mut client.repo, indexer, wanted, progress) {
+        Ok(fetched) => Ok(Fetch {
+            client,
+            fetched,
+            received: indexer.take_received(),
+        }),
+        Err(fault) => Err(fault),
+    }
+}
+
+// Connects to the server, and holds the conversation of a fetch.
+fn converse<R, E>(
+    rt: &R,
+    repo: &mut Repo<Global>,
+    indexer: &StoreIndexer<'_, '_, StoredFiles<'_, R>, Global>,
+    wanted: Wanted<'_>,
+    progress: &mut Progress<'_, E>,
+) -> Result<Fetched<Global>, Fault>
+where
+    R: Files + AllocGlobal + Net,
+    E: Write,
+{
+    let stream = wanted.remote.connect(rt, rt.alloc())?;
+    let peer = Peer::new(stream, Silence);
+    match converse_with(rt.alloc(), &peer, repo, indexer, wanted, progress) {
+        Ok(fetched) => Ok(fetched),
+        Err(fault) => Err(fetch_fault(rt.alloc(), wanted.remote, indexer, &fault)),
+    }
+}
+
+// The fault of a fetch. The indexer knows more of its own.
+fn fetch_fault<R: Files>(
+    alloc: Global,
+    remote: &Remote,
+    indexer: &StoreIndexer<'_, '_, StoredFiles<'_, R>, Global>,
+    fault: &FetchFault<Global>,
+) -> Fault {
+    match indexer.take_fault() {
+        Some(cause) => Fault::of(
+            alloc,
+            Sentence::RefusedPack {
+                url: remote.url.as_str(),
+                fault: &cause,
+            },
+        ),
+        None => remote.fault(alloc, fault),
+    }
+}
+
+// Holds the conversation of a fetch through buffers.
+fn converse_with<R, S, E>(
+    alloc: Global,
+    peer: &Peer<S, Silence>,
+    repo: &mut Repo<Global>,
+    indexer: &StoreIndexer<'_, '_, StoredFiles<'_, R>, Global>,
+    wanted: Wanted<'_>,
+    progress: &mut Progress<'_, E>,
+) -> Result<Fetched<Global>, FetchFault<Global>>
+where
+    R: Files,
+    S: Read + Write + OpenStream,
+    E: Write,
+{
+    let fetch = fetch_of(wanted, progress.is_shown());
+    let Ok(mut reader) = BufReader::with_capacity(alloc, BUFFER, Watched::new(peer, progress))
+    else {
+        return Err(FetchFault::NoBuffer);
+    };
+    let Ok(mut writer) = BufWriter::with_capacity(alloc, BUFFER, peer) else {
+        return Err(FetchFault::NoBuffer);
+    };
+    let mut source = FromRead::new(&mut reader);
+    let mut sink = ToWrite::new(&mut writer);
+    let fetched = fetch_git(repo, &mut source, &mut sink, indexer, &fetch);
+    // Bytes that could not be written are not tried again.
+    let (_peer, _unwritten) = writer.into_parts();
+    fetched
+}
+
+// The fetch that is asked for: deltas may name their bases by offsets.
+fn fetch_of(wanted: Wanted<'_>, progress: bool) -> GitFetch<'_, Global> {
+    GitFetch {
+        hello: &wanted.remote.hello,
+        specs: wanted.specs,
+        limit: PackLimit::new(MAX_PACK).unwrap_or_default(),
+        ends: Ends::Plain,
+        options: PackOptions {
+            ofs_delta: true,
+            progress,
+        },
+    }
+}

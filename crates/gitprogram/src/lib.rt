@@ -1,0 +1,66 @@
+//! The program `gitrepo` as a function of the runtime. [`run`] reads the arguments, and serves, clones,
+//! fetches, lists or checks Git repositories as they are on disk.
+//!
+//! - `serve` serves every repository below a directory, one connection after the other
+//!   (git-daemon(1)). It opens a repository at each connection, so it shows what Git has changed
+//!   meanwhile. It prints a line about each connection.
+//! - `upload-pack` serves one connection on standard input and output (git-upload-pack(1)).
+//! - `clone` and `fetch` keep the pack as it came, and then move the refs. `ls` prints the refs of a
+//!   server as git-ls-remote(1) does. `check` looks whether all that the refs reach is there.
+//! - A fault is one sentence on standard error, from one table. The exit status is then 1. It is 2 for
+//!   wrong arguments, and 0 otherwise.
+//!
+//! # Proved
+//!
+//! No call panics, overflows or reads out of bounds, and each returns, whatever the arguments, the
+//! files, the standard streams and the peers are.
+//!
+//! # Only tested
+//!
+//! All else, against Git at the other end (`examples/with-git.sh`): which repository a path leads to,
+//! what goes out and what is kept, the deadlines of clients, progress, the lines of connections, and
+//! each sentence.
+//!
+//! # Differences from Git
+//!
+//! - `clone` has HEAD, branches and tags alone. It makes the directory anew if it was there and empty.
+//! - `serve` serves one connection at a time. A client has 10 seconds for its first line and 60 for
+//!   each request, and every peer may be silent for 60 seconds.
+//! - `serve` and `upload-pack` serve protocol version 2 alone. `upload-pack` does not look at who owns
+//!   a repository.
+//! - A request has at most 1,024 wants, 4,096 haves and 64 prefixes of ref names. A pack has at most
+//!   64 MiB. So a clone of more than 1,024 distinct tips fails, at both ends.
+//! - Progress counts the objects that the header of the pack announces, and the bytes that came.
+//! - Names of refs are printed as the server sent them. They have no ASCII control bytes.
+//!
+//! # What the contracts do not rule out
+//!
+//! Anything else: no contract can say what a file, a stream or a socket gives or takes.
+//!
+//! # Stands on
+//!
+//! `gitwords` for arguments and paths. `gitrepository` with `gitobjects` and `gitrefs` for
+//! repositories. `gtcp`, `gconnect`, `gserve`, `ganswer` and `gclient` for conversations, `gcmd` for
+//! the report of a fetch. `ghello`, `glsreply`, `grequest`, `ggrammar` and `gpkt` for messages,
+//! `ggraph` for graphs, `gname` for names and ids.
+#![tactic(auto)]
+
+mod checking;
+mod cloning;
+mod directory;
+mod fault;
+mod fetching;
+mod listing;
+mod opening;
+mod output;
+mod packets;
+mod program;
+mod progress;
+mod refusals;
+mod remote;
+mod sentences;
+mod serving;
+mod uploading;
+mod visit;
+
+pub use crate::program::run;

@@ -1,0 +1,124 @@
+//! `gitrepo ls`: the refs of a server.
+
+ghost use Rattle.std.specs.Prelude.{◌≡◌, ◌<◌, ◌++◌, IfOk, OnOk, Some, length, nat_eq, slice_get};
+ghost use Rattle.std.specs.List.{list_any, starts_with};
+ghost use Rattle.glsreply.specs.RefTexts as texts;
+ghost use Rattle.gitprogram.specs.Listing.{id_line, is_listed, listed_lines, listing, ref_lines};
+
+use crate::fault::Fault;
+use crate::output::print;
+use crate::remote::Remote;
+use gitwords::LsArgs;
+use glsreply::{LsReply, RefLine};
+use gname::{Oid, Prefix};
+use grequest::MAX_PREFIXES;
+use std::alloc::{AllocError, Global};
+use std::net::Net;
+
+/// Prints the refs of a server as git-ls-remote(1) does.
+pub(crate) fn list_refs<R>(rt: &R, asked: &LsArgs<'_>) -> Result<(), Fault>
+where
+    R: Print + AllocGlobal + Net,
+{
+    let alloc = rt.alloc();
+    let remote = Remote::new(alloc, &asked.url)?;
+    let prefixes = asked.prefixes.as_slice();
+    let reply = remote.list(rt, alloc, prefixes_to_ask(prefixes))?;
+    let text = reply_text(alloc, &reply, prefixes)?;
+    print(rt, text.as_slice())
+}
+
+// The prefixes that the server is asked for: none if there are more than a request takes, which asks
+// for all refs.
+fn prefixes_to_ask(prefixes: &[Prefix<Global>]) -> &[Prefix<Global>] {
+    if prefixes.len() <= MAX_PREFIXES {
+        prefixes
+    } else {
+        &[]
+    }
+}
+
+// The lines of the refs that begin with one of some prefixes, or of all if there is none.
+fn reply_text(
+    alloc: Global,
+    reply: &LsReply<Global>,
+    prefixes: &[Prefix<Global>],
+) -> Result<Vec<u8>, AllocError>
+    ensures { IfOk result (λ text. text.items ≡ listing prefixes.now reply.now.lines) }
+{
+    let mut text = Vec::new(alloc);
+    for place in 0..reply.len() {
+        put_at(&mut text, reply, place, prefixes)?;
+    }
+    Ok(text)
+}
+
+// The lines of the ref at a position, if it is listed.
+fn put_at(
+    text: &mut Vec<u8>,
+    reply: &LsReply<Global>,
+    place: usize,
+    prefixes: &[Prefix<Global>],
+) -> Result<(), AllocError>
+    requires { place < length reply.now.lines }
+    ensures { OnOk result ((line : texts.RefLine) × (slice_get reply.now.lines place ≡ Some line)
+        × (text.new.items ≡ text.old.items ++ listed_lines prefixes.now line)) }
+{
+    match reply.at(place) {
+        Some(line) => put_listed(text, line, prefixes),
+        None => unreachable!(),
+    }
+}
+
+fn put_listed(
+    text: &mut Vec<u8>,
+    line: &RefLine<Global>,
+    prefixes: &[Prefix<Global>],
+) -> Result<(), AllocError>
+    ensures { OnOk result (text.new.items ≡ text.old.items ++ listed_lines prefixes.now line.now) }
+{
+    if is_listed(prefixes, line.name.as_bytes()) {
+        put_ref(text, line)
+    } else {
+        Ok(())
+    }
+}
+
+// Whether a name begins with one of some prefixes, or there is none.
+fn is_listed(prefixes: &[Prefix<Global>], name: &[u8]) -> bool
+    ensures { result ≡ is_listed prefixes.now name.now }
+{
+    prefixes.is_empty() || begins_with_any(prefixes, name)
+}
+
+// Whether a name begins with one of some prefixes.
+fn begins_with_any(prefixes: &[Prefix<Global>], name: &[u8]) -> bool
+    ensures { result ≡ list_any (starts_with nat_eq name.now) prefixes.now }
+{
+    prefixes
+        .iter()
+        .any(|prefix| name.starts_with(prefix.as_bytes()))
+}
+
+// The line of a ref, and that of the object to which it leads if it is at a tag.
+fn put_ref(text: &mut Vec<u8>, line: &RefLine<Global>) -> Result<(), AllocError>
+    ensures { OnOk result (text.new.items ≡ text.old.items ++ ref_lines line.now) }
+{
+    put_line(text, &line.id, line.name.as_bytes(), b"")?;
+    match &line.peeled {
+        Some(peeled) => put_line(text, peeled, line.name.as_bytes(), b"^{}"),
+        None => Ok(()),
+    }
+}
+
+// A line of an id and a name with an ending.
+fn put_line(text: &mut Vec<u8>, id: &Oid, name: &[u8], ending: &[u8]) -> Result<(), AllocError>
+    ensures { OnOk result (text.new.items ≡ text.old.items ++ id_line id.now (name.now ++ ending.now)) }
+{
+    id.push_hex(text)?;
+    text.push(b'\t')?;
+    text.extend_from_slice(name)?;
+    text.extend_from_slice(ending)?;
+    text.push(b'\n')?;
+    Ok(())
+}

@@ -1,0 +1,107 @@
+//! The arguments, and the work that each command is.
+
+ghost use Rattle.std.specs.Prelude.{◌≡◌, MatchResult};
+
+use crate::checking::check;
+use crate::cloning::clone_remote;
+use crate::fault::Fault;
+use crate::fetching::fetch_remote;
+use crate::listing::list_refs;
+use crate::sentences::Sentence;
+use crate::serving::serve;
+use crate::uploading::upload_pack;
+use gitwords::{Answer, Command, Stream, read_words};
+use std::io::{ErrorKind, IsTerminal, Write};
+use std::net::Net;
+use std::rt::{Clock, Env, Files};
+use std::{env, io};
+
+// The exit statuses of a command that failed, and of wrong arguments.
+const FAILED: u8 = 1;
+
+const WRONG_USAGE: u8 = 2;
+
+/// Runs `gitrepo` with the arguments of the runtime, over its files, standard streams and sockets.
+/// Faults, progress and the lines of connections go to `stderr`.
+///
+/// It returns the exit status: 0; 1 if a fault was printed; 2 if the arguments are wrong.
+pub fn run<R, W>(rt: &R, stderr: &mut W) -> u8
+where
+    R: Env + Files + Input + Print + AllocGlobal + Clock + Net,
+    W: Write + IsTerminal,
+{
+    let words = match arguments(rt) {
+        Ok(words) => words,
+        Err(kind) => return refuse_arguments(rt, kind, stderr),
+    };
+    match read_words(rt.alloc(), words.as_slice()) {
+        Ok(command) => finish(run_command(rt, &command, stderr), stderr),
+        Err(answer) => print_answer(rt, &answer, stderr),
+    }
+}
+
+fn arguments<R: Env + AllocGlobal>(rt: &R) -> Result<Vec<String>, ErrorKind> {
+    match env::args(rt) {
+        Ok(words) => match words.collect(rt.alloc()) {
+            Ok(words) => Ok(words),
+            Err(_) => Err(ErrorKind::OutOfMemory),
+        },
+        Err(error) => Err(error.kind()),
+    }
+}
+
+// Refuses arguments that the runtime does not hand over.
+fn refuse_arguments<R: AllocGlobal, W: Write>(rt: &R, kind: ErrorKind, errors: &mut W) -> u8 {
+    if kind == ErrorKind::OutOfMemory {
+        return finish(Err(Fault::Memory), errors);
+    }
+    let _ = finish(Err(Fault::of(rt.alloc(), Sentence::NotText)), errors);
+    WRONG_USAGE
+}
+
+// Prints the answer that is given in place of a command, and returns its status.
+fn print_answer<R: Print, W: Write>(rt: &R, answer: &Answer, errors: &mut W) -> u8 {
+    if let Answer::Memory = answer {
+        return finish(Err(Fault::Memory), errors);
+    }
+    let text = answer.text().as_bytes();
+    match answer.stream() {
+        Stream::Output => {
+            if io::writer(rt).write_all(text).is_err() {
+                return FAILED;
+            }
+        }
+        Stream::Error => {
+            let _ = errors.write_all(text);
+        }
+    }
+    answer.status()
+}
+
+// Prints the fault, if there is one, and returns the exit status.
+fn finish<W: Write>(outcome: Result<(), Fault>, errors: &mut W) -> u8
+    ensures { MatchResult outcome (λ _. result ≡ 0) (λ _. result ≡ 1) }
+{
+    match outcome {
+        Ok(()) => 0,
+        Err(fault) => {
+            let _ = writeln!(errors, "gitrepo: {fault}");
+            FAILED
+        }
+    }
+}
+
+fn run_command<R, W>(rt: &R, command: &Command<'_>, errors: &mut W) -> Result<(), Fault>
+where
+    R: Env + Files + Input + Print + AllocGlobal + Clock + Net,
+    W: Write + IsTerminal,
+{
+    match command {
+        Command::Check { dir } => check(rt, dir),
+        Command::Clone(asked) => clone_remote(rt, asked, errors),
+        Command::Fetch(asked) => fetch_remote(rt, asked, errors),
+        Command::Ls(asked) => list_refs(rt, asked),
+        Command::Serve(asked) => serve(rt, asked, errors),
+        Command::UploadPack { dir } => upload_pack(rt, dir),
+    }
+}

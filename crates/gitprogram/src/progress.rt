@@ -1,0 +1,236 @@
+//! Progress of a fetch, on standard error.
+
+use crate::packets::{Packets, Seen};
+use gitwords::{Shown, push_clean};
+use std::alloc::{AllocError, Global};
+use std::io::{Read, Write};
+use std::{fmt, io};
+
+// The bytes of the header of a pack (gitformat-pack(5)): `PACK`, the version, and how many objects
+// there are.
+const HEADER: usize = 12;
+
+// The progress is shown again after so many bytes.
+const STEP: u64 = 262_144;
+
+// The word before each line of the server, as git has it.
+const REMOTE: &[u8] = b"remote: ";
+
+/// Progress of a fetch.
+#[derive(Drop)]
+pub(crate) struct Progress<'e, E> {
+    errors: &'e mut E,
+    is_shown: bool,
+    packets: Packets,
+    pack: PackSeen,
+    // How many bytes had come when the progress was shown last.
+    shown: u64,
+    line: Line,
+    // The text that is to be printed.
+    text: Vec<u8>,
+}
+
+// The line that is open on the terminal.
+#[derive(Clone, Copy, PartialEq, Eq)]
+enum Line {
+    // None.
+    New,
+    // One of the server, of which the end did not come.
+    Server,
+    // One about a pack, which is shown anew as more comes.
+    Pack,
+}
+
+// What was seen of a pack.
+#[derive(Clone, Copy)]
+struct PackSeen {
+    bytes: u64,
+    // How many of its objects are announced, as far as the header came.
+    objects: u32,
+}
+
+const NO_PACK: PackSeen = PackSeen {
+    bytes: 0,
+    objects: 0,
+};
+
+impl<'e, E: Write> Progress<'e, E> {
+    /// Progress on these errors, if it is to be shown.
+    pub(crate) fn new(alloc: Global, errors: &'e mut E, is_shown: bool) -> Progress<'e, E> {
+        Progress {
+            errors,
+            is_shown,
+            packets: Packets::new(),
+            pack: NO_PACK,
+            shown: 0,
+            line: Line::New,
+            text: Vec::new(alloc),
+        }
+    }
+
+    /// Whether it is shown.
+    pub(crate) fn is_shown(&self) -> bool {
+        self.is_shown
+    }
+
+    // Shows the progress of some bytes of the server. Out of memory it leaves some out.
+    fn watch(&mut self, bytes: &[u8]) {
+        if !self.is_shown {
+            return;
+        }
+        let _ = self.look_at_all(bytes);
+        let _ = self.errors.write_all(self.text.as_slice());
+        self.text.clear();
+    }
+
+    fn look_at_all(&mut self, bytes: &[u8]) -> Result<(), AllocError> {
+        let mut rest = bytes;
+        for _ in 0..bytes.len() {
+            let (count, seen) = self.packets.look(rest);
+            self.show(seen)?;
+            rest = rest.get(count..).unwrap_or(&[]);
+            if rest.is_empty() {
+                break;
+            }
+        }
+        Ok(())
+    }
+
+    fn show(&mut self, seen: Seen<'_>) -> Result<(), AllocError> {
+        match seen {
+            Seen::Pack(bytes) => self.show_pack(bytes),
+            Seen::Text(text) => self.show_text(text),
+            Seen::End => self.show_end(),
+            Seen::Nothing => Ok(()),
+        }
+    }
+
+    // Shows how much of a pack came, now and then.
+    fn show_pack(&mut self, bytes: &[u8]) -> Result<(), AllocError> {
+        self.pack.pass(bytes);
+        if self.pack.bytes < self.shown.saturating_add(STEP) {
+            return Ok(());
+        }
+        self.shown = self.pack.bytes;
+        self.begin_line(Line::Pack)?;
+        self.put_pack("\r")
+    }
+
+    // Ends the line about a pack.
+    fn show_end(&mut self) -> Result<(), AllocError> {
+        self.begin_line(Line::Pack)?;
+        self.put_pack(", done.\n")?;
+        self.line = Line::New;
+        self.pack = NO_PACK;
+        self.shown = 0;
+        Ok(())
+    }
+
+    // Goes on with a line, or ends another one that is open.
+    fn begin_line(&mut self, line: Line) -> Result<(), AllocError> {
+        if self.line != Line::New && self.line != line {
+            self.text.push(b'\n')?;
+        }
+        self.line = line;
+        Ok(())
+    }
+
+    fn put_pack(&mut self, end: &str) -> Result<(), AllocError> {
+        let objects = self.pack.objects;
+        let size = Size(self.pack.bytes);
+        let line = format!(in *self.text.allocator(); "Receiving objects: {objects}, {size}{end}")?;
+        self.text.extend_from_slice(line.as_bytes())
+    }
+
+    // Shows a text of the server.
+    fn show_text(&mut self, text: &[u8]) -> Result<(), AllocError> {
+        for piece in text.split_inclusive(|byte| is_line_end(*byte)) {
+            self.show_piece(piece)?;
+        }
+        Ok(())
+    }
+
+    // Shows a piece of a line of the server.
+    fn show_piece(&mut self, piece: &[u8]) -> Result<(), AllocError> {
+        let goes_on = self.line == Line::Server;
+        self.begin_line(Line::Server)?;
+        if !goes_on {
+            self.text.extend_from_slice(REMOTE)?;
+        }
+        push_clean(&mut self.text, piece, Shown::Progress)?;
+        if piece.last().is_some_and(|byte| is_line_end(*byte)) {
+            self.line = Line::New;
+        }
+        Ok(())
+    }
+
+    /// Ends the line that is open, if there is one.
+    pub(crate) fn finish(&mut self) {
+        if self.line != Line::New {
+            let _ = self.errors.write_all(b"\n");
+            self.line = Line::New;
+        }
+    }
+}
+
+fn is_line_end(byte: u8) -> bool {
+    byte == b'\n' || byte == b'\r'
+}
+
+impl PackSeen {
+    // Passes bytes of the pack.
+    fn pass(&mut self, bytes: &[u8]) {
+        for byte in bytes.iter().take(HEADER) {
+            if 8 <= self.bytes && self.bytes < HEADER as u64 {
+                self.objects = (self.objects << 8) | u32::from(*byte);
+            }
+            self.bytes = self.bytes.saturating_add(1);
+        }
+        self.bytes = self
+            .bytes
+            .saturating_add(bytes.len().saturating_sub(HEADER) as u64);
+    }
+}
+
+// A number of bytes.
+#[derive(Clone, Copy)]
+struct Size(u64);
+
+impl fmt::Display for Size {
+    fn fmt<W: fmt::Write>(&self, f: &mut fmt::Formatter<W>) -> fmt::Result {
+        let Size(bytes) = *self;
+        if bytes >= 1_048_576 {
+            let whole = bytes / 1_048_576;
+            let rest = bytes % 1_048_576 * 100 / 1_048_576;
+            write!(f, "{whole}.{rest:02} MiB")
+        } else if bytes >= 1_024 {
+            let whole = bytes / 1_024;
+            let rest = bytes % 1_024 * 100 / 1_024;
+            write!(f, "{whole}.{rest:02} KiB")
+        } else {
+            write!(f, "{bytes} bytes")
+        }
+    }
+}
+
+/// A reader whose bytes are watched.
+#[derive(Drop)]
+pub(crate) struct Watched<'p, 'e, D, E> {
+    reader: D,
+    progress: &'p mut Progress<'e, E>,
+}
+
+impl<'p, 'e, D, E> Watched<'p, 'e, D, E> {
+    /// The reader, with the progress that watches it.
+    pub(crate) fn new(reader: D, progress: &'p mut Progress<'e, E>) -> Watched<'p, 'e, D, E> {
+        Watched { reader, progress }
+    }
+}
+
+impl<D: Read, E: Write> Read for Watched<'_, '_, D, E> {
+    fn read(&mut self, buf: &mut [u8]) -> io::Result<usize> {
+        let count = self.reader.read(buf)?;
+        self.progress.watch(&buf[..count]);
+        Ok(count)
+    }
+}

@@ -1,0 +1,413 @@
+//! The sentences with which a command fails, in one table. Each names the file or the URL and the
+//! cause, and says what to do if the cause does not.
+
+use ganswer::{BuildFault, ServeFault};
+use gclient::{ClientFault, FetchFault, MAX_SPECS, RepoFault};
+use ggrammar::Why;
+use ggraph::{GraphFault, MAX_NODES, MAX_REFS, PackFault};
+use gitobjects::StoreFault;
+use gitrefs::RefFault;
+use gitrepository::{FormFault, RepositoryFault};
+use gitwords::{Shown, clean_byte};
+use gname::{MAX_ID_TEXT, MAX_PACK, OUT_OF_MEMORY_TEXT, Oid};
+use gpkt::LineFault;
+use grequest::{MAX_HAVES, MAX_PREFIXES, MAX_WANTS};
+use gtcp::MAX_SILENCE;
+use std::alloc::Global;
+use std::io::ErrorKind;
+use std::{fmt, io};
+
+/// A sentence, and what it names.
+#[derive(Clone, Copy)]
+pub(crate) enum Sentence<'a> {
+    /// An argument is not UTF-8.
+    NotText,
+    /// A path leads to no Git directory.
+    NoRepository {
+        path: &'a str,
+    },
+    /// The directory of a clone is there, and is not empty.
+    Occupied {
+        path: &'a str,
+    },
+    /// The system does not open a file.
+    Open {
+        path: &'a str,
+        error: &'a io::Error,
+    },
+    /// A file of a repository is refused, or an object.
+    Repository {
+        path: &'a str,
+        fault: &'a RepositoryFault<Global>,
+    },
+    /// Something is missing that a ref reaches, or refused.
+    BrokenRef {
+        path: &'a str,
+        name: &'a [u8],
+        fault: &'a RepositoryFault<Global>,
+    },
+    /// A repository cannot be served.
+    Build {
+        path: &'a str,
+        fault: &'a BuildFault<Global>,
+    },
+    /// A repository cannot be fetched into.
+    Client {
+        path: &'a str,
+        fault: &'a RepoFault<Global>,
+    },
+    /// The first line of a connection cannot name what the URL names.
+    Address {
+        url: &'a str,
+    },
+    /// No connection to the server.
+    Connect {
+        url: &'a str,
+        error: &'a io::Error,
+    },
+    /// The conversation with the server failed.
+    Fetch {
+        url: &'a str,
+        fault: &'a FetchFault<Global>,
+    },
+    /// The server does not have a ref that is fetched.
+    NoRef {
+        url: &'a str,
+        name: &'a [u8],
+    },
+    /// The pack that the server sent is refused.
+    RefusedPack {
+        url: &'a str,
+        fault: &'a RepositoryFault<Global>,
+    },
+    /// The address is not listened at.
+    Listen {
+        address: &'a str,
+        error: &'a io::Error,
+    },
+    /// No more connections are accepted.
+    Accept {
+        error: &'a io::Error,
+    },
+    /// A client's path names no repository that is served.
+    NotServed,
+    /// A client's request is refused.
+    Request(&'a ServeFault),
+    /// The client is gone.
+    ClientLost,
+    /// The client of `upload-pack` does not ask for version 2.
+    NoVersion2,
+    /// Standard output failed.
+    NoOutput,
+}
+
+impl fmt::Display for Sentence<'_> {
+    fn fmt<W: fmt::Write>(&self, f: &mut fmt::Formatter<W>) -> fmt::Result {
+        match self {
+            Sentence::NotText => f.write_str(
+                "an argument is not UTF-8: gitrepo takes no other names",
+            ),
+            Sentence::NoRepository { path } => write!(
+                f,
+                "{path} is not a Git repository: name a bare repository or a work tree"
+            ),
+            Sentence::Occupied { path } => {
+                write!(f, "{path} exists and is not empty: name a new directory")
+            }
+            Sentence::Open { path, error } => write_refused("open ", path, error, f),
+            Sentence::Repository { path, fault } => write_repository(path, fault, f),
+            Sentence::BrokenRef { path, name, fault } => {
+                write!(f, "{path}: {}: {fault}: 'git fsck' says more", Clean(name))
+            }
+            Sentence::Build { path, fault } => write!(f, "cannot serve {path}: {fault}"),
+            Sentence::Client { path, fault } => write_client_repo(path, fault, f),
+            Sentence::Address { url } => write!(
+                f,
+                "cannot ask for {url}: its path must have ASCII characters alone, 1,000 at most"
+            ),
+            Sentence::Connect { url, error } => write_refused("connect to ", url, error, f),
+            Sentence::Fetch { url, fault } => write_fetch(url, fault, f),
+            Sentence::NoRef { url, name } => write!(
+                f,
+                "{url} has no ref {}: 'gitrepo ls {url}' lists those that it has",
+                Clean(name)
+            ),
+            Sentence::RefusedPack { url, fault } => {
+                write!(f, "the pack from {url} is refused: {fault}")
+            }
+            Sentence::Listen { address, error } => write_refused("listen at ", address, error, f),
+            Sentence::Accept { error } => write_refused("accept ", "connections", error, f),
+            Sentence::NotServed => f.write_str("no repository is served at this path"),
+            Sentence::Request(fault) => write_request(fault, f),
+            Sentence::ClientLost => f.write_str("the connection to the client was lost"),
+            Sentence::NoVersion2 => f.write_str(
+                "GIT_PROTOCOL does not ask for version 2: use git -c protocol.version=2, \
+                and let sshd accept GIT_PROTOCOL",
+            ),
+            Sentence::NoOutput => f.write_str("cannot write to standard output"),
+        }
+    }
+}
+
+// A call that the system refused.
+fn write_refused<W: fmt::Write>(
+    call: &str,
+    name: &str,
+    error: &io::Error,
+    f: &mut fmt::Formatter<W>,
+) -> fmt::Result {
+    write!(f, "cannot {call}{name}: ")?;
+    write_reason(error, f)
+}
+
+// The reason for which the system refused a call: its kind, unless it has none.
+fn write_reason<W: fmt::Write>(error: &io::Error, f: &mut fmt::Formatter<W>) -> fmt::Result {
+    match error.kind() {
+        ErrorKind::Other | ErrorKind::Uncategorized => fmt::Display::fmt(error, f),
+        ErrorKind::NotFound => f.write_str("there is none"),
+        kind => fmt::Display::fmt(&kind, f),
+    }
+}
+
+// ---- a repository here
+
+fn write_repository<W: fmt::Write>(
+    path: &str,
+    fault: &RepositoryFault<Global>,
+    f: &mut fmt::Formatter<W>,
+) -> fmt::Result {
+    match fault {
+        RepositoryFault::Memory => f.write_str(OUT_OF_MEMORY_TEXT),
+        RepositoryFault::Refs(fault) => write_refs(fault, f),
+        RepositoryFault::File { path, error } => write_refused("write ", path.as_str(), error, f),
+        RepositoryFault::Store(StoreFault::File(fault)) => fmt::Display::fmt(fault, f),
+        RepositoryFault::Form { fault, .. } => write!(f, "{path} {}", form_text(*fault)),
+        _ => write!(f, "{path}: {fault}: 'git fsck' says more"),
+    }
+}
+
+/// The form of a repository that is not read, after its name.
+pub(crate) fn form_text(fault: FormFault) -> &'static str {
+    match fault {
+        FormFault::Shallow => "is shallow: 'git fetch --unshallow' makes it whole",
+        FormFault::ObjectFormat => "has SHA-256 ids: gitrepo reads SHA-1 ids alone",
+        FormFault::RefStorage =>
+            "has a reftable: 'git refs migrate --ref-format=files' makes files of it",
+        FormFault::PartialClone => "is a partial clone: clone it without --filter",
+        FormFault::Version =>
+            "has an unknown version, as core.repositoryFormatVersion says: use git",
+        FormFault::Extension => "has an unknown extension, as its config says: use git",
+        FormFault::Config => "has a malformed config: 'git config --list' says where",
+    }
+}
+
+fn write_refs<W: fmt::Write>(fault: &RefFault<Global>, f: &mut fmt::Formatter<W>) -> fmt::Result {
+    let RefFault::File { path, cause } = fault else {
+        return f.write_str(OUT_OF_MEMORY_TEXT);
+    };
+    match cause {
+        gitrefs::Cause::System(error) => write_refused("open ", path.as_str(), error, f),
+        gitrefs::Cause::Locked => write!(
+            f,
+            "{path} is locked: wait for the other process, or remove {path}.lock if there is none"
+        ),
+        gitrefs::Cause::Moved => write!(f, "{path} has moved meanwhile: fetch again"),
+        cause => write!(f, "{path}: {cause}"),
+    }
+}
+
+fn write_client_repo<W: fmt::Write>(
+    path: &str,
+    fault: &RepoFault<Global>,
+    f: &mut fmt::Formatter<W>,
+) -> fmt::Result {
+    write!(f, "cannot fetch into {path}: {fault}")
+}
+
+// ---- a server
+
+fn write_fetch<W: fmt::Write>(
+    url: &str,
+    fault: &FetchFault<Global>,
+    f: &mut fmt::Formatter<W>,
+) -> fmt::Result {
+    match fault {
+        FetchFault::Client(fault) => {
+            write!(f, "cannot fetch from {url}: ")?;
+            write_client(fault, f)
+        }
+        FetchFault::NoBuffer => f.write_str(OUT_OF_MEMORY_TEXT),
+        FetchFault::WriteFailed => {
+            write!(
+                f,
+                "cannot fetch from {url}: the connection was lost: try again"
+            )
+        }
+    }
+}
+
+fn write_client<W: fmt::Write>(
+    fault: &ClientFault<Global>,
+    f: &mut fmt::Formatter<W>,
+) -> fmt::Result {
+    match fault {
+        ClientFault::Message(fault) => write_message(fault.frame, &fault.why, f),
+        ClientFault::TooManySpecs => write!(
+            f,
+            "there are more than {MAX_SPECS} refspecs: give fewer at a time"
+        ),
+        ClientFault::StrangeAck { id } => {
+            f.write_str("the server acknowledges a commit that it was not asked for: ")?;
+            write_id(id, f)
+        }
+        ClientFault::TooManyWants => write!(
+            f,
+            "more than {} objects are wanted at once: fetch fewer refs at a time",
+            Thousands(MAX_WANTS)
+        ),
+        ClientFault::Repo(fault) => write_repo(fault, f),
+        _ => fmt::Display::fmt(fault, f),
+    }
+}
+
+fn write_repo<W: fmt::Write>(fault: &RepoFault<Global>, f: &mut fmt::Formatter<W>) -> fmt::Result {
+    match fault {
+        RepoFault::NotConnected { missing } => {
+            f.write_str("the server did not send an object that it owes: ")?;
+            write_id(missing, f)
+        }
+        RepoFault::Graph(GraphFault::TooMany) => write!(
+            f,
+            "there are more than {} commits and tags",
+            Thousands(MAX_NODES)
+        ),
+        RepoFault::Refs(_) => write!(
+            f,
+            "there are more than {} refs, or one of them is HEAD",
+            Thousands(MAX_REFS)
+        ),
+        _ => fmt::Display::fmt(fault, f),
+    }
+}
+
+// A packet of the server that is refused.
+fn write_message<W: fmt::Write>(frame: u64, why: &Why, f: &mut fmt::Formatter<W>) -> fmt::Result {
+    match why {
+        Why::RemoteErr(text) | Why::RemoteFatal(text) => {
+            write!(f, "the server says: {}", Clean(text.as_bytes()))
+        }
+        Why::Ended | Why::Line(LineFault::Truncated) => {
+            f.write_str("the connection ended early: try again")
+        }
+        Why::Line(LineFault::Io | LineFault::Failed) => write!(
+            f,
+            "the connection was lost, or the server was silent for {MAX_SILENCE} seconds: try again"
+        ),
+        Why::Limit => write!(
+            f,
+            "the pack has more than {} MiB, or there are more than {} refs: fetch fewer refs at a time",
+            MAX_PACK / 1_048_576,
+            Thousands(MAX_REFS)
+        ),
+        Why::Format => f.write_str("its object format is not SHA-1: use git"),
+        Why::BadText if frame == 0 => {
+            f.write_str("the server does not speak protocol version 2: use git")
+        }
+        Why::Memory | Why::Line(LineFault::Memory) => f.write_str(OUT_OF_MEMORY_TEXT),
+        _ => write!(
+            f,
+            "packet {frame} of the server's answer is malformed: {why}"
+        ),
+    }
+}
+
+// ---- a client
+
+fn write_request<W: fmt::Write>(fault: &ServeFault, f: &mut fmt::Formatter<W>) -> fmt::Result {
+    match fault {
+        ServeFault::Request(fault) => write_request_message(fault.frame, &fault.why, f),
+        ServeFault::NotOurs { id } => {
+            f.write_str("the client wants an object that no ref reaches: ")?;
+            write_id(id, f)
+        }
+        ServeFault::Pack(PackFault::TooLarge) => write!(
+            f,
+            "the pack would have more than {} MiB: fetch fewer refs at a time",
+            MAX_PACK / 1_048_576
+        ),
+        _ => fmt::Display::fmt(fault, f),
+    }
+}
+
+// A packet of the client that is refused.
+fn write_request_message<W: fmt::Write>(
+    frame: u64,
+    why: &Why,
+    f: &mut fmt::Formatter<W>,
+) -> fmt::Result {
+    match why {
+        Why::Ended | Why::Line(LineFault::Truncated) => {
+            f.write_str("the client ended the connection early")
+        }
+        Why::Line(LineFault::Io | LineFault::Failed) => {
+            f.write_str("the connection to the client was lost, or its time was over")
+        }
+        Why::Limit => write!(
+            f,
+            "the request has more than {} wants, {} haves or {MAX_PREFIXES} prefixes of ref names",
+            Thousands(MAX_WANTS),
+            Thousands(MAX_HAVES)
+        ),
+        Why::Memory | Why::Line(LineFault::Memory) => f.write_str(OUT_OF_MEMORY_TEXT),
+        _ => write!(f, "packet {frame} of the request is refused: {why}"),
+    }
+}
+
+// ---- parts
+
+/// The bytes of a peer as a terminal may show them on one line.
+#[derive(Clone, Copy)]
+pub(crate) struct Clean<'a>(pub(crate) &'a [u8]);
+
+impl fmt::Display for Clean<'_> {
+    fn fmt<W: fmt::Write>(&self, f: &mut fmt::Formatter<W>) -> fmt::Result {
+        for byte in self.0 {
+            f.write_char(clean_char(*byte))?;
+        }
+        Ok(())
+    }
+}
+
+// A line feed and a tab are no bytes of one line.
+fn clean_char(byte: u8) -> char {
+    match clean_byte(byte, Shown::Lines) {
+        b'\n' | b'\t' => '?',
+        byte => char::from(byte),
+    }
+}
+
+fn write_id<W: fmt::Write>(id: &Oid, f: &mut fmt::Formatter<W>) -> fmt::Result {
+    let mut digits = [0; MAX_ID_TEXT];
+    let count = id.to_hex(&mut digits);
+    f.write_str(str::from_utf8(&digits[..count]).unwrap_or(""))
+}
+
+// A number, with a comma before each three digits.
+#[derive(Clone, Copy)]
+struct Thousands(usize);
+
+impl fmt::Display for Thousands {
+    fn fmt<W: fmt::Write>(&self, f: &mut fmt::Formatter<W>) -> fmt::Result {
+        let Thousands(number) = self;
+        let millions = number / 1_000_000;
+        let thousands = number / 1_000 % 1_000;
+        let ones = number % 1_000;
+        if millions > 0 {
+            write!(f, "{millions},{thousands:03},{ones:03}")
+        } else if thousands > 0 {
+            write!(f, "{thousands},{ones:03}")
+        } else {
+            write!(f, "{ones}")
+        }
+    }
+}

@@ -1,0 +1,188 @@
+//! A repository that is served from its advertisement on, and `gitrepo upload-pack`.
+
+ghost use Rattle.std.specs.Prelude.{◌≡◌};
+ghost use Rattle.gitprogram.specs.Versions.{is_version_2, names_version_2};
+
+use crate::directory::{Directories, find_repository};
+use crate::fault::Fault;
+use crate::opening::{Opened, open_served, repository_fault};
+use crate::refusals::{Worded, send_error};
+use crate::sentences::{Sentence, form_text};
+use ganswer::ServeFault;
+use ggrammar::Ends;
+use ggraph::PackFault;
+use gitobjects::StoredFiles;
+use gitrepository::{FormFault, StorePacker};
+use gpkt::{FromRead, Sink, Source, ToWrite};
+use gserve::{End, Served, serve};
+use std::alloc::{AllocError, Global};
+use std::io::{BufReader, BufWriter};
+use std::rt::{Env, Files};
+use std::{env, io};
+
+/// The bytes of a reply that go out in one write.
+pub(crate) const REPLY_BUFFER: usize = 65_536;
+
+// The error line for a client whose protocol is an older one.
+const NO_VERSION_2: &[u8] =
+    b"gitrepo serves protocol version 2 alone: use git -c protocol.version=2";
+
+// The error line for a client of a repository that is not there.
+const NOT_THERE: &[u8] = b"upload-pack: no such repository";
+
+// The error line for a client of a repository that is not opened.
+const NOT_OPENED: &[u8] = b"upload-pack: the repository cannot be read";
+
+/// Serves a repository on standard input and output (git-upload-pack(1)).
+pub(crate) fn upload_pack<R>(rt: &R, dir: &str) -> Result<(), Fault>
+where
+    R: Env + Files + Input + Print + AllocGlobal,
+{
+    let alloc = rt.alloc();
+    let (Ok(mut reader), Ok(mut writer)) = (
+        BufReader::new(alloc, rt.reader()),
+        BufWriter::with_capacity(alloc, REPLY_BUFFER, io::writer(rt)),
+    ) else {
+        return Err(Fault::Memory);
+    };
+    let mut source = FromRead::new(&mut reader);
+    let mut worded = Worded::new(&mut writer);
+    let mut sink = ToWrite::new(&mut worded);
+    let upload = upload_to(rt, dir, &mut source, &mut sink);
+    // Bytes that could not be written are not tried again.
+    let (_writer, _unwritten) = writer.into_parts();
+    upload
+}
+
+// Serves it between a source and a sink.
+fn upload_to<R, S: Source, W: Sink>(
+    rt: &R,
+    dir: &str,
+    source: &mut S,
+    sink: &mut W,
+) -> Result<(), Fault>
+where
+    R: Env + Files + AllocGlobal,
+{
+    if !has_version_2(rt) {
+        let _ = send_error(NO_VERSION_2, sink);
+        return Err(Fault::of(rt.alloc(), Sentence::NoVersion2));
+    }
+    match find_repository(rt, dir) {
+        Ok(found) => serve_repository(rt, &found, source, sink).outcome,
+        Err(fault) => {
+            let _ = send_error(NOT_THERE, sink);
+            Err(fault)
+        }
+    }
+}
+
+// Whether the client speaks version 2 of the protocol (gitprotocol-v2(5), "SSH and File Transport").
+fn has_version_2<R: Env + AllocGlobal>(rt: &R) -> bool {
+    match env::var(rt, "GIT_PROTOCOL") {
+        Ok(keys) => names_version_2(keys.as_str()),
+        Err(_) => false,
+    }
+}
+
+// Whether one of the keys, between which colons are, is that of version 2.
+fn names_version_2(keys: &str) -> bool
+    ensures { result ≡ names_version_2 keys.now }
+{
+    keys.as_bytes()
+        .split(|byte| *byte == b':')
+        .any(|key| is_version_2(key))
+}
+
+fn is_version_2(key: &[u8]) -> bool
+    ensures { result ≡ is_version_2 key.now }
+{
+    key == b"version=2".as_slice()
+}
+
+/// A conversation with a client: how many of its requests were answered, and how it came out.
+#[derive(Drop)]
+pub(crate) struct Conversation {
+    pub(crate) requests: u32,
+    pub(crate) outcome: Result<(), Fault>,
+}
+
+impl Conversation {
+    /// A conversation in which no request was answered.
+    pub(crate) fn failed(fault: Fault) -> Conversation {
+        Conversation {
+            requests: 0,
+            outcome: Err(fault),
+        }
+    }
+}
+
+/// Opens a repository, and serves it from its advertisement on.
+pub(crate) fn serve_repository<R, S: Source, W: Sink>(
+    rt: &R,
+    found: &Directories,
+    source: &mut S,
+    sink: &mut W,
+) -> Conversation
+where
+    R: Files + AllocGlobal,
+{
+    let files = StoredFiles::new(rt);
+    match open_served(rt.alloc(), rt, &files, found) {
+        Ok(opened) => serve_opened(rt.alloc(), found, &opened, source, sink),
+        Err(cause) => {
+            let _ = send_not_opened(rt.alloc(), cause.form, sink);
+            Conversation::failed(cause.fault)
+        }
+    }
+}
+
+// Says to the client that the repository is not opened, and why if its form is not read.
+fn send_not_opened<W: Sink>(
+    alloc: Global,
+    form: Option<FormFault>,
+    sink: &mut W,
+) -> Result<(), AllocError> {
+    match form {
+        Some(form) => {
+            let form = form_text(form);
+            let text = format!(in alloc; "upload-pack: the repository {form}")?;
+            let _ = send_error(text.as_bytes(), sink);
+        }
+        None => {
+            let _ = send_error(NOT_OPENED, sink);
+        }
+    }
+    Ok(())
+}
+
+fn serve_opened<R: Files, S: Source, W: Sink>(
+    alloc: Global,
+    found: &Directories,
+    opened: &Opened<'_, '_, R>,
+    source: &mut S,
+    sink: &mut W,
+) -> Conversation {
+    let Served { requests, end } = serve(&opened.server, &opened.packer, Ends::Plain, source, sink);
+    let outcome = match end {
+        End::Closed | End::Ended => Ok(()),
+        End::WriteFailed => Err(Fault::of(alloc, Sentence::ClientLost)),
+        End::Refused(fault) => Err(request_fault(alloc, found, &opened.packer, &fault)),
+    };
+    Conversation { requests, outcome }
+}
+
+// The fault of a request that was refused. The packer knows more of its own.
+fn request_fault<R: Files>(
+    alloc: Global,
+    found: &Directories,
+    packer: &StorePacker<'_, StoredFiles<'_, R>, Global>,
+    fault: &ServeFault,
+) -> Fault {
+    if let ServeFault::Pack(PackFault::Other) = fault {
+        if let Some(cause) = packer.take_fault() {
+            return repository_fault(alloc, found.common.as_str(), &cause);
+        }
+    }
+    Fault::of(alloc, Sentence::Request(fault))
+}

@@ -1,0 +1,13 @@
+use Rattle.std.proofs.Common.{◌≡◌, ◌≤◌, length, take}
+use Rattle.std.specs.Vec.{vec_len, vec_capacity}
+use Rattle.gworld.specs.steps.Bringing.{RunsSoundly}
+use Rattle.gworld.specs.Worlds.{tools_of}
+use Rattle.gworld.proofs.parts.Parts.run_each.Given as goal
+
+-- the events so far were done, and there is room for the outcomes of the others
+abbrev pub invariant-loop-event : goal.invariant-loop-event
+invariant-loop-event g l =
+    RunsSoundly (tools_of (g.K.Packer.packs l.tools) (g.K.Packer.pack_fails l.tools) (g.K.Indexer.indexes l.tools)
+    (g.K.Indexer.index_fails l.tools))
+    l.fn.self (take l.event-index l.events) l.told.items l.self
+    × (vec_len l.told ≡ l.event-index) × (length l.events ≤ vec_capacity l.told)

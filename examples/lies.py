@@ -1,0 +1,258 @@
+"""Packs that lie, and servers that send them. See hostile.py."""
+
+import hashlib
+import random
+import socket
+import struct
+import threading
+import zlib
+
+from both_ends import packet
+
+KINDS = {"commit": 1, "tree": 2, "blob": 3, "tag": 4}
+MEGABYTE = 1 << 20
+# How many places of a pack are changed by chance.
+CHANGES = 60
+
+
+def id_of(kind, body):
+    return hashlib.sha1(b"%s %d\0" % (kind.encode(), len(body)) + body).digest()
+
+
+def head(number, size):
+    byte, size, out = (number << 4) | (size & 15), size >> 4, b""
+    while size:
+        out += bytes([byte | 128])
+        byte, size = size & 127, size >> 7
+    return out + bytes([byte])
+
+
+def whole(kind, body, size=None):
+    return head(KINDS[kind], len(body) if size is None else size) + zlib.compress(body)
+
+
+def size_of(number):
+    out = b""
+    while number > 127:
+        out += bytes([number & 127 | 128])
+        number >>= 7
+    return out + bytes([number])
+
+
+def by_id(base, delta):
+    return head(7, len(delta)) + base + zlib.compress(delta)
+
+
+def with_trailer(text):
+    return text + hashlib.sha1(text).digest()
+
+
+def pack(entries, count=None):
+    return with_trailer(b"PACK" + struct.pack(">II", 2, len(entries) if count is None else count) + b"".join(entries))
+
+
+BLOB = bytes(range(256)) * 8
+TREE = b"100644 file\0" + id_of("blob", BLOB)
+WHO = b"author A <a@example.com> 1 +0000\ncommitter A <a@example.com> 1 +0000\n"
+COMMIT = b"tree %s\n%s\nm\n" % (id_of("tree", TREE).hex().encode(), WHO)
+TIP = id_of("commit", COMMIT)
+ALL = [whole("commit", COMMIT), whole("tree", TREE), whole("blob", BLOB)]
+GOOD = pack(ALL)
+NEW = [(TIP, b"refs/heads/new")]
+
+
+class Case:
+    """A pack, the refs that its server has, and whether it is taken; `None` where its objects may stay, but no ref may move."""
+
+    def __init__(self, what, pack, refs=NEW, is_taken=False):
+        self.what, self.pack, self.refs, self.is_taken = what, pack, refs, is_taken
+
+
+def zip_bomb(megabytes):
+    """A zlib stream of so many megabytes of zeros."""
+    deflate = zlib.compressobj(9)
+    return b"".join(deflate.compress(bytes(MEGABYTE)) for _ in range(megabytes)) + deflate.flush()
+
+
+def broken_packs():
+    for cut in range(0, len(GOOD), 13):
+        yield Case(f"cut at {cut}", GOOD[:cut])
+    for cut in range(12, len(GOOD) - 20, 13):
+        yield Case(f"cut at {cut}, with the right trailer", with_trailer(GOOD[:cut]))
+    chance = random.Random(3)
+    for _ in range(CHANGES):
+        text = bytearray(GOOD[:-20])
+        place = chance.randrange(len(text))
+        text[place] ^= 1 << chance.randrange(8)
+        yield Case(f"a bit changed at {place}, with the right trailer", with_trailer(bytes(text)))
+    for left in range(3):
+        yield Case(f"without object {left}", pack([entry for place, entry in enumerate(ALL) if place != left]))
+    yield Case("no objects", pack([]))
+    yield Case("no bytes", b"")
+    yield Case("bytes after the end", GOOD + b"x")
+    yield Case("a count of one more", pack(ALL, 4))
+    yield Case("a count of one less", pack(ALL, 2))
+    yield Case("a count of 4,294,967,295", pack(ALL, 0xFFFFFFFF))
+    yield Case("a size of one less", pack([*ALL[:2], whole("blob", BLOB, len(BLOB) - 1)]))
+    yield Case("a size of one more", pack([*ALL[:2], whole("blob", BLOB, len(BLOB) + 1)]))
+    yield Case("a tree where a blob is named", pack([*ALL[:2], whole("tree", BLOB)]))
+    yield Case("a base that is not there", pack(ALL + [by_id(b"\x11" * 20, size_of(5) + size_of(5) + b"\x05abcde")]))
+
+
+def bombs():
+    bomb = zip_bomb(1024)
+    yield Case("a zip bomb of 1 GB, declared as 20 bytes", pack(ALL + [head(3, 20) + bomb]))
+    yield Case("a zip bomb of 1 GB, declared so", pack(ALL + [head(3, 1 << 30) + bomb]))
+    half = zip_bomb(256)
+    yield Case("seventeen bombs of 256 MB", pack(ALL + [head(3, 256 * MEGABYTE) + half] * 17))
+    base = bytes(65_536)
+    copies = b"\xb0\xff\xff" * 60_000
+    delta = size_of(65_536) + size_of(65_535 * 60_000) + copies
+    yield Case("a delta bomb of 4 GB", pack(ALL + [whole("blob", base), by_id(id_of("blob", base), delta)]))
+    copies = b"\xb0\xff\xff" * 4_000
+    delta = size_of(65_536) + size_of(65_535 * 4_000) + copies
+    deltas = [by_id(id_of("blob", base), delta + b"\x01" * 0) for _ in range(40)]
+    yield Case("forty deltas of 262 MB", pack(ALL + [whole("blob", base), *deltas]))
+
+
+def chains():
+    base = last = bytes(65_536)
+    entries, before = [whole("blob", base)], id_of("blob", base)
+    for number in range(3_000):
+        last = last[:65_530] + struct.pack(">IH", number, 7)
+        delta = size_of(65_536) + size_of(65_536) + b"\xb0\xfa\xff" + b"\x06" + last[65_530:]
+        entries.append(by_id(before, delta))
+        before = id_of("blob", last)
+    yield Case("a chain of 3,000 deltas of 64 KiB", pack(ALL + entries), is_taken=True)
+
+
+def names():
+    for name in (
+        b"refs/heads/../../x", b"refs/heads/../../../../tmp/x", b"refs/heads/x.lock", b"refs/heads/.x", b"refs/heads//x",
+        b"refs/heads/x/", b"refs/heads/a\tb", b"/etc/x", b"../x", b"refs/heads/a\x1b[2Jb", b"refs/heads/" + b"a" * 2000,
+    ):
+        yield Case(f"a ref named {name[:40]!r}", GOOD, [(TIP, name)])
+    yield Case("a ref below a ref", GOOD, [(TIP, b"refs/heads/d"), (TIP, b"refs/heads/d/e")], None)
+    yield Case("a ref below one that is here", GOOD, [(TIP, b"refs/heads/old/e")], None)
+    yield Case("a ref twice", GOOD, [(TIP, b"refs/heads/d"), (id_of("tree", TREE), b"refs/heads/d")], None)
+    yield Case("a branch at a tree that is not sent", GOOD, [(b"\x12" * 20, b"refs/heads/d")])
+
+
+def cases():
+    yield Case("the right pack", GOOD, is_taken=True)
+    yield Case("an object twice", pack(ALL + [ALL[2]]), is_taken=True)
+    yield from broken_packs()
+    yield from bombs()
+    yield from chains()
+    yield from names()
+
+
+# ---- servers
+
+
+ADVERT = packet(b"version 2\n") + packet(b"ls-refs\n") + packet(b"fetch\n") + packet(b"object-format=sha1\n") + b"0000"
+
+
+def listing(refs):
+    return b"".join(packet(id.hex().encode() + b" " + name + b"\n") for id, name in refs) + b"0000"
+
+
+def bands(data, band=1):
+    return b"".join(packet(bytes([band]) + data[at:at + 65_515]) for at in range(0, len(data), 65_515))
+
+
+def packfile(data):
+    return packet(b"packfile\n") + bands(data) + b"0000"
+
+
+class Liar:
+    """A server at 127.0.0.1 that says these bytes: first, to `ls-refs`, and to `fetch`. It sees what clients want."""
+
+    def __init__(self, advert=ADVERT, refs=b"0000", pack=b""):
+        self.said = (advert, refs, pack)
+        self.socket = socket.create_server(("127.0.0.1", 0))
+        self.port = self.socket.getsockname()[1]
+        threading.Thread(target=self.accept, daemon=True).start()
+
+    def url(self):
+        return f"git://127.0.0.1:{self.port}/x"
+
+    def __enter__(self):
+        return self
+
+    def __exit__(self, *_):
+        self.socket.close()
+
+    def accept(self):
+        while True:
+            try:
+                stream, _ = self.socket.accept()
+            except OSError:
+                return
+            threading.Thread(target=self.talk, args=(stream,), daemon=True).start()
+
+    def talk(self, stream):
+        advert, refs, pack = self.said
+        try:
+            with stream, stream.makefile("rb") as file:
+                file.read(int(file.read(4), 16) - 4)
+                stream.sendall(advert)
+                while message := read_message(file):
+                    if message[0].startswith(b"command=ls-refs"):
+                        stream.sendall(refs)
+                    else:
+                        is_done = any(line.startswith(b"done") for line in message)
+                        acks = b"" if is_done else packet(b"acknowledgments\n") + packet(b"ready\n") + b"0001"
+                        stream.sendall(acks + pack)
+        except (OSError, ValueError):
+            pass
+
+
+def read_message(file):
+    """The lines of a message, or none at the end."""
+    lines = []
+    while len(length := file.read(4)) == 4:
+        number = int(length, 16)
+        if number == 0:
+            return lines
+        if number > 3:
+            lines.append(file.read(number - 4))
+    return None
+
+
+def spoken():
+    """What a server may say that is no answer, with what it stands in: the advertisement, the list of refs, the pack."""
+    escape = b"\x1b]0;title\x07\x1b[31mred\r\n\xff\x80"
+    good = listing(NEW)
+    for what, advert in (
+        ("nothing", b""), ("an ERR line", packet(b"ERR " + escape)), ("no packet", b"HTTP/1.1 200 OK\r\n\r\n"),
+        ("a length of 3", b"0003"), ("a length that is no number", b"00zz"), ("version 1", packet(b"version 1\n") + b"0000"),
+        ("protocol version 0", packet(b"1" * 40 + b" HEAD\0side-band-64k\n") + b"0000"),
+        ("sha256", packet(b"version 2\n") + packet(b"ls-refs\n") + packet(b"fetch\n") + packet(b"object-format=sha256\n") + b"0000"),
+        ("no fetch", packet(b"version 2\n") + packet(b"ls-refs\n") + b"0000"), ("control bytes", packet(escape) + b"0000"),
+        ("a packet without an end", b"ffffversion 2\n"), ("delimiters", b"0001" * 1000), ("a capability of 60,000 bytes", packet(b"version 2\n") + packet(b"x" * 60_000)),
+    ):
+        yield f"{what} as the advertisement", Liar(advert, good, packfile(GOOD))
+    for what, refs in (
+        ("nothing", b""), ("an ERR line", packet(b"ERR " + escape)), ("a short id", packet(b"1234 refs/heads/x\n") + b"0000"),
+        ("a name with control bytes", packet(TIP.hex().encode() + b" refs/heads/" + escape) + b"0000"),
+        ("a million refs", b"".join(packet(b"%040x refs/heads/%d\n" % (n + 1, n)) for n in range(1_000_000)) + b"0000"),
+        ("an attribute that climbs", packet(TIP.hex().encode() + b" HEAD symref-target:../../x\n") + b"0000"),
+        ("a list that is cut", good[:-6]),
+    ):
+        yield f"{what} as the list", Liar(ADVERT, refs, packfile(GOOD))
+    for what, answer in (
+        ("nothing", b""), ("an ERR line", packet(b"ERR " + escape)), ("a fatal line", packet(b"packfile\n") + packet(b"\3" + escape)),
+        ("band 4", packet(b"packfile\n") + packet(b"\4x") + b"0000"), ("a pack without its head", bands(GOOD) + b"0000"),
+        ("a pack that is cut", packfile(GOOD)[:-30]), ("packets of no band", packet(b"packfile\n") + packet(b"") + b"0000"),
+        ("acknowledgments", packet(b"acknowledgments\n") + packet(b"ACK " + b"1" * 40 + b"\n") + b"0000"),
+        ("a section that is not known", packet(b"shallow-info\n") + packet(b"shallow " + b"1" * 40 + b"\n") + b"0001" + packfile(GOOD)),
+        ("a pack of 65 MiB", packet(b"packfile\n") + bands(bytes(65 << 20)) + b"0000"),
+    ):
+        yield f"{what} as the pack", Liar(ADVERT, good, answer)
+
+
+def progress():
+    """A server whose progress has control bytes."""
+    escape = b"counting \x1b[31mobjects\x1b[0m\x07 \x9b2J\xff\x00 10%\r"
+    return Liar(ADVERT, listing(NEW), packet(b"packfile\n") + bands(escape, 2) + bands(GOOD) + bands(b"done\n", 2) + b"0000")

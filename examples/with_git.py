@@ -1,0 +1,553 @@
+"""Tries gitrepo with git at the other end. usage: with_git.py PROGRAM [SECONDS]; see with-git.sh.
+
+It makes each layout of a repository (layouts.py) below one folder, which `gitrepo serve` and `git daemon` both serve. Nothing
+leaves 127.0.0.1, and the folder is removed at the end. A run that takes longer than so many seconds, 60 by default, is wrong.
+"""
+
+import os
+import re
+import shutil
+import signal
+import socket
+import subprocess
+import sys
+import tempfile
+import threading
+import time
+from concurrent.futures import ThreadPoolExecutor
+
+from both_ends import (
+    BRANCH, ENV, Gitrepo, GitDaemon, add_history, answer_to, attempt, faults_of, git, has_git, hello, left_behind,
+    new_repository, objects, packet, refs, stored, tip,
+)
+from layouts import make_layouts, unpacked
+
+PROGRAM = os.path.abspath(sys.argv[1])
+LIMIT = int(sys.argv[2]) if len(sys.argv) > 2 else 60
+HEADS, TAGS = "+refs/heads/*:refs/heads/*", "+refs/tags/*:refs/tags/*"
+SHARED = ["refs/heads", "refs/tags"]
+# So many layouts are tried at a time.
+AT_A_TIME = 4
+tried = 0
+wrong = []
+lock = threading.Lock()
+
+
+def check(what, is_right, got=""):
+    """Prints a line of a check, and answers whether it is right."""
+    global tried
+    with lock:
+        tried += 1
+        if is_right:
+            print(f"ok    {what}", flush=True)
+        else:
+            wrong.append(what)
+            print(f"WRONG {what}: {str(got)[:900]}", flush=True)
+    return is_right
+
+
+def gitrepo(*words, **more):
+    return attempt(PROGRAM, *words, **more)
+
+
+def is_sentence(text):
+    """Whether a text is one line that names the program and says more."""
+    return re.fullmatch(r"gitrepo: \S.*[^\n]\n", text) is not None
+
+
+def refuses(what, done, *words):
+    """A run has to end with status 1 and one sentence, in which one of these words is."""
+    says = is_sentence(done.told) and (not words or any(word in done.told for word in words))
+    check(f"{what}: refused in a sentence", done.status == 1 and says and done.out == b"", done)
+
+
+def same_repository(what, path, copy, *prefixes):
+    """The copy has to pass fsck, and to have the refs with these prefixes and their objects."""
+    which = ["--branches", "--tags"] if prefixes else ["--all"]
+    check(f"{what}: fsck --full --strict", not faults_of(copy), faults_of(copy))
+    check(f"{what}: the same objects", objects(path, *which) == objects(copy))
+    check(f"{what}: the same refs", refs(path, *prefixes) == refs(copy), refs(copy))
+
+
+def head_of(path):
+    with open(f"{path}/HEAD") as file:
+        return file.read()
+
+
+# ---- git clones and fetches from gitrepo
+
+
+def served(folder, layout, ours, theirs):
+    """git lists, clones and fetches a layout from `gitrepo serve`."""
+    name, url = f"git from {layout.name}", ours.url(layout.served)
+    listed, due = attempt("git", "ls-remote", url), attempt("git", "ls-remote", theirs.url(layout.served))
+    check(f"{name}: ls-remote", listed and listed.out == due.out, listed)
+    mirror, other = f"{folder}/mirror", f"{folder}/other"
+    done = attempt("git", "clone", "--quiet", "--mirror", url, mirror)
+    if not check(f"{name}: clone --mirror", done, done):
+        return
+    git(None, "clone", "--quiet", "--mirror", theirs.url(layout.served), other)
+    same_repository(f"{name}: clone --mirror", layout.path, mirror)
+    check(f"{name}: HEAD", head_of(mirror) == head_of(other), head_of(mirror))
+    check(f"{name}: no object more", stored(mirror) == objects(mirror))
+    layout.grow()
+    done = attempt("git", "fetch", "--quiet", "origin", cwd=mirror)
+    if check(f"{name}: fetch of what is new", done, done):
+        same_repository(f"{name}: fetch of what is new", layout.path, mirror)
+
+
+def one_branch(folder, ours):
+    copy = f"{folder}/branch"
+    done = attempt("git", "clone", "--quiet", "--single-branch", "--branch=side/1-0", ours.url("one-pack.git"), copy)
+    check("git clones one branch", done, done)
+    check("one branch: its refs", refs(copy, "refs/remotes").split("\n")[0].endswith("/side/1-0"), refs(copy))
+    check("one branch: a clean work tree", git(copy, "status", "--porcelain") == "")
+    check("one branch: no object more", stored(copy) == objects(copy))
+    done = attempt("git", "fetch", "--quiet", "origin", f"{BRANCH}:refs/remotes/origin/trunk", cwd=copy)
+    check("one branch, and then another", done and tip(copy, "origin/trunk") == tip(f"{folder}/served/one-pack.git"), done)
+    check("one branch, and then another: fsck", not faults_of(copy), faults_of(copy))
+
+
+def under_a_server(folder, ours):
+    """Pushes, packing and rewinding while the server runs, which has read the repository before."""
+    path, mirror, work = f"{folder}/served/live.git", f"{folder}/live-mirror", f"{folder}/live-work"
+    add_history(new_repository(path), 80, 31)
+    git(None, "clone", "--quiet", "--mirror", ours.url("live.git"), mirror)
+    git(None, "clone", "--quiet", path, work)
+
+    def fetched(what):
+        done = attempt("git", "fetch", "--quiet", "--prune", "origin", cwd=mirror)
+        check(f"{what}, then a fetch", done and refs(mirror) == refs(path) and not faults_of(mirror), done)
+        clone = tempfile.mkdtemp(dir=folder)
+        done = attempt("git", "clone", "--quiet", "--mirror", ours.url("live.git"), clone)
+        check(f"{what}, then a clone", done and objects(clone) == objects(path) and not faults_of(clone), done)
+
+    def push(number):
+        with open(f"{work}/pushed", "a") as file:
+            file.write(f"{number}\n" * 100)
+        git(work, "add", "pushed")
+        git(work, "commit", "--quiet", "--message=pushed")
+        git(work, "push", "--quiet", "origin", "HEAD:trunk", f"HEAD:refs/heads/pushed/{number}")
+
+    push(1)
+    fetched("a push")
+    git(path, "gc", "--quiet", "--prune=now")
+    fetched("git gc")
+    push(2)
+    git(path, "repack", "-adfq", "--depth=10")
+    fetched("a push and a repack")
+    git(path, "pack-refs", "--all")
+    git(path, "prune-packed")
+    fetched("pack-refs")
+    git(work, "reset", "--quiet", "--hard", "HEAD~4")
+    git(work, "push", "--quiet", "--force", "origin", "HEAD:trunk", ":pushed/1")
+    git(path, "gc", "--quiet", "--prune=now")
+    fetched("a rewound branch, a deleted one, and git gc")
+    git(path, "commit-graph", "write", "--reachable")
+    push(3)
+    fetched("a commit-graph and a push")
+    git(path, "symbolic-ref", "HEAD", "refs/heads/pushed/3")
+    listed = git(None, "ls-remote", "--symref", ours.url("live.git"), "HEAD")
+    check("HEAD at another branch", listed.startswith("ref: refs/heads/pushed/3\tHEAD"), listed)
+
+
+def upload_pack(folder, layouts):
+    """`gitrepo upload-pack` at the far end of file://."""
+    for layout in layouts:
+        if layout.name in ("one pack", "a work tree", "a linked work tree", "a submodule", "an empty repository"):
+            copy = f"{folder}/piped-{layout.name.replace(' ', '-')}"
+            words = ["clone", "--quiet", "--mirror", "-u", f"{PROGRAM} upload-pack", f"file://{layout.path}", copy]
+            done = attempt("git", *words)
+            if check(f"git clone -u 'gitrepo upload-pack' of {layout.name}", done, done):
+                same_repository(f"upload-pack of {layout.name}", layout.path, copy)
+    path = layouts[0].path
+    for protocol in ("", "version=1", "version=0", "version=20"):
+        more = {"GIT_PROTOCOL": protocol} if protocol else {}
+        done = gitrepo("upload-pack", path, env=ENV | more)
+        said = done.out[4:8] == b"ERR " and b"version=2" in done.out and int(done.out[:4], 16) == len(done.out)
+        check(f"upload-pack with GIT_PROTOCOL='{protocol}': an ERR line", said and done.status == 1, done)
+    for protocol in ("version=2", "version=1:version=2", "other:version=2", "version=2:key=value"):
+        done = gitrepo("upload-pack", path, env=ENV | {"GIT_PROTOCOL": protocol})
+        check(f"upload-pack with GIT_PROTOCOL='{protocol}'", b"version 2\n" in done.out, done)
+    done = attempt("git", "-c", "protocol.version=0", "ls-remote", f"--upload-pack={PROGRAM} upload-pack", f"file://{path}")
+    check("git of protocol version 0 shows the ERR line", done.status == 128 and "version=2" in done.told, done)
+    done = attempt("git", "ls-remote", f"--upload-pack={PROGRAM} upload-pack", f"file://{folder}/nothing.git")
+    check("upload-pack of nothing: an error", done.status == 128, done)
+
+
+# ---- gitrepo clones and fetches from git
+
+
+def cloned(folder, layout, theirs):
+    """`gitrepo` lists, clones and fetches a layout from `git daemon`."""
+    name, url = f"gitrepo from {layout.name}", theirs.url(layout.served)
+    listed, due = gitrepo("ls", url), attempt("git", "ls-remote", url)
+    check(f"{name}: ls", listed and listed.out == due.out, listed)
+    copy, other = f"{folder}/clone", f"{folder}/like"
+    done = gitrepo("clone", "--quiet", url, copy)
+    if not check(f"{name}: clone", done and done.told == "", done):
+        return
+    git(None, "clone", "--quiet", "--bare", url, other)
+    same_repository(f"{name}: clone", other, copy, *SHARED)
+    check(f"{name}: HEAD", head_of(copy) == head_of(other), head_of(copy))
+    check(f"{name}: no object more", stored(copy) == objects(copy))
+    check(f"{name}: the index of git index-pack", are_indexes_of_git(copy))
+    check(f"{name}: gitrepo check", gitrepo("check", copy), gitrepo("check", copy))
+    layout.grow()
+    done = gitrepo("fetch", "--quiet", copy, url, HEADS, TAGS)
+    if check(f"{name}: fetch of what is new", done, done):
+        same_repository(f"{name}: fetch of what is new", layout.path, copy, *SHARED)
+        check(f"{name}: nothing left behind", not left_behind(copy), left_behind(copy))
+
+
+def are_indexes_of_git(path):
+    """Whether each index is, byte for byte, what `git index-pack` makes of the pack, under the name that git gives it."""
+    packs = f"{path}/objects/pack"
+    for name in os.listdir(packs):
+        stem, _, extension = name.rpartition(".")
+        if extension == "pack":
+            made = f"{path}/made.idx"
+            git(path, "index-pack", "-o", made, f"{packs}/{name}")
+            same = read(made) == read(f"{packs}/{stem}.idx")
+            os.remove(made)
+            if not same or stem != f"pack-{read(f'{packs}/{name}')[-20:].hex()}":
+                return False
+    return True
+
+
+def read(path):
+    with open(path, "rb") as file:
+        return file.read()
+
+
+def updates(folder, theirs):
+    """What a fetch does to refs: forced and not, locked, in the way of others; and what it says."""
+    path, url = f"{folder}/served/updated.git", theirs.url("updated.git")
+    add_history(new_repository(path), 130, 41)
+    copy = f"{folder}/updated"
+    check("clone for the updates", gitrepo("clone", url, copy))
+    side, other = "refs/heads/side/41-60", "refs/heads/side/41-120"
+    before = tip(copy, side)
+    packs = sorted(os.listdir(f"{copy}/objects/pack"))
+    done = gitrepo("fetch", copy, url, HEADS, TAGS)
+    check("a fetch of nothing", done and packs == sorted(os.listdir(f"{copy}/objects/pack")), done)
+    git(path, "update-ref", side, "refs/heads/side/41-0")
+    done = gitrepo("fetch", copy, url, f"{side}:{side}")
+    check("a ref that would be rewound stays", tip(copy, side) == before, done)
+    locked(copy, url, side, before)
+    done = gitrepo("fetch", copy, url, f"+{side}:{side}")
+    check("a ref that is forced moves", done and tip(copy, side) == tip(path, side), done)
+    done = gitrepo("fetch", copy, url, f"{other}:refs/remotes/origin/x")
+    check("a ref of another name", done and tip(copy, "refs/remotes/origin/x") == tip(path, other), done)
+    before = refs(copy)
+    done = gitrepo("fetch", copy, url, f"{other}:refs/heads/trunk/below")
+    refuses("a ref below another", done, "refs/heads/trunk")
+    check("a ref below another: the refs stay", refs(copy) == before)
+    done = gitrepo("fetch", copy, url, "refs/heads/none:refs/heads/none")
+    check("a ref that the server does not have", done.status == 1 and refs(copy) == before, done)
+    done = attempt("git", "clone", "--quiet", copy, f"{folder}/updated-work")
+    check("git clones what gitrepo fetched", done and git(f"{folder}/updated-work", "status", "--porcelain") == "", done)
+    done = attempt("git", "gc", "--quiet", "--prune=now", cwd=copy)
+    check("git gc of what gitrepo fetched", done and not faults_of(copy), done)
+    add_history(path, 30, 42, onto=tip(path))
+    done = gitrepo("fetch", copy, url, HEADS, TAGS)
+    check("a fetch after git gc", done and refs(copy, *SHARED) == refs(path) and not faults_of(copy), done)
+    check("updates: nothing left behind", not left_behind(copy), left_behind(copy))
+
+
+def locked(copy, url, name, before):
+    """A lock in the way: the ref stays, and so does the lock."""
+    lock = f"{copy}/{name}.lock"
+    os.makedirs(os.path.dirname(lock), exist_ok=True)
+    open(lock, "w").close()
+    done = gitrepo("fetch", copy, url, f"+{name}:{name}")
+    refuses("a lock in the way", done, f"{name}.lock", "locked")
+    check("a lock in the way: the ref stays", tip(copy, name) == before)
+    check("a lock in the way: the lock stays", left_behind(copy) == [lock], left_behind(copy))
+    os.remove(lock)
+
+
+def into_work_trees(folder, layouts, theirs):
+    """A fetch into a work tree, and into those whose `.git` is a file."""
+    for layout in layouts:
+        if layout.name in ("a work tree", "a linked work tree", "a submodule"):
+            name = "refs/remotes/other/trunk"
+            url = theirs.url("live.git")
+            done = gitrepo("fetch", layout.path, url, f"+{BRANCH}:{name}")
+            due = tip(f"{folder}/served/live.git")
+            check(f"a fetch into {layout.name}", done and tip(layout.path, name) == due, done)
+            check(f"a fetch into {layout.name}: fsck", not faults_of(layout.path), faults_of(layout.path))
+            check(f"gitrepo check of {layout.name}", gitrepo("check", layout.path), gitrepo("check", layout.path))
+
+
+def both_ends(folder, ours):
+    copy = f"{folder}/both"
+    done = gitrepo("clone", ours.url("live.git"), copy)
+    if check("gitrepo clones from gitrepo", done, done):
+        same_repository("gitrepo from gitrepo", f"{folder}/served/live.git", copy, *SHARED)
+    for prefix in ("refs/heads/", "refs/tags/v", "HEAD", "refs/none"):
+        all_refs, some = gitrepo("ls", ours.url("live.git")), gitrepo("ls", ours.url("live.git"), prefix)
+        due = b"".join(it for it in all_refs.out.splitlines(True) if it.split(b"\t")[1].startswith(prefix.encode()))
+        check(f"gitrepo ls with the prefix {prefix}", some and some.out == due, some)
+
+
+# ---- what is broken or refused
+
+
+def broken_refs(folder, ours):
+    """Refs that are broken: they are left out."""
+    path = add_history(new_repository(f"{folder}/served/broken-refs.git"), 20, 61)
+    good = refs(path)
+    files = {
+        "broken": b"", "zeros": b"0" * 40 + b"\n", "words": b"no id\n", "missing": b"1" * 40 + b"\n", "short": b"12345\n",
+        "dangling": b"ref: refs/heads/nobody\n", "circle": b"ref: refs/heads/circle\n", "climbs": b"ref: ../../HEAD\n",
+    }
+    for name, text in files.items():
+        with open(f"{path}/refs/heads/{name}", "wb") as file:
+            file.write(text)
+    mirror = f"{folder}/broken-refs"
+    done = attempt("git", "clone", "--quiet", "--mirror", ours.url("broken-refs.git"), mirror)
+    check("broken refs are left out of a clone", done and refs(mirror) == good and not faults_of(mirror), done)
+    done = gitrepo("check", path)
+    check("gitrepo check names a ref whose object is missing", done.status == 1 and "1" * 40 in done.told, done)
+
+
+def change_an_entry(path, id):
+    """Changes a byte of the entry of an object, in the only pack."""
+    (index,) = [name for name in os.listdir(f"{path}/objects/pack") if name.endswith(".idx")]
+    index = f"{path}/objects/pack/{index}"
+    lines = attempt("git", "show-index", data=read(index)).out.decode().splitlines()
+    (offset,) = [int(line.split()[0]) for line in lines if line.split()[1] == id]
+    pack = index.replace(".idx", ".pack")
+    text = bytearray(read(pack))
+    text[offset + 12] ^= 16
+    os.chmod(pack, 0o644)
+    with open(pack, "wb") as file:
+        file.write(text)
+
+
+def damaged(folder, ours):
+    """Objects that are missing or changed: no clone is wrong, gitrepo check names what is wrong, and the server goes on."""
+    source = add_history(new_repository(f"{folder}/to-damage.git"), 12, 62)
+    ids = {
+        "commit": git(source, "rev-parse", f"{BRANCH}~2"), "tree": git(source, "rev-parse", f"{BRANCH}~2^{{tree}}"),
+        "blob": git(source, "rev-list", "--objects", "--filter=object:type=blob", "--no-object-names", BRANCH).split("\n")[-1],
+        "tag": git(source, "rev-parse", "refs/tags/v62"),
+    }
+    loose = unpacked(source, f"{folder}/to-damage-loose.git")
+    for kind, id in ids.items():
+        name = f"without-a-{kind}.git"
+        path = shutil.copytree(loose, f"{folder}/served/{name}")
+        os.remove(f"{path}/objects/{id[:2]}/{id[2:]}")
+        done = attempt("git", "clone", "--quiet", "--mirror", ours.url(name), f"{folder}/{name}")
+        check(f"a {kind} is missing: no clone", done.status == 128 or kind == "tag", done)
+        done = gitrepo("check", path)
+        check(f"a {kind} is missing: gitrepo check names it", done.status == 1 and id in done.told, done)
+    path = add_history(new_repository(f"{folder}/served/changed.git"), 80, 63)
+    change_an_entry(path, git(path, "rev-parse", f"{BRANCH}^{{tree}}"))
+    done = attempt("git", "clone", "--quiet", "--mirror", ours.url("changed.git"), f"{folder}/changed.git")
+    check("a pack is changed: no clone", done.status == 128, done)
+    done = gitrepo("check", path)
+    check("a pack is changed: gitrepo check names it", done.status == 1 and ".pack" in done.told, done)
+    check("damaged repositories: the server goes on", attempt("git", "ls-remote", ours.url("one-pack.git")))
+
+
+def unreadable(folder):
+    """Repositories of a kind that gitrepo does not read, and a word that the sentence has to say."""
+    source = f"{folder}/served/one-pack.git"
+    shallow, sha256, reftable, partial = [f"{folder}/served/{it}.git" for it in ("shallow", "sha256", "reftable", "partial")]
+    git(None, "clone", "--quiet", "--bare", "--depth=2", f"file://{source}", shallow)
+    git(source, "config", "uploadpack.allowFilter", "true")
+    git(None, "clone", "--quiet", "--bare", "--filter=blob:none", f"file://{source}", partial)
+    made = attempt("git", "init", "--quiet", "--bare", "--ref-format=reftable", reftable)
+    if not made:
+        add_history(new_repository(reftable), 20, 51)
+        git(reftable, "config", "core.repositoryFormatVersion", "1")
+        git(reftable, "config", "extensions.refStorage", "reftable")
+    git(None, "init", "--quiet", "--bare", "--object-format=sha256", "--initial-branch=trunk", sha256)
+    add_history(sha256, 20, 52)
+    return [
+        ("shallow.git", "shallow"), ("sha256.git", "SHA-256"), ("reftable.git", "reftable"), ("partial.git", "partial"),
+    ]
+
+
+def kinds(folder, ours, theirs):
+    for name, word in unreadable(folder):
+        path = f"{folder}/served/{name}"
+        for what, done in (
+            (f"git from {name}", attempt("git", "ls-remote", ours.url(name))),
+            (f"git -u upload-pack from {name}", attempt("git", "ls-remote", f"--upload-pack={PROGRAM} upload-pack", f"file://{path}")),
+        ):
+            check(f"{what}: refused, and why", done.status == 128 and word.lower() in done.told.lower(), done)
+        before = refs_as_files(path)
+        for what, words in (("check", ["check", path]), ("fetch", ["fetch", path, theirs.url("live.git"), HEADS])):
+            done = gitrepo(*words)
+            says = is_sentence(done.told) and word.lower() in done.told.lower()
+            check(f"gitrepo {what} of {name}: refused, and why", done.status == 1 and says, done)
+        check(f"{name}: as it was", refs_as_files(path) == before)
+    done = gitrepo("clone", theirs.url("sha256.git"), f"{folder}/sha256")
+    refuses("gitrepo clone of sha256.git", done, "sha256", "SHA-256")
+    check("gitrepo clone of sha256.git: no folder", not os.path.exists(f"{folder}/sha256"))
+
+
+def refs_as_files(path):
+    """All files of a repository but its configuration."""
+    return sorted(os.path.join(at, name) for at, _, names in os.walk(path) for name in names)
+
+
+def exports(folder):
+    """Without --export-all a repository is served if it has the file git-daemon-export-ok."""
+    base = f"{folder}/served"
+    with Gitrepo(PROGRAM, base) as server:
+        done = attempt("git", "ls-remote", server.url("one-pack.git"))
+        check("no git-daemon-export-ok: refused", done.status == 128 and "ERR" not in done.out.decode(), done)
+        open(f"{base}/one-pack.git/git-daemon-export-ok", "w").close()
+        done = attempt("git", "ls-remote", server.url("one-pack.git"))
+        check("git-daemon-export-ok: served, while the server runs", done, done)
+        open(f"{base}/work/.git/git-daemon-export-ok", "w").close()
+        done = attempt("git", "ls-remote", server.url("work"))
+        check("git-daemon-export-ok in a work tree's .git", done, done)
+
+
+def paths(folder, ours):
+    """Paths that climb, and those that name nothing; with or without .git."""
+    os.makedirs(f"{folder}/outside.git")
+    git(None, "clone", "--quiet", "--mirror", f"{folder}/served/one-pack.git", f"{folder}/outside.git")
+    for path in (
+        b"/../outside.git", b"/one-pack.git/../../outside.git", b"/one-pack.git/../one-pack.git", b"/./one-pack.git",
+        b"//one-pack.git", b"/one-pack.git//", b"/work/.git", b"/.", b"/..", b"/", b"", b"one-pack.git",
+        b"/" + folder.encode() + b"/served/one-pack.git", b"/none.git", b"/one-pack.git/objects", b"/one-pack.git/HEAD",
+        b"/one-pack.git\n", b"/one-pack.git/.", b"/caf\xe9.git", b"/" + b"a/" * 300 + b"b", b"/super/.git/modules/inner",
+    ):
+        got = answer_to(ours.port, hello(path))
+        refused = got[4:8] == b"ERR " and int(got[:4], 16) == len(got) or got == b""
+        check(f"the path {path[:60]!r}: refused", refused, got[:200])
+    for path in (b"/one-pack.git", b"/one-pack", b"/work", b"/linked", b"/super", b"/super/inner"):
+        got = answer_to(ours.port, hello(path))
+        check(f"the path {path!r}: served", got.startswith(packet(b"version 2\n")), got[:200])
+    got = answer_to(ours.port, hello(b"/one-pack.git", b""))
+    check("a client of protocol version 0: an ERR line", got[4:8] == b"ERR ", got[:200])
+
+
+def limits(folder, ours, theirs):
+    """More than 1,024 distinct tips: both ends say the limit."""
+    path = new_repository(f"{folder}/served/too-many.git")
+    lines = "".join(
+        f"commit refs/heads/tip/{number}\ncommitter C <c@example.com> {number} +0000\ndata 1\nm\n" for number in range(1_025)
+    )
+    git(path, "fast-import", "--quiet", data=lines.encode())
+    done = gitrepo("clone", theirs.url("too-many.git"), f"{folder}/too-many")
+    refuses("gitrepo clone of 1,025 tips", done, "1,024", "1024")
+    check("gitrepo clone of 1,025 tips: no folder", not os.path.exists(f"{folder}/too-many"))
+    done = attempt("git", "clone", "--quiet", "--mirror", ours.url("too-many.git"), f"{folder}/too-many-mirror")
+    check("git clone of 1,025 tips says the limit", done.status == 128 and ("1,024" in done.told or "1024" in done.told), done)
+
+
+def words(folder, theirs):
+    """Exit statuses, help, the version, and that no error leaves a folder."""
+    for what in ([], ["clone"], ["clone", theirs.url("x")], ["none"], ["fetch", "--none"], ["ls"]):
+        done = gitrepo(*what)
+        check(f"gitrepo {' '.join(what)[:20]}: status 2 and the usage", done.status == 2 and "sage" in done.told, done)
+    for what in (["--help"], ["clone", "--help"], ["serve", "--help"], ["--version"]):
+        done = gitrepo(*what)
+        check(f"gitrepo {' '.join(what)}", done and done.out and not done.told, done)
+    refuses("a clone of nothing", gitrepo("clone", theirs.url("none.git"), f"{folder}/none"), "none.git")
+    check("a clone of nothing: no folder", not os.path.exists(f"{folder}/none"))
+    os.mkdir(f"{folder}/taken")
+    open(f"{folder}/taken/file", "w").close()
+    refuses("a clone into a folder that is there", gitrepo("clone", theirs.url("live.git"), f"{folder}/taken"), "taken")
+    check("a clone into a folder that is there: it stays", os.listdir(f"{folder}/taken") == ["file"])
+    with socket.create_server(("127.0.0.1", 0)) as closed:
+        port = closed.getsockname()[1]
+    refuses("a server that is not there", gitrepo("ls", f"git://127.0.0.1:{port}/x"), "127.0.0.1")
+    refuses("a fetch into no repository", gitrepo("fetch", f"{folder}/taken", theirs.url("live.git"), HEADS), "taken")
+    for url in ("https://example.com/x", "ssh://example.com/x", "file:///x", "git://127.0.0.1", "x"):
+        done = gitrepo("ls", url)
+        check(f"the URL {url}: refused in a sentence", done.status in (1, 2) and url in done.told, done)
+    done = gitrepo("clone", "--progress", theirs.url("live.git"), f"{folder}/progress")
+    check("--progress", done and "bjects" in done.told, done)
+    done = gitrepo("clone", theirs.url("live.git"), f"{folder}/no-progress")
+    check("no progress where standard error is no terminal", done and done.told == "", done)
+
+
+def status_of(process):
+    """The status with which a process ends in time, or nothing."""
+    try:
+        return process.wait(5)
+    except subprocess.TimeoutExpired:
+        return None
+
+
+def ended(folder):
+    """SIGTERM ends a server, also with a client that is served, and frees its port."""
+    server = Gitrepo(PROGRAM, f"{folder}/served", "--export-all")
+    with socket.create_connection(("127.0.0.1", server.port)) as client:
+        client.sendall(hello(b"/one-pack.git"))
+        check("a client is served", client.recv(4) == b"000e")
+        server.process.send_signal(signal.SIGTERM)
+        check("SIGTERM ends a server", status_of(server.process) is not None)
+    server.end()
+    with Gitrepo(PROGRAM, f"{folder}/served", "--export-all", "--connections", "2") as server:
+        for _ in range(2):
+            attempt("git", "ls-remote", server.url("one-pack.git"))
+        check("--connections 2: it ends after two", status_of(server.process) == 0)
+        lines = server.log()
+        check("a line of the log for each connection", len(lines) == 2 and all("/one-pack.git" in it for it in lines), lines)
+
+
+def for_each(layouts, action):
+    """Does something with all layouts, several at a time, but with one of each repository."""
+    groups = {}
+    for layout in layouts:
+        groups.setdefault(layout.repository, []).append(layout)
+    pool = ThreadPoolExecutor(AT_A_TIME)
+    try:
+        for done in [pool.submit(lambda group: [action(it) for it in group], group) for group in groups.values()]:
+            done.result()
+    finally:
+        pool.shutdown(cancel_futures=True)
+
+
+def try_all(folder):
+    layouts = make_layouts(f"{folder}/served")
+    with Gitrepo(PROGRAM, f"{folder}/served", "--export-all") as ours, GitDaemon(f"{folder}/served") as theirs:
+        for_each(layouts, lambda it: served(tempfile.mkdtemp(dir=folder), it, ours, theirs))
+        for_each(layouts, lambda it: cloned(tempfile.mkdtemp(dir=folder), it, theirs))
+        one_branch(folder, ours)
+        under_a_server(folder, ours)
+        upload_pack(folder, layouts)
+        updates(folder, theirs)
+        into_work_trees(folder, layouts, theirs)
+        both_ends(folder, ours)
+        check("no connection so far had a fault", not [it for it in ours.log() if "cannot" in it or "fault" in it], ours.log())
+        broken_refs(folder, ours)
+        damaged(folder, ours)
+        kinds(folder, ours, theirs)
+        paths(folder, ours)
+        limits(folder, ours, theirs)
+        words(folder, theirs)
+    exports(folder)
+    ended(folder)
+
+
+def too_long(_signal, _frame):
+    raise TimeoutError(f"the run takes longer than {LIMIT} seconds")
+
+
+def main():
+    if not has_git():
+        print("git and its daemon are not there: nothing is tried")
+        return 0
+    signal.signal(signal.SIGALRM, too_long)
+    signal.alarm(LIMIT)
+    began = time.monotonic()
+    with tempfile.TemporaryDirectory(prefix="with-git-") as folder:
+        try:
+            try_all(folder)
+        except (OSError, ValueError, IndexError, AssertionError) as error:
+            check("the run comes to its end", False, repr(error))
+    print(f"{tried} checks, {len(wrong)} wrong, {time.monotonic() - began:.0f} s")
+    return 1 if wrong else 0
+
+
+sys.exit(main())
