@@ -39,6 +39,8 @@ pub enum Cause {
     Utf8,
     /// There would be more than 65,536 refs, or the ref is `HEAD`.
     Refs,
+    /// Its new id is none of SHA-1.
+    Format,
     /// The system refused a call.
     System(io::Error),
 }
@@ -101,6 +103,7 @@ impl fmt::Display for Cause {
             Cause::Conflict => "the name of a ref is also that of a directory of refs",
             Cause::Utf8 => "the name of the ref is not UTF-8",
             Cause::Refs => "the ref can't be set",
+            Cause::Format => "the new id is none of SHA-1",
             Cause::System(error) => return fmt::Display::fmt(error, f),
         })
     }

@@ -18,14 +18,17 @@ use std::{fs, io};
 
 /// A file of a git directory, and the lockfile beside it, whose name is that of the file and
 /// `.lock`. A file that is not there has no text. The directories in which it lies are made with
-/// the lockfile.
+/// the lockfile. The lockfile is open only while it is written, so a thousand locks need one
+/// descriptor.
 #[derive(Drop)]
 pub(crate) struct GitFile<'r, R: Files, A: Allocator + Copy = Global> {
     files: &'r R,
     alloc: A,
     path: FilePath<A>,
     lock_path: String<A>,
+    // The lockfile, from the first byte written to the rename.
     lock: Option<R::File>,
+    is_locked: bool,
     lockfile: Lockfile,
     cause: Option<Cause>,
 }
@@ -55,6 +58,7 @@ impl<'r, R: Files, A: Allocator + Copy> GitFile<'r, R, A> {
             path,
             lock_path,
             lock: None,
+            is_locked: false,
             lockfile: Lockfile::Absent,
             cause: None,
         })
@@ -150,8 +154,8 @@ impl<R: Files, A: Allocator + Copy> Storage for GitFile<'_, R, A> {
             return Err(self.fail(cause));
         }
         match File::create_new(self.files, self.lock_path.as_str()) {
-            Ok(lock) => {
-                self.lock = Some(lock);
+            Ok(_closed) => {
+                self.is_locked = true;
                 self.lockfile = Lockfile::Empty;
                 Ok(())
             }
@@ -185,12 +189,14 @@ impl<R: Files, A: Allocator + Copy> Storage for GitFile<'_, R, A> {
 
     fn write(&mut self, text: &[u8]) -> Result<(), StorageFault> {
         self.lockfile = Lockfile::Unusable;
-        let Some(lock) = &mut self.lock else {
-            return Err(StorageFault::Failed);
+        let mut lock = match File::create(self.files, self.lock_path.as_str()) {
+            Ok(lock) => lock,
+            Err(error) => return Err(self.refuse(error)),
         };
         if let Err(error) = lock.write_all(text) {
             return Err(self.refuse(error));
         }
+        self.lock = Some(lock);
         self.lockfile = Lockfile::Written;
         Ok(())
     }
@@ -215,14 +221,17 @@ impl<R: Files, A: Allocator + Copy> Storage for GitFile<'_, R, A> {
         // The file is replaced, whether or not its directory can be synced.
         let _ = sync_directory(self.files, self.path.as_str());
         self.lock = None;
+        self.is_locked = false;
         self.lockfile = Lockfile::Absent;
         Ok(())
     }
 
     fn unlock(&mut self) {
-        if let Some(_) = self.lock.take() {
+        if self.is_locked {
             let _ = fs::remove_file(self.files, self.lock_path.as_str());
         }
+        self.lock = None;
+        self.is_locked = false;
         self.lockfile = Lockfile::Absent;
     }
 }

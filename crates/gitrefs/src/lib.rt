@@ -51,9 +51,8 @@
 //! refs. It also holds of the updates that it refuses, and of the locks that it removes. A lockfile
 //! is removed when its guard is dropped; no clause says so.
 //!
-//! An update opens a lockfile for each of its refs, so about a thousand refs at once can use up the
-//! descriptors of the process. Conflicts of names are judged before the locks are there, so a ref
-//! that is packed meanwhile can escape.
+//! Conflicts of names are judged before the locks are there, so a ref that is packed meanwhile can
+//! escape. If two lines of `packed-refs` have one name, the first counts.
 //!
 //! Any call that allocates may fail with out of memory; the contracts do not say when. A process
 //! that is killed can leave a lockfile. Two git directories that are one, as by symbolic links, are

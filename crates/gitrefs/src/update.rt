@@ -4,7 +4,7 @@ use crate::directory::GitDirectory;
 use crate::fault::{Cause, RefFault, TextFault};
 use crate::locked::LockedFile;
 use crate::loose::{LooseRef, name_of, parse_loose_ref};
-use gname::{Oid, RefName};
+use gname::{Format, Oid, RefName};
 use grefs::{Refs, RefsFault};
 use std::alloc::{Allocator, Global};
 use std::fs::Files;
@@ -25,12 +25,14 @@ impl<R: Files, A: Allocator + Copy> GitDirectory<'_, R, A> {
     /// each is replaced. A ref that is not loose is where `packed-refs` says. Reflogs are left
     /// alone.
     ///
-    /// It fails with `Missing`, with `Conflict` if one ref has the name of another's directory,
-    /// with `Refs`, `Locked`, `Moved`, `Symbolic`, `Malformed` or `Utf8`; no ref has moved then. It
+    /// It fails with `Missing`, with `Format` if a new id is none of SHA-1, with `Conflict` if one ref
+    /// has the name of another's directory, with `Refs`, `Locked`, `Moved`, `Symbolic`, `Malformed` or
+    /// `Utf8`; no ref has moved then. It
     /// may fail with `System` or `Memory` when some have moved; each is where it was, or where it
     /// is to be. The locks that it made are removed; directories that it made for them may stay.
     pub fn update_refs(&self, updates: &[RefUpdate<A>]) -> Result<(), RefFault<A>> {
         self.check_repository()?;
+        self.check_formats(updates)?;
         self.check_conflicts(updates)?;
         let mut locked = Vec::new(self.alloc);
         for update in updates {
@@ -43,6 +45,16 @@ impl<R: Files, A: Allocator + Copy> GitDirectory<'_, R, A> {
         }
         for (file, update) in locked.into_iter().zip(updates) {
             file.move_to(self.alloc, &update.new)?;
+        }
+        Ok(())
+    }
+
+    // The new ids are those of SHA-1, as all ids of the directory are.
+    fn check_formats(&self, updates: &[RefUpdate<A>]) -> Result<(), RefFault<A>> {
+        for update in updates {
+            if update.new.format() != Format::Sha1 {
+                return Err(self.fault_of(&update.name, Cause::Format));
+            }
         }
         Ok(())
     }
@@ -63,10 +75,13 @@ impl<R: Files, A: Allocator + Copy> GitDirectory<'_, R, A> {
         }
     }
 
-    // The refs of `packed-refs`.
+    // The refs of `packed-refs`. The first line of a name counts, as where refs are read.
     fn packed_ids(&self) -> Result<Refs<A>, RefFault<A>> {
         let mut refs = Refs::new(self.alloc);
         for packed in self.packed_refs()? {
+            if refs.get(&packed.name).is_some() {
+                continue;
+            }
             match refs.set(packed.name, packed.id) {
                 Ok(()) => {}
                 Err(RefsFault::Memory) => return Err(RefFault::Memory),
