@@ -9,7 +9,7 @@ use crate::fault::{ObjectCause, RepositoryFault};
 use crate::gather::gather;
 use crate::outgoing::Outgoing;
 use ggraph::Entry;
-use gitobjects::{Found, ObjectFiles, ObjectReader, RawEntry};
+use gitobjects::{Found, ObjectFiles, ObjectReader, RawEntry, StoreFault};
 use gitpack::EntryForm;
 use gname::Oid;
 use gzlib::Deflater;
@@ -24,8 +24,9 @@ pub struct PackCounts {
     pub deltas: u32,
     /// Loose objects, which were deflated anew.
     pub loose: u32,
-    /// Deltas whose base does not go out: their objects were deflated anew.
-    pub baseless: u32,
+    /// Deltas whose base does not go out, and entries that are broken while their objects are whole
+    /// in another place. Their objects were deflated anew.
+    pub renewed: u32,
 }
 
 impl PackCounts {
@@ -34,7 +35,7 @@ impl PackCounts {
         whole: 0,
         deltas: 0,
         loose: 0,
-        baseless: 0,
+        renewed: 0,
     };
 
     /// The number of all objects. It stays at the greatest number if there are more.
@@ -42,7 +43,7 @@ impl PackCounts {
         let copied = self.whole.saturating_add(self.deltas);
         copied
             .saturating_add(self.loose)
-            .saturating_add(self.baseless)
+            .saturating_add(self.renewed)
     }
 }
 
@@ -126,23 +127,49 @@ impl<F: ObjectFiles, A: Allocator + Copy> Copying<'_, '_, F, A> {
         }
     }
 
-    // Copies an entry, or deflates its object anew if it is a delta whose base does not go out.
+    // Copies an entry, or deflates its object anew if the entry can't go out as it lies.
     fn copy_entry(&mut self, pack: usize, object: Packed) -> Result<(), RepositoryFault<A>> {
-        let Some(entry) = self.reader.raw_entry(pack, object.place)? else {
-            return Ok(());
-        };
         let position = self.outgoing.position();
-        match self.form_of(pack, &entry, position) {
-            Some(form) => self.copy(form, &entry)?,
-            None => {
-                self.counts.baseless = self.counts.baseless.saturating_add(1);
-                self.put_anew(&object.id)?;
-            }
+        match self.whole_entry(pack, object.place)? {
+            Some(entry) => self.copy_or_renew(pack, &object.id, &entry)?,
+            None => self.renew(&object.id)?,
         }
         if let Some(slot) = self.starts.get_mut(object.place) {
             *slot = position;
         }
         Ok(())
+    }
+
+    // An entry as it lies; `None` if it is broken. Its object may be whole in another place.
+    fn whole_entry(
+        &mut self,
+        pack: usize,
+        place: usize,
+    ) -> Result<Option<RawEntry<A>>, RepositoryFault<A>> {
+        match self.reader.raw_entry(pack, place) {
+            Ok(entry) => Ok(entry),
+            Err(StoreFault::Memory) => Err(RepositoryFault::Memory),
+            Err(_) => Ok(None),
+        }
+    }
+
+    // Copies an entry, or deflates its object anew if it is a delta whose base does not go out.
+    fn copy_or_renew(
+        &mut self,
+        pack: usize,
+        id: &Oid,
+        entry: &RawEntry<A>,
+    ) -> Result<(), RepositoryFault<A>> {
+        match self.form_of(pack, entry, self.outgoing.position()) {
+            Some(form) => self.copy(form, entry),
+            None => self.renew(id),
+        }
+    }
+
+    // Deflates an object of a pack anew.
+    fn renew(&mut self, id: &Oid) -> Result<(), RepositoryFault<A>> {
+        self.counts.renewed = self.counts.renewed.saturating_add(1);
+        self.put_anew(id)
     }
 
     // Puts an entry with its own stream.

@@ -35,7 +35,7 @@ fn is_leaf<F: ObjectFiles, A: Allocator + Copy>(
     reader: &mut ObjectReader<'_, F, A>,
     id: &Oid,
 ) -> Result<bool, RepositoryFault<A>> {
-    if reader.store().find(id)?.is_none() {
+    if reader.find(id)?.is_none() {
         return Ok(false);
     }
     Ok(is_leaf_type(reader.kind_of(id)?))
