@@ -46,24 +46,19 @@ enum ServerHead {
     Detached,
 }
 
-/// Clones a repository of a server into a new bare one. If it fails, nothing of it is left.
+/// Clones a repository of a server into a new bare one. If it fails, nothing of it is left. A
+/// directory that is there and empty is filled.
 pub(crate) fn clone_remote<R, E>(rt: &R, asked: &CloneArgs<'_>, errors: &mut E) -> Result<(), Fault>
 where
     R: Files + AllocGlobal + Net,
     E: Write + IsTerminal,
 {
-    let was_there = is_empty_directory(rt, asked.dir)?;
+    check_vacant(rt, asked.dir)?;
     let remote = Remote::new(rt.alloc(), &asked.url)?;
     let listed = list(rt, &remote)?;
-    if was_there {
-        let _ = fs::remove_dir(rt, asked.dir);
-    }
     let mut progress = progress_of(rt.alloc(), asked.verbosity, errors);
     let outcome = clone_listed(rt, asked.dir, &remote, &listed, &mut progress);
     progress.finish();
-    if was_there && outcome.is_err() {
-        let _ = fs::create_dir(rt, asked.dir);
-    }
     outcome
 }
 
@@ -73,15 +68,15 @@ fn list<R: AllocGlobal + Net>(rt: &R, remote: &Remote) -> Result<LsReply<Global>
     remote.list(rt, rt.alloc(), prefixes.as_slice())
 }
 
-// Whether there is an empty directory with this path. It fails if something else is there.
-fn is_empty_directory<R: Files + AllocGlobal>(rt: &R, dir: &str) -> Result<bool, Fault> {
+// Fails if something is there with this path, except an empty directory.
+fn check_vacant<R: Files + AllocGlobal>(rt: &R, dir: &str) -> Result<(), Fault> {
     let alloc = rt.alloc();
     match fs::read_dir(&(rt, &alloc), dir) {
         Ok(mut entries) => match entries.next() {
-            None => Ok(true),
+            None => Ok(()),
             Some(_) => Err(Fault::of(alloc, Sentence::Occupied { path: dir })),
         },
-        Err(error) if error.kind() == ErrorKind::NotFound => Ok(false),
+        Err(error) if error.kind() == ErrorKind::NotFound => Ok(()),
         Err(error) if error.kind() == ErrorKind::NotADirectory => {
             Err(Fault::of(alloc, Sentence::Occupied { path: dir }))
         }
@@ -189,7 +184,7 @@ where
     let head = head_of(alloc, listed)?;
     let tips = tips_of(alloc, listed)?;
     let specs = specs(alloc, &head)?;
-    let found = Directories::of_one(alloc, dir)?;
+    let found = Directories::of_bare(alloc, dir)?;
     let wanted = Wanted {
         remote,
         specs: specs.as_slice(),

@@ -23,14 +23,17 @@ pub(crate) struct Directories {
     /// The directory of objects and refs. It is another one if the first is that of a linked worktree
     /// (git-worktree(1)).
     pub(crate) common: String,
+    /// Whether there is a work tree.
+    pub(crate) has_work_tree: bool,
 }
 
 impl Directories {
-    /// The directories of a repository that is no linked worktree.
-    pub(crate) fn of_one(alloc: Global, path: &str) -> Result<Directories, AllocError> {
+    /// The directories of a bare repository.
+    pub(crate) fn of_bare(alloc: Global, path: &str) -> Result<Directories, AllocError> {
         Ok(Directories {
             own: String::from_str(alloc, path)?,
             common: String::from_str(alloc, path)?,
+            has_work_tree: false,
         })
     }
 
@@ -114,7 +117,10 @@ where
 {
     match read_link(rt, path.as_str())? {
         Link::Absent => Ok(None),
-        Link::Directory => look_into(rt, path),
+        Link::Directory => {
+            let has_work_tree = is_in_work_tree(path.as_str());
+            look_into(rt, path, has_work_tree)
+        }
         Link::File(text) => match parse_git_file(text.as_slice()) {
             Some(target) => follow(rt, parent_of(path.as_str()), target),
             None => Ok(None),
@@ -128,13 +134,13 @@ where
     R: Files + AllocGlobal,
 {
     match target_path(rt.alloc(), directory, target)? {
-        Some(path) => look_into(rt, path),
+        Some(path) => look_into(rt, path, true),
         None => Ok(None),
     }
 }
 
 // The repository whose Git directory is at a path: it has HEAD, objects and refs.
-fn look_into<R>(rt: &R, own: String) -> Result<Option<Directories>, Fault>
+fn look_into<R>(rt: &R, own: String, has_work_tree: bool) -> Result<Option<Directories>, Fault>
 where
     R: Files + AllocGlobal,
 {
@@ -145,10 +151,19 @@ where
         && exists(rt, common.as_str(), "objects")?
         && exists(rt, common.as_str(), "refs")?
     {
-        Ok(Some(Directories { own, common }))
+        Ok(Some(Directories {
+            own,
+            common,
+            has_work_tree,
+        }))
     } else {
         Ok(None)
     }
+}
+
+// Whether a Git directory lies in a work tree, by its name.
+fn is_in_work_tree(path: &str) -> bool {
+    path == ".git" || path.ends_with("/.git")
 }
 
 // The directory of objects and refs of a Git directory; `None` if it names none.

@@ -9,13 +9,13 @@ use crate::sentences::Sentence;
 use gclient::{FetchFault, Fetched, PackOptions, Repo, Spec};
 use gcmd::{Ends, PackLimit, ProgramFault, send_report};
 use gconnect::{GitFetch, fetch_git};
-use ggraph::{Refs, Repository};
+use ggraph::{Head, Refs, Repository};
 use gitobjects::StoredFiles;
 use gitrefs::RefUpdate;
 use gitrepository::{Received, RepositoryFault, StoreIndexer, Tips, install_pack};
 use gitwords::{FetchArgs, Verbosity};
 use glsreply::LsReply;
-use gname::MAX_PACK;
+use gname::{MAX_PACK, RefName};
 use gpkt::{FromRead, ToWrite};
 use gtcp::{Peer, Silence};
 use std::alloc::{AllocError, Global};
@@ -159,23 +159,72 @@ fn has_source(listed: &LsReply<Global>, spec: &Spec<Global>) -> bool {
 
 // Installs the pack, and then moves the refs.
 fn keep<R: Files + AllocGlobal>(rt: &R, found: &Directories, fetch: &Fetch) -> Result<(), Fault> {
-    match install_and_move(rt, found, fetch) {
+    let client = &fetch.client;
+    let updates = updates_of(rt.alloc(), &client.before, client.repo.refs())?;
+    check_head(rt, found, updates.as_slice())?;
+    match install_and_move(rt, found, &fetch.received, updates.as_slice()) {
         Ok(()) => Ok(()),
         Err(fault) => Err(repository_fault(rt.alloc(), found.common.as_str(), &fault)),
     }
 }
 
+// Fails if the branch that is checked out in a work tree would move (git-fetch(1),
+// "--update-head-ok").
+fn check_head<R>(rt: &R, found: &Directories, updates: &[RefUpdate]) -> Result<(), Fault>
+where
+    R: Files + AllocGlobal,
+{
+    if !found.has_work_tree {
+        return Ok(());
+    }
+    let read = found.refs(rt.alloc(), rt).read_refs();
+    match read {
+        Ok((_refs, head)) => check_head_branch(rt.alloc(), &head, updates),
+        Err(fault) => {
+            let fault = RepositoryFault::from(fault);
+            Err(repository_fault(rt.alloc(), found.common.as_str(), &fault))
+        }
+    }
+}
+
+fn check_head_branch(
+    alloc: Global,
+    head: &Head<Global>,
+    updates: &[RefUpdate],
+) -> Result<(), Fault> {
+    match head {
+        Head::Symref(branch) => check_branch(alloc, branch.name(), updates),
+        _ => Ok(()),
+    }
+}
+
+fn check_branch(
+    alloc: Global,
+    branch: &RefName<Global>,
+    updates: &[RefUpdate],
+) -> Result<(), Fault> {
+    if updates.iter().any(|update| update.name == *branch) {
+        return Err(Fault::of(
+            alloc,
+            Sentence::CheckedOut {
+                name: branch.as_bytes(),
+            },
+        ));
+    }
+    Ok(())
+}
+
 fn install_and_move<R: Files + AllocGlobal>(
     rt: &R,
     found: &Directories,
-    fetch: &Fetch,
+    received: &Option<Received<Global>>,
+    updates: &[RefUpdate],
 ) -> Result<(), RepositoryFault<Global>> {
     let alloc = rt.alloc();
-    if let Some(received) = &fetch.received {
+    if let Some(received) = received {
         install_pack(alloc, rt, found.common.as_str(), received)?;
     }
-    let updates = updates_of(alloc, &fetch.client.before, fetch.client.repo.refs())?;
-    found.refs(alloc, rt).update_refs(updates.as_slice())?;
+    found.refs(alloc, rt).update_refs(updates)?;
     Ok(())
 }
 

@@ -46,6 +46,10 @@ pub(crate) enum Sentence<'a> {
         name: &'a [u8],
         fault: &'a RepositoryFault<Global>,
     },
+    /// The branch that is checked out would move.
+    CheckedOut {
+        name: &'a [u8],
+    },
     /// A repository cannot be served.
     Build {
         path: &'a str,
@@ -118,6 +122,9 @@ impl fmt::Display for Sentence<'_> {
             Sentence::Repository { path, fault } => write_repository(path, fault, f),
             Sentence::BrokenRef { path, name, fault } => {
                 write!(f, "{path}: {}: {fault}: 'git fsck' says more", Clean(name))
+            }
+            Sentence::CheckedOut { name } => {
+                write!(f, "{} is checked out: fetch into another ref", Clean(name))
             }
             Sentence::Build { path, fault } => write!(f, "cannot serve {path}: {fault}"),
             Sentence::Client { path, fault } => write_client_repo(path, fault, f),

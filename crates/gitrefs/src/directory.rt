@@ -34,6 +34,21 @@ const DIRECTORIES: [&str; 6] = [
     "refs/tags",
 ];
 
+// What a new repository has in its directory. HEAD goes first, since a directory without it is no
+// repository.
+const FILES: [&str; 3] = ["HEAD", "config", "packed-refs"];
+
+const FOLDERS: [&str; 2] = ["objects", "refs"];
+
+/// Whether the directory of a new repository was made with it.
+#[derive(Clone, Copy, Debug, PartialEq, Eq, Drop)]
+pub enum Origin {
+    /// It was made.
+    Made,
+    /// It was there, and empty.
+    Found,
+}
+
 impl<'r, R: Files, A: Allocator + Copy> GitDirectory<'r, R, A> {
     /// The git directory with this path. Nothing is opened yet.
     pub fn new(alloc: A, files: &'r R, path: &'r str) -> GitDirectory<'r, R, A> {
@@ -66,21 +81,78 @@ impl<'r, R: Files, A: Allocator + Copy> GitDirectory<'r, R, A> {
     }
 
     /// Makes a repository with this configuration and without objects and refs, whose HEAD points at
-    /// this branch (git-init(1)). All of it is brought to the disk.
+    /// this branch (git-init(1)). Its directory is made, or is there and empty. All of it is brought
+    /// to the disk.
     ///
-    /// If the directory is there already, it fails with `System` and changes nothing. If another
-    /// call fails, the directory is removed again, as far as the system does so.
-    pub fn make(&self, config: &[u8], branch: &Target<A>) -> Result<(), RefFault<A>> {
-        if let Err(error) = fs::create_dir(self.files, self.path) {
-            return Err(RefFault::system(self.alloc, self.path, error));
-        }
+    /// If there is a file in the directory, or anything other has its name, it fails with `Exists`
+    /// and changes nothing. If a call of the system fails, it fails with `System`, and the repository
+    /// is removed again.
+    pub fn make(&self, config: &[u8], branch: &Target<A>) -> Result<Origin, RefFault<A>> {
+        let origin = self.make_own()?;
         match self.fill(config, branch) {
-            Ok(()) => Ok(()),
+            Ok(()) => Ok(origin),
             Err(fault) => {
-                let _ = self.files.remove_dir_all(self.alloc, self.path);
+                self.unmake(origin);
                 Err(fault)
             }
         }
+    }
+
+    /// Removes a repository that was made, as far as the system does so. A directory that was there
+    /// stays, and is empty again.
+    pub fn unmake(&self, origin: Origin) {
+        match origin {
+            Origin::Made => {
+                let _ = self.files.remove_dir_all(self.alloc, self.path);
+            }
+            Origin::Found => {
+                let _ = self.clear();
+            }
+        }
+    }
+
+    // Makes the directory, unless it is there and empty.
+    fn make_own(&self) -> Result<Origin, RefFault<A>> {
+        match fs::create_dir(self.files, self.path) {
+            Ok(()) => Ok(Origin::Made),
+            Err(error) if error.kind() == ErrorKind::AlreadyExists => {
+                if self.is_empty() {
+                    Ok(Origin::Found)
+                } else {
+                    Err(RefFault::at(self.alloc, self.path, Cause::Exists))
+                }
+            }
+            Err(error) => Err(RefFault::system(self.alloc, self.path, error)),
+        }
+    }
+
+    // Whether the path is that of a directory without files.
+    fn is_empty(&self) -> bool {
+        match fs::read_dir(&(self.files, &self.alloc), self.path) {
+            Ok(mut entries) => entries.next().is_none(),
+            Err(_) => false,
+        }
+    }
+
+    // Removes what a new repository has in its directory.
+    fn clear(&self) -> Result<(), RefFault<A>> {
+        for name in FILES {
+            let path = self.path_below(name)?;
+            let _ = fs::remove_file(self.files, path.as_str());
+        }
+        for name in FOLDERS {
+            let path = self.path_below(name)?;
+            let _ = self.files.remove_dir_all(self.alloc, path.as_str());
+        }
+        Ok(())
+    }
+
+    // The path of a file of the directory.
+    fn path_below(&self, name: &str) -> Result<String<A>, RefFault<A>> {
+        let mut path = String::from_str(self.alloc, self.path)?;
+        path.push_str("/")?;
+        path.push_str(name)?;
+        Ok(path)
     }
 
     // Fills the directory of a new repository. HEAD comes last, since a directory without it is no
@@ -96,9 +168,7 @@ impl<'r, R: Files, A: Allocator + Copy> GitDirectory<'r, R, A> {
     }
 
     fn make_directory(&self, name: &str) -> Result<(), RefFault<A>> {
-        let mut path = String::from_str(self.alloc, self.path)?;
-        path.push_str("/")?;
-        path.push_str(name)?;
+        let path = self.path_below(name)?;
         match fs::create_dir(self.files, path.as_str()) {
             Ok(()) => self.sync_name(path.as_str()),
             Err(error) => Err(RefFault::system(self.alloc, path.as_str(), error)),

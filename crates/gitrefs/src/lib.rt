@@ -82,7 +82,7 @@ mod update;
 mod values;
 mod words;
 
-pub use crate::directory::GitDirectory;
+pub use crate::directory::{GitDirectory, Origin};
 pub use crate::fault::{Cause, RefFault, TextFault};
 pub use crate::links::{parse_common_dir, parse_git_file};
 pub use crate::locked::replace_ref;

@@ -5,18 +5,19 @@ use crate::indexer::Received;
 use crate::install::install_pack;
 use ggraph::{Graph, Head, Refs, Target};
 use gitconfig::bare_config;
-use gitrefs::GitDirectory;
+use gitrefs::{GitDirectory, Origin};
 use gname::{Oid, RefName};
 use std::alloc::Allocator;
 use std::fs::Files;
 
-/// A new bare repository (git-clone(1), `--bare`). If it is dropped before it is finished, its
-/// directory is removed, as far as the system does so.
+/// A new bare repository (git-clone(1), `--bare`). If it is dropped before it is finished, it is
+/// removed, as far as the system does so. A directory that was there stays, and is empty again.
 pub struct NewRepository<'r, R: Files, A: Allocator + Copy> {
     alloc: A,
     files: &'r R,
     path: &'r str,
-    is_finished: bool,
+    // `None` once it is finished.
+    origin: Option<Origin>,
 }
 
 impl<R: Files, A: Allocator + Copy> Drop for NewRepository<'_, R, A> {
@@ -25,34 +26,34 @@ impl<R: Files, A: Allocator + Copy> Drop for NewRepository<'_, R, A> {
             alloc,
             files,
             path,
-            is_finished,
+            origin,
         } = self;
-        if !is_finished {
-            let _ = files.remove_dir_all(alloc, path);
+        if let Some(origin) = origin {
+            GitDirectory::new(alloc, files, path).unmake(origin);
         }
     }
 }
 
 impl<'r, R: Files, A: Allocator + Copy> NewRepository<'r, R, A> {
-    /// Makes a bare repository in a new directory. It has neither objects nor refs, its remote
-    /// `origin` is at this URL, and HEAD points at this branch.
+    /// Makes a bare repository in a new directory, or in one that is empty. It has neither objects
+    /// nor refs, its remote `origin` is at this URL, and HEAD points at this branch.
     ///
-    /// It fails with `Refs` if the directory is there already or the system refuses a call, and
-    /// with `Memory`. Then there is no new directory, as far as the system removes it.
+    /// It fails with `Refs` if the directory is not empty or the system refuses a call, and with
+    /// `Memory`. Then nothing new is there, as far as the system removes it.
     pub fn make(
         alloc: A,
         files: &'r R,
         path: &'r str,
-        origin: &str,
+        url: &str,
         branch: &Target<A>,
     ) -> Result<NewRepository<'r, R, A>, RepositoryFault<A>> {
-        let config = bare_config(alloc, origin.as_bytes())?;
-        GitDirectory::new(alloc, files, path).make(config.as_slice(), branch)?;
+        let config = bare_config(alloc, url.as_bytes())?;
+        let origin = GitDirectory::new(alloc, files, path).make(config.as_slice(), branch)?;
         Ok(NewRepository {
             alloc,
             files,
             path,
-            is_finished: false,
+            origin: Some(origin),
         })
     }
 
@@ -60,7 +61,7 @@ impl<'r, R: Files, A: Allocator + Copy> NewRepository<'r, R, A> {
     /// refs as `packed-refs`, and then HEAD. The graph says to which objects tags lead.
     ///
     /// It fails with `File` and `Refs` if the system refuses a call, with `Refs` if one ref has the
-    /// name of another's directory, and with `Memory`. Then the directory is removed.
+    /// name of another's directory, and with `Memory`. Then the repository is removed.
     pub fn finish(
         self,
         received: Option<&Received<A>>,
@@ -71,7 +72,7 @@ impl<'r, R: Files, A: Allocator + Copy> NewRepository<'r, R, A> {
         let mut new = self;
         new.install(received)?;
         new.write_refs(graph, refs, head)?;
-        new.is_finished = true;
+        new.origin = None;
         Ok(())
     }
 
