@@ -10,6 +10,7 @@ use gclient::{FetchFault, Fetched, PackOptions, Repo, Spec};
 use gcmd::{Ends, PackLimit, ProgramFault, send_report};
 use gconnect::{GitFetch, fetch_git};
 use ggraph::{Head, Refs, Repository};
+use gitobject::ObjectType;
 use gitobjects::StoredFiles;
 use gitrefs::RefUpdate;
 use gitrepository::{Received, RepositoryFault, StoreIndexer, Tips, install_pack};
@@ -26,6 +27,9 @@ use std::rt::Files;
 
 // The bytes of a buffer of a connection.
 const BUFFER: usize = 65_536;
+
+// The names of branches begin so.
+const BRANCHES: &[u8] = b"refs/heads/";
 
 /// What is fetched.
 #[derive(Clone, Copy)]
@@ -221,10 +225,13 @@ fn install_and_move<R: Files + AllocGlobal>(
     updates: &[RefUpdate],
 ) -> Result<(), RepositoryFault<Global>> {
     let alloc = rt.alloc();
-    if let Some(received) = received {
-        install_pack(alloc, rt, found.common.as_str(), received)?;
+    match received {
+        Some(received) => {
+            let _kept = install_pack(alloc, rt, found.common.as_str(), received)?;
+            found.refs(alloc, rt).update_refs(updates)?;
+        }
+        None => found.refs(alloc, rt).update_refs(updates)?,
     }
-    found.refs(alloc, rt).update_refs(updates)?;
     Ok(())
 }
 
@@ -338,13 +345,38 @@ where
 {
     let mut client = client;
     match converse(rt, &mut client.repo, indexer, wanted, progress) {
-        Ok(fetched) => Ok(Fetch {
-            client,
-            fetched,
-            received: indexer.take_received(),
-        }),
+        Ok(fetched) => {
+            check_branches(rt.alloc(), wanted.remote, &client, indexer)?;
+            Ok(Fetch {
+                client,
+                fetched,
+                received: indexer.take_received(),
+            })
+        }
         Err(fault) => Err(fault),
     }
+}
+
+// Fails if a branch would move to a tag, a tree or a blob (git-update-ref(1)).
+fn check_branches<R: Files>(
+    alloc: Global,
+    remote: &Remote,
+    client: &Client,
+    indexer: &StoreIndexer<'_, '_, StoredFiles<'_, R>, Global>,
+) -> Result<(), Fault> {
+    for pair in client.repo.refs().as_slice() {
+        if pair.0.as_bytes().starts_with(BRANCHES) && client.before.get(&pair.0) != Some(pair.1) {
+            match indexer.kind_of(&pair.1) {
+                Ok(ObjectType::Commit) => {}
+                Ok(_) => {
+                    let name = pair.0.as_bytes();
+                    return Err(Fault::of(alloc, Sentence::NoCommit { name }));
+                }
+                Err(fault) => return Err(refused_pack(alloc, remote, &fault)),
+            }
+        }
+    }
+    Ok(())
 }
 
 // Connects to the server, and holds the conversation of a fetch.
@@ -375,15 +407,14 @@ fn fetch_fault<R: Files>(
     fault: &FetchFault<Global>,
 ) -> Fault {
     match indexer.take_fault() {
-        Some(cause) => Fault::of(
-            alloc,
-            Sentence::RefusedPack {
-                url: remote.url.as_str(),
-                fault: &cause,
-            },
-        ),
+        Some(cause) => refused_pack(alloc, remote, &cause),
         None => remote.fault(alloc, fault),
     }
+}
+
+fn refused_pack(alloc: Global, remote: &Remote, fault: &RepositoryFault<Global>) -> Fault {
+    let url = remote.url.as_str();
+    Fault::of(alloc, Sentence::RefusedPack { url, fault })
 }
 
 // Holds the conversation of a fetch through buffers.

@@ -50,6 +50,10 @@ pub(crate) enum Sentence<'a> {
     CheckedOut {
         name: &'a [u8],
     },
+    /// A branch would move to an object that is no commit.
+    NoCommit {
+        name: &'a [u8],
+    },
     /// A repository cannot be served.
     Build {
         path: &'a str,
@@ -126,6 +130,11 @@ impl fmt::Display for Sentence<'_> {
             Sentence::CheckedOut { name } => {
                 write!(f, "{} is checked out: fetch into another ref", Clean(name))
             }
+            Sentence::NoCommit { name } => write!(
+                f,
+                "{} would be at a tag, a tree or a blob, but a branch is at a commit: fetch into refs/tags/",
+                Clean(name)
+            ),
             Sentence::Build { path, fault } => write!(f, "cannot serve {path}: {fault}"),
             Sentence::Client { path, fault } => write_client_repo(path, fault, f),
             Sentence::Address { url } => write!(

@@ -68,12 +68,27 @@ where
         let _ = send_error(NO_VERSION_2, sink);
         return Err(Fault::of(rt.alloc(), Sentence::NoVersion2));
     }
-    match find_repository(rt, dir) {
+    let path = expand_home(rt, dir)?;
+    match find_repository(rt, path.as_str()) {
         Ok(found) => serve_repository(rt, &found, source, sink).outcome,
         Err(fault) => {
             let _ = send_error(NOT_THERE, sink);
             Err(fault)
         }
+    }
+}
+
+// The path that is meant: a `~` before a slash is the directory HOME, since ssh passes it on as it is.
+fn expand_home<R: Env + AllocGlobal>(rt: &R, dir: &str) -> Result<String, AllocError> {
+    let Some(rest) = dir.strip_prefix("~/") else {
+        return String::from_str(rt.alloc(), dir);
+    };
+    match env::var(rt, "HOME") {
+        Ok(home) => {
+            let home = home.as_str();
+            format!(in rt.alloc(); "{home}/{rest}")
+        }
+        Err(_) => String::from_str(rt.alloc(), dir),
     }
 }
 

@@ -13,6 +13,7 @@ use std::alloc::{Allocator, Global};
 use std::fs;
 use std::fs::{File, Files};
 use std::io::{ErrorKind, Read};
+use std::path::Path;
 
 /// A git directory, as far as its refs go (gitrepository-layout(5)).
 #[derive(Drop)]
@@ -81,8 +82,8 @@ impl<'r, R: Files, A: Allocator + Copy> GitDirectory<'r, R, A> {
     }
 
     /// Makes a repository with this configuration and without objects and refs, whose HEAD points at
-    /// this branch (git-init(1)). Its directory is made, or is there and empty. All of it is brought
-    /// to the disk.
+    /// this branch (git-init(1)). Its directory is made with those above it, or is there and empty. All
+    /// of it is brought to the disk.
     ///
     /// If there is a file in the directory, or anything other has its name, it fails with `Exists`
     /// and changes nothing. If a call of the system fails, it fails with `System`, and the repository
@@ -111,8 +112,13 @@ impl<'r, R: Files, A: Allocator + Copy> GitDirectory<'r, R, A> {
         }
     }
 
-    // Makes the directory, unless it is there and empty.
+    // Makes the directory, unless it is there and empty. Those above it are made, too.
     fn make_own(&self) -> Result<Origin, RefFault<A>> {
+        if let Some(parent) = Path::new(self.path).parent() {
+            if let Err(error) = fs::create_dir_all(self.files, parent) {
+                return Err(RefFault::system(self.alloc, parent.as_str(), error));
+            }
+        }
         match fs::create_dir(self.files, self.path) {
             Ok(()) => Ok(Origin::Made),
             Err(error) if error.kind() == ErrorKind::AlreadyExists => {

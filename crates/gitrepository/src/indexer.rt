@@ -8,8 +8,10 @@ use crate::arrival::Arrival;
 use crate::fault::RepositoryFault;
 use crate::tips::Tips;
 use ggraph::{Entry, IndexFault, Indexer};
+use gitobject::ObjectType;
 use gitobjects::{ObjectFiles, ObjectReader};
 use gitpack::{IndexLimits, IndexedPack, index_pack};
+use gname::Oid;
 use std::alloc::Allocator;
 use std::cell::RefCell;
 
@@ -68,6 +70,30 @@ impl<'t, 'f, F: ObjectFiles, A: Allocator + Copy> StoreIndexer<'t, 'f, F, A> {
     pub fn take_fault(&self) -> Option<RepositoryFault<A>> {
         match self.fault.try_replace(None) {
             Ok(fault) => fault,
+            Err(_) => None,
+        }
+    }
+
+    /// The type of an object of the last pack that was accepted, or of the store.
+    ///
+    /// It fails with `Store` if the object is missing or not read, with `Busy`, and with `Memory`.
+    pub fn kind_of(&self, id: &Oid) -> Result<ObjectType, RepositoryFault<A>> {
+        if let Some(kind) = self.received_kind(id) {
+            return Ok(kind);
+        }
+        match self.reader.try_borrow_mut() {
+            Ok(mut reader) => Ok(reader.kind_of(id)?),
+            Err(_) => Err(RepositoryFault::Busy),
+        }
+    }
+
+    // The type of an object of the last pack; `None` if it has no such object.
+    fn received_kind(&self, id: &Oid) -> Option<ObjectType> {
+        match self.received.try_borrow() {
+            Ok(received) => match &*received {
+                Some(received) => Some(received.index.find(id)?.kind),
+                None => None,
+            },
             Err(_) => None,
         }
     }

@@ -7,6 +7,7 @@ ghost use Rattle.gitrepository.specs.declared.folder.Stage.TheVariants.{Start, D
 use crate::fault::RepositoryFault;
 use crate::folder::PackFolder;
 use crate::indexer::Received;
+use crate::kept::KeptPack;
 use crate::stored_folder::StoredFolder;
 use std::alloc::Allocator;
 use std::fs::Files;
@@ -74,20 +75,24 @@ fn name_both<P: PackFolder>(folder: &mut P) -> Result<(), P::Fault>
 }
 
 /// Installs a pack that came in a Git directory, as `objects/pack/pack-SUM.pack` and its index.
-/// `SUM` is the trailer of the pack. A pack of no objects is not installed.
+/// `SUM` is the trailer of the pack. A pack of no objects is not installed. Git removes no object of
+/// the pack before the answer is dropped.
 ///
 /// It fails with `File` if the system refuses a call, and with `Memory`. Then there is no new pack
-/// that Git finds, or the whole one. A process that is killed can leave temporary files.
-pub fn install_pack<R: Files, A: Allocator + Copy>(
+/// that Git finds, or the whole one. A process that is killed can leave temporary files, and the file
+/// `pack-SUM.keep`.
+pub fn install_pack<'r, R: Files, A: Allocator + Copy>(
     alloc: A,
-    files: &R,
+    files: &'r R,
     git_dir: &str,
     received: &Received<A>,
-) -> Result<(), RepositoryFault<A>> {
+) -> Result<KeptPack<'r, R, A>, RepositoryFault<A>> {
     if received.index.entries().is_empty() {
-        return Ok(());
+        return Ok(KeptPack::none(files));
     }
     let index = received.index.write_index(alloc)?;
     let mut folder = StoredFolder::new(alloc, files, git_dir, &received.index.checksum())?;
-    install_files(&mut folder, received.bytes.as_slice(), index.as_slice())
+    let kept = KeptPack::make(alloc, files, folder.keep_path()?)?;
+    install_files(&mut folder, received.bytes.as_slice(), index.as_slice())?;
+    Ok(kept)
 }

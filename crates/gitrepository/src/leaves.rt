@@ -4,16 +4,17 @@ ghost use Rattle.std.specs.Prelude.{◌↔◌, IsTrue};
 ghost use Rattle.gitrepository.specs.Entries.{IsLeafType};
 
 use crate::fault::{ObjectCause, RepositoryFault};
+use crate::gather::Gathering;
 use crate::nodes::leaf;
 use crate::tips::Tips;
 use ggraph::{Entry, Graph};
 use gitobject::ObjectType;
-use gitobjects::{ObjectFiles, ObjectReader};
+use gitobjects::{ObjectFiles, ObjectReader, StoreFault};
 use gname::Oid;
 use std::alloc::Allocator;
 
-/// Adds to a graph the trees and blobs at which refs of a peer are and that are here. They count as
-/// commits without parents, so that a client does not ask for them.
+/// Adds to a graph the trees and blobs at which refs of a peer are and that are here, with all that
+/// they reach. They count as commits without parents, so that a client does not ask for them.
 ///
 /// It fails with `Store` if an object is not read, with `Objects` if the graph is full, and with
 /// `Memory`. Then some of them may have been added.
@@ -23,7 +24,7 @@ pub fn add_leaves<F: ObjectFiles, A: Allocator + Copy>(
     tips: &Tips<A>,
 ) -> Result<(), RepositoryFault<A>> {
     for id in tips.as_slice() {
-        if !graph.contains(id) && is_leaf(reader, id)? {
+        if !graph.contains(id) && is_leaf(reader, id)? && is_whole(reader, id)? {
             add_leaf(reader, graph, id)?;
         }
     }
@@ -39,6 +40,20 @@ fn is_leaf<F: ObjectFiles, A: Allocator + Copy>(
         return Ok(false);
     }
     Ok(is_leaf_type(reader.kind_of(id)?))
+}
+
+// Whether all that an object reaches is here. A fetch that was killed may have left a tree without
+// some of its files.
+fn is_whole<F: ObjectFiles, A: Allocator + Copy>(
+    reader: &mut ObjectReader<'_, F, A>,
+    id: &Oid,
+) -> Result<bool, RepositoryFault<A>> {
+    let mut gathering = Gathering::new(reader, true);
+    match gathering.send(id) {
+        Ok(()) => Ok(true),
+        Err(RepositoryFault::Store(StoreFault::Missing(_))) => Ok(false),
+        Err(fault) => Err(fault),
+    }
 }
 
 // Whether objects of this type are leaves of a graph.

@@ -34,6 +34,9 @@
 //! - No delta is made. Loose objects are deflated whole, and so is an object whose base the peer
 //!   does not get.
 //! - A graph holds at most 1,048,576 commits and tags, with at most 64 parents each.
+//! - A delta names its base by an offset, whether or not the client asks for `ofs-delta`.
+//! - Git looks for signs of an attack on SHA-1 as it computes an id. Here none is looked for.
+//! - A pack that comes has a file `.keep` until refs lead to its objects. Git has one there, too.
 //! - A commit-graph, a multi-pack index, bitmaps, grafts and replace refs are not read. A shallow
 //!   repository, a partial clone, SHA-256 ids, a reftable and an unknown extension are refused.
 //! - An object that is here counts as complete: what it names is not looked for.
@@ -74,6 +77,7 @@ mod gather;
 mod history;
 mod indexer;
 mod install;
+mod kept;
 mod leaves;
 mod memory_folder;
 mod new_repository;
@@ -91,6 +95,7 @@ pub use crate::folder::{PackFolder, Stage};
 pub use crate::form::open_store;
 pub use crate::indexer::{Received, StoreIndexer};
 pub use crate::install::{install_files, install_pack};
+pub use crate::kept::KeptPack;
 pub use crate::leaves::add_leaves;
 pub use crate::memory_folder::{MemoryFolder, PackFile};
 pub use crate::new_repository::NewRepository;

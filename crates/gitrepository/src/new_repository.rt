@@ -3,6 +3,7 @@
 use crate::fault::RepositoryFault;
 use crate::indexer::Received;
 use crate::install::install_pack;
+use crate::kept::KeptPack;
 use ggraph::{Graph, Head, Refs, Target};
 use gitconfig::bare_config;
 use gitrefs::{GitDirectory, Origin};
@@ -70,16 +71,20 @@ impl<'r, R: Files, A: Allocator + Copy> NewRepository<'r, R, A> {
         head: &Head<A>,
     ) -> Result<(), RepositoryFault<A>> {
         let mut new = self;
-        new.install(received)?;
+        let _kept = new.install(received)?;
         new.write_refs(graph, refs, head)?;
         new.origin = None;
         Ok(())
     }
 
-    fn install(&self, received: Option<&Received<A>>) -> Result<(), RepositoryFault<A>> {
+    // Brings the pack to the repository, and keeps it until refs lead to its objects.
+    fn install(
+        &self,
+        received: Option<&Received<A>>,
+    ) -> Result<KeptPack<'r, R, A>, RepositoryFault<A>> {
         match received {
             Some(received) => install_pack(self.alloc, self.files, self.path, received),
-            None => Ok(()),
+            None => Ok(KeptPack::none(self.files)),
         }
     }
 

@@ -25,6 +25,8 @@ pub(crate) struct StoredFolder<'r, R: Files, A: Allocator + Copy> {
     files: &'r R,
     alloc: A,
     path: String<A>,
+    // The trailer of the pack in hexadecimal digits.
+    stem: String<A>,
     // The paths of the pack and of the index.
     pack_path: String<A>,
     index_path: String<A>,
@@ -59,18 +61,16 @@ impl<'r, R: Files, A: Allocator + Copy> StoredFolder<'r, R, A> {
     ) -> Result<StoredFolder<'r, R, A>, RepositoryFault<A>>
         ensures { IfOk result (λ folder. folder ≡ Start) }
     {
-        let mut path = String::from_str(alloc, git_dir)?;
-        path.push_str("/objects/pack")?;
-        if let Err(error) = fs::create_dir_all(files, path.as_str()) {
-            return Err(RepositoryFault::of_file(alloc, path.as_str(), error));
-        }
-        let pack_path = file_path(alloc, path.as_str(), checksum, ".pack")?;
-        let index_path = file_path(alloc, path.as_str(), checksum, ".idx")?;
+        let path = make_folder(alloc, files, git_dir)?;
+        let stem = digits_of(alloc, checksum)?;
+        let pack_path = file_path(alloc, path.as_str(), stem.as_str(), ".pack")?;
+        let index_path = file_path(alloc, path.as_str(), stem.as_str(), ".idx")?;
         let (pack, index, stage) = (None, None, Stage::Start);
         Ok(StoredFolder {
             files,
             alloc,
             path,
+            stem,
             pack_path,
             index_path,
             pack,
@@ -79,11 +79,21 @@ impl<'r, R: Files, A: Allocator + Copy> StoredFolder<'r, R, A> {
         })
     }
 
-    // Makes a new temporary file with these bytes.
+    /// The path of the file that keeps the pack.
+    pub(crate) fn keep_path(&self) -> Result<String<A>, AllocError> {
+        let path = self.pack_path.as_str();
+        let mut kept = String::from_str(self.alloc, path.strip_suffix(".pack").unwrap_or(path))?;
+        kept.push_str(".keep")?;
+        Ok(kept)
+    }
+
+    // Makes a new temporary file with these bytes. Git removes a file whose name begins so once it is
+    // old (git-prune(1)).
     fn write(&self, name: &str, bytes: &[u8]) -> Result<Temporary<R, A>, RepositoryFault<A>> {
         for number in 0..MAX_TRIES {
             let folder = self.path.as_str();
-            let path = format!(in self.alloc; "{folder}/tmp_{name}_{number}")?;
+            let stem = self.stem.as_str();
+            let path = format!(in self.alloc; "{folder}/tmp_{name}_{stem}_{number}")?;
             match create(self.files, path.as_str()) {
                 Ok(file) => return self.fill(Temporary { path, file }, bytes),
                 Err(error) if error.kind() == ErrorKind::AlreadyExists => {}
@@ -164,20 +174,45 @@ fn sync_folder<R: Files>(files: &R, path: &str) -> io::Result<()> {
     File::open(files, path)?.sync_all()
 }
 
+// The path of the folder of packs, which is made if it is not there.
+fn make_folder<R: Files, A: Allocator + Copy>(
+    alloc: A,
+    files: &R,
+    git_dir: &str,
+) -> Result<String<A>, RepositoryFault<A>> {
+    let mut path = String::from_str(alloc, git_dir)?;
+    path.push_str("/objects")?;
+    let objects = String::from_str(alloc, path.as_str())?;
+    path.push_str("/pack")?;
+    match fs::create_dir(files, path.as_str()) {
+        Ok(()) => match sync_folder(files, objects.as_str()) {
+            Ok(()) => Ok(path),
+            Err(error) => Err(RepositoryFault::of_file(alloc, objects.as_str(), error)),
+        },
+        Err(error) if error.kind() == ErrorKind::AlreadyExists => Ok(path),
+        Err(error) => Err(RepositoryFault::of_file(alloc, path.as_str(), error)),
+    }
+}
+
 // The path of a file of the pack with this trailer.
 fn file_path<A: Allocator + Copy>(
     alloc: A,
     folder: &str,
-    checksum: &Oid,
+    stem: &str,
     extension: &str,
 ) -> Result<String<A>, AllocError> {
-    let mut digits = [0; MAX_ID_TEXT];
-    let count = checksum.to_hex(&mut digits);
     let mut path = String::from_str(alloc, folder)?;
     path.push_str("/pack-")?;
-    path.push_str(str::from_utf8(&digits[..count]).unwrap_or(""))?;
+    path.push_str(stem)?;
     path.push_str(extension)?;
     Ok(path)
+}
+
+// The hexadecimal digits of an id.
+fn digits_of<A: Allocator + Copy>(alloc: A, id: &Oid) -> Result<String<A>, AllocError> {
+    let mut digits = [0; MAX_ID_TEXT];
+    let count = id.to_hex(&mut digits);
+    String::from_str(alloc, str::from_utf8(&digits[..count]).unwrap_or(""))
 }
 
 // Removes a temporary file, if there is one.

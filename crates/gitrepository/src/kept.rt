@@ -1,0 +1,48 @@
+//! A pack that came, until refs lead to its objects.
+
+use crate::fault::RepositoryFault;
+use std::alloc::Allocator;
+use std::fs;
+use std::fs::{File, Files};
+use std::io::ErrorKind;
+
+/// The file `pack-SUM.keep` beside a pack that came (git-index-pack(1), "--keep"). While it is there,
+/// `git gc` does not remove the pack, though no ref leads to its objects yet. It is removed when this
+/// is dropped.
+pub struct KeptPack<'r, R: Files, A: Allocator + Copy> {
+    files: &'r R,
+    // `None` if the file was there already, or there is no pack.
+    path: Option<String<A>>,
+}
+
+impl<R: Files, A: Allocator + Copy> Drop for KeptPack<'_, R, A> {
+    fn drop(self) {
+        let KeptPack { files, path } = self;
+        if let Some(path) = path {
+            let _ = fs::remove_file(files, path.as_str());
+        }
+    }
+}
+
+impl<'r, R: Files, A: Allocator + Copy> KeptPack<'r, R, A> {
+    /// No pack.
+    pub(crate) fn none(files: &'r R) -> KeptPack<'r, R, A> {
+        KeptPack { files, path: None }
+    }
+
+    /// Makes the file with this path, unless it is there. It fails with `File` and `Memory`.
+    pub(crate) fn make(
+        alloc: A,
+        files: &'r R,
+        path: String<A>,
+    ) -> Result<KeptPack<'r, R, A>, RepositoryFault<A>> {
+        match File::create_new(files, path.as_str()) {
+            Ok(_closed) => Ok(KeptPack {
+                files,
+                path: Some(path),
+            }),
+            Err(error) if error.kind() == ErrorKind::AlreadyExists => Ok(KeptPack::none(files)),
+            Err(error) => Err(RepositoryFault::of_file(alloc, path.as_str(), error)),
+        }
+    }
+}
