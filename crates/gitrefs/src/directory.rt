@@ -260,8 +260,12 @@ impl<'r, R: Files, A: Allocator + Copy> GitDirectory<'r, R, A> {
         LockedFile::lock(self.alloc, file)
     }
 
-    // The text of a file of the directory; `None` if it is not there.
+    // The text of a file of the directory; `None` if it is not there. A pipe is not opened, since that
+    // might wait for ever.
     pub(crate) fn read(&self, path: &FilePath<A>) -> Result<Option<Vec<u8, A>>, RefFault<A>> {
+        if is_special(self.files, path.as_str()) {
+            return Err(RefFault::at(self.alloc, path.as_str(), Cause::Malformed));
+        }
         let mut text = Vec::new(self.alloc);
         let mut file = match File::open(self.files, path.as_str()) {
             Ok(file) => file,
@@ -272,5 +276,13 @@ impl<'r, R: Files, A: Allocator + Copy> GitDirectory<'r, R, A> {
             Ok(_) => Ok(Some(text)),
             Err(error) => Err(RefFault::system(self.alloc, path.as_str(), error)),
         }
+    }
+}
+
+// Whether a path is that of something that is neither a file nor a directory.
+fn is_special<R: Files>(files: &R, path: &str) -> bool {
+    match files.metadata(path) {
+        Ok(metadata) => !metadata.is_file() && !metadata.is_dir(),
+        Err(_) => false,
     }
 }

@@ -26,7 +26,7 @@ pub(crate) struct GitFile<'r, R: Files, A: Allocator + Copy = Global> {
     alloc: A,
     path: FilePath<A>,
     lock_path: String<A>,
-    // The lockfile, from the first byte written to the rename.
+    // The lockfile, once it is written and until it is synced.
     lock: Option<R::File>,
     is_locked: bool,
     lockfile: Lockfile,
@@ -203,7 +203,7 @@ impl<R: Files, A: Allocator + Copy> Storage for GitFile<'_, R, A> {
 
     fn sync(&mut self) -> Result<(), StorageFault> {
         self.lockfile = Lockfile::Unusable;
-        let Some(lock) = &self.lock else {
+        let Some(lock) = self.lock.take() else {
             return Err(StorageFault::Failed);
         };
         if let Err(error) = lock.sync_all() {

@@ -12,9 +12,9 @@
 //!   order of the names, since `Refs` are in that order. If all ids are SHA-1, the text reads back
 //!   as these refs: [`laws`].
 //! - The text of a HEAD that points at a branch reads back as that branch.
-//! - [`replace_ref`] replaces a ref's file under a lock, over any `Storage` of `glockfile`. In
-//!   every state since then the file has the old text or the whole new one. At `Ok` it has the new
-//!   one. This run holds no lockfile at the end.
+//! - [`prepare_ref`] writes the text of an id to the lockfile of a ref's file, over any `Storage` of
+//!   `glockfile`, and the file stays as it is. [`commit_file`] gives the file that text: it has the
+//!   old text or the whole new one, and at `Ok` the new one. No lockfile is held at the end.
 //! - The path of a ref's file is that of the git directory, a slash and the ref's name. No part of
 //!   a name is empty, `.` or `..`: [`laws`].
 //! - A file is read only under its lock before it is replaced. A lockfile is renamed only when it
@@ -85,7 +85,7 @@ mod words;
 pub use crate::directory::{GitDirectory, Origin};
 pub use crate::fault::{Cause, RefFault, TextFault};
 pub use crate::links::{parse_common_dir, parse_git_file};
-pub use crate::locked::replace_ref;
+pub use crate::locked::{commit_file, prepare_ref};
 pub use crate::loose::{LooseRef, parse_loose_ref};
 pub use crate::packed::{PackedRef, parse_packed_refs};
 pub use crate::packed_text::{packed_refs_text, peeled_refs_text};

@@ -1,8 +1,8 @@
 //! Files that this run has locked.
 
-ghost use Rattle.std.specs.Prelude.{◌≡◌, IfOk, OnOk};
-ghost use Rattle.glockfile.specs.Storing.{Holds, MayAdd, WhereKnown};
-ghost use Rattle.glockfile.specs.declared.storage.Lockfile.TheVariants.{Absent, Empty};
+ghost use Rattle.std.specs.Prelude.{◌≡◌, MatchResult, OnOk};
+ghost use Rattle.glockfile.specs.Storing.{HasWritten, KeepsStates, Renames, WhereKnown};
+ghost use Rattle.glockfile.specs.declared.storage.Lockfile.TheVariants.{Absent, Empty, Synced, Unusable};
 ghost use Rattle.gitrefs.specs.Texts.{ref_text};
 
 use crate::fault::RefFault;
@@ -60,39 +60,108 @@ impl<'r, R: Files, A: Allocator + Copy> LockedFile<'r, R, A> {
         }
     }
 
-    /// Puts the ref of the file at an id.
-    pub(crate) fn move_to(self, alloc: A, id: &Oid) -> Result<(), RefFault<A>> {
-        let LockedFile { mut file, text } = self;
-        match replace_ref(alloc, &mut file, text.as_slice(), id) {
+    /// Writes the text of an id to the lockfile, and brings it to the disk. The file stays as it is.
+    pub(crate) fn prepare(self, alloc: A, id: &Oid) -> Result<PreparedFile<'r, R, A>, RefFault<A>> {
+        let LockedFile { mut file, text: _ } = self;
+        match prepare_ref(alloc, &mut file, id) {
+            Ok(()) => Ok(PreparedFile { file }),
+            Err(fault) => Err(file.into_fault(fault)),
+        }
+    }
+}
+
+/// A file whose new text is in its lockfile, on the disk. The lockfile is removed when it is dropped.
+pub(crate) struct PreparedFile<'r, R: Files, A: Allocator + Copy> {
+    file: GitFile<'r, R, A>,
+    ghost prepared: { file ≡ Synced },
+}
+
+impl<R: Files, A: Allocator + Copy> Drop for PreparedFile<'_, R, A> {
+    fn drop(self) {
+        let PreparedFile { mut file } = self;
+        file.unlock();
+    }
+}
+
+impl<'r, R: Files, A: Allocator + Copy> PreparedFile<'r, R, A> {
+    /// Gives the file its new text.
+    pub(crate) fn commit(self) -> Result<(), RefFault<A>> {
+        let PreparedFile { mut file } = self;
+        match commit_file(&mut file) {
             Ok(()) => Ok(()),
             Err(fault) => Err(file.into_fault(fault)),
         }
     }
 }
 
-/// Replaces the text of a ref's file, which is locked and has this text, by that of an id, and
-/// unlocks it (git-update-ref(1)).
+/// Writes the text of an id to the lockfile of a ref's file, which is locked, and brings it to the
+/// disk (git-update-ref(1)).
 ///
-/// It fails with `Failed` or `Memory`; the file has the old text then, or the whole new one. This
-/// run holds no lockfile at the end.
-pub fn replace_ref<A: Allocator + Copy, T: Storage>(
+/// It fails with `Failed` or `Memory`; the lockfile is removed then. The file stays as it is.
+pub fn prepare_ref<A: Allocator + Copy, T: Storage>(
     alloc: A,
     file: &mut T,
-    old: &[u8],
     id: &Oid,
 ) -> Result<(), StorageFault>
     requires { T.lockfile file.old ≡ Empty }
-    ensures states { WhereKnown (T.texts file.old) (T.texts file.new)
-        (λ before after. MayAdd before after (ref_text id.now)) }
-    ensures holds { Holds (T.texts file.old) old.now
-        → OnOk result (Holds (T.texts file.new) (ref_text id.now)) }
-    ensures lockfile { T.lockfile file.new ≡ Absent }
+    ensures written { OnOk result (HasWritten (T.texts file.new) (ref_text id.now)) }
+    ensures states { KeepsStates (T.texts file.old) (T.texts file.new) }
+    ensures lockfile { MatchResult result (λ _. T.lockfile file.new ≡ Synced)
+        (λ _. T.lockfile file.new ≡ Absent) }
 {
     match ref_text(alloc, id) {
-        Ok(text) => replace_file(file, old, text.as_slice()),
+        Ok(text) => prepare_text(file, text.as_slice()),
         Err(_) => {
             file.unlock();
             Err(StorageFault::Memory)
+        }
+    }
+}
+
+// Writes a text to the lockfile, and brings it to the disk.
+fn prepare_text<T: Storage>(file: &mut T, text: &[u8]) -> Result<(), StorageFault>
+    requires { T.lockfile file.old ≡ Empty }
+    ensures written { OnOk result (HasWritten (T.texts file.new) text.now) }
+    ensures states { KeepsStates (T.texts file.old) (T.texts file.new) }
+    ensures lockfile { MatchResult result (λ _. T.lockfile file.new ≡ Synced)
+        (λ _. T.lockfile file.new ≡ Absent) }
+{
+    match write_text(file, text) {
+        Ok(()) => Ok(()),
+        Err(fault) => {
+            file.unlock();
+            Err(fault)
+        }
+    }
+}
+
+// Writes a text to the lockfile, and syncs it.
+fn write_text<T: Storage>(file: &mut T, text: &[u8]) -> Result<(), StorageFault>
+    requires { T.lockfile file.old ≡ Empty }
+    ensures written { OnOk result (HasWritten (T.texts file.new) text.now) }
+    ensures states { KeepsStates (T.texts file.old) (T.texts file.new) }
+    ensures lockfile { MatchResult result (λ _. T.lockfile file.new ≡ Synced)
+        (λ _. T.lockfile file.new ≡ Unusable) }
+{
+    file.write(text)?;
+    file.sync()
+}
+
+/// Gives a file the text that is in its lockfile, and unlocks it.
+///
+/// It fails with `Failed` or `Memory`; the file has the old text then, or the whole new one. This run
+/// holds no lockfile at the end.
+pub fn commit_file<T: Storage>(file: &mut T) -> Result<(), StorageFault>
+    requires { T.lockfile file.old ≡ Synced }
+    ensures states { WhereKnown (T.texts file.old) (T.texts file.new)
+        (λ before after. Renames before after result) }
+    ensures lockfile { T.lockfile file.new ≡ Absent }
+{
+    match file.rename() {
+        Ok(()) => Ok(()),
+        Err(fault) => {
+            file.unlock();
+            Err(fault)
         }
     }
 }

@@ -27,9 +27,8 @@ impl<R: Files, A: Allocator + Copy> GitDirectory<'_, R, A> {
     ///
     /// It fails with `Missing`, with `Format` if a new id is none of SHA-1, with `Conflict` if one ref
     /// has the name of another's directory, with `Refs`, `Locked`, `Moved`, `Symbolic`, `Malformed` or
-    /// `Utf8`; no ref has moved then. It
-    /// may fail with `System` or `Memory` when some have moved; each is where it was, or where it
-    /// is to be. The locks that it made are removed; directories that it made for them may stay.
+    /// `Utf8`; no ref has moved then. It fails with `System` or `Memory`; no ref has moved then either,
+    /// unless the system refuses to rename a file. Each is where it was, or where it is to be. The locks that it made are removed; directories that it made for them may stay.
     pub fn update_refs(&self, updates: &[RefUpdate<A>]) -> Result<(), RefFault<A>> {
         self.check_repository()?;
         self.check_formats(updates)?;
@@ -43,8 +42,22 @@ impl<R: Files, A: Allocator + Copy> GitDirectory<'_, R, A> {
         for (file, update) in locked.iter().zip(updates) {
             self.check_unmoved(file, &packed, update)?;
         }
+        self.move_all(locked, updates)
+    }
+
+    // Replaces the files of refs. All new texts are on the disk before the first file is replaced, so a
+    // disk that is full moves no ref.
+    fn move_all(
+        &self,
+        locked: Vec<LockedFile<'_, R, A>, A>,
+        updates: &[RefUpdate<A>],
+    ) -> Result<(), RefFault<A>> {
+        let mut prepared = Vec::new(self.alloc);
         for (file, update) in locked.into_iter().zip(updates) {
-            file.move_to(self.alloc, &update.new)?;
+            prepared.push(file.prepare(self.alloc, &update.new)?)?;
+        }
+        for file in prepared {
+            file.commit()?;
         }
         Ok(())
     }
