@@ -66,8 +66,20 @@ fn is_missing(kind: ErrorKind) -> bool {
     kind == ErrorKind::NotFound || kind == ErrorKind::NotADirectory
 }
 
-// Opens a file, and answers its length too; `None` if there is none.
+// Whether a path is that of something that is neither a file nor a folder.
+fn is_special<R: Files>(files: &R, path: &str) -> bool {
+    match files.metadata(path) {
+        Ok(metadata) => !metadata.is_file() && !metadata.is_dir(),
+        Err(_) => false,
+    }
+}
+
+// Opens a file, and answers its length too; `None` if there is none. A pipe is not opened, since that
+// might wait for ever.
 fn open_file<R: Files>(files: &R, path: &str) -> Result<Option<(R::File, usize)>, Cause> {
+    if is_special(files, path) {
+        return Err(Cause::Open(ErrorKind::Unsupported));
+    }
     let file = match File::open(files, path) {
         Ok(file) => file,
         Err(error) if is_missing(error.kind()) => return Ok(None),

@@ -1,7 +1,7 @@
 //! `gitrepo clone`: a bare repository with the branches and tags of a server.
 
-ghost use Rattle.std.specs.Prelude.{◌≡◌, IfOk};
-ghost use Rattle.gitprogram.specs.Heads.{IsBranchOf, IsHead, IsListedHead, default_branch};
+ghost use Rattle.std.specs.Prelude.{◌≡◌, true, IfOk, Some};
+ghost use Rattle.gitprogram.specs.Heads.{IsHead, IsListedHead, IsSymrefOf, IsUnbornHead, default_branch, is_branch};
 ghost use Rattle.gitprogram.specs.declared.cloning.ServerHead.TheVariants.{Branch};
 
 use crate::directory::{Directories, open_fault};
@@ -33,6 +33,9 @@ const PREFIXES: [&[u8]; 3] = [b"HEAD", b"refs/heads/", b"refs/tags/"];
 const HEAD_REF: &[u8] = b"refs/clone/HEAD";
 
 const HEAD_SPEC: &[u8] = b"+HEAD:refs/clone/HEAD";
+
+// The names of branches begin so.
+const BRANCHES: &[u8] = b"refs/heads/";
 
 // The branch at which HEAD points if the server does not say at which one its own does.
 const DEFAULT_BRANCH: &[u8] = b"refs/heads/main";
@@ -122,8 +125,19 @@ fn head_of(alloc: Global, reply: &LsReply<Global>) -> Result<ServerHead, Fault>
     ensures { IfOk result (IsHead reply.now.unborn reply.now.lines) }
 {
     match reply.unborn() {
-        Some(target) => branch_of(alloc, target),
+        Some(target) => unborn_head(alloc, target),
         None => listed_head(alloc, reply),
+    }
+}
+
+// HEAD of a server whose HEAD would point at this name.
+fn unborn_head(alloc: Global, name: &RefName<Global>) -> Result<ServerHead, Fault>
+    ensures { IfOk result (IsUnbornHead name.now) }
+{
+    if is_branch(name) {
+        branch_of(alloc, name)
+    } else {
+        default_branch(alloc)
     }
 }
 
@@ -133,20 +147,40 @@ fn listed_head(alloc: Global, reply: &LsReply<Global>) -> Result<ServerHead, Fau
 {
     match reply.at(0) {
         Some(line) if line.name.is_head() => match &line.symref {
-            Some(target) => branch_of(alloc, target),
+            Some(target) => symref_of(alloc, target),
             None => Ok(ServerHead::Detached),
         },
         _ => default_branch(alloc),
     }
 }
 
-// A HEAD that points at a name; at the default branch if that is HEAD itself.
+// HEAD of a server whose HEAD points at this name. Git detaches HEAD of a clone from a name that is
+// none of a branch.
+fn symref_of(alloc: Global, name: &RefName<Global>) -> Result<ServerHead, Fault>
+    ensures { IfOk result (IsSymrefOf (Some name.now)) }
+{
+    if is_branch(name) {
+        branch_of(alloc, name)
+    } else {
+        Ok(ServerHead::Detached)
+    }
+}
+
+// Whether a name is that of a branch.
+fn is_branch(name: &RefName<Global>) -> bool
+    ensures { result ≡ is_branch name.now }
+{
+    name.as_bytes().starts_with(BRANCHES)
+}
+
+// A HEAD that points at a branch.
 fn branch_of(alloc: Global, name: &RefName<Global>) -> Result<ServerHead, Fault>
-    ensures { IfOk result (IsBranchOf name.now) }
+    requires { is_branch name.now ≡ true }
+    ensures { IfOk result (λ head. head ≡ Branch name.now) }
 {
     match Target::new(name.copy_in(alloc)?) {
         Some(target) => Ok(ServerHead::Branch(target)),
-        None => default_branch(alloc),
+        None => unreachable!(),
     }
 }
 

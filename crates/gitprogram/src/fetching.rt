@@ -6,13 +6,13 @@ use crate::opening::{open_client, repository_fault};
 use crate::progress::{Progress, Watched};
 use crate::remote::{Remote, tips_of};
 use crate::sentences::Sentence;
-use gclient::{FetchFault, Fetched, PackOptions, Repo, Spec};
+use gclient::{FetchFault, Fetched, PackOptions, RefUpdate, Repo, Spec};
 use gcmd::{Ends, PackLimit, ProgramFault, send_report};
 use gconnect::{GitFetch, fetch_git};
 use ggraph::{Head, Refs, Repository};
 use gitobject::ObjectType;
 use gitobjects::StoredFiles;
-use gitrefs::RefUpdate;
+use gitrefs::RefUpdate as RefMove;
 use gitrepository::{Received, RepositoryFault, StoreIndexer, Tips, install_pack};
 use gitwords::{FetchArgs, Verbosity};
 use glsreply::LsReply;
@@ -105,10 +105,10 @@ where
     match outcome {
         Ok(fetch) => {
             keep(rt, found, &fetch)?;
-            if verbosity.quiet {
-                return Ok(());
+            if !verbosity.quiet {
+                report(rt, &fetch.fetched)?;
             }
-            report(rt, &fetch.fetched)
+            check_moved(rt.alloc(), &fetch.fetched)
         }
         Err(fault) => Err(fault),
     }
@@ -174,7 +174,7 @@ fn keep<R: Files + AllocGlobal>(rt: &R, found: &Directories, fetch: &Fetch) -> R
 
 // Fails if the branch that is checked out in a work tree would move (git-fetch(1),
 // "--update-head-ok").
-fn check_head<R>(rt: &R, found: &Directories, updates: &[RefUpdate]) -> Result<(), Fault>
+fn check_head<R>(rt: &R, found: &Directories, updates: &[RefMove]) -> Result<(), Fault>
 where
     R: Files + AllocGlobal,
 {
@@ -191,22 +191,14 @@ where
     }
 }
 
-fn check_head_branch(
-    alloc: Global,
-    head: &Head<Global>,
-    updates: &[RefUpdate],
-) -> Result<(), Fault> {
+fn check_head_branch(alloc: Global, head: &Head<Global>, updates: &[RefMove]) -> Result<(), Fault> {
     match head {
         Head::Symref(branch) => check_branch(alloc, branch.name(), updates),
         _ => Ok(()),
     }
 }
 
-fn check_branch(
-    alloc: Global,
-    branch: &RefName<Global>,
-    updates: &[RefUpdate],
-) -> Result<(), Fault> {
+fn check_branch(alloc: Global, branch: &RefName<Global>, updates: &[RefMove]) -> Result<(), Fault> {
     if updates.iter().any(|update| update.name == *branch) {
         return Err(Fault::of(
             alloc,
@@ -222,7 +214,7 @@ fn install_and_move<R: Files + AllocGlobal>(
     rt: &R,
     found: &Directories,
     received: &Option<Received<Global>>,
-    updates: &[RefUpdate],
+    updates: &[RefMove],
 ) -> Result<(), RepositoryFault<Global>> {
     let alloc = rt.alloc();
     match received {
@@ -240,12 +232,12 @@ fn updates_of(
     alloc: Global,
     before: &Refs<Global>,
     after: &Refs<Global>,
-) -> Result<Vec<RefUpdate>, AllocError> {
+) -> Result<Vec<RefMove>, AllocError> {
     let mut updates = Vec::new(alloc);
     for pair in after.as_slice() {
         let old = before.get(&pair.0);
         if old != Some(pair.1) {
-            updates.push(RefUpdate {
+            updates.push(RefMove {
                 name: pair.0.copy_in(alloc)?,
                 old,
                 new: pair.1,
@@ -253,6 +245,20 @@ fn updates_of(
         }
     }
     Ok(updates)
+}
+
+// Fails if a ref stays where it was, since the move would be no fast-forward.
+fn check_moved(alloc: Global, fetched: &Fetched<Global>) -> Result<(), Fault> {
+    let settled = &fetched.settled;
+    for (place, update) in settled.updates.iter().enumerate() {
+        if let RefUpdate::NotForward = update {
+            if let Some((name, _id)) = settled.asks.at(place) {
+                let name = name.as_bytes();
+                return Err(Fault::of(alloc, Sentence::NotForward { name }));
+            }
+        }
+    }
+    Ok(())
 }
 
 // Prints what became of each ref.

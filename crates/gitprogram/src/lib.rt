@@ -12,8 +12,11 @@
 //!
 //! # Proved
 //!
-//! No call panics, overflows or reads out of bounds, and each returns, whatever the arguments, the
-//! files, the standard streams and the peers are.
+//! - No call panics, overflows or reads out of bounds, and each returns, whatever the arguments, the
+//!   files, the standard streams and the peers are.
+//! - The text of a listing is that of git-ls-remote(1) (`specs/Listing.antt`). HEAD of a clone is at
+//!   the branch that the server names (`specs/Heads.antt`). `upload-pack` knows whether its client
+//!   asks for version 2 (`specs/Versions.antt`).
 //!
 //! # Only tested
 //!
@@ -23,9 +26,14 @@
 //!
 //! # Differences from Git
 //!
-//! - `clone` has HEAD, branches and tags alone. It makes the directory anew if it was there and empty.
+//! - `clone` has HEAD, branches and tags alone.
+//! - `fetch` moves a tag forward without force, as any ref. It does not follow a symbolic ref that it
+//!   would move, and fails. It does not know of branches that other worktrees have checked out.
 //! - `serve` serves one connection at a time. A client has 10 seconds for its first line and 60 for
-//!   each request, and every peer may be silent for 60 seconds.
+//!   each request, and may be silent for 60 seconds. It may hold others up as long as it asks.
+//!   `upload-pack` waits for its client without end.
+//! - `core.sharedRepository` and `core.logAllRefUpdates` are not read: files get the permissions of
+//!   the process, and reflogs are left alone.
 //! - `serve` and `upload-pack` serve protocol version 2 alone. `upload-pack` does not look at who owns
 //!   a repository.
 //! - A request has at most 1,024 wants, 4,096 haves and 64 prefixes of ref names. A pack has at most

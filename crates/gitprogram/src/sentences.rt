@@ -50,6 +50,10 @@ pub(crate) enum Sentence<'a> {
     CheckedOut {
         name: &'a [u8],
     },
+    /// A ref stays where it was, since the move would be no fast-forward.
+    NotForward {
+        name: &'a [u8],
+    },
     /// A branch would move to an object that is no commit.
     NoCommit {
         name: &'a [u8],
@@ -130,6 +134,11 @@ impl fmt::Display for Sentence<'_> {
             Sentence::CheckedOut { name } => {
                 write!(f, "{} is checked out: fetch into another ref", Clean(name))
             }
+            Sentence::NotForward { name } => write!(
+                f,
+                "{} is not moved, as this is no fast-forward: put + before its refspec",
+                Clean(name)
+            ),
             Sentence::NoCommit { name } => write!(
                 f,
                 "{} would be at a tag, a tree or a blob, but a branch is at a commit: fetch into refs/tags/",
@@ -213,7 +222,8 @@ pub(crate) fn form_text(fault: FormFault) -> &'static str {
         FormFault::Version =>
             "has an unknown version, as core.repositoryFormatVersion says: use git",
         FormFault::Extension => "has an unknown extension, as its config says: use git",
-        FormFault::Config => "has a malformed config: 'git config --list' says where",
+        FormFault::Config =>
+            "has a config that gitrepo can't read: write it anew with 'git config'",
     }
 }
 
@@ -222,12 +232,15 @@ fn write_refs<W: fmt::Write>(fault: &RefFault<Global>, f: &mut fmt::Formatter<W>
         return f.write_str(OUT_OF_MEMORY_TEXT);
     };
     match cause {
-        gitrefs::Cause::System(error) => write_refused("open ", path.as_str(), error, f),
+        gitrefs::Cause::System(error) => write_refused("read or write ", path.as_str(), error, f),
         gitrefs::Cause::Locked => write!(
             f,
             "{path} is locked: wait for the other process, or remove {path}.lock if there is none"
         ),
-        gitrefs::Cause::Moved => write!(f, "{path} has moved meanwhile: fetch again"),
+        gitrefs::Cause::Moved => write!(
+            f,
+            "{path} has moved meanwhile, or its object is missing: fetch again, or see 'git fsck'"
+        ),
         cause => write!(f, "{path}: {cause}"),
     }
 }

@@ -9,10 +9,12 @@ use crate::uploading::{Conversation, REPLY_BUFFER, serve_repository};
 use crate::visit::{Counted, Visit};
 use ganswer::ServeFault;
 use gconnect::hear;
+use ggrammar::{MessageFault, Why};
 use gitwords::ServeArgs;
 use gpkt::{FromRead, Sink, Source, ToWrite};
 use gserve::{MAX_ERR_TEXT, err_text};
 use gtcp::{Peer, Turns};
+use std::io;
 use std::io::{BufReader, BufWriter, ErrorKind, Read, Write};
 use std::net::{Net, OpenListener, OpenStream, TcpListener};
 use std::rt::{Clock, Files};
@@ -20,6 +22,10 @@ use std::time::Instant;
 
 // The error line for a client whose path names no repository that is served, as git-daemon(1) has it.
 const NOT_SERVED: &[u8] = b"access denied or repository not exported: ";
+
+// The error line for a client whose first line is malformed, as that of an older protocol is.
+const BAD_FIRST_LINE: &[u8] =
+    b"upload-pack: bad line: gitrepo serves protocol version 2 alone (git -c protocol.version=2)";
 
 /// Serves the repositories below a directory to those who connect, one after the other. A line about
 /// each connection goes to `errors`.
@@ -50,7 +56,11 @@ where
 // Checks that the base directory is there.
 fn check_base<R: Files + AllocGlobal>(rt: &R, base: &str) -> Result<(), Fault> {
     match rt.metadata(base) {
-        Ok(_) => Ok(()),
+        Ok(metadata) if metadata.is_dir() => Ok(()),
+        Ok(_) => {
+            let error = io::Error::from(ErrorKind::NotADirectory);
+            Err(open_fault(rt.alloc(), base, &error))
+        }
         Err(error) => Err(open_fault(rt.alloc(), base, &error)),
     }
 }
@@ -116,9 +126,16 @@ where
     }
 }
 
-// Whether an error says only that one connection did not come about.
+// Whether an error says only that one connection did not come about (accept(2)).
 fn is_passing(kind: ErrorKind) -> bool {
-    matches!(kind, ErrorKind::ConnectionAborted | ErrorKind::Interrupted)
+    matches!(
+        kind,
+        ErrorKind::ConnectionAborted
+            | ErrorKind::Interrupted
+            | ErrorKind::NetworkDown
+            | ErrorKind::NetworkUnreachable
+            | ErrorKind::HostUnreachable
+    )
 }
 
 // Serves one connection.
@@ -184,11 +201,20 @@ where
     serve_path(rt, exports, hello.path(), &mut source, &mut sink)
 }
 
-// Refuses a first line.
+// Refuses a first line. One of an older protocol is malformed here.
 fn refuse<R: AllocGlobal, W: Sink>(rt: &R, fault: &ServeFault, sink: &mut W) -> Conversation {
     let mut text = [0; MAX_ERR_TEXT];
     let length = err_text(fault, &mut text);
-    let _ = send_error(&text[..length], sink);
+    let text = match fault {
+        ServeFault::Request(
+            MessageFault {
+                why: Why::BadText,
+                ..
+            },
+        ) => BAD_FIRST_LINE,
+        _ => &text[..length],
+    };
+    let _ = send_error(text, sink);
     Conversation::failed(Fault::of(rt.alloc(), Sentence::Request(fault)))
 }
 
