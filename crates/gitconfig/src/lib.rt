@@ -11,7 +11,8 @@
 //!
 //! - A variable before the first header has the empty section.
 //! - A CR counts as a blank, wherever it is. Git takes it so only before LF and in values.
-//! - A byte order mark at the start is malformed. Git skips it.
+//! - A byte order mark at the start is malformed. Git skips it. So are a blank before the name of a
+//!   section, and a `\` before CR LF or at the end of the text. Git reads these.
 //! - `include` and `includeIf` are sections like others.
 //!
 //! # What the contracts do not rule out
