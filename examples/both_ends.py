@@ -156,9 +156,9 @@ def faults_of(path):
 
 
 def left_behind(path):
-    """The temporary files and locks in a repository."""
+    """The temporary files, the locks and the `.keep` files in a repository."""
     names = (os.path.join(folder, name) for folder, _, names in os.walk(path) for name in names)
-    return sorted(name for name in names if os.path.basename(name).startswith("tmp_") or name.endswith(".lock"))
+    return sorted(name for name in names if os.path.basename(name).startswith("tmp_") or name.endswith((".lock", ".keep")))
 
 
 # ---- servers

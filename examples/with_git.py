@@ -233,7 +233,8 @@ def updates(folder, theirs):
     check("a fetch of nothing", done and packs == sorted(os.listdir(f"{copy}/objects/pack")), done)
     git(path, "update-ref", side, "refs/heads/side/41-0")
     done = gitrepo("fetch", copy, url, f"{side}:{side}")
-    check("a ref that would be rewound stays", tip(copy, side) == before, done)
+    refuses("a ref that would be rewound", attempt(PROGRAM, "fetch", "--quiet", copy, url, f"{side}:{side}"), "fast-forward")
+    check("a ref that would be rewound stays, and the status is 1", tip(copy, side) == before and done.status == 1, done)
     locked(copy, url, side, before)
     done = gitrepo("fetch", copy, url, f"+{side}:{side}")
     check("a ref that is forced moves", done and tip(copy, side) == tip(path, side), done)
@@ -278,6 +279,63 @@ def into_work_trees(folder, layouts, theirs):
             check(f"a fetch into {layout.name}", done and tip(layout.path, name) == due, done)
             check(f"a fetch into {layout.name}: fsck", not faults_of(layout.path), faults_of(layout.path))
             check(f"gitrepo check of {layout.name}", gitrepo("check", layout.path), gitrepo("check", layout.path))
+
+
+def protected(folder, theirs):
+    """What a fetch must not move: a branch that is checked out, and a branch to what is no commit."""
+    path, url = f"{folder}/served/updated.git", theirs.url("updated.git")
+    work = f"{folder}/checked-out"
+    git(None, "clone", "--quiet", path, work)
+    head = git(work, "symbolic-ref", "HEAD")
+    before = refs(work)
+    add_history(path, 3, 43, onto=tip(path))
+    refuses("a branch that is checked out", gitrepo("fetch", work, url, f"+{BRANCH}:{head}"), head)
+    check("a branch that is checked out stays", refs(work) == before and git(work, "status", "--porcelain") == "")
+    copy = f"{folder}/protected"
+    check("clone for what is protected", gitrepo("clone", url, copy))
+    before = refs(copy)
+    tag = git(path, "for-each-ref", "--format=%(refname)", "refs/tags").split("\n")[0]
+    git(path, "update-ref", "refs/files/one", git(path, "rev-parse", f"{BRANCH}:"))
+    for source in (tag, "refs/files/one"):
+        refuses(f"a branch at {source}", gitrepo("fetch", copy, url, f"{source}:refs/heads/odd"), "refs/heads/odd")
+    check("no branch is at a tag or a tree", refs(copy) == before)
+    check("what is protected: nothing left behind", not left_behind(copy), left_behind(copy))
+    done = attempt("bash", "-c", f"ulimit -n 64 && exec '{PROGRAM}' fetch '{copy}' '{url}' 'refs/heads/*:refs/many/*'")
+    check("a fetch of many refs with few descriptors", done and not faults_of(copy), done)
+
+
+def into_folders(folder, theirs):
+    """A clone into an empty folder keeps its permissions, and makes the folders above a new one."""
+    url = theirs.url("live.git")
+    empty = f"{folder}/private"
+    os.mkdir(empty, 0o700)
+    for what, words, there in (("fails", [theirs.url("none.git")], []), ("is done", [url], None)):
+        done = gitrepo("clone", "--quiet", *words, empty)
+        mode = os.stat(empty).st_mode & 0o777
+        check(f"a clone into an empty folder {what}: its permissions", mode == 0o700, done)
+        check(f"a clone into an empty folder {what}", bool(done) == (there is None) and there in (None, os.listdir(empty)), done)
+    check("a clone into an empty folder: fsck", not faults_of(empty), faults_of(empty))
+    os.mkdir(f"{folder}/here")
+    done = gitrepo("clone", "--quiet", url, ".", cwd=f"{folder}/here")
+    check("a clone into the folder that is current", done and not faults_of(f"{folder}/here"), done)
+    done = gitrepo("clone", "--quiet", url, f"{folder}/above/below/new.git")
+    check("a clone below folders that are not there", done and not faults_of(f"{folder}/above/below/new.git"), done)
+
+
+def odd_head(folder, theirs):
+    """HEAD outside of refs/heads: that of a clone is detached, as Git has it."""
+    path = add_history(new_repository(f"{folder}/served/odd-head.git"), 5, 44)
+    git(path, "update-ref", "refs/odd/one", tip(path))
+    git(path, "symbolic-ref", "HEAD", "refs/odd/one")
+    copy = f"{folder}/odd-head"
+    done = gitrepo("clone", theirs.url("odd-head.git"), copy)
+    check("HEAD outside of refs/heads is detached", done and head_of(copy) == tip(path) + "\n" and not faults_of(copy), done)
+
+
+def home(folder):
+    """`~/` of upload-pack is HOME."""
+    done = gitrepo("upload-pack", "~/one-pack.git", env=ENV | {"GIT_PROTOCOL": "version=2", "HOME": f"{folder}/served"})
+    check("upload-pack of ~/", b"version 2\n" in done.out, done)
 
 
 def both_ends(folder, ours):
@@ -400,7 +458,7 @@ def exports(folder):
     base = f"{folder}/served"
     with Gitrepo(PROGRAM, base) as server:
         done = attempt("git", "ls-remote", server.url("one-pack.git"))
-        check("no git-daemon-export-ok: refused", done.status == 128 and "ERR" not in done.out.decode(), done)
+        check("no git-daemon-export-ok: refused", done.status == 128 and "not exported" in done.told, done)
         open(f"{base}/one-pack.git/git-daemon-export-ok", "w").close()
         done = attempt("git", "ls-remote", server.url("one-pack.git"))
         check("git-daemon-export-ok: served, while the server runs", done, done)
@@ -426,7 +484,7 @@ def paths(folder, ours):
         got = answer_to(ours.port, hello(path))
         check(f"the path {path!r}: served", got.startswith(packet(b"version 2\n")), got[:200])
     got = answer_to(ours.port, hello(b"/one-pack.git", b""))
-    check("a client of protocol version 0: an ERR line", got[4:8] == b"ERR ", got[:200])
+    check("a client of protocol version 0: an ERR line", got[4:8] == b"ERR " and b"version 2" in got, got[:200])
 
 
 def limits(folder, ours, theirs):
@@ -518,6 +576,10 @@ def try_all(folder):
         upload_pack(folder, layouts)
         updates(folder, theirs)
         into_work_trees(folder, layouts, theirs)
+        protected(folder, theirs)
+        into_folders(folder, theirs)
+        odd_head(folder, theirs)
+        home(folder)
         both_ends(folder, ours)
         check("no connection so far had a fault", not [it for it in ours.log() if "cannot" in it or "fault" in it], ours.log())
         broken_refs(folder, ours)
