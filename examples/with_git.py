@@ -366,8 +366,11 @@ def broken_refs(folder, ours):
     mirror = f"{folder}/broken-refs"
     done = attempt("git", "clone", "--quiet", "--mirror", ours.url("broken-refs.git"), mirror)
     check("broken refs are left out of a clone", done and refs(mirror) == good and not faults_of(mirror), done)
-    done = gitrepo("check", path)
-    check("gitrepo check names a ref whose object is missing", done.status == 1 and "1" * 40 in done.told, done)
+    refuses("gitrepo check of a ref that is broken", gitrepo("check", path), "refs/heads/broken")
+    for name in files:
+        if name != "missing":
+            os.remove(f"{path}/refs/heads/{name}")
+    refuses("gitrepo check of a ref whose object is missing", gitrepo("check", path), "1" * 40)
 
 
 def change_an_entry(path, id):

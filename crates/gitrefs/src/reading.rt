@@ -41,6 +41,35 @@ impl<R: Files, A: Allocator + Copy> GitDirectory<'_, R, A> {
     /// it leads to no id. It fails with `Malformed` if `packed-refs` or `HEAD` is malformed, with
     /// `Refs` if there are too many refs, with `System` or `Memory`.
     pub fn read_refs(&self) -> Result<(Refs<A>, Head<A>), RefFault<A>> {
+        let values = self.read_values()?;
+        let refs = match refs_of(self.alloc, &values) {
+            Ok(refs) => refs,
+            Err(RefsFault::Memory) => return Err(RefFault::Memory),
+            Err(RefsFault::Refs) => return Err(RefFault::at(self.alloc, self.path, Cause::Refs)),
+        };
+        match head_of(self.alloc, &values)? {
+            Some(head) => Ok((refs, head)),
+            None => Err(self.fault_of(&RefName::head(self.alloc)?, Cause::Malformed)),
+        }
+    }
+
+    /// The first ref, in the order of the names, whose file is malformed or whose id is all zeros, and
+    /// its fault; `None` if there is none. [`GitDirectory::read_refs`] leaves these out.
+    ///
+    /// It fails with `Malformed` if `packed-refs` is malformed, with `System` or `Memory`.
+    pub fn broken_ref(&self) -> Result<Option<(RefName<A>, RefFault<A>)>, RefFault<A>> {
+        let values = self.read_values()?;
+        for (name, value) in values.iter() {
+            if value.is_none() {
+                let fault = self.fault_of(name, Cause::Malformed);
+                return Ok(Some((name.copy_in(self.alloc)?, fault)));
+            }
+        }
+        Ok(None)
+    }
+
+    // HEAD and the refs below `refs/`, as their files say.
+    fn read_values(&self) -> Result<Values<A>, RefFault<A>> {
         let mut walk = Walk {
             directories: Vec::new(self.alloc),
             values: BTreeMap::new(self.alloc),
@@ -51,15 +80,7 @@ impl<R: Files, A: Allocator + Copy> GitDirectory<'_, R, A> {
         }
         self.read_loose(&mut walk)?;
         self.read_packed(&mut walk.values)?;
-        let refs = match refs_of(self.alloc, &walk.values) {
-            Ok(refs) => refs,
-            Err(RefsFault::Memory) => return Err(RefFault::Memory),
-            Err(RefsFault::Refs) => return Err(RefFault::at(self.alloc, self.path, Cause::Refs)),
-        };
-        match head_of(self.alloc, &walk.values)? {
-            Some(head) => Ok((refs, head)),
-            None => Err(self.fault_of(&RefName::head(self.alloc)?, Cause::Malformed)),
-        }
+        Ok(walk.values)
     }
 
     /// The refs of `packed-refs`; none if the file is not there.

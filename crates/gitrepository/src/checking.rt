@@ -27,19 +27,26 @@ pub struct Checked {
 }
 
 /// Checks that all that the refs and HEAD of a Git directory reach is there: commits, tags, trees
-/// and blobs. The ids of commits and tags are computed, and trees are read. Of a blob only the type
-/// is looked at.
+/// and blobs. The id of each is computed. A ref whose file is malformed is a fault, too.
 ///
 /// The reader is that of the same directory. It can be used again after each fault.
 ///
-/// It fails with `Ref` at the first object that is missing or refused. The fault names the object
-/// and the ref, and refs come in the order of their names. It fails with `Repository` if the refs
+/// It fails with `Ref` at the first ref whose file is malformed, or at the first object that is missing
+/// or refused. The fault names the object and the ref, and refs come in the order of their names. It fails with `Repository` if the refs
 /// are not read, and where out of memory.
 pub fn check_repository<R: Files, F: ObjectFiles, A: Allocator + Copy>(
     directory: &GitDirectory<'_, R, A>,
     reader: &mut ObjectReader<'_, F, A>,
 ) -> Result<Checked, CheckFault<A>> {
-    match directory.read_refs() {
+    let read = match directory.broken_ref() {
+        Ok(None) => directory.read_refs(),
+        Ok(Some((name, fault))) => return Err(CheckFault::Ref {
+            name,
+            fault: RepositoryFault::from(fault),
+        }),
+        Err(fault) => Err(fault),
+    };
+    match read {
         Ok((refs, head)) => check_refs(reader, &refs, &head),
         Err(fault) => Err(CheckFault::Repository(RepositoryFault::from(fault))),
     }
