@@ -1,7 +1,7 @@
 #!/usr/bin/env bash
 # Tries gitrepo, by hand, against peers that lie and against trouble: packs that are wrong in each way, a server and a client
 # that say what they must not, a directory that changes while it is read, a full disk (root only), and kills at random moments.
-# Nothing wrong may be taken, nothing may be left behind but tmp_* and *.lock after a kill, no process may have more than
+# Nothing wrong may be taken, nothing may be left behind but tmp_*, *.lock and *.keep after a kill, no process may have more than
 # 600 MB, and no byte of a peer may reach the terminal that is no printable one.
 # It needs python3, git with its daemon, and the built program, and takes some minutes.
 # usage: examples/hostile.sh [PROGRAM]

@@ -1,7 +1,7 @@
 """Tries gitrepo with git at the other end. usage: with_git.py PROGRAM [SECONDS]; see with-git.sh.
 
 It makes each layout of a repository (layouts.py) below one folder, which `gitrepo serve` and `git daemon` both serve. Nothing
-leaves 127.0.0.1, and the folder is removed at the end. A run that takes longer than so many seconds, 60 by default, is wrong.
+leaves 127.0.0.1, and the folder is removed at the end. A run that takes longer than so many seconds, 300 by default, is wrong.
 """
 
 import os
@@ -23,7 +23,7 @@ from both_ends import (
 from layouts import make_layouts, unpacked
 
 PROGRAM = os.path.abspath(sys.argv[1])
-LIMIT = int(sys.argv[2]) if len(sys.argv) > 2 else 60
+LIMIT = int(sys.argv[2]) if len(sys.argv) > 2 else 300
 HEADS, TAGS = "+refs/heads/*:refs/heads/*", "+refs/tags/*:refs/tags/*"
 SHARED = ["refs/heads", "refs/tags"]
 # So many layouts are tried at a time.
