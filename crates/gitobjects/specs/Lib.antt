@@ -5,3 +5,4 @@ pub mod Alternates
 pub mod Listings
 pub mod Listed
 pub mod Heads
+pub mod Inflated

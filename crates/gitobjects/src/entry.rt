@@ -1,6 +1,7 @@
 //! Entries of a pack, once their bytes are read (gitformat-pack(5)).
 
-ghost use Rattle.std.specs.Prelude.{◌≡◌, IfOk, length};
+ghost use Rattle.std.specs.Prelude.{IfOk};
+ghost use Rattle.gitobjects.specs.Inflated.{IsInflatedFrom};
 
 use crate::fault::Cause;
 use crate::limits::MAX_OBJECT;
@@ -38,7 +39,8 @@ pub(crate) fn inflate_entry<A: Allocator + Copy>(
     inflater: &mut Inflater,
     bytes: &[u8],
 ) -> Result<Inflated<A>, Cause>
-    ensures { IfOk result (λ entry. length entry.text.items ≡ entry.size) }
+    ensures { IfOk result
+        (λ entry. IsInflatedFrom bytes.now entry.form entry.size entry.text.items) }
 {
     let Some(head) = read_head(bytes) else {
         return Err(Cause::Head);

@@ -12,13 +12,16 @@
 //!
 //! - [`ObjectReader::read_checked`] answers an object only if its id is the one that was asked for.
 //!   The SHA-1 is computed.
-//! - A private part of a read inflates the stream of an entry to as many bytes as its head has, and
+//! - A private part of a read takes the form and the size of an entry from the head with which its
+//!   bytes begin. It inflates the stream to as many bytes as the head says, and to their end. Another
 //!   splits the text of a loose object exactly.
 //! - The window on the packs answers the bytes of a pack, where they are known, whatever blocks it
 //!   holds. The blocks of all packs together are 64 at most, of 1 MiB at most.
 //! - A folder that was listed twice since its names changed is not listed again.
-//! - The path of a loose object is made of a folder and the digits of the id. The stem of a pack is
-//!   a name that is listed in its folder. The lines of `info/alternates` are read in order.
+//! - The path of a loose object is made of a folder and the digits of the id. The lines of
+//!   `info/alternates` are read in order.
+//! - The packs that a private part finds in a listing are all those whose index is listed, and no
+//!   others. The name of an index ends in `.idx`, is UTF-8 and has no slash.
 //! - No call panics, overflows or reads out of bounds, and each returns, on any files, also if a
 //!   chain of deltas leads back to itself.
 //!
@@ -27,8 +30,10 @@
 //! - A pack stays open once it is found. Git opens packs as it needs them, and closes some.
 //! - An object that is not found makes Git list all packs again. Here only the folders are listed
 //!   whose names changed, and each of them once more after that.
-//! - A pack with an index of version 1 is left out; Git reads it. A multi-pack index, bitmaps and a
-//!   commit-graph are not read.
+//! - A pack with an index of version 1 is left out, and so is a pack of version 3; Git reads both. A
+//!   multi-pack index, bitmaps and a commit-graph are not read.
+//! - Each pack that is open takes a descriptor. A repository with about a thousand packs needs
+//!   `git gc` first, as the system allows no more.
 //! - If an object is nowhere and a pack was left out, the fault names that pack. Git says that the
 //!   object is missing.
 //! - If a base of a delta is broken in its pack, a copy from another place is taken, as in Git. Here
@@ -44,7 +49,10 @@
 //!   the system has.
 //! - No clause states the object that a whole chain of deltas makes, or the type that
 //!   [`ObjectReader::kind_of`] answers. Each step rests on a contract of `gitpack`.
-//! - No clause says that the other places of a broken object are tried.
+//! - No clause says that the other places of a broken object are tried, or that a pack that is
+//!   listed is opened.
+//! - The entry that [`ObjectReader::raw_entry`] answers may be any bytes. Its CRC-32 is compared with
+//!   that of the index, but no clause says so.
 //! - A pack may come in the same tick of the file system's clock as a listing. Then it is not seen
 //!   until the folder changes again, or until [`ObjectReader::refresh`].
 //! - The cache of bases is proved safe only.

@@ -1,5 +1,7 @@
 //! The limits of this crate, in one table. They bound each file and each
-//! cache, whatever the files say. The number of packs is not bounded.
+//! cache, whatever the files say. The number of packs is not bounded. Each
+//! pack that is open takes a descriptor, so the system bounds it: a
+//! repository with about a thousand packs needs `git gc` first.
 
 /// The most bytes of an object: 1 GiB.
 pub const MAX_OBJECT: usize = 1_073_741_824;

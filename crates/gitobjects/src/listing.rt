@@ -1,7 +1,7 @@
 //! The names in a folder of packs.
 
-ghost use Rattle.std.specs.Prelude.{◌≡◌, ◌++◌, ◌∷◌, [], ℕ, List, All, IfOk, IfSome, OnOk, codes, map, string_bytes};
-ghost use Rattle.gitobjects.specs.Listings.{AreListed, IsStemIn};
+ghost use Rattle.std.specs.Prelude.{◌++◌, ◌∷◌, [], ℕ, List, IfOk, MatchOption, OnOk, map, string_bytes};
+ghost use Rattle.gitobjects.specs.Listings.{AreListed, AreStems, IsIndexName, IsOtherName};
 
 use crate::fault::Cause;
 use crate::parts::cut;
@@ -40,8 +40,8 @@ fn push_stem<A: Allocator + Copy>(
     name: &[u8],
 ) -> Result<(), Cause>
     ensures { OnOk result ((names : List (List ℕ))
-        → All (IsStemIn names) (map string_bytes stems.old.items)
-        → All (IsStemIn (names ++ name.now ∷ [])) (map string_bytes stems.new.items)) }
+        → AreStems names (map string_bytes stems.old.items)
+        → AreStems (names ++ name.now ∷ []) (map string_bytes stems.new.items)) }
 {
     match stem_of(name) {
         Some(stem) => {
@@ -56,7 +56,7 @@ fn push_stem<A: Allocator + Copy>(
 // The name of an index without its extension; `None` if it is no index. Git gives no name that is
 // not UTF-8.
 fn stem_of(name: &[u8]) -> Option<&str>
-    ensures { IfSome result (λ stem. name.now ≡ stem.now ++ codes ".idx") }
+    ensures { MatchOption result (IsOtherName name.now) (λ stem. IsIndexName stem.now name.now) }
 {
     let Some(stem) = name.strip_suffix(b".idx") else {
         return None;

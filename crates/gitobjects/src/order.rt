@@ -42,11 +42,6 @@ impl<A: Allocator + Copy> EntryOrder<A> {
         self.starts.as_slice()
     }
 
-    /// The end of the last entry.
-    pub(crate) fn end(&self) -> usize {
-        self.end
-    }
-
     // The number of the entry that begins here.
     fn number_of(&self, offset: usize) -> Option<usize> {
         let search = self

@@ -5,6 +5,7 @@ use Rattle.gitobject.specs.Links.{IsCommit, IsTag}
 use Rattle.gitobject.specs.Naming.{id_of}
 use Rattle.gitobject.specs.declared.types.ObjectType.{ObjectType}
 use Rattle.gitobject.specs.declared.types.ObjectType.TheVariants as types
+use Rattle.gdag.specs.Graphs.{Holds}
 use Rattle.gobject.specs.Objects.{node_of}
 use Rattle.gobject.specs.declared.node.Kind.TheVariants as kinds
 use Rattle.gobject.specs.declared.node.Node.{Node}
@@ -39,14 +40,15 @@ IsLeafType types.Tree = ⊤
 IsLeafType types.Blob = ⊤
 IsLeafType _ = ⊥
 
--- an entry is the leaf of a tree or blob that a tag names
-pub record IsNamedLeaf {A : Type 0} (entry : Entry A) : Type 0 where
+-- an entry is the leaf of a tree or blob that a tag names, and the entries hold this tag
+pub record IsNamedLeaf {A : Type 0} (entries : List (Entry A)) (entry : Entry A) : Type 0 where
   pub kind : ObjectType
   pub tag : List ℕ
   pub named : IsTag tag entry.id kind
   pub is_leaf : IsLeafType kind
   pub node : entry.node ≡ leaf
+  pub held : Holds entries (id_of types.Tag tag)
 
--- an entry that an indexer answers
-abbrev pub IsRead : {A : Type 0} → Entry A → Type 0
-IsRead entry = IsOfObject entry ⊎ IsNamedLeaf entry
+-- one of the entries that an indexer answers
+abbrev pub IsRead : {A : Type 0} → List (Entry A) → Entry A → Type 0
+IsRead entries entry = IsOfObject entry ⊎ IsNamedLeaf entries entry

@@ -28,9 +28,9 @@ pub record IsWholePack (pack : List ℕ) : Type 0 where
   pub is : pack ≡ with_trailer bytes
 
 -- a pack that is indexed: its trailer is the SHA-1 of all bytes before, and each entry that is
--- answered is that of an object, or of a tree or blob that a tag names
+-- answered is that of an object, or of a tree or blob that a tag among the entries names
 pub record IsIndexed {A : Type 0} (pack : List ℕ) (entries : List (Entry A)) : Type 0 where
   pub count : ℕ
   pub trailer : List ℕ
   pub framed : IsFramed count trailer pack
-  pub each : All IsRead entries
+  pub each : All (IsRead entries) entries

@@ -1,8 +1,11 @@
 //! A visitor of the objects of a pack that comes.
 
-ghost use Rattle.std.specs.Prelude.{◌≡◌, All, IfOk, IfSome};
+ghost use Rattle.std.specs.Prelude.{◌≡◌, ◌++◌, ◌∷◌, [], List, All, IfOk, IfSome, OnOk};
+ghost use Rattle.gdag.specs.Graphs.{Holds};
 ghost use Rattle.gitobject.specs.Naming.{id_of};
+ghost use Rattle.gitobject.specs.declared.types.ObjectType.TheVariants as types;
 ghost use Rattle.gitrepository.specs.Entries.{IsRead};
+ghost use Rattle.gobject.specs.declared.node.Entry.{Entry};
 
 use crate::fault::{ObjectCause, RepositoryFault};
 use crate::nodes::{entry_of, leaf};
@@ -16,6 +19,10 @@ use indexmap::IndexMap;
 use std::alloc::Allocator;
 use std::hash::BuildHasherDefault;
 use std::marker::Model;
+
+// The most ids that the objects of a pack may name. Deltas make many objects from few bytes, and
+// each id is kept: a map of so many takes some hundred MiB.
+const MAX_NEEDS: usize = 4_194_304;
 
 /// A visitor of the objects of a pack that comes. Contracts see the entries of its commits and tags.
 #[derive(Drop)]
@@ -38,7 +45,7 @@ impl<'r, 't, 'f, F: ObjectFiles, A: Allocator + Copy> Model for Arrival<'r, 't, 
 
     ghost view = { λ a. a.entries.items };
 
-    ghost invariant = { λ a. All IsRead a.entries.items };
+    ghost invariant = { λ a. All (IsRead a.entries.items) a.entries.items };
 }
 
 impl<'r, 't, 'f, F: ObjectFiles, A: Allocator + Copy> Arrival<'r, 't, 'f, F, A> {
@@ -69,7 +76,7 @@ impl<'r, 't, 'f, F: ObjectFiles, A: Allocator + Copy> Arrival<'r, 't, 'f, F, A> 
         self,
         pack: &IndexedPack<A>,
     ) -> Result<Vec<Entry<A>, A>, RepositoryFault<A>>
-        ensures { IfOk result (λ entries. All IsRead entries.items) }
+        ensures { IfOk result (λ entries. All (IsRead entries.items) entries.items) }
     {
         let Arrival {
             reader,
@@ -96,13 +103,38 @@ impl<'r, 't, 'f, F: ObjectFiles, A: Allocator + Copy> Arrival<'r, 't, 'f, F, A> 
     {
         self.compare(id, kind, body)?;
         self.need_links(id, kind, body)?;
-        if kind == ObjectType::Tag {
-            self.learn_target(body)?;
+        match kind {
+            ObjectType::Commit => self.push_object(id, kind, body),
+            ObjectType::Tag => self.learn_tag(id, body),
+            ObjectType::Tree | ObjectType::Blob => self.learn_tip(id, kind, body),
         }
-        if is_node(kind) || self.tips.contains(id) {
-            self.push_object(id, kind, body)?;
+    }
+
+    // Adds the entry of a tag, and then that of the tree or the blob that it names.
+    fn learn_tag(&mut self, id: &Oid, body: &[u8]) -> Result<(), RepositoryFault<A>>
+        requires { id_of types.Tag body.now ≡ id.now }
+    {
+        self.push_object(id, ObjectType::Tag, body)?;
+        match named_leaf(self.alloc, body) {
+            Some(entry) => self.push(entry),
+            None => Ok(()),
         }
-        Ok(())
+    }
+
+    // Adds the entry of a tree or a blob, if a ref of the peer is at it.
+    fn learn_tip(
+        &mut self,
+        id: &Oid,
+        kind: ObjectType,
+        body: &[u8],
+    ) -> Result<(), RepositoryFault<A>>
+        requires { id_of kind body.now ≡ id.now }
+    {
+        if self.tips.contains(id) {
+            self.push_object(id, kind, body)
+        } else {
+            Ok(())
+        }
     }
 
     // Compares an object with the one that is here, if there is one.
@@ -140,23 +172,18 @@ impl<'r, 't, 'f, F: ObjectFiles, A: Allocator + Copy> Arrival<'r, 't, 'f, F, A> 
         Ok(())
     }
 
-    // Notes that an object is named.
+    // Notes that an object is named. It fails with `TooLarge` if too many are.
     fn need(&mut self, link: Link) -> Result<(), RepositoryFault<A>> {
         match self.needs.get(&link.id).copied() {
             Some(kind) if kind == link.kind => Ok(()),
             Some(_) => Err(RepositoryFault::refused(&link.id, ObjectCause::Type)),
+            None if self.needs.len() >= MAX_NEEDS => {
+                Err(RepositoryFault::Pack(PackFileFault::TooLarge))
+            }
             None => {
                 self.needs.insert(link.id, link.kind)?;
                 Ok(())
             }
-        }
-    }
-
-    // Adds the tree or the blob that a tag names.
-    fn learn_target(&mut self, body: &[u8]) -> Result<(), RepositoryFault<A>> {
-        match named_leaf(self.alloc, body) {
-            Some(entry) => self.push(entry),
-            None => Ok(()),
         }
     }
 
@@ -168,6 +195,7 @@ impl<'r, 't, 'f, F: ObjectFiles, A: Allocator + Copy> Arrival<'r, 't, 'f, F, A> 
         body: &[u8],
     ) -> Result<(), RepositoryFault<A>>
         requires { id_of kind body.now ≡ id.now }
+        ensures { OnOk result (Holds self.new id.now) }
     {
         match entry_of(self.alloc, id, kind, body) {
             Ok(entry) => self.push(entry),
@@ -177,7 +205,8 @@ impl<'r, 't, 'f, F: ObjectFiles, A: Allocator + Copy> Arrival<'r, 't, 'f, F, A> 
 
     // Adds an entry.
     fn push(&mut self, entry: Entry<A>) -> Result<(), RepositoryFault<A>>
-        requires { IsRead entry }
+        requires { IsRead self.old entry }
+        ensures { OnOk result (self.new ≡ self.old ++ entry ∷ []) }
     {
         match self.entries.push(entry) {
             Ok(()) => Ok(()),
@@ -186,14 +215,10 @@ impl<'r, 't, 'f, F: ObjectFiles, A: Allocator + Copy> Arrival<'r, 't, 'f, F, A> 
     }
 }
 
-// Whether objects of this type are nodes of a graph.
-fn is_node(kind: ObjectType) -> bool {
-    kind == ObjectType::Commit || kind == ObjectType::Tag
-}
-
 // The leaf of the tree or blob that a tag names; `None` if it names a commit or a tag.
 fn named_leaf<A: Allocator + Copy>(alloc: A, tag: &[u8]) -> Option<Entry<A>>
-    ensures { IfSome result (λ entry. IsRead entry) }
+    ensures { IfSome result (λ entry. (entries : List (Entry A))
+        → Holds entries (id_of types.Tag tag.now) → IsRead entries entry) }
 {
     let link = tag_link(tag)?;
     match link.kind {

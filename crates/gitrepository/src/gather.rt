@@ -3,7 +3,7 @@
 use crate::fates::{Fate, Fates};
 use crate::fault::{ObjectCause, RepositoryFault};
 use ggraph::Entry;
-use gitobject::{Link, ObjectType, commit_links, tree_links};
+use gitobject::{Link, ObjectType, commit_links, tag_link, tree_links};
 use gitobjects::{Found, Object, ObjectFiles, ObjectReader, StoreFault};
 use gname::Oid;
 use std::alloc::Allocator;
@@ -34,16 +34,16 @@ pub(crate) struct Gathering<'r, 'f, F: ObjectFiles, A: Allocator + Copy> {
     alloc: A,
     pub(crate) reader: &'r mut ObjectReader<'f, F, A>,
     fates: Fates<A>,
-    // Whether the types of blobs are looked at.
-    checks_blobs: bool,
+    // Whether the types of blobs, and of what tags name, are looked at.
+    checks_types: bool,
 }
 
 impl<'r, 'f, F: ObjectFiles, A: Allocator + Copy> Gathering<'r, 'f, F, A> {
-    /// No object is settled. If `checks_blobs` is set, an object that a tree names as a blob must be
-    /// one.
+    /// No object is settled. If `checks_types` is set, each object must have the type by which a
+    /// tree or a tag names it.
     pub(crate) fn new(
         reader: &'r mut ObjectReader<'f, F, A>,
-        checks_blobs: bool,
+        checks_types: bool,
     ) -> Gathering<'r, 'f, F, A> {
         let alloc = reader.store().allocator();
         let fates = Fates::new(alloc);
@@ -51,7 +51,7 @@ impl<'r, 'f, F: ObjectFiles, A: Allocator + Copy> Gathering<'r, 'f, F, A> {
             alloc,
             reader,
             fates,
-            checks_blobs,
+            checks_types,
         }
     }
 
@@ -139,9 +139,30 @@ impl<'r, 'f, F: ObjectFiles, A: Allocator + Copy> Gathering<'r, 'f, F, A> {
                 self.settle_link(tree, fate, &mut trees)?;
             }
             ObjectType::Tree => self.walk_entries(id, body, fate, &mut trees)?,
-            ObjectType::Blob | ObjectType::Tag => {}
+            ObjectType::Tag => self.check_tag(id, body)?,
+            ObjectType::Blob => {}
         }
         self.walk_trees(trees, fate)
+    }
+
+    // Checks that a tag names its object by its type, if types are looked at.
+    fn check_tag(&mut self, id: &Oid, body: &[u8]) -> Result<(), RepositoryFault<A>> {
+        if !self.checks_types {
+            return Ok(());
+        }
+        match tag_link(body) {
+            Some(link) => self.check_type(link),
+            None => Err(RepositoryFault::refused(id, ObjectCause::Malformed)),
+        }
+    }
+
+    // Checks that an object has the type by which it is named.
+    fn check_type(&mut self, link: Link) -> Result<(), RepositoryFault<A>> {
+        if self.reader.kind_of(&link.id)? == link.kind {
+            Ok(())
+        } else {
+            Err(RepositoryFault::refused(&link.id, ObjectCause::Type))
+        }
     }
 
     // The link of a commit to its tree.
@@ -212,8 +233,8 @@ impl<'r, 'f, F: ObjectFiles, A: Allocator + Copy> Gathering<'r, 'f, F, A> {
             trees.push(Tree { id: link.id, found })?;
             return Ok(());
         }
-        if self.checks_blobs && self.reader.kind_of(&link.id)? != link.kind {
-            return Err(RepositoryFault::refused(&link.id, ObjectCause::Type));
+        if self.checks_types {
+            return self.check_type(link);
         }
         Ok(())
     }

@@ -36,7 +36,8 @@ pub struct Received<A: Allocator + Copy> {
 ///
 /// Each object is inflated, and its id is computed. An object that an object of the pack names is
 /// in the pack or in the store, with the type by which it is named. An object that the store has
-/// too has the same bytes there.
+/// too has the same bytes there. The objects of a pack name at most 4,194,304 ids: beyond, the pack
+/// is too large.
 #[derive(Drop)]
 pub struct StoreIndexer<'t, 'f, F: ObjectFiles, A: Allocator + Copy> {
     reader: RefCell<ObjectReader<'f, F, A>>,

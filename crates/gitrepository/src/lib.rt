@@ -17,7 +17,8 @@
 //! - A pack that goes out has a header, as many entries as the header says, and the SHA-1 of all
 //!   bytes before. Each entry has a well-formed head. The pack has at most `MAX_PACK` bytes.
 //! - A pack is accepted only if its trailer is the SHA-1 of all bytes before. Each entry that the
-//!   indexer answers is that of an object, or is a tree or blob that a tag names.
+//!   indexer answers is that of an object, or is a tree or blob that a tag names. The entry of this
+//!   tag is among the answer.
 //! - [`install_files`] brings a pack to a [`PackFolder`] before its index. At `Ok` both are there,
 //!   with the bytes that were given. A file gets its name only once both files are written and
 //!   synced. At a fault nothing came, or the pack alone, or both.
@@ -44,14 +45,18 @@
 //! # What the contracts do not rule out
 //!
 //! - The packer might send other objects than those that are asked for, or send the entry of one
-//!   object for another. The reader compares the CRC-32 of each entry that is copied with that of
-//!   the index, but has no clause that says so.
-//! - The graph might hold more than the refs reach, and a ref might be left out. So might
-//!   [`check_refs`] leave out a ref; it counts the nodes of a graph as above.
+//!   object for another. No clause says which trees and blobs go out. The stream of an entry may be
+//!   any bytes. The reader compares the CRC-32 of each entry that is copied with that of the index,
+//!   but has no clause that says so.
+//! - The graph might hold more than the refs reach, and a ref might be left out. HEAD has no
+//!   clause.
+//! - [`check_refs`] might look at other objects than those that the refs reach. The graph whose nodes
+//!   it counts may be another one, and its count of objects has no clause.
 //! - [`Tips`] might forget an id, [`add_leaves`] might add other nodes, and a repository of any form
 //!   might be opened or refused. The names of peeled refs in a new repository might be wrong.
-//! - The indexer might leave out an entry. It looks for the trees and blobs that are named, and
-//!   compares objects that are here already; no clause says so.
+//! - The indexer might leave out an entry, or answer one of an object that the pack does not have. It
+//!   looks for the trees and blobs that are named, and compares objects that are here already; no
+//!   clause says so.
 //! - No contract can say what a file of the system has: only the order of the calls of
 //!   [`install_pack`] is proved.
 //! - Any call may fail out of memory. The contracts say nothing of which fault comes, of time, or of

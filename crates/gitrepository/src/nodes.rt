@@ -20,7 +20,8 @@ pub(crate) fn entry_of<A: Allocator + Copy>(
     body: &[u8],
 ) -> Result<Entry<A>, ObjectFault>
     requires { id_of kind body.now ≡ id.now }
-    ensures { IfOk result (λ entry. IsOfObject entry) }
+    ensures object { IfOk result (λ entry. IsOfObject entry) }
+    ensures id { IfOk result (λ entry. entry.id ≡ id.now) }
 {
     let node = node_of(alloc, kind, body)?;
     Ok(Entry { id: *id, node })
