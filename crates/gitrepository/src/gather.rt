@@ -34,16 +34,16 @@ pub(crate) struct Gathering<'r, 'f, F: ObjectFiles, A: Allocator + Copy> {
     alloc: A,
     pub(crate) reader: &'r mut ObjectReader<'f, F, A>,
     fates: Fates<A>,
-    // Whether the types of blobs, and of what tags name, are looked at.
-    checks_types: bool,
+    // Whether each object is read, and compared with its id and with the type by which it is named.
+    is_strict: bool,
 }
 
 impl<'r, 'f, F: ObjectFiles, A: Allocator + Copy> Gathering<'r, 'f, F, A> {
-    /// No object is settled. If `checks_types` is set, each object must have the type by which a
-    /// tree or a tag names it.
+    /// No object is settled. If `is_strict` is set, each object has to have its id, and the type by
+    /// which a tree or a tag names it.
     pub(crate) fn new(
         reader: &'r mut ObjectReader<'f, F, A>,
-        checks_types: bool,
+        is_strict: bool,
     ) -> Gathering<'r, 'f, F, A> {
         let alloc = reader.store().allocator();
         let fates = Fates::new(alloc);
@@ -51,7 +51,7 @@ impl<'r, 'f, F: ObjectFiles, A: Allocator + Copy> Gathering<'r, 'f, F, A> {
             alloc,
             reader,
             fates,
-            checks_types,
+            is_strict,
         }
     }
 
@@ -130,7 +130,7 @@ impl<'r, 'f, F: ObjectFiles, A: Allocator + Copy> Gathering<'r, 'f, F, A> {
     // Settles what the tree of a commit reaches, or a tree. A tag is settled alone, as the object
     // that it names is in the list too.
     fn walk_from(&mut self, id: &Oid, fate: Fate) -> Result<(), RepositoryFault<A>> {
-        let object = self.reader.read(id)?;
+        let object = self.read_object(id)?;
         let body = object.body.as_slice();
         let mut trees = Vec::new(self.alloc);
         match object.kind {
@@ -145,20 +145,20 @@ impl<'r, 'f, F: ObjectFiles, A: Allocator + Copy> Gathering<'r, 'f, F, A> {
         self.walk_trees(trees, fate)
     }
 
-    // Checks that a tag names its object by its type, if types are looked at.
+    // Checks the object that a tag names, if objects are compared.
     fn check_tag(&mut self, id: &Oid, body: &[u8]) -> Result<(), RepositoryFault<A>> {
-        if !self.checks_types {
+        if !self.is_strict {
             return Ok(());
         }
         match tag_link(body) {
-            Some(link) => self.check_type(link),
+            Some(link) => self.check_object(link),
             None => Err(RepositoryFault::refused(id, ObjectCause::Malformed)),
         }
     }
 
-    // Checks that an object has the type by which it is named.
-    fn check_type(&mut self, link: Link) -> Result<(), RepositoryFault<A>> {
-        if self.reader.kind_of(&link.id)? == link.kind {
+    // Checks that an object has its id, and the type by which it is named.
+    fn check_object(&mut self, link: Link) -> Result<(), RepositoryFault<A>> {
+        if self.reader.read_checked(&link.id)?.kind == link.kind {
             Ok(())
         } else {
             Err(RepositoryFault::refused(&link.id, ObjectCause::Type))
@@ -189,11 +189,27 @@ impl<'r, 'f, F: ObjectFiles, A: Allocator + Copy> Gathering<'r, 'f, F, A> {
         Ok(())
     }
 
+    fn read_object(&mut self, id: &Oid) -> Result<Object<A>, RepositoryFault<A>> {
+        if self.is_strict {
+            Ok(self.reader.read_checked(id)?)
+        } else {
+            Ok(self.reader.read(id)?)
+        }
+    }
+
+    // The object that was found here.
+    fn read_found(&mut self, id: &Oid, found: Found) -> Result<Object<A>, RepositoryFault<A>> {
+        if self.is_strict {
+            return self.read_object(id);
+        }
+        match self.reader.read_found(id, found)? {
+            Some(object) => Ok(object),
+            None => self.read_object(id),
+        }
+    }
+
     fn read_tree(&mut self, tree: Tree) -> Result<Object<A>, RepositoryFault<A>> {
-        let object = match self.reader.read_found(&tree.id, tree.found)? {
-            Some(object) => object,
-            None => self.reader.read(&tree.id)?,
-        };
+        let object = self.read_found(&tree.id, tree.found)?;
         if object.kind != ObjectType::Tree {
             return Err(RepositoryFault::refused(&tree.id, ObjectCause::Type));
         }
@@ -233,8 +249,8 @@ impl<'r, 'f, F: ObjectFiles, A: Allocator + Copy> Gathering<'r, 'f, F, A> {
             trees.push(Tree { id: link.id, found })?;
             return Ok(());
         }
-        if self.checks_types {
-            return self.check_type(link);
+        if self.is_strict {
+            return self.check_object(link);
         }
         Ok(())
     }
