@@ -2,8 +2,10 @@
 //! fetches, lists or checks Git repositories as they are on disk.
 //!
 //! - `serve` serves every repository below a directory, one connection after the other
-//!   (git-daemon(1)). It opens a repository at each connection, so it shows what Git has changed
-//!   meanwhile. It prints a line about each connection.
+//!   (git-daemon(1)). It reads the refs and lists the packs at each connection, so it shows what Git has
+//!   changed meanwhile. It keeps the graph of a repository while the refs and HEAD stay the same: those
+//!   of at most 64 repositories, with at most 1,048,576 commits and tags. It prints a line about each
+//!   connection.
 //! - `upload-pack` serves one connection on standard input and output (git-upload-pack(1)).
 //! - `clone` and `fetch` keep the pack as it came, and then move the refs. `ls` prints the refs of a
 //!   server as git-ls-remote(1) does. `check` looks whether all that the refs reach is there.
@@ -58,6 +60,7 @@ mod cloning;
 mod directory;
 mod fault;
 mod fetching;
+mod kept;
 mod listing;
 mod opening;
 mod output;

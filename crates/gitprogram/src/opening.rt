@@ -2,12 +2,14 @@
 
 use crate::directory::Directories;
 use crate::fault::Fault;
+use crate::kept::{KeptServers, has_refs};
 use crate::sentences::Sentence;
 use ganswer::Server;
 use ggraph::Repository;
 use gitobjects::{ObjectReader, StoredFiles};
 use gitrepository::{
-    FormFault, RepositoryFault, StorePacker, Tips, add_leaves, open_repository, open_store,
+    FormFault, RepositoryFault, StorePacker, Tips, add_leaves, open_refs, open_repository,
+    open_store, read_commit_graph,
 };
 use std::alloc::Global;
 use std::rt::Files;
@@ -15,7 +17,8 @@ use std::rt::Files;
 /// A reader of the objects of a Git directory.
 pub(crate) type Reader<'f, 'r, R> = ObjectReader<'f, StoredFiles<'r, R>, Global>;
 
-/// A repository that can be served. It shows what the Git directory had as it was opened.
+/// A repository that can be served. It shows the refs and HEAD that the Git directory had as it was
+/// opened.
 #[derive(Drop)]
 pub(crate) struct Opened<'f, 'r, R: Files> {
     /// The graph, the refs and HEAD.
@@ -33,15 +36,29 @@ pub(crate) struct NotOpened {
     pub(crate) form: Option<FormFault>,
 }
 
-/// Opens a repository to serve it.
+// A repository before it is served.
+#[derive(Drop)]
+enum Known {
+    // Its server was kept, and the refs and HEAD are still those that it has.
+    Kept(Server<Global>),
+    // It was read.
+    Read(Repository<Global>),
+}
+
+/// Opens a repository to serve it. A server that was kept serves again if the refs and HEAD are still
+/// those that it has. The objects are always opened anew.
 pub(crate) fn open_served<'f, 'r, R: Files>(
     alloc: Global,
     rt: &R,
     files: &'f StoredFiles<'r, R>,
     found: &Directories,
+    kept: &mut KeptServers,
 ) -> Result<Opened<'f, 'r, R>, NotOpened> {
-    match open(alloc, rt, files, found) {
-        Ok((repository, reader)) => make_server(alloc, found, repository, reader),
+    match find_known(alloc, rt, files, found, kept) {
+        Ok((known, reader)) => Ok(Opened {
+            server: make_server(alloc, found, known)?,
+            packer: StorePacker::new(reader),
+        }),
         Err(fault) => Err(NotOpened {
             form: form_of(&fault),
             fault: repository_fault(alloc, found.common.as_str(), &fault),
@@ -49,17 +66,37 @@ pub(crate) fn open_served<'f, 'r, R: Files>(
     }
 }
 
-fn make_server<'f, 'r, R: Files>(
+fn find_known<'f, 'r, R: Files>(
+    alloc: Global,
+    rt: &R,
+    files: &'f StoredFiles<'r, R>,
+    found: &Directories,
+    kept: &mut KeptServers,
+) -> Result<(Known, Reader<'f, 'r, R>), RepositoryFault<Global>> {
+    let path = found.common.as_str();
+    let mut reader = open_reader(alloc, files, path)?;
+    let (refs, head) = found.refs(alloc, rt).read_refs()?;
+    if let Some(server) = kept.take(found.own.as_str()) {
+        if has_refs(&server, &refs, &head) {
+            return Ok((Known::Kept(server), reader));
+        }
+    }
+    let commits = read_commit_graph(files, alloc, path)?;
+    let repository = open_refs(&mut reader, &commits, &refs, head)?;
+    Ok((Known::Read(repository), reader))
+}
+
+fn make_server(
     alloc: Global,
     found: &Directories,
-    repository: Repository<Global>,
-    reader: Reader<'f, 'r, R>,
-) -> Result<Opened<'f, 'r, R>, NotOpened> {
+    known: Known,
+) -> Result<Server<Global>, NotOpened> {
+    let repository = match known {
+        Known::Kept(server) => return Ok(server),
+        Known::Read(repository) => repository,
+    };
     match Server::new(repository.graph, repository.refs, repository.head) {
-        Ok(server) => Ok(Opened {
-            server,
-            packer: StorePacker::new(reader),
-        }),
+        Ok(server) => Ok(server),
         Err(fault) => Err(NotOpened {
             form: None,
             fault: Fault::of(
@@ -106,8 +143,10 @@ fn open<'f, 'r, R: Files>(
     files: &'f StoredFiles<'r, R>,
     found: &Directories,
 ) -> Result<(Repository<Global>, Reader<'f, 'r, R>), RepositoryFault<Global>> {
-    let mut reader = open_reader(alloc, files, found.common.as_str())?;
-    let repository = open_repository(&found.refs(alloc, rt), &mut reader)?;
+    let path = found.common.as_str();
+    let mut reader = open_reader(alloc, files, path)?;
+    let commits = read_commit_graph(files, alloc, path)?;
+    let repository = open_repository(&found.refs(alloc, rt), &mut reader, &commits)?;
     Ok((repository, reader))
 }
 

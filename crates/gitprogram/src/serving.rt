@@ -2,6 +2,7 @@
 
 use crate::directory::{Exports, find_served, open_fault};
 use crate::fault::Fault;
+use crate::kept::KeptServers;
 use crate::output::print;
 use crate::refusals::{Worded, send_error};
 use crate::sentences::Sentence;
@@ -27,6 +28,13 @@ const NOT_SERVED: &[u8] = b"access denied or repository not exported: ";
 const BAD_FIRST_LINE: &[u8] =
     b"upload-pack: bad line: gitrepo serves protocol version 2 alone (git -c protocol.version=2)";
 
+// The repositories that are served, and the servers that are kept.
+#[derive(Drop)]
+struct Serving<'a> {
+    exports: Exports<'a>,
+    kept: KeptServers,
+}
+
 /// Serves the repositories below a directory to those who connect, one after the other. A line about
 /// each connection goes to `errors`.
 pub(crate) fn serve<R, E>(rt: &R, asked: &ServeArgs<'_>, errors: &mut E) -> Result<(), Fault>
@@ -46,11 +54,14 @@ where
         )),
     };
     announce(rt, &listener)?;
-    let exports = Exports {
-        base: asked.base,
-        all: asked.export_all,
+    let mut serving = Serving {
+        exports: Exports {
+            base: asked.base,
+            all: asked.export_all,
+        },
+        kept: KeptServers::new(rt.alloc()),
     };
-    serve_each(rt, exports, &listener, asked.connections, errors)
+    serve_each(rt, &mut serving, &listener, asked.connections, errors)
 }
 
 // Checks that the base directory is there.
@@ -84,7 +95,7 @@ where
 // Serves so many connections, or any number.
 fn serve_each<R, L, E>(
     rt: &R,
-    exports: Exports<'_>,
+    serving: &mut Serving<'_>,
     listener: &L,
     connections: Option<u32>,
     errors: &mut E,
@@ -97,7 +108,7 @@ where
 {
     let most = connections.map_or(u64::MAX, u64::from);
     for _ in 0..most {
-        serve_next(rt, exports, listener, errors)?;
+        serve_next(rt, serving, listener, errors)?;
     }
     Ok(())
 }
@@ -105,7 +116,7 @@ where
 // Serves the next connection. One that is gone before it is accepted is none.
 fn serve_next<R, L, E>(
     rt: &R,
-    exports: Exports<'_>,
+    serving: &mut Serving<'_>,
     listener: &L,
     errors: &mut E,
 ) -> Result<(), Fault>
@@ -117,7 +128,7 @@ where
 {
     match listener.accept() {
         Ok((stream, address)) => {
-            let visit = serve_stream(rt, exports, stream);
+            let visit = serve_stream(rt, serving, stream);
             let _ = writeln!(errors, "{address} {visit}");
             Ok(())
         }
@@ -139,14 +150,14 @@ fn is_passing(kind: ErrorKind) -> bool {
 }
 
 // Serves one connection.
-fn serve_stream<R, S>(rt: &R, exports: Exports<'_>, stream: S) -> Visit
+fn serve_stream<R, S>(rt: &R, serving: &mut Serving<'_>, stream: S) -> Visit
 where
     R: Files + AllocGlobal + Clock,
     S: Read + Write + OpenStream + Drop,
 {
     let start = Instant::now(rt);
     let peer = Peer::new(stream, Turns::from_accept(rt));
-    let mut visit = serve_peer(rt, exports, &peer);
+    let mut visit = serve_peer(rt, serving, &peer);
     peer.hang_up();
     if let (Ok(start), Ok(end)) = (start, Instant::now(rt)) {
         visit.took = end.duration_since(start);
@@ -155,7 +166,7 @@ where
 }
 
 // Serves it through buffers.
-fn serve_peer<R, S>(rt: &R, exports: Exports<'_>, peer: &Peer<S, Turns<'_, R>>) -> Visit
+fn serve_peer<R, S>(rt: &R, serving: &mut Serving<'_>, peer: &Peer<S, Turns<'_, R>>) -> Visit
 where
     R: Files + AllocGlobal + Clock,
     S: Read + Write + OpenStream,
@@ -168,7 +179,7 @@ where
         return Visit::new(alloc);
     };
     let mut visit = Visit::new(alloc);
-    visit.conversation = serve_between(rt, exports, &mut reader, &mut writer, &mut visit.path);
+    visit.conversation = serve_between(rt, serving, &mut reader, &mut writer, &mut visit.path);
     // Bytes that could not be written are not tried again.
     let (counted, _unwritten) = writer.into_parts();
     visit.bytes = counted.bytes();
@@ -178,7 +189,7 @@ where
 // Serves it between a reader and a writer, and notes the path that is asked for.
 fn serve_between<R, I, O>(
     rt: &R,
-    exports: Exports<'_>,
+    serving: &mut Serving<'_>,
     reader: &mut I,
     writer: &mut O,
     path: &mut Vec<u8>,
@@ -198,7 +209,7 @@ where
     if path.extend_from_slice(hello.path()).is_err() {
         return Conversation::failed(Fault::Memory);
     }
-    serve_path(rt, exports, hello.path(), &mut source, &mut sink)
+    serve_path(rt, serving, hello.path(), &mut source, &mut sink)
 }
 
 // Refuses a first line. One of an older protocol is malformed here.
@@ -221,7 +232,7 @@ fn refuse<R: AllocGlobal, W: Sink>(rt: &R, fault: &ServeFault, sink: &mut W) -> 
 // Serves the repository that a path names, or says that there is none.
 fn serve_path<R, S: Source, W: Sink>(
     rt: &R,
-    exports: Exports<'_>,
+    serving: &mut Serving<'_>,
     path: &[u8],
     source: &mut S,
     sink: &mut W,
@@ -229,8 +240,8 @@ fn serve_path<R, S: Source, W: Sink>(
 where
     R: Files + AllocGlobal,
 {
-    match find_served(rt, exports, path) {
-        Ok(Some(found)) => serve_repository(rt, &found, source, sink),
+    match find_served(rt, serving.exports, path) {
+        Ok(Some(found)) => serve_repository(rt, &found, &mut serving.kept, source, sink),
         Ok(None) => {
             let _ = send_not_served(rt, path, sink);
             Conversation::failed(Fault::of(rt.alloc(), Sentence::NotServed))

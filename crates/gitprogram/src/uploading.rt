@@ -5,6 +5,7 @@ ghost use Rattle.gitprogram.specs.Versions.{is_version_2, names_version_2};
 
 use crate::directory::{Directories, find_repository};
 use crate::fault::Fault;
+use crate::kept::KeptServers;
 use crate::opening::{Opened, open_served, repository_fault};
 use crate::refusals::{Worded, send_error};
 use crate::sentences::{Sentence, form_text};
@@ -70,7 +71,10 @@ where
     }
     let path = expand_home(rt, dir)?;
     match find_repository(rt, path.as_str()) {
-        Ok(found) => serve_repository(rt, &found, source, sink).outcome,
+        Ok(found) => {
+            let mut kept = KeptServers::new(rt.alloc());
+            serve_repository(rt, &found, &mut kept, source, sink).outcome
+        }
         Err(fault) => {
             let _ = send_error(NOT_THERE, sink);
             Err(fault)
@@ -132,21 +136,29 @@ impl Conversation {
     }
 }
 
-/// Opens a repository, and serves it from its advertisement on.
+/// Opens a repository, and serves it from its advertisement on. Its server is kept.
 pub(crate) fn serve_repository<R, S: Source, W: Sink>(
     rt: &R,
     found: &Directories,
+    kept: &mut KeptServers,
     source: &mut S,
     sink: &mut W,
 ) -> Conversation
 where
     R: Files + AllocGlobal,
 {
+    let alloc = rt.alloc();
     let files = StoredFiles::new(rt);
-    match open_served(rt.alloc(), rt, &files, found) {
-        Ok(opened) => serve_opened(rt.alloc(), found, &opened, source, sink),
+    match open_served(alloc, rt, &files, found, kept) {
+        Ok(opened) => {
+            let conversation = serve_opened(alloc, found, &opened, source, sink);
+            let Opened { server, .. } = opened;
+            // A server for which there is no memory is not kept.
+            let _ = kept.put(alloc, found.own.as_str(), server);
+            conversation
+        }
         Err(cause) => {
-            let _ = send_not_opened(rt.alloc(), cause.form, sink);
+            let _ = send_not_opened(alloc, cause.form, sink);
             Conversation::failed(cause.fault)
         }
     }

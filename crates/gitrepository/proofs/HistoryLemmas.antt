@@ -6,22 +6,23 @@ use Rattle.gobject.specs.declared.node.Entry.{Entry}
 use Rattle.gdag.specs.Graphs.{History, IsNode, IsOrdered}
 use Rattle.gdag.specs.Insert.{AddsOne}
 use Rattle.gdag.specs.declared.fault.GraphFault.{GraphFault}
-use Rattle.gitrepository.specs.Entries.{IsOfObject}
+use Rattle.gitcommitgraph.specs.Files.{Commit}
+use Rattle.gitrepository.specs.Entries.{IsKnown}
 use Rattle.gitrepository.specs.Repositories.{IsHistory}
 
 came : {A : Type 0} (P : Entry A → Type 0) (old new : List (Entry A)) (entry : Entry A) → All P old → P entry → (IsNode old entry.id entry.node × (new ≡ old)) ⊎ ((node_at old entry.id ≡ None) × (new ≡ old ++ entry ∷ [])) → All P new
 came P old new entry all this (inl there) = subst (All P) (sym there.1) all
 came P old new entry all this (inr comes) = subst (All P) (sym comes.1) (All-push P old entry all this)
 
--- each entry stays that of an object where one of an object is added, or refused
-pub objects_inserted : {A : Type 0} (old new : History A) (entry : Entry A) (result : Result Bool GraphFault) → AddsOne old entry new result → All IsOfObject old.entries → IsOfObject entry → All IsOfObject new.entries
-objects_inserted old new entry (Ok is_new) adds all this = came IsOfObject old.entries new.entries entry all this adds.1.comes
-objects_inserted old new entry (Err fault) adds all this = subst (λ g. All IsOfObject g.entries) (sym adds.0) all
+-- each entry stays known where one that is known is added, or refused
+pub known_inserted : {A : Type 0} (commits : List Commit) (old new : History A) (entry : Entry A) (result : Result Bool GraphFault) → AddsOne old entry new result → All (IsKnown commits) old.entries → IsKnown commits entry → All (IsKnown commits) new.entries
+known_inserted commits old new entry (Ok is_new) adds all this = came (IsKnown commits) old.entries new.entries entry all this adds.1.comes
+known_inserted commits old new entry (Err fault) adds all this = subst (λ g. All (IsKnown commits) g.entries) (sym adds.0) all
 
--- each entry stays that of an object where one more comes
-pub objects_pushed : {A : Type 0} (old new : List (Entry A)) (entry : Entry A) → new ≡ old ++ entry ∷ [] → All IsOfObject old → IsOfObject entry → All IsOfObject new
-objects_pushed old new entry is all this = subst (All IsOfObject) (sym is) (All-push IsOfObject old entry all this)
+-- each entry stays known where one more that is known comes
+pub known_pushed : {A : Type 0} (commits : List Commit) (old new : List (Entry A)) (entry : Entry A) → new ≡ old ++ entry ∷ [] → All (IsKnown commits) old → IsKnown commits entry → All (IsKnown commits) new
+known_pushed commits old new entry is all this = subst (All (IsKnown commits)) (sym is) (All-push (IsKnown commits) old entry all this)
 
--- a graph of objects in order is a history
-pub is_history : {A : Type 0} (graph : History A) → All IsOfObject graph.entries → IsOrdered graph.entries → IsHistory graph
-is_history graph objects order = record { objects = objects; order = order }
+-- a graph of known entries in order is a history
+pub is_history : {A : Type 0} (commits : List Commit) (graph : History A) → All (IsKnown commits) graph.entries → IsOrdered graph.entries → IsHistory commits graph
+is_history commits graph known order = record { known = known; order = order }

@@ -1,4 +1,5 @@
 pub mod ArrivalLemmas
+pub mod CommitLemmas
 pub mod HistoryLemmas
 pub mod PutLemmas
 pub mod RefLemmas

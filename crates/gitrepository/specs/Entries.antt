@@ -1,5 +1,7 @@
 -- The entries of a graph that objects have (gitglossary(7), "commit object", "tag object").
-use Rattle.std.specs.Prelude.{◌≡◌, ◌⊎◌, ⊤, ℕ, List, [], ◌∷◌}
+use Rattle.std.specs.Prelude.{◌≡◌, ◌⊎◌, ⊤, ℕ, List, [], ◌∷◌, Contains, Option, Some, map, slice_get}
+use Rattle.std.specs.Option.{option_map}
+use Rattle.gitcommitgraph.specs.Files.{Commit}
 use Rattle.gname.specs.Ids.{Id}
 use Rattle.gitobject.specs.Links.{IsCommit, IsTag}
 use Rattle.gitobject.specs.Naming.{id_of}
@@ -33,6 +35,24 @@ pub record IsOfObject {A : Type 0} (entry : Entry A) : Type 0 where
   pub body : List ℕ
   pub id : entry.id ≡ id_of kind body
   pub node : IsNodeOf kind body entry.node
+
+-- the id of the commit at a position of a commit-graph
+abbrev pub id_at : List Commit → ℕ → Option Id
+id_at commits position = option_map (λ commit. commit.id) (slice_get commits position)
+
+-- An entry is that of a commit as a commit-graph says: it has the commit's id, and its parents are
+-- the commits at the positions that the commit names, in order.
+pub record IsOfCommit {A : Type 0} (commits : List Commit) (entry : Entry A) : Type 0 where
+  pub commit : Commit
+  pub parents : List Id
+  pub among : Contains commits commit
+  pub id : entry.id ≡ commit.id
+  pub named : map (id_at commits) commit.parents ≡ map Some parents
+  pub node : entry.node ≡ node_of kinds.Commit parents
+
+-- an entry is that of an object, or of a commit as a commit-graph says
+abbrev pub IsKnown : {A : Type 0} → List Commit → Entry A → Type 0
+IsKnown commits entry = IsOfObject entry ⊎ IsOfCommit commits entry
 
 -- trees and blobs are leaves of a graph
 abbrev pub IsLeafType : ObjectType → Type 0

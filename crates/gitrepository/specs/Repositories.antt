@@ -1,13 +1,20 @@
 -- The repository of a Git directory (gitrepository-layout(5)).
-use Rattle.std.specs.Prelude.{All}
+use Rattle.std.specs.Prelude.{List, All}
 use Rattle.gdag.specs.Graphs.{Holds, IsOrdered, History}
-use Rattle.gitrepository.specs.Entries.{IsOfObject}
+use Rattle.gitcommitgraph.specs.Files.{Commit}
+use Rattle.gitrepository.specs.Entries.{IsKnown}
 use Rattle.grefs.specs.RefLists.{RefList}
 
--- each entry of a graph is that of an object, and parents come first
-pub record IsHistory {A : Type 0} (graph : History A) : Type 0 where
-  pub objects : All IsOfObject graph.entries
+-- Each entry of a graph is that of an object, or of a commit as the commit-graph says. Parents come
+-- first.
+pub record IsHistory {A : Type 0} (commits : List Commit) (graph : History A) : Type 0 where
+  pub known : All (IsKnown commits) graph.entries
   pub order : IsOrdered graph.entries
+
+-- the commits of the commit-graph, and what was reached so far
+pub record Reading (A : Type 0) : Type 0 where
+  pub commits : List Commit
+  pub graph : History A
 
 -- the graph holds the object of each ref
 abbrev pub AreHeld : {A : Type 0} → History A → RefList → Type 0

@@ -1,13 +1,14 @@
 //! Checking a repository: all that its refs reach is there.
 
-ghost use Rattle.std.specs.Prelude.{◌≡◌, IfOk, length};
-ghost use Rattle.gdag.specs.Graphs.{History};
+ghost use Rattle.std.specs.Prelude.{◌≡◌, [], IfOk, length};
+ghost use Rattle.gdag.specs.Graphs as graphs;
 ghost use Rattle.gitrepository.specs.Repositories.{IsHistory};
 
 use crate::fault::{CheckFault, RepositoryFault};
 use crate::gather::Gathering;
 use crate::history::History;
 use ggraph::{Head, Refs};
+use gitcommitgraph::CommitGraph;
 use gitobjects::{ObjectFiles, ObjectReader};
 use gitrefs::GitDirectory;
 use gname::Oid;
@@ -27,7 +28,8 @@ pub struct Checked {
 }
 
 /// Checks that all that the refs and HEAD of a Git directory reach is there: commits, tags, trees
-/// and blobs. The id of each is computed. A ref whose file is malformed is a fault, too.
+/// and blobs. The id of each is computed. A ref whose file is malformed is a fault, too. A commit-graph
+/// is not believed.
 ///
 /// The reader is that of the same directory. It can be used again after each fault.
 ///
@@ -58,21 +60,20 @@ pub fn check_refs<F: ObjectFiles, A: Allocator + Copy>(
     refs: &Refs<A>,
     head: &Head<A>,
 ) -> Result<Checked, CheckFault<A>>
-    ensures { IfOk result (λ checked. (graph : History A) × IsHistory graph
+    ensures { IfOk result (λ checked. (graph : graphs.History A) × IsHistory [] graph
         × (checked.refs ≡ length refs.now) × (checked.nodes ≡ length graph.entries)) }
 {
     let alloc = reader.store().allocator();
-    let mut history = History::new(alloc);
+    let none = CommitGraph::new(alloc);
+    let mut history = History::new(alloc, &none);
     let mut gathering = Gathering::new(reader, true);
     for pair in refs.as_slice() {
         if let Err(fault) = check_ref(&mut history, &mut gathering, &pair.1) {
             return Err(CheckFault::of_ref(alloc, &pair.0, fault));
         }
     }
-    if let Head::Id(id) = head {
-        if let Err(fault) = check_ref(&mut history, &mut gathering, id) {
-            return Err(CheckFault::of_head(alloc, fault));
-        }
+    if let Err(fault) = check_head(&mut history, &mut gathering, head) {
+        return Err(CheckFault::of_head(alloc, fault));
     }
     let objects = gathering.sent();
     match history.into_graph() {
@@ -85,12 +86,28 @@ pub fn check_refs<F: ObjectFiles, A: Allocator + Copy>(
     }
 }
 
+// Checks what HEAD reaches and what no ref did.
+fn check_head<F: ObjectFiles, A: Allocator + Copy>(
+    history: &mut History<'_, A>,
+    gathering: &mut Gathering<'_, '_, F, A>,
+    head: &Head<A>,
+) -> Result<(), RepositoryFault<A>>
+    ensures { history.new.commits ≡ history.old.commits }
+{
+    match head {
+        Head::Id(id) => check_ref(history, gathering, id),
+        Head::None | Head::Symref(_) => Ok(()),
+    }
+}
+
 // Checks what a ref at this id reaches and what no ref before it did.
 fn check_ref<F: ObjectFiles, A: Allocator + Copy>(
-    history: &mut History<A>,
+    history: &mut History<'_, A>,
     gathering: &mut Gathering<'_, '_, F, A>,
     id: &Oid,
-) -> Result<(), RepositoryFault<A>> {
+) -> Result<(), RepositoryFault<A>>
+    ensures { history.new.commits ≡ history.old.commits }
+{
     let first = history.len();
     history.add(&mut *gathering.reader, id)?;
     for place in first..history.len() {

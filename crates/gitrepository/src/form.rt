@@ -2,7 +2,7 @@
 
 use crate::fault::{FormFault, RepositoryFault};
 use gitconfig::{ConfigFault, Setting, parse_config};
-use gitobjects::{ObjectFiles, ObjectStore};
+use gitobjects::{Cause, ObjectFiles, ObjectStore};
 use std::alloc::{AllocError, Allocator};
 
 // The most bytes of a configuration: 1 MiB.
@@ -16,6 +16,9 @@ const KNOWN: [&[u8]; 5] = [
     b"relativeworktrees",
     b"worktreeconfig",
 ];
+
+// The values for no (git-config(1), "Values").
+const NO: [&[u8]; 5] = [b"", b"false", b"no", b"off", b"0"];
 
 /// Opens the objects of the Git directory with this path, unless the repository has a form that is
 /// not read: it is shallow or a partial clone, it has SHA-256 ids or a reftable, or its
@@ -43,8 +46,8 @@ fn check_form<F: ObjectFiles, A: Allocator + Copy>(
     check_promisors(files, alloc, git_dir)
 }
 
-// The path of a file of a Git directory.
-fn path_of<A: Allocator + Copy>(
+/// The path of a file of a Git directory.
+pub(crate) fn path_of<A: Allocator + Copy>(
     alloc: A,
     git_dir: &str,
     name: &str,
@@ -71,6 +74,52 @@ fn check_config<F: ObjectFiles, A: Allocator + Copy>(
         Ok(None) => Ok(()),
         Ok(Some(fault)) => Err(RepositoryFault::of_form(alloc, path.as_str(), fault)),
         Err(_) => Err(RepositoryFault::Memory),
+    }
+}
+
+/// Whether the configuration turns the commit-graph off (git-config(1), "core.commitGraph"). A
+/// configuration that is not read turns nothing off. It fails out of memory alone.
+pub(crate) fn turns_commit_graph_off<F: ObjectFiles, A: Allocator + Copy>(
+    files: &F,
+    alloc: A,
+    git_dir: &str,
+) -> Result<bool, AllocError> {
+    let path = path_of(alloc, git_dir, "config")?;
+    let text = match files.read(alloc, path.as_str(), MAX_CONFIG) {
+        Ok(Some(text)) => text,
+        Err(Cause::Memory) => return Err(AllocError),
+        Ok(None) | Err(_) => return Ok(false),
+    };
+    match parse_config(alloc, text.as_slice()) {
+        Ok(settings) => Ok(turns_off(settings.as_slice())),
+        Err(ConfigFault::Malformed) => Ok(false),
+        Err(ConfigFault::Memory) => Err(AllocError),
+    }
+}
+
+// Whether the last of the settings of `core.commitGraph` is that of no.
+fn turns_off<A: Allocator + Copy>(settings: &[Setting<A>]) -> bool {
+    let mut is_off = false;
+    for setting in settings {
+        if is_commit_graph(setting) {
+            is_off = is_no(setting);
+        }
+    }
+    is_off
+}
+
+fn is_commit_graph<A: Allocator + Copy>(setting: &Setting<A>) -> bool {
+    setting.section.as_slice() == b"core".as_slice()
+        && setting.name.as_slice() == b"commitgraph".as_slice()
+}
+
+// Whether the value is one of those for no. A name without a value is yes.
+fn is_no<A: Allocator + Copy>(setting: &Setting<A>) -> bool {
+    match &setting.value {
+        Some(value) => NO
+            .iter()
+            .any(|no| value.as_slice().eq_ignore_ascii_case(*no)),
+        None => false,
     }
 }
 

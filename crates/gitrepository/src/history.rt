@@ -1,12 +1,15 @@
 //! The commits and tags that some ids reach, parents first.
 
-ghost use Rattle.std.specs.Prelude.{◌≡◌, IfOk, IfSome, OnOk, length};
-ghost use Rattle.gitrepository.specs.Entries.{IsOfObject};
+ghost use Rattle.std.specs.Prelude.{◌≡◌, [], IfOk, IfSome, OnOk, length};
+ghost use Rattle.gitcommitgraph.specs.Chains.{graph_commits};
+ghost use Rattle.gitrepository.specs.Entries.{IsKnown, IsOfObject};
 ghost use Rattle.gitrepository.specs.Repositories.{IsHistory};
 
+use crate::commit_graph::known_entry;
 use crate::fault::{ObjectCause, RepositoryFault};
 use crate::nodes::entry_of;
 use ggraph::{Entry, Graph, Kind, MAX_NODES};
+use gitcommitgraph::CommitGraph;
 use gitobject::ObjectType;
 use gitobjects::{ObjectFiles, ObjectReader};
 use gname::Oid;
@@ -23,8 +26,10 @@ struct Parent {
 /// The commits and tags that were read so far. A tree or a blob at which a ref or a tag is counts
 /// as a commit without parents.
 #[derive(Drop)]
-pub(crate) struct History<A: Allocator + Copy> {
+pub(crate) struct History<'g, A: Allocator + Copy> {
     alloc: A,
+    // What says the parents of commits, so that these are not read.
+    commits: &'g CommitGraph<A>,
     // The objects that were read with all that they reach.
     graph: Graph<A>,
     // A path of objects that were read: each is a parent of the one before. And of each, how many
@@ -33,24 +38,28 @@ pub(crate) struct History<A: Allocator + Copy> {
     looked: Vec<usize, A>,
 }
 
-impl<A: Allocator + Copy> Model for History<A> {
+impl<'g, A: Allocator + Copy> Model for History<'g, A> {
     ghost use Rattle.std.specs.Prelude.{All};
-    ghost use Rattle.gdag.specs.Graphs as graphs;
-    ghost use Rattle.gitrepository.specs.Entries.{IsOfObject};
+    ghost use Rattle.gitcommitgraph.specs.Chains.{graph_commits};
+    ghost use Rattle.gitrepository.specs.Entries.{IsKnown};
+    ghost use Rattle.gitrepository.specs.Repositories.{Reading};
 
-    ghost Value = { graphs.History A };
+    ghost Value = { Reading A };
 
-    ghost view = { λ h. h.graph };
+    ghost view = { λ h. record { commits = graph_commits h.commits.now; graph = h.graph } };
 
-    ghost invariant = { λ h. All IsOfObject h.graph.entries
-        × All IsOfObject h.path.items };
+    ghost invariant = { λ h. All (IsKnown (graph_commits h.commits.now)) h.graph.entries
+        × All (IsKnown (graph_commits h.commits.now)) h.path.items };
 }
 
-impl<A: Allocator + Copy> History<A> {
-    /// No object.
-    pub(crate) fn new(alloc: A) -> History<A> {
+impl<'g, A: Allocator + Copy> History<'g, A> {
+    /// No object. The commit-graph says the parents of commits.
+    pub(crate) fn new(alloc: A, commits: &'g CommitGraph<A>) -> History<'g, A>
+        ensures { result.commits ≡ graph_commits commits.now }
+    {
         History {
             alloc,
+            commits,
             graph: Graph::new(alloc),
             path: Vec::new(alloc),
             looked: Vec::new(alloc),
@@ -59,7 +68,7 @@ impl<A: Allocator + Copy> History<A> {
 
     /// How many objects there are.
     pub(crate) fn len(&self) -> usize
-        ensures { result ≡ length self.now.entries }
+        ensures { result ≡ length self.now.graph.entries }
     {
         self.graph.len()
     }
@@ -77,7 +86,9 @@ impl<A: Allocator + Copy> History<A> {
         &mut self,
         reader: &mut ObjectReader<'_, F, A>,
         id: &Oid,
-    ) -> Result<(), RepositoryFault<A>> {
+    ) -> Result<(), RepositoryFault<A>>
+        ensures { self.new.commits ≡ self.old.commits }
+    {
         self.reach(
             reader,
             Parent {
@@ -98,7 +109,9 @@ impl<A: Allocator + Copy> History<A> {
     fn step<F: ObjectFiles>(
         &mut self,
         reader: &mut ObjectReader<'_, F, A>,
-    ) -> Result<bool, RepositoryFault<A>> {
+    ) -> Result<bool, RepositoryFault<A>>
+        ensures { self.new.commits ≡ self.old.commits }
+    {
         match self.next_parent() {
             Some(parent) => {
                 self.reach(reader, parent)?;
@@ -109,7 +122,9 @@ impl<A: Allocator + Copy> History<A> {
     }
 
     // The last object on the path enters the graph. Answers whether there was an object.
-    fn insert_last(&mut self) -> Result<bool, RepositoryFault<A>> {
+    fn insert_last(&mut self) -> Result<bool, RepositoryFault<A>>
+        ensures { self.new.commits ≡ self.old.commits }
+    {
         match self.pop() {
             Some(entry) => {
                 self.insert(entry)?;
@@ -122,16 +137,17 @@ impl<A: Allocator + Copy> History<A> {
     // Takes the last object off the path.
     fn pop(&mut self) -> Option<Entry<A>>
         ensures same { self.new ≡ self.old }
-        ensures object { IfSome result (λ entry. IsOfObject entry) }
+        ensures known { IfSome result (λ entry. IsKnown self.old.commits entry) }
     {
         let _looked = self.looked.pop();
         self.path.pop()
     }
 
     // Adds an object to the graph.
-    #[tactic(auto, using(crate::proofs::HistoryLemmas::objects_inserted))]
+    #[tactic(auto, using(crate::proofs::HistoryLemmas::known_inserted))]
     fn insert(&mut self, entry: Entry<A>) -> Result<(), RepositoryFault<A>>
-        requires { IsOfObject entry }
+        requires { IsKnown self.old.commits entry }
+        ensures { self.new.commits ≡ self.old.commits }
     {
         let id = entry.id;
         match self.graph.insert(entry) {
@@ -152,9 +168,9 @@ impl<A: Allocator + Copy> History<A> {
         Some(Parent { id, child })
     }
 
-    // Reads an object, and puts it on the path, unless the graph has it. A path that leads back to
+    // Puts an object on the path, unless the graph has it. A path that leads back to
     // itself is cut when it is too long.
-    #[tactic(auto, using(crate::proofs::HistoryLemmas::objects_pushed))]
+    #[tactic(auto, using(crate::proofs::HistoryLemmas::known_pushed))]
     fn reach<F: ObjectFiles>(
         &mut self,
         reader: &mut ObjectReader<'_, F, A>,
@@ -168,16 +184,30 @@ impl<A: Allocator + Copy> History<A> {
         if self.path.len() >= MAX_NODES {
             return Err(RepositoryFault::Objects);
         }
-        let entry = read_entry(self.alloc, reader, parent)?;
+        let entry = self.find(reader, parent)?;
         self.looked.push(0)?;
         self.path.push(entry)?;
         Ok(())
     }
 
+    // The entry of an object: that of a commit as the commit-graph says, or the object is read.
+    fn find<F: ObjectFiles>(
+        &self,
+        reader: &mut ObjectReader<'_, F, A>,
+        parent: Parent,
+    ) -> Result<Entry<A>, RepositoryFault<A>>
+        ensures { IfOk result (λ entry. IsKnown self.now.commits entry) }
+    {
+        match known_entry(self.commits, reader.store(), &parent.id)? {
+            Some(entry) => Ok(entry),
+            None => read_entry(self.alloc, reader, parent),
+        }
+    }
+
     /// The graph of these objects. It fails with `Objects` if an object comes before a parent.
     #[tactic(auto, using(crate::proofs::HistoryLemmas::is_history))]
     pub(crate) fn into_graph(self) -> Result<Graph<A>, RepositoryFault<A>>
-        ensures { IfOk result (λ graph. IsHistory graph) }
+        ensures { IfOk result (λ graph. IsHistory self.entry.commits graph) }
     {
         if self.graph.is_ordered() {
             Ok(self.graph)

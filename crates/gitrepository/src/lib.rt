@@ -1,7 +1,8 @@
 //! A Git directory as a repository: the graph of its commits and tags with refs and HEAD, packs that
 //! go out, and packs that come (gitrepository-layout(5), gitformat-pack(5)).
 //!
-//! - [`open_repository`] reads the graph of all that the refs reach.
+//! - [`open_repository`] answers the graph of all that the refs reach. [`read_commit_graph`] reads
+//!   what says the parents of commits, so that these need not be read.
 //! - A [`StorePacker`] packs commits and tags and what goes with them. Entries of packs go out as
 //!   they lie.
 //! - A [`StoreIndexer`] indexes a pack that comes, and keeps it. [`install_pack`] brings it to the
@@ -11,9 +12,10 @@
 //!
 //! # Proved
 //!
-//! - Each entry of the graph is that of an object. Its id is the SHA-1 of a type and bytes, and its
-//!   parents are those that the bytes name, in order. Parents come first. Each ref is at an object
-//!   of the graph.
+//! - Each entry of the graph is that of an object, or of a commit as the commit-graph says. The id of
+//!   an object is the SHA-1 of a type and bytes, and its parents are those that the bytes name, in
+//!   order. Parents come first. Each ref is at an entry of the graph.
+//! - [`check_refs`] counts a graph in which each entry is that of an object.
 //! - A pack that goes out has a header, as many entries as the header says, and the SHA-1 of all
 //!   bytes before. Each entry has a well-formed head. The pack has at most `MAX_PACK` bytes.
 //! - A pack is accepted only if its trailer is the SHA-1 of all bytes before. Each entry that the
@@ -38,8 +40,10 @@
 //! - A delta names its base by an offset, whether or not the client asks for `ofs-delta`.
 //! - Git looks for signs of an attack on SHA-1 as it computes an id. Here none is looked for.
 //! - A pack that comes has a file `.keep` until refs lead to its objects. Git has one there, too.
-//! - A commit-graph, a multi-pack index, bitmaps, grafts and replace refs are not read. A shallow
-//!   repository, a partial clone, SHA-256 ids, a reftable and an unknown extension are refused.
+//! - The commit-graph of an alternate is not read. `core.commitGraph` counts only in the file `config`
+//!   of the repository.
+//! - A multi-pack index, bitmaps, grafts and replace refs are not read. A shallow repository, a
+//!   partial clone, SHA-256 ids, a reftable and an unknown extension are refused.
 //! - An object that is here counts as complete: what it names is not looked for.
 //!
 //! # What the contracts do not rule out
@@ -48,6 +52,8 @@
 //!   object for another. No clause says which trees and blobs go out. The stream of an entry may be
 //!   any bytes. The reader compares the CRC-32 of each entry that is copied with that of the index,
 //!   but has no clause that says so.
+//! - A commit-graph may lie, and so may the graph then. It is used only for commits that the store
+//!   has; no clause says so, nor from which file it is read.
 //! - The graph might hold more than the refs reach, and a ref might be left out. HEAD has no
 //!   clause.
 //! - [`check_refs`] might look at other objects than those that the refs reach. The graph whose nodes
@@ -66,13 +72,14 @@
 //!
 //! # Stands on
 //!
-//! `gitobjects` for objects, `gitrefs` for refs, `gitpack` for packs, `gitobject` for links, `gzlib`
-//! to deflate. `ggraph` with `gdag`, `gobject` and `grefs` for graphs and packers, `gname` for ids,
+//! `gitobjects` for objects, `gitcommitgraph` for commit-graphs, `gitrefs` for refs, `gitpack` for
+//! packs, `gitobject` for links, `gzlib` to deflate, `gitconfig` for settings. `ggraph` with `gdag`, `gobject` and `grefs` for graphs and packers, `gname` for ids,
 //! `indexmap` for maps by id. The specs cite `sha1`.
 #![tactic(auto)]
 
 mod arrival;
 mod checking;
+mod commit_graph;
 mod copying;
 mod fates;
 mod fault;
@@ -94,6 +101,7 @@ mod stored_folder;
 mod tips;
 
 pub use crate::checking::{Checked, check_refs, check_repository};
+pub use crate::commit_graph::read_commit_graph;
 pub use crate::copying::PackCounts;
 pub use crate::fault::{CheckFault, FormFault, ObjectCause, RepositoryFault};
 pub use crate::folder::{PackFolder, Stage};
@@ -104,6 +112,6 @@ pub use crate::kept::KeptPack;
 pub use crate::leaves::add_leaves;
 pub use crate::memory_folder::{MemoryFolder, PackFile};
 pub use crate::new_repository::NewRepository;
-pub use crate::opening::open_repository;
+pub use crate::opening::{open_refs, open_repository};
 pub use crate::packer::StorePacker;
 pub use crate::tips::Tips;

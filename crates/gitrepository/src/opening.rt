@@ -2,11 +2,13 @@
 
 ghost use Rattle.std.specs.Prelude.{◌≡◌, IfOk, OnOk};
 ghost use Rattle.gdag.specs.Graphs.{Holds};
+ghost use Rattle.gitcommitgraph.specs.Chains.{graph_commits};
 ghost use Rattle.gitrepository.specs.Repositories.{AreHeld, IsHistory};
 
 use crate::fault::RepositoryFault;
 use crate::history::History;
 use ggraph::{Graph, Head, Refs, Repository};
+use gitcommitgraph::CommitGraph;
 use gitobjects::{ObjectFiles, ObjectReader, StoreFault};
 use gitrefs::GitDirectory;
 use gname::{Oid, RefName};
@@ -17,7 +19,8 @@ use std::fs::Files;
 /// parents first. A tree or a blob at which a ref or a tag is counts as a commit without parents. A
 /// ref whose object is not there is left out, as Git leaves it out.
 ///
-/// The reader is that of the same directory. It can be used again after each fault.
+/// The reader is that of the same directory. It can be used again after each fault. A commit of the
+/// commit-graph whose object is there is not read: the commit-graph says its parents.
 ///
 /// It fails with `Refs` if the refs are not read. It fails with `Store` if an object that is
 /// reached is missing or is not read, and with `Object` if one is refused. It fails with `Objects`
@@ -25,25 +28,42 @@ use std::fs::Files;
 pub fn open_repository<R: Files, F: ObjectFiles, A: Allocator + Copy>(
     directory: &GitDirectory<'_, R, A>,
     reader: &mut ObjectReader<'_, F, A>,
+    commits: &CommitGraph<A>,
 ) -> Result<Repository<A>, RepositoryFault<A>>
-    ensures graph { IfOk result (λ repository. IsHistory repository.graph) }
+    ensures graph { IfOk result (λ repository.
+        IsHistory (graph_commits commits.now) repository.graph) }
     ensures refs { IfOk result (λ repository. AreHeld repository.graph repository.refs) }
 {
     let (listed, head) = directory.read_refs()?;
-    let graph = graph_of(reader, &listed, &head)?;
-    let refs = held_refs(reader.store().allocator(), &graph, &listed)?;
+    open_refs(reader, commits, &listed, head)
+}
+
+/// The repository with these refs and HEAD, as [`open_repository`] answers it.
+pub fn open_refs<F: ObjectFiles, A: Allocator + Copy>(
+    reader: &mut ObjectReader<'_, F, A>,
+    commits: &CommitGraph<A>,
+    listed: &Refs<A>,
+    head: Head<A>,
+) -> Result<Repository<A>, RepositoryFault<A>>
+    ensures graph { IfOk result (λ repository.
+        IsHistory (graph_commits commits.now) repository.graph) }
+    ensures refs { IfOk result (λ repository. AreHeld repository.graph repository.refs) }
+{
+    let graph = graph_of(reader, commits, listed, &head)?;
+    let refs = held_refs(reader.store().allocator(), &graph, listed)?;
     Ok(Repository { graph, refs, head })
 }
 
 // The graph of all that the refs and HEAD reach.
 fn graph_of<F: ObjectFiles, A: Allocator + Copy>(
     reader: &mut ObjectReader<'_, F, A>,
+    commits: &CommitGraph<A>,
     refs: &Refs<A>,
     head: &Head<A>,
 ) -> Result<Graph<A>, RepositoryFault<A>>
-    ensures { IfOk result (λ graph. IsHistory graph) }
+    ensures { IfOk result (λ graph. IsHistory (graph_commits commits.now) graph) }
 {
-    let mut history = History::new(reader.store().allocator());
+    let mut history = History::new(reader.store().allocator(), commits);
     for pair in refs.as_slice() {
         if is_there(reader, &pair.1)? {
             history.add(reader, &pair.1)?;

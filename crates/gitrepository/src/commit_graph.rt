@@ -1,0 +1,174 @@
+//! The commit-graph of a Git directory (gitformat-commit-graph(5)).
+
+ghost use Rattle.std.specs.Prelude.{◌≡◌, ◌<◌, All, IfOk, IfSome, Some, length, map};
+ghost use Rattle.std.specs.List.{HoldsAt};
+ghost use Rattle.gitcommitgraph.specs.Chains.{graph_commits};
+ghost use Rattle.gitrepository.specs.Entries.{IsOfCommit, id_at};
+
+use crate::form::{path_of, turns_commit_graph_off};
+use ggraph::{Entry, Kind, MAX_PARENTS, Node, Parents};
+use gitcommitgraph::{CommitGraph, CommitGraphFault, Position, parse_chain};
+use gitobjects::{Cause, ObjectFiles, ObjectStore};
+use gname::{MAX_ID_TEXT, Oid};
+use std::alloc::{AllocError, Allocator};
+
+// The most bytes of the files of a commit-graph: 512 MiB.
+const MAX_FILES: usize = 536_870_912;
+
+// The most bytes of the file `commit-graph-chain`: 1,024 lines.
+const MAX_CHAIN: usize = 41_984;
+
+/// The commit-graph of a Git directory: the file `objects/info/commit-graph`. If that is not read, it
+/// is the chain below `objects/info/commit-graphs`, which ends before the first file that is missing,
+/// too large or malformed. If `core.commitGraph` is off (git-config(1)), it has no commit.
+///
+/// It fails out of memory alone.
+pub fn read_commit_graph<F: ObjectFiles, A: Allocator + Copy>(
+    files: &F,
+    alloc: A,
+    git_dir: &str,
+) -> Result<CommitGraph<A>, AllocError> {
+    let mut commits = CommitGraph::new(alloc);
+    if turns_commit_graph_off(files, alloc, git_dir)? {
+        return Ok(commits);
+    }
+    let path = path_of(alloc, git_dir, "objects/info/commit-graph")?;
+    if add_file(files, alloc, path.as_str(), MAX_FILES, &mut commits)?.is_none() {
+        add_chain(files, alloc, git_dir, &mut commits)?;
+    }
+    Ok(commits)
+}
+
+// Adds the files of the chain.
+fn add_chain<F: ObjectFiles, A: Allocator + Copy>(
+    files: &F,
+    alloc: A,
+    git_dir: &str,
+    commits: &mut CommitGraph<A>,
+) -> Result<(), AllocError> {
+    let folder = path_of(alloc, git_dir, "objects/info/commit-graphs")?;
+    let mut room = MAX_FILES;
+    for checksum in &chain_of(files, alloc, folder.as_str())? {
+        let path = graph_path(alloc, folder.as_str(), checksum)?;
+        match add_file(files, alloc, path.as_str(), room, commits)? {
+            Some(length) => room = room.saturating_sub(length),
+            None => break,
+        }
+    }
+    Ok(())
+}
+
+// The checksums of the files of the chain, the lowest first; none if it is not read.
+fn chain_of<F: ObjectFiles, A: Allocator + Copy>(
+    files: &F,
+    alloc: A,
+    folder: &str,
+) -> Result<Vec<Oid, A>, AllocError> {
+    let path = path_of(alloc, folder, "commit-graph-chain")?;
+    match read_file(files, alloc, path.as_str(), MAX_CHAIN)? {
+        Some(text) => Ok(parse_chain(alloc, text.as_slice())?.unwrap_or(Vec::new(alloc))),
+        None => Ok(Vec::new(alloc)),
+    }
+}
+
+// The path of a file of the chain.
+fn graph_path<A: Allocator + Copy>(
+    alloc: A,
+    folder: &str,
+    checksum: &Oid,
+) -> Result<String<A>, AllocError> {
+    let mut digits = [0; MAX_ID_TEXT];
+    let count = checksum.to_hex(&mut digits);
+    let digits = str::from_utf8(&digits[..count]).unwrap_or("");
+    format!(in alloc; "{folder}/graph-{digits}.graph")
+}
+
+// Adds a file to a commit-graph, and answers how many bytes it has; `None` if it is not added.
+fn add_file<F: ObjectFiles, A: Allocator + Copy>(
+    files: &F,
+    alloc: A,
+    path: &str,
+    most: usize,
+    commits: &mut CommitGraph<A>,
+) -> Result<Option<usize>, AllocError> {
+    let Some(bytes) = read_file(files, alloc, path, most)? else {
+        return Ok(None);
+    };
+    let length = bytes.len();
+    match commits.add(bytes) {
+        Ok(()) => Ok(Some(length)),
+        Err(CommitGraphFault::Memory) => Err(AllocError),
+        Err(_) => Ok(None),
+    }
+}
+
+// The bytes of a file; `None` if it is missing, too large or not read.
+fn read_file<F: ObjectFiles, A: Allocator + Copy>(
+    files: &F,
+    alloc: A,
+    path: &str,
+    most: usize,
+) -> Result<Option<Vec<u8, A>>, AllocError> {
+    match files.read(alloc, path, most) {
+        Ok(bytes) => Ok(bytes),
+        Err(Cause::Memory) => Err(AllocError),
+        Err(_) => Ok(None),
+    }
+}
+
+/// The entry of the commit with this id, as the commit-graph says. It is `None` if the commit-graph or
+/// the store has no such commit, or the commit has more parents than a node.
+///
+/// It fails out of memory alone.
+pub(crate) fn known_entry<F: ObjectFiles, A: Allocator + Copy>(
+    commits: &CommitGraph<A>,
+    store: &ObjectStore<'_, F, A>,
+    id: &Oid,
+) -> Result<Option<Entry<A>>, AllocError>
+    ensures { IfOk result (λ found. IfSome found (λ entry. IsOfCommit (graph_commits commits.now) entry)) }
+{
+    let Some(position) = commits.find(id) else {
+        return Ok(None);
+    };
+    match store.find(id) {
+        Ok(Some(_)) => entry_at(store.allocator(), commits, id, position),
+        _ => Ok(None),
+    }
+}
+
+// The entry of the commit with this id, which is at this position; `None` if it has more parents than
+// a node.
+fn entry_at<A: Allocator + Copy>(
+    alloc: A,
+    commits: &CommitGraph<A>,
+    id: &Oid,
+    position: Position,
+) -> Result<Option<Entry<A>>, AllocError>
+    requires inside { position < length (graph_commits commits.now) }
+    requires id { HoldsAt (λ commit. commit.id ≡ id.now) (graph_commits commits.now) position }
+    ensures { IfOk result (λ found. IfSome found (λ entry. IsOfCommit (graph_commits commits.now) entry)) }
+{
+    let Some(positions) = commits.parents_of(position, MAX_PARENTS)? else {
+        return Ok(None);
+    };
+    let parents = parents_at(alloc, commits, positions.as_slice())?;
+    let kind = Kind::Commit;
+    let node = Node { kind, parents };
+    Ok(Some(Entry { id: *id, node }))
+}
+
+// The ids of the commits at these positions.
+fn parents_at<A: Allocator + Copy>(
+    alloc: A,
+    commits: &CommitGraph<A>,
+    positions: &[Position],
+) -> Result<Parents<A>, AllocError>
+    requires { All (λ position. position < length (graph_commits commits.now)) positions.now }
+    ensures { IfOk result (λ ids. map (id_at (graph_commits commits.now)) positions.now ≡ map Some ids) }
+{
+    let mut parents = Parents::new(alloc);
+    for position in positions {
+        parents.push(commits.id(*position))?;
+    }
+    Ok(parents)
+}
