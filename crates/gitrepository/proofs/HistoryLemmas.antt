@@ -1,6 +1,9 @@
 -- Objects that enter a graph.
-use Rattle.std.proofs.Common.{◌≡◌, ◌⊎◌, inl, inr, Bool, List, [], ◌∷◌, ◌++◌, All, Result, Ok, Err, None, sym, subst}
+use Rattle.std.proofs.Common.{◌≡◌, ◌⊎◌, inl, inr, Bool, List, [], ◌∷◌, ◌++◌, All, Option, None, Some, IfSome, Result, Ok, Err, sym, subst, ◌∙◌}
+use Rattle.std.specs.Option.{option_to_list}
+use Rattle.std.proofs.lemmas.List.{append-nil}
 use Rattle.std.proofs.lemmas.List.Elements.{All-push}
+use Rattle.gname.proofs.ListLemmas.{All-parts}
 use Rattle.gobject.specs.Objects.{node_at}
 use Rattle.gobject.specs.declared.node.Entry.{Entry}
 use Rattle.gdag.specs.Graphs.{History, IsNode, IsOrdered}
@@ -22,6 +25,11 @@ known_inserted commits old new entry (Err fault) adds all this = subst (λ g. Al
 -- each entry stays known where one more that is known comes
 pub known_pushed : {A : Type 0} (commits : List Commit) (old new : List (Entry A)) (entry : Entry A) → new ≡ old ++ entry ∷ [] → All (IsKnown commits) old → IsKnown commits entry → All (IsKnown commits) new
 known_pushed commits old new entry is all this = subst (All (IsKnown commits)) (sym is) (All-push (IsKnown commits) old entry all this)
+
+-- the entries that are left stay known where the last one is taken off, and that one is known
+pub known_popped : {A : Type 0} (commits : List Commit) (old new : List (Entry A)) (last : Option (Entry A)) → old ≡ new ++ option_to_list last → All (IsKnown commits) old → All (IsKnown commits) new × IfSome last (IsKnown commits)
+known_popped commits old new None is all = (subst (All (IsKnown commits)) (is ∙ append-nil new) all, tt)
+known_popped commits old new (Some entry) is all = All-parts (IsKnown commits) new entry (subst (All (IsKnown commits)) is all)
 
 -- a graph of known entries in order is a history
 pub is_history : {A : Type 0} (commits : List Commit) (graph : History A) → All (IsKnown commits) graph.entries → IsOrdered graph.entries → IsHistory commits graph

@@ -144,7 +144,6 @@ impl<'g, A: Allocator + Copy> History<'g, A> {
     }
 
     // Adds an object to the graph.
-    #[tactic(auto, using(crate::proofs::HistoryLemmas::known_inserted))]
     fn insert(&mut self, entry: Entry<A>) -> Result<(), RepositoryFault<A>>
         requires { IsKnown self.old.commits entry }
         ensures { self.new.commits ≡ self.old.commits }
