@@ -98,13 +98,15 @@ def lying_packs(folder, base):
         after = state_of(path)
         if case.is_taken:
             check(f"{case.what}: taken", ran.status == 0 and after[0] != before[0] and not faults_of(path), ran)
-            check(f"{case.what}: cloned", clone.status == 0 and not faults_of(f"{path}-clone"), clone)
         else:
             check(f"{case.what}: refused in a sentence", ran.status == 1 and is_sentence(ran.told), ran)
             check(f"{case.what}: no ref moves", after[0] == before[0], after[0])
             check(f"{case.what}: nothing left behind", case.is_taken is None or after == before, set(after[1]) - set(before[1]))
-            check(f"{case.what}: no clone", clone.status == 1 and not os.path.exists(f"{path}-clone"), clone)
             check(f"{case.what}: fsck", not faults_of(path), faults_of(path))
+        if case.is_cloned:
+            check(f"{case.what}: cloned", clone.status == 0 and not faults_of(f"{path}-clone"), clone)
+        else:
+            check(f"{case.what}: no clone", clone.status == 1 and not os.path.exists(f"{path}-clone"), clone)
         shutil.rmtree(path)
         shutil.rmtree(f"{path}-clone", ignore_errors=True)
     print(f"packs: the slowest in {worst[0]:.1f} s ({worst[1]})", flush=True)

@@ -62,10 +62,14 @@ NEW = [(TIP, b"refs/heads/new")]
 
 
 class Case:
-    """A pack, the refs that its server has, and whether it is taken; `None` where its objects may stay, but no ref may move."""
+    """A pack, the refs that its server has, and whether it is taken; `None` where its objects may stay, but no ref may move.
 
-    def __init__(self, what, pack, refs=NEW, is_taken=False):
+    A clone takes what a fetch takes, unless it is said to take more.
+    """
+
+    def __init__(self, what, pack, refs=NEW, is_taken=False, is_cloned=False):
         self.what, self.pack, self.refs, self.is_taken = what, pack, refs, is_taken
+        self.is_cloned = is_taken or is_cloned
 
 
 def zip_bomb(megabytes):
@@ -133,8 +137,9 @@ def names():
     ):
         yield Case(f"a ref named {name[:40]!r}", GOOD, [(TIP, name)])
     yield Case("a ref below a ref", GOOD, [(TIP, b"refs/heads/d"), (TIP, b"refs/heads/d/e")], None)
-    yield Case("a ref below one that is here", GOOD, [(TIP, b"refs/heads/old/e")], None)
-    yield Case("a ref twice", GOOD, [(TIP, b"refs/heads/d"), (id_of("tree", TREE), b"refs/heads/d")], None)
+    yield Case("a ref below one that is here", GOOD, [(TIP, b"refs/heads/old/e")], None, is_cloned=True)
+    # Its first line counts.
+    yield Case("a ref twice", GOOD, [(TIP, b"refs/heads/d"), (id_of("tree", TREE), b"refs/heads/d")], is_taken=True)
     yield Case("a branch at a tree that is not sent", GOOD, [(b"\x12" * 20, b"refs/heads/d")])
 
 
