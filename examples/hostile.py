@@ -21,7 +21,7 @@ from lies import cases, progress, spoken, Liar, listing, packfile
 PROGRAM = os.path.abspath(sys.argv[1])
 HEADS, TAGS = "+refs/heads/*:refs/heads/*", "+refs/tags/*:refs/tags/*"
 # The most memory of a process, in MB, and the most seconds of a run that is refused.
-MEMORY, SECONDS = 600, 60
+MEMORY, SECONDS = 600, 90
 KILLS = 40
 CHANGES = 12
 tried = 0
