@@ -9,7 +9,7 @@ use Rattle.std.proofs.lemmas.List.Elements.{All-nil, All-cons}
 use Rattle.std.proofs.lemmas.List.Sums.{sum_by-cons, sum_by-le}
 use Rattle.gobject.specs.declared.node.Entry.{Entry}
 use Rattle.gdag.proofs.Holding.{mapped_from}
-use Rattle.gwalk.specs.steps.Walks.{marked, parents_in}
+use Rattle.gwalk.specs.Walks.{marked, parents_in}
 
 pub marked_none : {A : Type 0} (g : List (Entry A)) (n : ℕ) → marked g (replicate n false) ≡ []
 marked_none [] n = refl

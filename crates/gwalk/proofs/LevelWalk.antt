@@ -7,6 +7,7 @@ use Rattle.gdag.specs.Levels.{new_ids, parents_of, parents_of_each, level, level
 use Rattle.gdag.proofs.IdLists.{either_way, with_new, with_new-old, with_new-new}
 use Rattle.gdag.proofs.LevelReach.{in_reached, reached_in}
 use Rattle.gdag.specs.Reach.{SomeReaches}
+use Rattle.gwalk.specs.Offers.{IsWalked}
 use Rattle.std.proofs.Common.{Contains, subst}
 
 -- ---- a list of ids with those of others that are new to it
@@ -22,18 +23,6 @@ with_new-append s (x ∷ xs) ys =
     (λ e. with_new-new s x (xs ++ ys) e ∙ with_new-append (s ++ x ∷ []) xs ys ∙ ap (λ l. with_new l ys) (sym (with_new-new s x xs e)))
 
 -- ---- the walk
-
--- the walk stands in level k, at its position `at` of all ids: the ids of the levels down to there are those taken up
--- and the rest; after them stand new parents; and with the parents of the rest the next level would be whole
-pub record IsWalked {A : Type 0} (g : List (Entry A)) (tips ids : List (List ℕ)) (at : ℕ) : Type 0 where
-  pub k : ℕ
-  pub done : List (List ℕ)
-  pub rest : List (List ℕ)
-  pub more : List (List ℕ)
-  pub levels : levels_below g tips (suc k) ≡ done ++ rest
-  pub has : ids ≡ (done ++ rest) ++ more
-  pub place : length done ≡ at
-  pub ahead : with_new ids (parents_of_each g rest) ≡ levels_below g tips (suc (suc k))
 
 module _ {A : Type 0} (g : List (Entry A)) (tips : List (List ℕ)) where
   pub walk_begins : (ids : List (List ℕ)) → ids ≡ [] ++ new_ids [] tips → IsWalked g tips ids 0

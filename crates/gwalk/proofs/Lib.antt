@@ -1,4 +1,5 @@
 pub mod Counting
+pub mod Hearing
 pub mod LevelWalk
 pub mod Looking
 pub mod Marking

@@ -9,15 +9,16 @@ use Rattle.gobject.specs.Objects.{node_at, place_of}
 use Rattle.gdag.specs.Reach.{Reaches, SomeReaches}
 use Rattle.gdag.specs.Levels.{new_ids, parents_of, parents_of_each}
 use Rattle.gwalk.specs.steps.Common.{AreGoals, ids_at}
-use Rattle.gwalk.specs.steps.Walks.{HasMet, places}
+use Rattle.gwalk.specs.Walks.{HasMet, places}
 use Rattle.gdag.proofs.IdLists.{nothing_in_nil, new_ids-from, new_ids-has, contains_head, contains_cases, only_one, with_new}
 use Rattle.gdag.proofs.LevelLaws.{parent_from}
 use Rattle.gdag.proofs.LevelReach.{in_reached}
 use Rattle.gdag.proofs.Reaching.{node_at_none, held_at_place, reaches_parent}
-use Rattle.gwalk.proofs.LevelWalk.{IsWalked, reached_met}
+use Rattle.gwalk.specs.Offers.{IsUnderway, IsWalked}
+use Rattle.gwalk.proofs.LevelWalk.{reached_met}
 use Rattle.gdag.proofs.Choosing.{filter_selects, select_from, select_has}
 use Rattle.gwalk.proofs.Reached.{found_at}
-use Rattle.gwalk.proofs.Walking.{IsUnderway, IsNext, none_left, ends_levels, place_cases, placed}
+use Rattle.gwalk.proofs.Walking.{IsNext, none_left, ends_levels, place_cases, placed}
 
 -- ---- the goals
 

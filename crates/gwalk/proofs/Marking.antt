@@ -12,7 +12,7 @@ use Rattle.gobject.specs.declared.node.Entry.{Entry}
 use Rattle.gdag.specs.Reach.{IsFull, SomeReaches}
 use Rattle.gdag.specs.Sending.{IsNew}
 use Rattle.gwalk.specs.Marks.{AreFull, MarksReached}
-use Rattle.gwalk.specs.steps.Walks.{AreMarked, marked}
+use Rattle.gwalk.specs.Walks.{AreMarked, marked}
 use Rattle.gdag.proofs.Reaching.{reaches_on}
 
 pub none_in : (p : ℕ) → get_or [] p false ≡ false

@@ -1,23 +1,25 @@
 -- The offer by the marks of two walks, as far as a walk from the tips went.
-use Rattle.std.proofs.Common.{◌≡◌, ◌↔◌, ℕ, zero, suc, ◌≤◌, Bool, true, false, ◌&&◌, not, cond, List, [], ◌∷◌, ◌++◌, length, get_or, take, filter, is_some, Contains, Option, Some, refl, sym, ap, ap₂, ◌∙◌, arith, append_assoc, append-nil, take_all}
+use Rattle.std.proofs.Common.{◌≡◌, ◌↔◌, inl, inr, ℕ, zero, suc, ◌≤◌, Bool, true, false, ◌&&◌, not, cond, List, [], ◌∷◌, ◌++◌, length, get_or, take, filter, is_some, All, Contains, Option, Some, refl, sym, subst, ap, ap₂, ◌∙◌, arith, append_assoc, append-nil, take_all}
 use Rattle.std.proofs.Math.Seq.{take-append_seam}
 use Rattle.std.specs.List.{slice_get}
 use Rattle.std.specs.Option.{option_map}
-use Rattle.std.proofs.lemmas.List.Elements.{filter-append}
+use Rattle.std.proofs.lemmas.List.Elements.{All-head, All-tail, Contains-append_left, Contains-append_right, Contains-get_or, filter-append}
 use Rattle.gobject.specs.declared.node.Entry.{Entry}
 use Rattle.gobject.specs.Objects.{node_at, place_of}
 use Rattle.gdag.specs.Levels.{is_in, new_ids, parents_of_each, level, levels_below, AreLevels}
 use Rattle.gdag.specs.Laws.{LevelsAreDistances}
 use Rattle.gdag.specs.Offer.{IsOffer, MayBeOffered}
-use Rattle.gwalk.specs.steps.Walks.{HasMet, places}
-use Rattle.gdag.proofs.IdLists.{either_way, contains_from_in, in_from_contains, absent_from_in}
+use Rattle.gwalk.specs.Offers.{AreReached, IsUnderway, IsWalked}
+use Rattle.gwalk.specs.Walks.{HasMet, places}
+use Rattle.gwalk.specs.steps.Offers.{HasMarks}
+use Rattle.gdag.proofs.IdLists.{either_way, contains_cases, contains_from_in, contains_head, contains_tail, in_from_contains, nothing_in_nil, absent_from_in}
 use Rattle.gdag.proofs.Reaching.{node_at_none, held_at_place}
-use Rattle.gwalk.proofs.LevelWalk.{IsWalked, met_reached, reached_met}
+use Rattle.gwalk.proofs.LevelWalk.{met_reached, reached_met}
 use Rattle.gdag.proofs.Choosing.{filter_selects}
 use Rattle.std.proofs.lemmas.Bool.{and_parts, and_from, not-true, not_from_false, false_from_ne_true}
 use Rattle.gwalk.proofs.Looking.{new_same}
 use Rattle.gwalk.proofs.Reached.{found_at}
-use Rattle.gwalk.proofs.Walking.{IsUnderway, IsNext, ends_levels, none_left, placed}
+use Rattle.gwalk.proofs.Walking.{IsNext, ends_levels, none_left, placed}
 
 -- ---- the test, where `reached` is all ids that a common id reaches
 
@@ -52,27 +54,56 @@ module _ {A : Type 0} (g : List (Entry A)) (commons reached sent : List (List �
     first = e;
   }
 
+  -- none of the ids may be offered
+  pub none_told : (ids : List (List ℕ)) → All (λ a. ¬ (MayBeOffered g commons sent a)) ids → [] ≡ filter (is_untold g reached sent) ids
+  none_told [] told = refl
+  none_told (b ∷ bs) told =
+      let P : List ℕ → Type 0 = λ a. ¬ (MayBeOffered g commons sent a) in
+      let no : is_untold g reached sent b ≡ false = false_from_ne_true _ (λ e. All-head P b bs told (untold_from b e)) in
+      rw no (none_told bs (All-tail P b bs told))
+
+  kept : (ids : List (List ℕ)) (a : List ℕ) → Contains ids a → is_untold g reached sent a ≡ true → Contains (filter (is_untold g reached sent) ids) a
+  kept [] a there e = nothing_in_nil a there
+  kept (b ∷ bs) a there e =
+      let T = is_untold g reached sent in
+      elim (contains_cases b bs a there) [
+        | inl same ↦
+            subst (λ (x : List ℕ). Contains (filter T (x ∷ bs)) a) (sym same)
+            (subst (λ (c : Bool). Contains (cond c (a ∷ filter T bs) (filter T bs)) a) (sym e) (contains_head a (filter T bs)))
+        | inr later ↦
+            let k = kept bs a later e in
+            let P : Bool → Type 0 = λ c. Contains (cond c (b ∷ filter T bs) (filter T bs)) a in
+            either_way (T b) (λ t. subst P (sym t) (contains_tail b (filter T bs) a k)) (λ f. subst P (sym f) k)
+      ]
+
+  -- and once those that may be are sent, none may be
+  pub told_after : (ids list : List (List ℕ)) → list ≡ filter (is_untold g reached sent) ids → All (λ a. ¬ (MayBeOffered g commons (sent ++ list) a)) ids
+  told_after ids list is = λ k d low may.
+      let a = get_or ids k d in
+      let before : MayBeOffered g commons sent a =
+      record { held = may.held; unknown = may.unknown; unsent = λ c. may.unsent (Contains-append_left sent list a c) } in
+      let there = kept ids a (Contains-get_or ids k d low) (untold_to a before) in
+      may.unsent (Contains-append_right sent list a (subst (λ (l : List (List ℕ)). Contains l a) (sym is) there))
+
 -- ---- the test by marks
 
 same_bool : (b : Bool) (ids : List (List ℕ)) (a : List ℕ) → (b ≡ true) ↔ Contains ids a → b ≡ is_in ids a
 same_bool true ids a h = sym (in_from_contains ids a (h.0 refl))
 same_bool false ids a h = either_way (is_in ids a) (λ e. h.1 (contains_from_in ids a e) ∙ sym e) (λ e. sym e)
 
-mark_is : {A : Type 0} (g : List (Entry A)) (ids : List (List ℕ)) (marks : List Bool) (met : List ℕ) (lost : Option (List ℕ)) (parents : ℕ) (a : List ℕ) (p : ℕ) → HasMet g ids marks met lost parents → place_of g a ≡ Some p → get_or marks p false ≡ is_in ids a
-mark_is g ids marks met lost parents a p h e = same_bool (get_or marks p false) ids a (h.marked a p e)
-
--- an id is one of the distinct ones where it is one of them
-distinct_in : (ids : List (List ℕ)) (a : List ℕ) → is_in (new_ids [] ids) a ≡ is_in ids a
-distinct_in ids a =
-    same_bool (is_in (new_ids [] ids) a) ids a (
-      λ t. (new_same ids a).0 (contains_from_in (new_ids [] ids) a t),
-      λ c. in_from_contains (new_ids [] ids) a ((new_same ids a).1 c),
-    )
-
-pub untold_is : {A : Type 0} (g : List (Entry A)) (reached others : List (List ℕ)) (known sent : List Bool) (met met2 : List ℕ) (lost lost2 : Option (List ℕ)) (parents parents2 : ℕ) (a : List ℕ) (p : ℕ) → HasMet g reached known met lost parents → HasMet g (new_ids [] others) sent met2 lost2 parents2 → place_of g a ≡ Some p → is_untold g reached others a ≡ (not (get_or known p false) && not (get_or sent p false))
-untold_is g reached others known sent met met2 lost lost2 parents parents2 a p h h2 e =
+pub untold_is : {A : Type 0} (g : List (Entry A)) (commons reached others : List (List ℕ)) → AreLevels g commons reached → (known sent : List Bool) → AreReached g commons known → HasMarks g others sent → (a : List ℕ) (p : ℕ) → place_of g a ≡ Some p → is_untold g reached others a ≡ (not (get_or known p false) && not (get_or sent p false))
+untold_is g commons reached others levels known sent are marks a p e =
     let held : is_some (node_at g a) ≡ true = held_at_place g a p e in
-    rw (held, mark_is g reached known met lost parents a p h e, mark_is g (new_ids [] others) sent met2 lost2 parents2 a p h2 e, distinct_in others a) refl
+    let one : get_or known p false ≡ is_in reached a =
+    same_bool (get_or known p false) reached a
+    (λ t. reached_met g commons reached levels a ((are a p e).0 t), λ c. (are a p e).1 (met_reached g commons reached levels a c)) in
+    let other : get_or sent p false ≡ is_in others a = same_bool (get_or sent p false) others a (marks a p e) in
+    rw (held, one, other) refl
+
+-- what a walk met that went no further
+pub sent_marks : {A : Type 0} (g : List (Entry A)) (ids : List (List ℕ)) (marks : List Bool) (met : List ℕ) (lost : Option (List ℕ)) (parents : ℕ) → HasMet g (new_ids [] ids) marks met lost parents → HasMarks g ids marks
+sent_marks g ids marks met lost parents h a p e =
+    (λ t. (new_same ids a).0 ((h.marked a p e).0 t), λ c. (h.marked a p e).1 ((new_same ids a).1 c))
 
 -- ids that are not held are not offered
 none_untold : {A : Type 0} (g : List (Entry A)) (reached others ids : List (List ℕ)) → places g ids ≡ [] → filter (is_untold g reached others) ids ≡ []
@@ -141,6 +172,11 @@ module _ {A : Type 0} (g : List (Entry A)) (tips reached others : List (List ℕ
         filter-append T front back ∙ ap₂ (λ k l. k ++ l) (sym is) (none_untold g reached others back none) ∙ append-nil list in
         let cut : take n (filter T (front ++ back)) ≡ list = ap (take n) whole ∙ take_all n list few in
         offer_by_filter g commons reached others levels tips (front ++ back) all n list (sym cut)
+
+-- all levels about some tips
+pub all_levels : {A : Type 0} → LevelsAreDistances A → (g : List (Entry A)) (tips : List (List ℕ)) → (ids : List (List ℕ)) × AreLevels g tips ids
+all_levels law g tips =
+    let end = (law g tips).ends in (levels_below g tips end.0, record { count = end.0; joined = refl; last = end.1 })
 
 -- the id at the position of an id is that id
 pub id_taken : {A : Type 0} (g : List (Entry A)) (a b : List ℕ) (p : ℕ) → place_of g a ≡ Some p → option_map (λ (entry : Entry A). entry.id) (slice_get g p) ≡ Some b → b ≡ a

@@ -14,7 +14,7 @@ use Rattle.gdag.proofs.Holding.{own_place}
 use Rattle.gwalk.specs.Marks.{CountsPast, IsUnmarked, SomeReachesPast, StopsAtMarks, stop_at}
 use Rattle.gwalk.proofs.Reached.{past_from, past_to}
 use Rattle.gwalk.proofs.Stopping.{bare_if}
-use Rattle.gwalk.specs.steps.Walks.{parents_in}
+use Rattle.gwalk.specs.Walks.{parents_in}
 
 -- a mark says of each entry whether it is left
 abbrev Marks : {A : Type 0} → (Entry A → Type 0) → List Bool → List (Entry A) → Type 0

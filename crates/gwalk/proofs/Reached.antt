@@ -18,7 +18,7 @@ use Rattle.gtopowalk.proofs.Places.{entry_there}
 use Rattle.gdag.proofs.IdLists.{either_way, nothing_in_nil}
 use Rattle.gdag.proofs.Holding.{held_node, not_held, own_place, mapped_from}
 use Rattle.std.proofs.Common.{All, zero, ◌++◌, ◌≡◌}
-use Rattle.gwalk.specs.steps.Walks.{IsWalk, AreMarked, marked}
+use Rattle.gwalk.specs.Walks.{IsWalk, AreMarked, marked}
 use Rattle.gdag.proofs.Reaching.{held_at_place, node_at_place, place_inside, kept_along, some_reaches, place_of_node}
 use Rattle.gwalk.proofs.LevelWalk.{met_reached, reached_met}
 use Rattle.gwalk.proofs.Stopping.{bare_if, stop_place, stop_slice, stopped_entry}

@@ -9,7 +9,7 @@ use Rattle.gdag.specs.Peeling.{IsTagOf, IsCommit, Tags, PeelsTo}
 use Rattle.gdag.specs.Selecting.{Selects}
 use Rattle.gdag.specs.Sending.{IsNew, IsTagToSend, IsToSend}
 use Rattle.gwalk.specs.steps.Tags.{AreTagged, IsTagAmong, IsTagFrom, LeadsToMarked}
-use Rattle.gwalk.specs.steps.Walks.{AreMarked, marked}
+use Rattle.gwalk.specs.Walks.{AreMarked, marked}
 use Rattle.gdag.proofs.Holding.{own_place}
 use Rattle.gdag.proofs.PeelLemmas.{onward, rest_of, tags_more, tags_on}
 use Rattle.gdag.proofs.Reaching.{place_inside, place_same}

@@ -14,13 +14,14 @@ use Rattle.gobject.specs.declared.node.Entry.{Entry}
 use Rattle.gobject.specs.Objects.{place_of}
 use Rattle.gdag.specs.Graphs.{Holds}
 use Rattle.gdag.specs.Levels.{is_in, new_ids, parents_of, AreLevels}
-use Rattle.gwalk.specs.steps.Walks.{HasMet, IsLost, IsWalk, parents_in, places}
+use Rattle.gwalk.specs.Offers.{IsUnderway, IsWalked}
+use Rattle.gwalk.specs.Walks.{HasMet, IsLost, IsWalk, parents_in, places}
 use Rattle.gdag.proofs.IdLists.{either_way, nothing_in_nil, in_or_not, in_from_contains, new_ids-old, new_ids-new, contains_from_in, with_new}
 use Rattle.gdag.proofs.Growing.{take_one}
 use Rattle.gdag.proofs.Reaching.{place_inside, place_same, node_at_none, held_at_place}
 use Rattle.gdag.proofs.Holding.{mapped_from}
 use Rattle.gwalk.proofs.Counting.{marked_none, marked_more, marked_few}
-use Rattle.gwalk.proofs.LevelWalk.{with_new-nil, with_new-append, IsWalked, walk_begins, walk_goes, walk_ends}
+use Rattle.gwalk.proofs.LevelWalk.{with_new-nil, with_new-append, walk_begins, walk_goes, walk_ends}
 use Rattle.gtopowalk.proofs.Places.{parents_are}
 
 -- an id has a position or has none
@@ -160,12 +161,7 @@ pub with_one_more : (before ids : List (List ℕ)) (i : ℕ) (x : List ℕ) → 
 with_one_more before ids i x inside is =
     ap (λ l. with_new before l) (take_one ids i x inside is) ∙ with_new-append before (take i ids) (x ∷ [])
 
--- ---- the walk: the ids of the front were taken up, those of the back were not
-
-pub record IsUnderway {A : Type 0} (g : List (Entry A)) (starts front back : List (List ℕ)) (marks : List Bool) (met : List ℕ) (lost : Option (List ℕ)) (parents at : ℕ) : Type 0 where
-  pub walked : IsWalked g starts (front ++ back) (length front)
-  pub has_met : HasMet g (front ++ back) marks met lost parents
-  pub place : length (places g front) ≡ at
+-- ---- the walk
 
 pub underway : {A : Type 0} (g : List (Entry A)) (starts : List (List ℕ)) (marks : List Bool) (met : List ℕ) (lost : Option (List ℕ)) (parents : ℕ) → HasMet g (with_new [] starts) marks met lost parents → IsUnderway g starts [] (with_new [] starts) marks met lost parents 0
 underway g starts marks met lost parents h = record {

@@ -1,2 +1,4 @@
 pub mod Marks
+pub mod Offers
+pub mod Walks
 pub mod steps

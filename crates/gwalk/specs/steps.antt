@@ -1,4 +1,4 @@
 -- The steps: what only private functions and proofs speak of.
 pub mod Common
+pub mod Offers
 pub mod Tags
-pub mod Walks

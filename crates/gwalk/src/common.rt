@@ -9,7 +9,7 @@ ghost use Rattle.gdag.specs.Reach.{Reaches};
 ghost use Rattle.gdag.specs.Walks.{IsReady, common_of};
 ghost use Rattle.gdag.specs.declared.fault.GraphFault.TheVariants.{Memory};
 ghost use Rattle.gwalk.specs.steps.Common.{AreGoals, ids_at};
-ghost use Rattle.gwalk.specs.steps.Walks.{HasMet};
+ghost use Rattle.gwalk.specs.Walks.{HasMet};
 
 use crate::walk::Walk;
 use gdag::{Graph, GraphFault};

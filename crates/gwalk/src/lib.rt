@@ -17,7 +17,8 @@
 //! - [`send_list`] and [`send_list_tags`] answer the list to send, without tags and with those of the refs. Its
 //!   entries are a graph's: their ids differ and are of the graph's format.
 //! - [`haves`] answers the offer: the first so many held ids of the levels about the tips that no common id
-//!   reaches and that were not sent.
+//!   reaches and that were not sent. [`Offers`] answers one such offer after the other, each with those before it as sent,
+//!   by one walk that goes on.
 //! - `Memory` is the only fault. No call panics, overflows or reads out of bounds, and each returns.
 //!
 //! # What the contracts do not rule out
@@ -48,5 +49,5 @@ mod walk;
 pub use crate::ancestry::{Count, missing, missing_counted, missing_known};
 pub use crate::common::{common_ids, reaches, ready};
 pub use crate::marks::{FullMarks, mark_full};
-pub use crate::offer::haves;
+pub use crate::offer::{Offers, haves};
 pub use crate::sending::{send_list, send_list_tags};

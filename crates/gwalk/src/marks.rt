@@ -72,8 +72,8 @@ pub fn mark_full<A: Allocator + Copy>(
     Ok(())
 }
 
-// A mark where one of the two has it.
-fn either<A: Allocator + Copy>(
+/// A mark where one of the two has it. It fails where there is no memory.
+pub fn either<A: Allocator + Copy>(
     reached: Vec<bool, A>,
     old: &[bool],
 ) -> Result<Vec<bool, A>, AllocError>

@@ -1,18 +1,21 @@
 //! The ids that a client offers as haves.
 
-ghost use Rattle.std.specs.Prelude.{◌≡◌, ◌<◌, [], IfOk, IfErr, List, length, not, ◌&&◌, slice_index_or, false};
+ghost use Rattle.std.specs.Prelude.{◌≡◌, ◌≤◌, ◌++◌, [], All, IfOk, IfErr, List, OnOk, length, not, ◌&&◌, slice_index_or, false};
 ghost use Rattle.gname.specs.Ids.{Id};
-ghost use Rattle.gdag.specs.Levels.{AreLevels, new_ids};
-ghost use Rattle.gdag.specs.Offer.{IsOffer};
+ghost use Rattle.gdag.specs.Levels.{new_ids};
+ghost use Rattle.gdag.specs.Offer.{IsOffer, MayBeOffered};
 ghost use Rattle.gdag.specs.declared.fault.GraphFault.TheVariants.{Memory};
-ghost use Rattle.gwalk.specs.steps.Walks.{HasMet};
+ghost use Rattle.gwalk.specs.Offers.{AreOffers, AreReached, IsUnderway};
+ghost use Rattle.gwalk.specs.steps.Offers.{GoesOn, HasMarks};
 
 use crate::common::met_of;
-use crate::walk::{Walk, walk_from};
+use crate::laws::stops_at_marks;
+use crate::marks::{either, is_marked};
+use crate::walk::{Walk, walk_past};
 use gdag::laws::levels_are_distances;
 use gdag::{Graph, GraphFault};
 use gname::Oid;
-use std::alloc::{AllocError, Allocator};
+use std::alloc::{AllocError, Allocator, Global};
 
 /// The ids to offer as haves to another end that has `commons` (gitprotocol-v2(5), "fetch": `have`): the
 /// first `n` held ids, level by level, that no id of `commons` reaches and that are not in `sent`.
@@ -31,57 +34,143 @@ pub fn haves<A: Allocator + Copy>(
         IsOffer graph.now.entries tips.now commons.now sent.now n ids.items) }
     ensures fault { IfErr result (λ fault. fault ≡ Memory) }
 {
-    let known = walk_from(graph, commons)?;
-    let sent = met_of(graph, sent)?;
-    Ok(first_untold(graph, tips, &known, &sent, n)?)
+    let mut offers = Offers::new(graph, tips, sent)?;
+    let ids = offers.next(graph, commons, n)?;
+    Ok(ids)
 }
 
-// Whether neither walk has met the id at the position.
-fn is_untold<A: Allocator + Copy>(known: &Walk<A>, sent: &Walk<A>, number: usize) -> bool
-    requires known { number < length known.now.marks.items }
-    requires sent { number < length sent.now.marks.items }
-    ensures { result ≡ (not (slice_index_or known.now.marks.items number false) &&
-        not (slice_index_or sent.now.marks.items number false)) }
+/// A walk from some tips, and how many of the ids that it met were taken up.
+#[derive(Drop)]
+pub(crate) struct Tour<A: Allocator + Copy> {
+    pub(crate) walk: Walk<A>,
+    pub(crate) at: usize,
+}
+
+/// Ids that are offered as haves batch by batch, level by level from some tips. The walk goes on where it was, so all
+/// batches together cost what one walk costs.
+#[derive(Drop)]
+pub struct Offers<A: Allocator + Copy = Global> {
+    tour: Tour<A>,
+    // A mark at the position of each held id that a common id reaches.
+    known: Vec<bool, A>,
+    // How many ids are common.
+    heard: usize,
+    // The ids that were offered.
+    sent: Walk<A>,
+}
+
+impl<A: Allocator + Copy> Offers<A> {
+    /// Begins at the tips, where these ids were offered before and none is common yet.
+    ///
+    /// It fails with `Memory` alone.
+    pub fn new(graph: &Graph<A>, tips: &[Oid], sent: &[Oid]) -> Result<Offers<A>, GraphFault>
+        ensures offers { IfOk result (AreOffers graph.now.entries tips.now [] sent.now) }
+        ensures fault { IfErr result (λ fault. fault ≡ Memory) }
+    {
+        let mut walk = Walk::new(graph)?;
+        walk.meet_all(graph, &[], tips)?;
+        let sent = met_of(graph, sent)?;
+        Ok(Offers {
+            tour: Tour { walk, at: 0 },
+            known: Vec::new(graph.allocator()),
+            heard: 0,
+            sent,
+        })
+    }
+
+    /// The next batch: what [`haves`] answers where these ids are common and all batches before were sent. The common
+    /// ids begin with those of the call before, and the graph is the same.
+    ///
+    /// It fails with `Memory` alone, and then is of no more use.
+    pub fn next(
+        &mut self,
+        graph: &Graph<A>,
+        commons: &[Oid],
+        n: usize,
+    ) -> Result<Vec<Oid, A>, GraphFault>
+        requires { (tips first rest sent : List Id) × (commons.now ≡ first ++ rest)
+            × AreOffers graph.now.entries tips first sent self.old }
+        ensures answer { IfOk result (λ ids. (tips first rest sent : List Id)
+            → commons.now ≡ first ++ rest
+            → AreOffers graph.now.entries tips first sent self.old
+            → IsOffer graph.now.entries tips commons.now sent n ids.items
+            × AreOffers graph.now.entries tips commons.now (sent ++ ids.items) self.new) }
+        ensures fault { IfErr result (λ fault. fault ≡ Memory) }
+    {
+        // Laws.
+        graph.laws();
+        self.hear(graph, commons)?;
+        let known = self.known.as_slice();
+        let sent = self.sent.marks.as_slice();
+        let ids = first_untold(graph, &mut self.tour, known, sent, n)?;
+        self.sent.meet_all(graph, &[], ids.as_slice())?;
+        Ok(ids)
+    }
+
+    // Marks what the common ids reach, of which the first ones were heard before.
+    fn hear(&mut self, graph: &Graph<A>, commons: &[Oid]) -> Result<(), AllocError>
+        requires { (tips first rest sent : List Id) × (commons.now ≡ first ++ rest)
+            × AreOffers graph.now.entries tips first sent self.old }
+        ensures { OnOk result ((tips first rest sent : List Id) → commons.now ≡ first ++ rest
+            → AreOffers graph.now.entries tips first sent self.old
+            → AreOffers graph.now.entries tips commons.now sent self.new) }
+    {
+        // Laws.
+        stops_at_marks::<A>();
+        if self.heard >= commons.len() {
+            return Ok(());
+        }
+        let walk = walk_past(graph, self.known.as_slice(), &commons[self.heard..])?;
+        self.known = either(walk.marks, self.known.as_slice())?;
+        self.heard = commons.len();
+        Ok(())
+    }
+}
+
+// Whether the id at the position is marked neither as known nor as sent.
+fn is_untold(known: &[bool], sent: &[bool], number: usize) -> bool
+    ensures { result ≡ (not (slice_index_or known.now number false) &&
+        not (slice_index_or sent.now number false)) }
 {
-    !known.marks[number] && !sent.marks[number]
+    !is_marked(known, number) && !is_marked(sent, number)
 }
 
-// The first `n` ids of the levels about the tips that neither walk has met.
+// The first `n` ids that are untold of those that the tour goes on to.
 fn first_untold<A: Allocator + Copy>(
     graph: &Graph<A>,
-    tips: &[Oid],
-    known: &Walk<A>,
-    sent: &Walk<A>,
+    tour: &mut Tour<A>,
+    known: &[bool],
+    sent: &[bool],
     n: usize,
 ) -> Result<Vec<Oid, A>, AllocError>
-    requires known { (ids : List Id) × HasMet graph.now.entries ids
-        known.now.marks.items known.now.met.items known.now.lost known.now.parents }
-    requires sent { (ids : List Id) × HasMet graph.now.entries ids
-        sent.now.marks.items sent.now.met.items sent.now.lost sent.now.parents }
-    ensures { IfOk result (λ list. (commons reached others : List Id) →
-        AreLevels graph.now.entries commons reached →
-        HasMet graph.now.entries reached
-        known.now.marks.items known.now.met.items known.now.lost known.now.parents →
-        HasMet graph.now.entries (new_ids [] others)
-        sent.now.marks.items sent.now.met.items sent.now.lost sent.now.parents →
-        IsOffer graph.now.entries tips.now commons others n list.items) }
+    requires { (tips front back : List Id)
+        × IsUnderway graph.now.entries tips front back tour.old.walk.marks.items
+        tour.old.walk.met.items tour.old.walk.lost tour.old.walk.parents tour.old.at }
+    ensures { IfOk result (λ list. (tips front back commons others : List Id)
+        → IsUnderway graph.now.entries tips front back tour.old.walk.marks.items
+        tour.old.walk.met.items tour.old.walk.lost tour.old.walk.parents tour.old.at
+        → AreReached graph.now.entries commons known.now
+        → HasMarks graph.now.entries others sent.now
+        → All (λ a. ¬ (MayBeOffered graph.now.entries commons others a)) front
+        → GoesOn graph.now.entries tips commons others n list.items tour.new) }
 {
     // Laws.
     levels_are_distances::<A>();
+    graph.laws();
     let mut list = Vec::new(graph.allocator());
-    let mut walk = Walk::new(graph)?;
-    walk.meet_all(graph, &[], tips)?;
-    let mut at = 0;
-    while at < walk.met.len() {
+    let mut at = tour.at;
+    while at < tour.walk.met.len() {
         if list.len() == n {
+            tour.at = at;
             return Ok(list);
         }
-        let number = walk.met[at];
+        let number = tour.walk.met[at];
         if is_untold(known, sent, number) {
             list.push(*graph.id_at(number))?;
         }
-        walk.meet_all(graph, &[], graph.parents(number))?;
+        tour.walk.meet_all(graph, &[], graph.parents(number))?;
         at += 1;
     }
+    tour.at = at;
     Ok(list)
 }

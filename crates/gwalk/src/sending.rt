@@ -9,7 +9,7 @@ ghost use Rattle.gdag.specs.Peeling.{IsTagOf, PeelsTo};
 ghost use Rattle.gdag.specs.Sending.{IsListToSend, IsNew};
 ghost use Rattle.gdag.specs.declared.fault.GraphFault.TheVariants.{Memory};
 ghost use Rattle.gwalk.specs.steps.Tags.{AreTagged, IsTagFrom, LeadsToMarked};
-ghost use Rattle.gwalk.specs.steps.Walks.{AreMarked, marked};
+ghost use Rattle.gwalk.specs.Walks.{AreMarked, marked};
 
 use crate::marks::is_marked;
 use crate::walk::walk_from;

@@ -6,7 +6,7 @@ ghost use Rattle.gname.specs.Ids.{Id};
 ghost use Rattle.gdag.specs.Graphs.{IsGraph};
 ghost use Rattle.gdag.specs.Levels.{new_ids};
 ghost use Rattle.gwalk.specs.Marks.{stop_at};
-ghost use Rattle.gwalk.specs.steps.Walks.{HasMet, IsWalk};
+ghost use Rattle.gwalk.specs.Walks.{HasMet, IsWalk};
 
 use crate::marks::is_marked;
 use gdag::Graph;

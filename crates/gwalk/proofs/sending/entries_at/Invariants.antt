@@ -1,5 +1,5 @@
 use Rattle.std.proofs.Common.{◌≡◌, ◌++◌, drop}
-use Rattle.gwalk.specs.steps.Walks.{marked}
+use Rattle.gwalk.specs.Walks.{marked}
 use Rattle.gwalk.proofs.sending.entries_at.Given as goal
 
 abbrev pub invariant-loop-place : goal.invariant-loop-place

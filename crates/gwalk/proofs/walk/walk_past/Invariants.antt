@@ -1,6 +1,6 @@
 use Rattle.std.proofs.Common.{ℕ, List, ◌-◌, length}
 use Rattle.gwalk.specs.Marks.{stop_at}
-use Rattle.gwalk.proofs.Walking.{IsUnderway}
+use Rattle.gwalk.specs.Offers.{IsUnderway}
 use Rattle.gwalk.proofs.walk.walk_past.Given as goal
 
 abbrev pub invariant-loop-at : goal.invariant-loop-at

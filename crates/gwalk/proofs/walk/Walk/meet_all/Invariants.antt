@@ -1,7 +1,7 @@
 use Rattle.std.proofs.Common.{ℕ, List, ◌++◌, take}
 use Rattle.gdag.specs.Levels.{new_ids}
 use Rattle.gwalk.specs.Marks.{stop_at}
-use Rattle.gwalk.specs.steps.Walks.{HasMet}
+use Rattle.gwalk.specs.Walks.{HasMet}
 use Rattle.gwalk.proofs.walk.Walk.meet_all.Given as goal
 
 abbrev pub invariant-loop-id : goal.invariant-loop-id

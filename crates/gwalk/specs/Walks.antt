@@ -1,4 +1,4 @@
--- The steps of a walk: what it keeps, and what it ends with. Positions are those in store order.
+-- A walk: what it keeps, and what it ends with. Positions are those in store order.
 use Rattle.std.specs.Prelude.{◌≡◌, ◌≤◌, ◌<◌, ◌↔◌, ℕ, Bool, true, false, List, [], ◌∷◌, length, slice_get}
 use Rattle.std.specs.Prelude.{slice_index_or, sum_by, All, Contains, Option, None, Some}
 use Rattle.std.specs.List.{filter_map}

@@ -1,0 +1,51 @@
+-- Offering ids batch by batch: a walk from the tips of a client that goes on where it was (gitprotocol-v2(5), "fetch":
+-- `have`). Positions are those in store order.
+use Rattle.std.specs.Prelude.{◌≡◌, ◌↔◌, ℕ, suc, Bool, true, false, List, [], ◌++◌, length, slice_index_or, All, Option}
+use Rattle.std.specs.Prelude.{Some}
+use Rattle.gname.specs.Ids.{Id}
+use Rattle.gobject.specs.declared.node.Entry.{Entry}
+use Rattle.gobject.specs.Objects.{place_of}
+use Rattle.gdag.specs.Levels.{level, levels_below, new_ids, parents_of_each}
+use Rattle.gdag.specs.Offer.{MayBeOffered}
+use Rattle.gdag.specs.Reach.{SomeReaches}
+use Rattle.gwalk.specs.Walks.{HasMet, places}
+use Rattle.gwalk.specs.declared.offer.Offers.{Offers}
+
+-- a walk from tips has met these ids, and has taken up so many of them. It is in level k + 1 at most: the ids of the
+-- levels down to k are those taken up and the rest; after them come new parents; and with the parents of the rest the
+-- next level would be whole
+pub record IsWalked {A : Type 0} (g : List (Entry A)) (tips ids : List Id) (at : ℕ) : Type 0 where
+  pub k : ℕ
+  pub done : List Id
+  pub rest : List Id
+  pub more : List Id
+  pub levels : levels_below g tips (suc k) ≡ done ++ rest
+  pub has : ids ≡ (done ++ rest) ++ more
+  pub place : length done ≡ at
+  pub ahead : ids ++ new_ids ids (parents_of_each g rest) ≡ levels_below g tips (suc (suc k))
+
+-- the walk has taken up the ids of the front, and not those of the back
+pub record IsUnderway {A : Type 0} (g : List (Entry A)) (tips front back : List Id) (marks : List Bool) (met : List ℕ)
+    (lost : Option Id) (parents at : ℕ) : Type 0 where
+  pub walked : IsWalked g tips (front ++ back) (length front)
+  pub has_met : HasMet g (front ++ back) marks met lost parents
+  pub place : length (places g front) ≡ at
+
+-- the marked ids are those that one of the ids reaches
+abbrev pub AreReached : {A : Type 0} → List (Entry A) → List Id → List Bool → Type 0
+AreReached g ids marks =
+    (a : Id) (place : ℕ) → place_of g a ≡ Some place
+    → (slice_index_or marks place false ≡ true) ↔ SomeReaches g ids a
+
+-- ids were offered from these tips, where these are common: the walk from the tips is underway, and may offer none of
+-- the ids that it has taken up; what the common ids reach is marked, and what was offered
+pub record AreOffers {A : Type 0} (g : List (Entry A)) (tips commons sent : List Id) (offers : Offers A) : Type 0 where
+  pub front : List Id
+  pub back : List Id
+  pub underway :
+      IsUnderway g tips front back offers.tour.walk.marks.items offers.tour.walk.met.items offers.tour.walk.lost
+      offers.tour.walk.parents offers.tour.at
+  pub told : All (λ a. ¬ (MayBeOffered g commons sent a)) front
+  pub known : AreReached g commons offers.known.items
+  pub heard : offers.heard ≡ length commons
+  pub met : HasMet g (new_ids [] sent) offers.sent.marks.items offers.sent.met.items offers.sent.lost offers.sent.parents

@@ -1,0 +1,24 @@
+-- The steps of offering ids: what a tour from the tips answers, and where it is then.
+use Rattle.std.specs.Prelude.{◌≡◌, ◌↔◌, ℕ, Bool, true, false, List, ◌++◌, slice_index_or, All, Contains, Some}
+use Rattle.gname.specs.Ids.{Id}
+use Rattle.gobject.specs.declared.node.Entry.{Entry}
+use Rattle.gobject.specs.Objects.{place_of}
+use Rattle.gdag.specs.Offer.{IsOffer, MayBeOffered}
+use Rattle.gwalk.specs.Offers.{IsUnderway}
+use Rattle.gwalk.specs.declared.offer.Tour.{Tour}
+
+-- the marked ids are these
+abbrev pub HasMarks : {A : Type 0} → List (Entry A) → List Id → List Bool → Type 0
+HasMarks g ids marks =
+    (a : Id) (place : ℕ) → place_of g a ≡ Some place → (slice_index_or marks place false ≡ true) ↔ Contains ids a
+
+-- the list is the offer, and the tour goes on where it was: once the list is sent, it may offer none of the ids that it
+-- has taken up
+pub record GoesOn {A : Type 0} (g : List (Entry A)) (tips commons sent : List Id) (n : ℕ) (list : List Id)
+    (tour : Tour A) : Type 0 where
+  pub offer : IsOffer g tips commons sent n list
+  pub front : List Id
+  pub back : List Id
+  pub underway :
+      IsUnderway g tips front back tour.walk.marks.items tour.walk.met.items tour.walk.lost tour.walk.parents tour.at
+  pub told : All (λ a. ¬ (MayBeOffered g commons (sent ++ list) a)) front
