@@ -201,7 +201,7 @@ fn talk<S: Source, W: Sink, A: Allocator + Copy, K: Indexer<A>>(
     distinct_are_once();
     began_stays::<A>();
     hear(repo, session, reader)?;
-    ask(repo, session, writer)?;
+    ask(repo, session, &mut None, writer)?;
     let taken = session.take_ls(repo, reader)?;
     if taken.wants == 0 {
         return Ok(taken.unborn);
@@ -243,8 +243,9 @@ fn fetch_all<S: Source, W: Sink, A: Allocator + Copy, K: Indexer<A>>(
     // Laws.
     reads_join();
     began_stays::<A>();
+    let mut offers = None;
     'rounds: loop {
-        match fetch(repo, session, reader, writer, indexer)? {
+        match fetch(repo, session, &mut offers, reader, writer, indexer)? {
             Taken::Round { .. } => continue 'rounds,
             Taken::PackTaken { .. } => return Ok(()),
         }

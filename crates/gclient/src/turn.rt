@@ -1,20 +1,23 @@
 //! The turns of a conversation.
 
-ghost use Rattle.std.specs.Prelude.{◌≡◌, true, false, Option, None, OnOk};
+ghost use Rattle.std.specs.Prelude.{◌≡◌, ℕ, true, false, Option, None, IfOk, IfSome, OnOk};
 ghost use Rattle.gname.specs.Names.{Name};
 ghost use Rattle.gpkt.specs.Sending.{input_of, output_of};
 ghost use Rattle.gclientrepo.specs.Repos.{IsWhole};
+ghost use Rattle.gsession.specs.Offering.{AreOffersOf};
 ghost use Rattle.gsession.specs.Requesting.{is_due};
 ghost use Rattle.gsession.specs.Sessions.{IsBegun, IsSession};
 ghost use Rattle.gsession.specs.declared.stage.Stage.TheVariants.{Fetching};
+ghost use Rattle.gsession.specs.declared.taken.Taken.TheVariants.{Round};
 ghost use Rattle.gclient.specs.steps.Conversations.{AsksServer, HearsServer, TakesTurn, client_of};
 
 use crate::fault::FetchFault;
 use crate::send::send_request;
 use gclientrepo::Repo;
-use ggraph::Indexer;
+use ggraph::{Indexer, Offers};
 use ghello::read_advert;
 use gpkt::{LineReader, LineWriter, Sink, Source};
+use gsession::laws::offers_stay;
 use gsession::{Session, Taken};
 use std::alloc::Allocator;
 
@@ -39,29 +42,38 @@ pub(crate) fn hear<S: Source, A: Allocator + Copy>(
 }
 
 /// Makes the session's next request, which then waits for its reply, and sends it.
+/// What the requests before left of the session's walk is in `offers`, and what this one leaves.
 pub(crate) fn ask<W: Sink, A: Allocator + Copy>(
     repo: &Repo<A>,
     session: &mut Session<A>,
+    offers: &mut Option<Offers<A>>,
     writer: &mut LineWriter<W>,
 ) -> Result<(), FetchFault<A>>
     requires well { writer.old.failed ≡ false }
+    requires offers { IfSome offers.old (AreOffersOf session.old repo.now.graph.entries) }
     requires due { is_due session.old.stage session.old.pending ≡ true }
     requires format { session.old.format ≡ repo.now.graph.format }
     ensures asks { AsksServer session.old repo.now
         (output_of W.contents W.passed_on W.is_down writer.old.sink writer.new.sink) session.new
         result }
     ensures goes_on { OnOk result (writer.new.failed ≡ false) }
+    ensures session { OnOk result (IsSession session.new) }
+    ensures offers { OnOk result (IfSome offers.new
+        (AreOffersOf session.new repo.now.graph.entries)) }
     ensures loans { W.loans writer.new.sink ≡ W.loans writer.old.sink }
 {
-    let request = session.request(repo)?;
+    let request = session.request_on(repo, offers)?;
+    // Laws.
+    session.laws();
     send_request(&request, repo.format(), writer)?;
     Ok(())
 }
 
-/// Asks for objects, and takes the reply.
+/// Asks for objects as [`ask`] does, and takes the reply.
 pub(crate) fn fetch<S: Source, W: Sink, A: Allocator + Copy, K: Indexer<A>>(
     repo: &mut Repo<A>,
     session: &mut Session<A>,
+    offers: &mut Option<Offers<A>>,
     reader: &mut LineReader<S, A>,
     writer: &mut LineWriter<W>,
     indexer: &K,
@@ -71,6 +83,7 @@ pub(crate) fn fetch<S: Source, W: Sink, A: Allocator + Copy, K: Indexer<A>>(
     requires stage { session.old.stage ≡ Fetching }
     requires pending { session.old.pending ≡ None }
     requires format { session.old.format ≡ repo.old.graph.format }
+    requires offers { IfSome offers.old (AreOffersOf session.old repo.old.graph.entries) }
     ensures turns { (unborn : Option Name)
         → TakesTurn (K.indexes indexer.now) (K.index_fails indexer.now)
         (client_of session.old repo.old unborn)
@@ -78,11 +91,15 @@ pub(crate) fn fetch<S: Source, W: Sink, A: Allocator + Copy, K: Indexer<A>>(
         (output_of W.contents W.passed_on W.is_down writer.old.sink writer.new.sink)
         (client_of session.new repo.new unborn) result }
     ensures session { OnOk result (IsSession session.new) }
+    ensures offers { IfOk result (λ taken. (common : ℕ) → taken ≡ Round common
+        → IfSome offers.new (AreOffersOf session.new repo.old.graph.entries)) }
     ensures goes_on { OnOk result ((reader.new.failed ≡ false) × (writer.new.failed ≡ false)) }
     ensures source_loans { S.loans reader.new.source ≡ S.loans reader.old.source }
     ensures sink_loans { W.loans writer.new.sink ≡ W.loans writer.old.sink }
 {
-    ask(repo, session, writer)?;
+    // Laws.
+    offers_stay::<A, K>();
+    ask(repo, session, offers, writer)?;
     let taken = session.take_reply(repo, reader, indexer)?;
     // Laws.
     session.laws();

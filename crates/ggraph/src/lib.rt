@@ -50,6 +50,6 @@ pub use gobject::{
 };
 pub use grefs::{Head, MAX_REFS, Refs, RefsFault, Target, is_below_refs};
 pub use gwalk::{
-    Count, FullMarks, common_ids, haves, laws as walk_laws, mark_full, missing, missing_counted,
-    missing_known, reaches, ready, send_list, send_list_tags,
+    Count, FullMarks, Offers, common_ids, haves, laws as walk_laws, mark_full, missing,
+    missing_counted, missing_known, reaches, ready, send_list, send_list_tags,
 };

@@ -59,7 +59,7 @@ none_inside xs i low empty =
 -- ---- lists without repeats
 
 -- the first id of such a list is none of the others
-apart_head : (y : List ℕ) (ys : List (List ℕ)) (a : List ℕ) → IsDistinct bytes_eq (y ∷ ys) → Contains ys a → ¬ (y ≡ a)
+pub apart_head : (y : List ℕ) (ys : List (List ℕ)) (a : List ℕ) → IsDistinct bytes_eq (y ∷ ys) → Contains ys a → ¬ (y ≡ a)
 apart_head y ys a once there same =
     let P : List ℕ → Type 0 = λ z. bytes_eq y z ≡ false in
     let no = All-contains P ys a (All-from_recursion P ys (IsDistinct-head bytes_eq y ys once)) there in

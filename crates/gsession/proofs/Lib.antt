@@ -5,5 +5,6 @@ pub mod BuildLemmas
 pub mod SessionLemmas
 pub mod ReplyLemmas
 pub mod NextLaws
+pub mod OfferLemmas
 pub mod CallLemmas
 pub mod LawLemmas

@@ -1,6 +1,7 @@
 pub mod Sessions
 pub mod Asking
 pub mod Requesting
+pub mod Offering
 pub mod TakingRefs
 pub mod TakingReplies
 pub mod SettlingRefs

@@ -3,6 +3,7 @@
 ghost use Rattle.std.specs.Prelude.{◌≡◌};
 ghost use Rattle.gsession.specs.Bounds.{BeganBegins, BeganStays, BeganStaysOn, BeginsCounted, BeginsOffered, CountedAreFew, CountedStays, DoneAsksLast, LastStays, NoneFollows, OfferedStays, OffersAreNew, RoundsAreFew};
 ghost use Rattle.gsession.specs.Laws.{EachDoes, FirstIsAsked, OpenIsTheSessions, AsksAreOfLines, CommonsAreHaves, EachGoesOn, HavesAreFull, HavesAreNew, ListingIsDecided, OneNext, OptionsAreAsked, OverHearsNone, OverRequestsNone, OverSettlesNone, OverTakesNoRefs, OverTakesNoReply, RepliesAddCommons, TakingOnlyGrows, WantsAreExact};
+ghost use Rattle.gsession.specs.Offering.{OffersStay};
 ghost use Rattle.gsession.specs.TakingReplies.{DoneIsLast, TakingIsDecided};
 ghost use Rattle.gsession.specs.Sessions.{max_specs};
 
@@ -159,6 +160,13 @@ pub fn haves_are_held<A: Allocator + Copy>()
 {
     offers_are_exact::<A>();
     reaching_goes_on::<A>();
+}
+
+/// What a session keeps of its walk is still right after a reply of acknowledgments alone.
+pub fn offers_stay<A: Allocator + Copy, K: Indexer<A>>()
+    ensures { (k : K) → OffersStay (K.indexes k) (K.index_fails k) }
+{
+    distinct_are_once();
 }
 
 /// The common ids after a reply are those before it and those that it acknowledges. After every call each common id was

@@ -1,6 +1,6 @@
 //! The requests of a session.
 
-ghost use Rattle.std.specs.Prelude.{◌≡◌, List, None, MatchResult, Ok, Err, IfOk};
+ghost use Rattle.std.specs.Prelude.{◌≡◌, ◌++◌, List, None, MatchResult, Ok, Err, IfErr, IfOk, IfSome, OnOk};
 ghost use Rattle.gdag.specs.declared.fault.GraphFault.TheVariants.{Memory};
 ghost use Rattle.gobject.specs.declared.node.Entry.{Entry};
 ghost use Rattle.grequest.specs.Asked.{Fetches};
@@ -11,14 +11,17 @@ use crate::session::{Session, set_pending};
 use crate::stage::Stage;
 use gclientrepo::Repo;
 use ggraph::graph_laws::{offers_are_exact, places_are_nodes};
-use ggraph::{GraphFault, haves};
+use ggraph::{GraphFault, Offers};
 use gname::Oid;
 use gname::laws::ids_have_one_format;
 use grequest::{MAX_HAVES, Request};
 use std::alloc::{AllocError, Allocator};
+use std::mem;
 
 impl<A: Allocator + Copy> Session<A> {
     ghost use Rattle.grequest.specs.RequestValues.{IsOfFormat, asked_by_request};
+    ghost use Rattle.gwalk.specs.Offers.{AreOffers};
+    ghost use Rattle.gsession.specs.Offering.{AreOffersOf};
     ghost use Rattle.gsession.specs.Requesting.{IsBatch, MakesNext, Requests, fetch_request, waiting_for};
     ghost use Rattle.gsession.specs.Sessions.{after_fault, no_memory};
     ghost use Rattle.gsession.specs.steps.Calls.{FitsBatch};
@@ -36,14 +39,40 @@ impl<A: Allocator + Copy> Session<A> {
             (λ fault. Requests self.old repo.now.graph.entries self.new (Err fault)) }
         ensures format { IfOk result (IsOfFormat self.old.format) }
     {
-        match self.make_request(repo) {
+        self.request_on(repo, &mut None)
+    }
+
+    /// The next request, as [`Session::request`] makes it, by a walk that goes on where it was: `offers` has what the
+    /// requests before left of it. Without that it begins anew. So all requests of a session over one graph walk once.
+    ///
+    /// It fails as `request` does.
+    pub fn request_on(
+        &mut self,
+        repo: &Repo<A>,
+        offers: &mut Option<Offers<A>>,
+    ) -> Result<Request<A>, ClientFault<A>>
+        requires { IfSome offers.old (AreOffersOf self.old repo.now.graph.entries) }
+        ensures requests { MatchResult result
+            (λ request. Requests self.old repo.now.graph.entries self.new
+            (Ok (asked_by_request request)))
+            (λ fault. Requests self.old repo.now.graph.entries self.new (Err fault)) }
+        ensures format { IfOk result (IsOfFormat self.old.format) }
+        ensures offers { OnOk result (IfSome offers.new
+            (AreOffersOf self.new repo.now.graph.entries)) }
+    {
+        match self.make_request(repo, offers) {
             Ok(request) => Ok(request),
             Err(fault) => Err(self.end_by(fault)),
         }
     }
 
     // Makes the next request, where one is due. A fault does not end the session yet.
-    fn make_request(&mut self, repo: &Repo<A>) -> Result<Request<A>, ClientFault<A>>
+    fn make_request(
+        &mut self,
+        repo: &Repo<A>,
+        offers: &mut Option<Offers<A>>,
+    ) -> Result<Request<A>, ClientFault<A>>
+        requires { IfSome offers.old (AreOffersOf self.old repo.now.graph.entries) }
         ensures requests { MatchResult result
             (λ request. Requests self.old repo.now.graph.entries self.new
             (Ok (asked_by_request request)))
@@ -51,13 +80,15 @@ impl<A: Allocator + Copy> Session<A> {
             (Err fault)
             × (self.new ≡ self.old)) }
         ensures format { IfOk result (IsOfFormat self.old.format) }
+        ensures offers { OnOk result (IfSome offers.new
+            (AreOffersOf self.new repo.now.graph.entries)) }
     {
         if self.pending.is_some() {
             return Err(ClientFault::NoOpenRequest);
         }
         match self.stage {
             Stage::Listing => self.ask_for_refs(),
-            Stage::Fetching => self.ask_for_objects(repo),
+            Stage::Fetching => self.ask_for_objects(repo, offers),
             Stage::Settling | Stage::Over => Err(ClientFault::NoOpenRequest),
         }
     }
@@ -79,15 +110,22 @@ impl<A: Allocator + Copy> Session<A> {
     }
 
     // Asks for objects.
-    fn ask_for_objects(&mut self, repo: &Repo<A>) -> Result<Request<A>, ClientFault<A>>
+    fn ask_for_objects(
+        &mut self,
+        repo: &Repo<A>,
+        offers: &mut Option<Offers<A>>,
+    ) -> Result<Request<A>, ClientFault<A>>
         requires stage { self.old.stage ≡ Stage.Fetching }
         requires pending { self.old.pending ≡ None }
+        requires offers { IfSome offers.old (AreOffersOf self.old repo.now.graph.entries) }
         ensures made { MatchResult result
             (λ request. MakesNext self.old repo.now.graph.entries self.new
             (asked_by_request request)) (λ fault. (self.new ≡ self.old) × (fault ≡ no_memory)) }
         ensures format { IfOk result (IsOfFormat self.old.format) }
+        ensures offers { OnOk result (IfSome offers.new
+            (AreOffersOf self.new repo.now.graph.entries)) }
     {
-        let batch = self.batch(repo)?;
+        let batch = self.batch(repo, offers)?;
         Ok(self.ask_with(batch.as_slice())?)
     }
 
@@ -113,28 +151,53 @@ impl<A: Allocator + Copy> Session<A> {
     }
 
     // The ids that the next request offers. It did not offer them before, and has room for them beside the common ids.
-    fn batch(&self, repo: &Repo<A>) -> Result<Vec<Oid, A>, GraphFault>
+    fn batch(
+        &self,
+        repo: &Repo<A>,
+        offers: &mut Option<Offers<A>>,
+    ) -> Result<Vec<Oid, A>, GraphFault>
+        requires { IfSome offers.old (AreOffersOf self.now repo.now.graph.entries) }
         ensures batch { MatchResult result
             (λ batch. IsBatch self.now repo.now.graph.entries batch.items)
             (λ fault. fault ≡ Memory) }
         ensures fits { IfOk result (λ batch. FitsBatch self.now batch.items) }
+        ensures offers { IfOk result (λ batch. IfSome offers.new
+            (AreOffers repo.now.graph.entries self.now.tips self.now.commons
+            (self.now.sent ++ batch.items))) }
     {
         // Laws.
         offers_are_exact::<A>();
         places_are_nodes::<A>();
         ids_have_one_format();
         repo.laws();
-        let offer = haves(
+        let mut walk = self.offers_on(repo, offers)?;
+        let offer = walk.next(
             repo.graph(),
-            self.tips.as_slice(),
             self.commons.as_slice(),
-            self.sent.as_slice(),
             batch_size(self.rounds),
         )?;
         if offer.len() <= MAX_HAVES - self.commons.len() {
+            *offers = Some(walk);
             Ok(offer)
         } else {
             Ok(Vec::new(self.allocator()))
+        }
+    }
+
+    // What the requests before left of the walk, or a new one. It fails with `Memory` alone.
+    fn offers_on(
+        &self,
+        repo: &Repo<A>,
+        offers: &mut Option<Offers<A>>,
+    ) -> Result<Offers<A>, GraphFault>
+        requires { IfSome offers.old (AreOffersOf self.now repo.now.graph.entries) }
+        ensures offers { IfOk result (AreOffersOf self.now repo.now.graph.entries) }
+        ensures fault { IfErr result (λ fault. fault ≡ Memory) }
+        ensures none { offers.new ≡ None }
+    {
+        match mem::replace(offers, None) {
+            Some(offers) => Ok(offers),
+            None => Offers::new(repo.graph(), self.tips.as_slice(), self.sent.as_slice()),
         }
     }
 

@@ -1,6 +1,7 @@
-use Rattle.std.proofs.Common.{◌≡◌, length, None, Result, refl, sym, ap, subst, ◌∙◌, arith}
+use Rattle.std.proofs.Common.{◌≡◌, length, IfSome, None, Result, refl, sym, ap, subst, ◌∙◌, arith}
 use Rattle.gpkt.specs.Sending.{input_of, output_of}
 use Rattle.gclientrepo.specs.Repos.{RepoState}
+use Rattle.gsession.specs.Offering.{AreOffersOf}
 use Rattle.gclient.specs.steps.Conversations.{TalksTo, client_of, stage_after}
 use Rattle.gclient.specs.declared.fault.FetchFault.{FetchFault}
 use Rattle.gclient.proofs.TurnLemmas.{round_began, round_taken, rounds_within, turn_kept}
@@ -19,6 +20,7 @@ rounds-init g c =
       format = c.requires.format;
       began = c.requires.began;
       repo = refl;
+      offers = tt;
       source_loans = refl;
       sink_loans = refl;
     }
@@ -54,6 +56,9 @@ rounds-preserved g c =
       format = kept.own ∙ (at.invariant.format ∙ sym kept.format);
       began = began;
       repo = step.1 ∙ at.invariant.repo;
+      offers = subst (λ (r : RepoState g.row.A.Denot).
+          IfSome c.fetch.new.offers (AreOffersOf c.fetch.new.session r.graph.entries)) (sym step.1)
+          (c.in_ok-fetch.ensures.offers c.in-Round.common c.in-Round.is);
       source_loans = c.in_ok-fetch.ensures.source_loans ∙ at.invariant.source_loans;
       sink_loans = c.in_ok-fetch.ensures.sink_loans ∙ at.invariant.sink_loans;
     }

@@ -1,8 +1,9 @@
 -- Each reply so far was only of acknowledgments, and both the reader and the writer go on. There are at most as many
 -- rounds as objects.
-use Rattle.std.proofs.Common.{◌≡◌, ◌-◌, ℕ, List, length, false, Option, None}
+use Rattle.std.proofs.Common.{◌≡◌, ◌-◌, ℕ, List, length, false, IfSome, Option, None}
 use Rattle.gpkt.specs.Sending.{input_of, output_of}
 use Rattle.gsession.specs.Bounds.{BeganOn}
+use Rattle.gsession.specs.Offering.{AreOffersOf}
 use Rattle.gsession.specs.declared.stage.Stage.TheVariants.{Fetching}
 use Rattle.gclient.specs.Conversations.{Start}
 use Rattle.gclient.specs.steps.Conversations.{HasTalked, client_of}
@@ -26,6 +27,7 @@ invariant-rounds g l = record {
   format : l.session.format ≡ l.repo.graph.format;
   began : BeganOn l.initial.repo.graph.entries l.session;
   repo : l.repo ≡ l.initial.repo;
+  offers : IfSome l.offers (AreOffersOf l.session l.repo.graph.entries);
   source_loans : g.S.Source.loans l.reader.source ≡ g.S.Source.loans l.initial.reader.source;
   sink_loans : g.W.Sink.loans l.writer.sink ≡ g.W.Sink.loans l.initial.writer.sink;
 }

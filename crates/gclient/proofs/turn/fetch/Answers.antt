@@ -57,3 +57,10 @@ returns-clause-turns g c = λ unborn.
     (client_of c.args.session.now c.args.repo.now unborn) c.ask.new.session c.take_reply.new.self asks.0
     c.take_reply.new.repo input output
     c.in_ok-taken.taken asks.1 asks.2 c.in_ok-taken.ensures.takes c.in_ok-taken.ensures.reader.2
+
+pub returns-clause-offers : goal.returns-clause-offers
+returns-clause-offers g c = λ common is.
+    let takes = rw is at c.in_ok-taken.ensures.takes in
+    c.offers_stay.ensures c.args.indexer.now takes.0.haves c.ask.new.session c.take_reply.new.self c.args.repo.now
+    c.take_reply.new.repo takes.2.0 common c.args.repo.now.graph.entries c.ask.new.offers c.in_ok-ask.ensures.session
+    takes.2.2 c.in_ok-ask.ensures.offers

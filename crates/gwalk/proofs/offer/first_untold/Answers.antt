@@ -6,9 +6,11 @@ use Rattle.gwalk.proofs.offer.first_untold.Goals as goal
 use Rattle.gwalk.proofs.offer.first_untold.Goals.{then-is_untold+in_ok-push, else-is_untold}
 
 pub loop-at-init : goal.loop-at-init
-loop-at-init g c =
-    (rw c.new-list.ensures.items (omega arith), λ tips front0 back0 begun.
-    (front0, back0, begun, λ commons reached others levels are marks none. c.new-list.ensures.items ∙ none))
+loop-at-init g c = (
+  rw c.new-list.ensures.items (omega arith),
+  λ tips front0 back0 begun.
+      (front0, back0, begun, λ commons reached others levels are marks none. c.new-list.ensures.items ∙ none),
+)
 
 pub returns-then-len-n : goal.returns-then-len-n
 returns-then-len-n g c =
@@ -87,18 +89,18 @@ loop-at-preserved g c =
                   let grown : c.if-is_untold.list.items ≡ list ++ w.id_at.result.now ∷ [] =
                   cc (w.in_ok-push.ensures.items) in
                   λ commons reached others levels are marks none.
-                      grown ∙ ap (λ x. list ++ x ∷ []) id
-                      ∙ offers_next h tips reached others now.0 now.1 list number n
-                      (now.3 commons reached others levels are marks none)
-                      (untold_is h commons reached others levels c.args.known.now c.args.sent.now are marks n.id number
-                      n.place ∙ sym c.is_untold.ensures ∙ w.if-is_untold.true)
+                  grown ∙ ap (λ x. list ++ x ∷ []) id
+                  ∙ offers_next h tips reached others now.0 now.1 list number n
+                  (now.3 commons reached others levels are marks none)
+                  (untold_is h commons reached others levels c.args.known.now c.args.sent.now are marks n.id number
+                  n.place ∙ sym c.is_untold.ensures ∙ w.if-is_untold.true)
               | else-is_untold w ↦
                   let kept : c.if-is_untold.list.items ≡ list = cc in
                   λ commons reached others levels are marks none.
-                      kept ∙ skips_next h tips reached others now.0 now.1 list number n
-                      (now.3 commons reached others levels are marks none)
-                      (untold_is h commons reached others levels c.args.known.now c.args.sent.now are marks n.id number
-                      n.place ∙ sym c.is_untold.ensures ∙ w.if-is_untold.false)
+                  kept ∙ skips_next h tips reached others now.0 now.1 list number n
+                  (now.3 commons reached others levels are marks none)
+                  (untold_is h commons reached others levels c.args.known.now c.args.sent.now are marks n.id number
+                  n.place ∙ sym c.is_untold.ensures ∙ w.if-is_untold.false)
             ],
           ),
     )

@@ -1,8 +1,8 @@
 use Rattle.std.proofs.Common.{[], refl}
 use Rattle.gwalk.proofs.offer.haves.Goals as goal
 
-pub next-ids-requires : goal.next-ids-requires
-next-ids-requires g c = (c.args.tips.now, [], c.args.commons.now, c.args.sent.now, refl, c.in_ok-offers.ensures.offers)
+pub next-requires : goal.next-requires
+next-requires g c = (c.args.tips.now, [], c.args.commons.now, c.args.sent.now, refl, c.in_ok-offers.ensures.offers)
 
 pub returns-clause-answer : goal.returns-clause-answer
 returns-clause-answer g c =

@@ -1,4 +1,4 @@
-use Rattle.std.proofs.Common.{◌≡◌, ◌≤◌, ◌∙◌, ◌++◌, ℕ, List, [], length, drop, get_or, false, ◌||◌, All, append-nil, ap, refl, subst, sym, arith, length-append}
+use Rattle.std.proofs.Common.{◌≡◌, ◌≤◌, ◌∙◌, ◌++◌, ◌-◌, ℕ, List, [], length, drop, take, take_all, get_or, false, ◌||◌, All, append-nil, ap, refl, subst, sym, arith, length-append}
 use Rattle.std.proofs.lemmas.List.{drop_at, nil_from_length}
 use Rattle.gdag.specs.Offer.{MayBeOffered}
 use Rattle.gwalk.specs.Offers.{AreOffers, AreReached}
@@ -24,7 +24,13 @@ returns g c = λ tips first rest sent parts begun.
     ap (drop c.args.self.now.heard) parts ∙ drop_at first rest c.args.self.now.heard (sym begun.heard) in
     let walk = c.in_ok-walk.walk in
     let walked : IsWalk (stop_at known h) rest walk.marks.items walk.met.items walk.lost walk.parents =
-    rw (c.as_slice.ensures.value, more) at c.in_ok-walk.ensures.walk in
+    let count : ℕ = length c.args.commons.now - c.args.self.now.heard in
+    let long = length-append first rest in
+    let all = ap length parts in
+    let heard = begun.heard in
+    let whole : take count rest ≡ rest = take_all count rest (omega arith) in
+    subst (λ (l : List (List ℕ)). IsWalk (stop_at known h) l walk.marks.items walk.met.items walk.lost walk.parents) whole
+    (rw (c.as_slice.ensures.value, more) at c.in_ok-walk.ensures.walk) in
     let marks = c.in_ok-self.field-0.items in
     let joined : (p : ℕ) → get_or marks p false ≡ (get_or walk.marks.items p false || get_or known p false) =
     rw c.as_slice-2.ensures.value at c.in_ok-self.ensures in
