@@ -1,5 +1,6 @@
 -- What a session keeps of its walk: after its next request, and after a reply of acknowledgments.
-use Rattle.std.proofs.Common.{◌≡◌, ◌∙◌, ℕ, List, [], ◌∷◌, ◌++◌, Contains, Option, None, Some, IfSome, inl, inr, refl, sym}
+use Rattle.std.proofs.Common.{◌≡◌, ◌∙◌, ℕ, List, [], ◌∷◌, ◌++◌, Contains, Option, None, Some, IfSome, Result, Ok, Err}
+use Rattle.std.proofs.Common.{MatchResult, OnOk, inl, inr, refl, sym}
 use Rattle.std.proofs.Common.{ap, subst, append-nil, append_assoc, bytes_eq}
 use Rattle.std.specs.List.{IsDistinct}
 use Rattle.std.proofs.lemmas.List.Elements.{Contains-append_right}
@@ -13,9 +14,12 @@ use Rattle.gwalk.specs.Offers.{AreOffers}
 use Rattle.gwalk.specs.declared.offer.Offers.{Offers}
 use Rattle.gfetchreply.specs.FetchHeads.{acknowledged_by}
 use Rattle.grequest.specs.Asked.{Asked, Empty, Ls, Fetches, FetchAsked}
+use Rattle.grequest.specs.RequestValues.{asked_by_request}
+use Rattle.grequest.specs.declared.request.Request.{Request}
 use Rattle.gsession.specs.Offering.{AreOffersOf, OffersStay}
 use Rattle.gsession.specs.Requesting.{MakesNext, waiting_for}
-use Rattle.gsession.specs.Sessions.{SessionState}
+use Rattle.gsession.specs.Sessions.{SessionState, no_memory}
+use Rattle.gsession.specs.declared.fault.ClientFault.{ClientFault}
 use Rattle.gsession.specs.declared.stage.Stage.TheVariants.{Listing}
 use Rattle.gsession.proofs.CommonLemmas.{apart_head}
 use Rattle.gsession.proofs.SessionLemmas.{listing_fetches}
@@ -48,9 +52,19 @@ module _ {A : Type 0} where
   asked_refs s new g Empty (Some offers) stage made are = absurd made.1
   asked_refs s new g (Ls asked) (Some offers) stage made are =
       subst (λ (t : SessionState A). AreOffersOf t g offers) (sym made.2)
-      (record { heard = are.heard; rest = are.rest; commons = are.commons; offers = are.offers })
+      (record { heard = are.heard; rest = are.rest; commons = are.commons; are = are.are })
   asked_refs s new g (Fetches asked) (Some offers) stage made are =
       absurd (listing_fetches (sym stage ∙ made.1.0))
+
+  -- the same of a call that makes it
+  pub listing_offers : (s new : SessionState A) (g : List (Entry A)) (result : Result (Request A) (ClientFault A))
+      (offers : Option (Offers A)) → s.stage ≡ Listing
+      → MatchResult result (λ request. MakesNext s g new (asked_by_request request))
+      (λ fault. (new ≡ s) × (fault ≡ no_memory))
+      → IfSome offers (AreOffersOf s g) → OnOk result (IfSome offers (AreOffersOf new g))
+  listing_offers s new g (Ok request) offers stage made are =
+      asked_refs s new g (asked_by_request request) offers stage made are
+  listing_offers s new g (Err fault) offers stage made are = tt
 
   pub asked_objects : (s new : SessionState A) (g : List (Entry A)) (asked : Asked) (fetch : FetchAsked)
       (batch : List (List ℕ)) (offers : Option (Offers A)) → asked ≡ Fetches fetch → new ≡ waiting_for s asked batch
@@ -59,7 +73,7 @@ module _ {A : Type 0} where
   asked_objects s new g asked fetch batch (Some offers) same is are =
       subst (λ (t : SessionState A). AreOffersOf t g offers)
       (sym (is ∙ ap (λ (a : Asked). waiting_for s a batch) same))
-      (record { heard = s.commons; rest = []; commons = sym (append-nil s.commons); offers = are })
+      (record { heard = s.commons; rest = []; commons = sym (append-nil s.commons); are = are })
 
   -- ---- after a reply
 
@@ -73,4 +87,4 @@ module _ {A : Type 0} where
       order.1 ∙ ap (λ (l : List (List ℕ)). l ++ order.0) (own_ids [] old.commons is.commons.once ∙ are.commons)
       ∙ append_assoc are.heard are.rest order.0 in
       subst (λ (t : SessionState A). AreOffersOf t g offers) (sym takes.1.1)
-      (record { heard = are.heard; rest = are.rest ++ order.0; commons = more; offers = are.offers })
+      (record { heard = are.heard; rest = are.rest ++ order.0; commons = more; are = are.are })

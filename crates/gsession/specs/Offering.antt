@@ -17,7 +17,7 @@ pub record AreOffersOf {A : Type 0} (s : SessionState A) (g : List (Entry A)) (o
   pub heard : List Id
   pub rest : List Id
   pub commons : s.commons ≡ heard ++ rest
-  pub offers : AreOffers g s.tips heard s.sent offers
+  pub are : AreOffers g s.tips heard s.sent offers
 
 -- so they are after a reply of acknowledgments alone
 abbrev pub OffersStay : {A : Type 0} → Indexes A → IndexFails → Type 0

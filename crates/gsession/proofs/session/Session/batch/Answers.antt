@@ -1,19 +1,103 @@
-use Rattle.std.proofs.Common.{◌+◌, ◌≤◌, ◌<◌, length, arith, ◌∙◌}
+use Rattle.std.proofs.Common.{◌≡◌, ◌∙◌, ◌+◌, ◌++◌, ◌≤◌, ◌<◌, length, ap, subst, sym, arith}
+use Rattle.gdag.specs.Graphs.{History}
+use Rattle.gdag.specs.Offer.{IsOffer}
+use Rattle.gwalk.specs.Offers.{AreOffers}
 use Rattle.grequest.specs.Asked.{max_haves}
+use Rattle.gsession.specs.Requesting.{batch_size}
+use Rattle.gsession.specs.Sessions.{SessionState, IsSession}
 use Rattle.gsession.proofs.CommonLemmas.{batch_none, batch_room, offer_fits}
 use Rattle.gsession.proofs.session.Session.batch.Goals as goal
 
-pub next-offer-requires : goal.next-offer-requires
-next-offer-requires g c = ?
+pub next-requires : goal.next-requires
+next-requires g c =
+    let s = c.args.self.now in
+    let of = c.in_ok-walk.ensures.offers in
+    (s.tips, of.heard, of.rest, s.sent,
+    c.as_slice.ensures.value ∙ ap (λ (s : SessionState g.row.A.Denot). s.commons) c.self.view_is ∙ of.commons,
+    subst (λ (h : History g.row.A.Denot). AreOffers h.entries s.tips of.heard s.sent c.in_ok-walk.walk)
+    (sym c.graph.ensures) of.are)
 
 pub returns-then-len-clause-batch : goal.returns-then-len-clause-batch
-returns-then-len-clause-batch g c = ?
+returns-then-len-clause-batch g c =
+    let s = c.args.self.now in
+    let of = c.in_ok-walk.ensures.offers in
+    let commons = c.as_slice.ensures.value ∙ ap (λ (s : SessionState g.row.A.Denot). s.commons) c.self.view_is in
+    let size = c.batch_size.ensures ∙ ap (λ (s : SessionState g.row.A.Denot). batch_size s.rounds) c.self.view_is in
+    let answers : IsOffer c.args.repo.now.graph.entries s.tips s.commons s.sent (batch_size s.rounds)
+    c.in_ok-offer.offer.items × AreOffers c.args.repo.now.graph.entries s.tips s.commons
+    (s.sent ++ c.in_ok-offer.offer.items) c.next.new.self =
+    rw (c.graph.ensures, commons, size) at
+    (c.in_ok-offer.ensures.answer s.tips of.heard of.rest s.sent (commons ∙ of.commons)
+    (subst (λ (h : History g.row.A.Denot). AreOffers h.entries s.tips of.heard s.sent c.in_ok-walk.walk)
+    (sym c.graph.ensures) of.are)) in
+    let offer = c.in_ok-offer.offer.items in
+    let few = c.self.invariant.0.commons.few in
+    let room : length c.self.inside.commons.items + length offer ≤ max_haves = omega (arith, few) in
+    let fits = subst (λ (s : SessionState g.row.A.Denot). length s.commons + length offer ≤ max_haves) c.self.view_is
+    room in
+    record {
+      offer = offer;
+      offered = answers.0;
+      is = batch_room c.args.self.now.commons offer fits;
+    }
 
 pub returns-then-len-clause-fits : goal.returns-then-len-clause-fits
-returns-then-len-clause-fits g c = ?
+returns-then-len-clause-fits g c =
+    let s = c.args.self.now in
+    let of = c.in_ok-walk.ensures.offers in
+    let commons = c.as_slice.ensures.value ∙ ap (λ (s : SessionState g.row.A.Denot). s.commons) c.self.view_is in
+    let size = c.batch_size.ensures ∙ ap (λ (s : SessionState g.row.A.Denot). batch_size s.rounds) c.self.view_is in
+    let answers : IsOffer c.args.repo.now.graph.entries s.tips s.commons s.sent (batch_size s.rounds)
+    c.in_ok-offer.offer.items × AreOffers c.args.repo.now.graph.entries s.tips s.commons
+    (s.sent ++ c.in_ok-offer.offer.items) c.next.new.self =
+    rw (c.graph.ensures, commons, size) at
+    (c.in_ok-offer.ensures.answer s.tips of.heard of.rest s.sent (commons ∙ of.commons)
+    (subst (λ (h : History g.row.A.Denot). AreOffers h.entries s.tips of.heard s.sent c.in_ok-walk.walk)
+    (sym c.graph.ensures) of.are)) in
+    let offer = c.in_ok-offer.offer.items in
+    let few = c.self.invariant.0.commons.few in
+    let room : length c.self.inside.commons.items + length offer ≤ max_haves = omega (arith, few) in
+    let fits = subst (λ (s : SessionState g.row.A.Denot). length s.commons + length offer ≤ max_haves) c.self.view_is
+    room in
+    offer_fits c.offers_are_exact.ensures c.places_are_nodes.ensures c.ids_have_one_format.ensures c.args.self.now
+    c.args.repo.now.graph _ offer (subst IsSession c.self.view_is c.self.invariant.0) c.laws.ensures.graph
+    answers.0 fits
 
 pub returns-then-len-clause-offers : goal.returns-then-len-clause-offers
-returns-then-len-clause-offers g c = ?
+returns-then-len-clause-offers g c =
+    let s = c.args.self.now in
+    let of = c.in_ok-walk.ensures.offers in
+    let commons = c.as_slice.ensures.value ∙ ap (λ (s : SessionState g.row.A.Denot). s.commons) c.self.view_is in
+    let size = c.batch_size.ensures ∙ ap (λ (s : SessionState g.row.A.Denot). batch_size s.rounds) c.self.view_is in
+    let answers : IsOffer c.args.repo.now.graph.entries s.tips s.commons s.sent (batch_size s.rounds)
+    c.in_ok-offer.offer.items × AreOffers c.args.repo.now.graph.entries s.tips s.commons
+    (s.sent ++ c.in_ok-offer.offer.items) c.next.new.self =
+    rw (c.graph.ensures, commons, size) at
+    (c.in_ok-offer.ensures.answer s.tips of.heard of.rest s.sent (commons ∙ of.commons)
+    (subst (λ (h : History g.row.A.Denot). AreOffers h.entries s.tips of.heard s.sent c.in_ok-walk.walk)
+    (sym c.graph.ensures) of.are)) in
+    answers.1
 
 pub returns-else-len-clause-batch : goal.returns-else-len-clause-batch
-returns-else-len-clause-batch g c = ?
+returns-else-len-clause-batch g c =
+    let s = c.args.self.now in
+    let of = c.in_ok-walk.ensures.offers in
+    let commons = c.as_slice.ensures.value ∙ ap (λ (s : SessionState g.row.A.Denot). s.commons) c.self.view_is in
+    let size = c.batch_size.ensures ∙ ap (λ (s : SessionState g.row.A.Denot). batch_size s.rounds) c.self.view_is in
+    let answers : IsOffer c.args.repo.now.graph.entries s.tips s.commons s.sent (batch_size s.rounds)
+    c.in_ok-offer.offer.items × AreOffers c.args.repo.now.graph.entries s.tips s.commons
+    (s.sent ++ c.in_ok-offer.offer.items) c.next.new.self =
+    rw (c.graph.ensures, commons, size) at
+    (c.in_ok-offer.ensures.answer s.tips of.heard of.rest s.sent (commons ∙ of.commons)
+    (subst (λ (h : History g.row.A.Denot). AreOffers h.entries s.tips of.heard s.sent c.in_ok-walk.walk)
+    (sym c.graph.ensures) of.are)) in
+    let offer = c.in_ok-offer.offer.items in
+    let few = c.self.invariant.0.commons.few in
+    let over : max_haves < length c.self.inside.commons.items + length offer = omega (arith, few) in
+    let past = subst (λ (s : SessionState g.row.A.Denot). max_haves < length s.commons + length offer) c.self.view_is
+    over in
+    record {
+      offer = offer;
+      offered = answers.0;
+      is = c.new.ensures.items ∙ batch_none c.args.self.now.commons offer past;
+    }

@@ -3,6 +3,7 @@ use Rattle.gsession.specs.Requesting.{is_due}
 use Rattle.gsession.specs.Sessions.{SessionState}
 use Rattle.gsession.specs.declared.stage.Stage.TheVariants.{Listing, Fetching}
 use Rattle.gsession.proofs.BuildLemmas.{made_next, none_waits, one_waits}
+use Rattle.gsession.proofs.OfferLemmas.{listing_offers}
 use Rattle.gsession.proofs.session.Session.make_request.Goals as goal
 
 pub returns-in-Listing-clause-requests : goal.returns-in-Listing-clause-requests
@@ -45,3 +46,11 @@ pub ask_for_objects-requires-clause-pending : goal.ask_for_objects-requires-clau
 ask_for_objects-requires-clause-pending g c =
     sym (ap (λ (s : SessionState g.row.A.Denot). s.pending) c.self.view_is)
     ∙ none_waits c.self.inside.pending (sym c.is_some.ensures ∙ c.if-is_some.false)
+
+pub returns-in-Listing-clause-offers : goal.returns-in-Listing-clause-offers
+returns-in-Listing-clause-offers g c =
+    let s = c.args.self.now in
+    let listing : s.stage ≡ Listing =
+    sym (ap (λ (s : SessionState g.row.A.Denot). s.stage) c.self.view_is) ∙ c.in-Listing.is in
+    listing_offers s c.ask_for_refs.new.self c.args.repo.now.graph.entries c.ask_for_refs.result c.args.offers.now
+    listing (c.ask_for_refs.ensures.made c.args.repo.now.graph.entries) c.requires
