@@ -11,6 +11,8 @@
 //!   common ids, and a batch of ids that were not offered before; without a batch the client is done. It has
 //!   `ofs-delta`, and lacks `no-progress`, exactly where the session's options say so ([`Session::begin_with`]). The
 //!   session and the graph decide the request, and the session that then waits for its reply ([`laws`]).
+//!   [`Session::request_on`] makes the same request by a walk that goes on, while the graph stays as it is
+//!   (`specs/Offering.antt`).
 //! - [`Session::take_ls`] reads one reply to its end, and nothing after it. Something is asked of each ref to which a
 //!   refspec takes a line, and one thing alone: what the first refspec and line ask for that lead there, refspec by
 //!   refspec and line by line ([`laws`]). Wanted is each asked id that is not connected. A ref that can't have
@@ -46,7 +48,8 @@
 //! long as it likes, and more memory than it needs. Formatting a fault may answer an error (`fmt::Error`) where the text
 //! would be right.
 //!
-//! No clause speaks of the work. A request for objects walks from the tips anew. Of the ids that are asked for, one
+//! No clause speaks of the work. [`Session::request`] walks from the tips anew; [`Session::request_on`] goes on where the
+//! request before left the walk, so all requests over one graph cost what one walk costs. Of the ids that are asked for, one
 //! that is not held, one that the refs reach, and each one in a graph in which parents came first is only looked up;
 //! any other costs a walk, which stops at what the refs reach. Acknowledged ids are looked up in a set.
 //!
