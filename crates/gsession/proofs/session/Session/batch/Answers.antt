@@ -11,11 +11,15 @@ use Rattle.gsession.proofs.session.Session.batch.Goals as goal
 pub next-requires : goal.next-requires
 next-requires g c =
     let s = c.args.self.now in
-    let of = c.in_ok-walk.ensures.offers in
-    (s.tips, of.heard, of.rest, s.sent,
-    c.as_slice.ensures.value ∙ ap (λ (s : SessionState g.row.A.Denot). s.commons) c.self.view_is ∙ of.commons,
-    subst (λ (h : History g.row.A.Denot). AreOffers h.entries s.tips of.heard s.sent c.in_ok-walk.walk)
-    (sym c.graph.ensures) of.are)
+    let of = c.in_ok-walk.ensures.offers in (
+      s.tips,
+      of.heard,
+      of.rest,
+      s.sent,
+      c.as_slice.ensures.value ∙ ap (λ (s : SessionState g.row.A.Denot). s.commons) c.self.view_is ∙ of.commons,
+      subst (λ (h : History g.row.A.Denot). AreOffers h.entries s.tips of.heard s.sent c.in_ok-walk.walk)
+          (sym c.graph.ensures) of.are,
+    )
 
 pub returns-then-len-clause-batch : goal.returns-then-len-clause-batch
 returns-then-len-clause-batch g c =
