@@ -55,11 +55,13 @@
 //! `ggraph` for graphs, `gname` for names and ids.
 #![tactic(auto)]
 
+mod ahead;
 mod checking;
 mod cloning;
 mod directory;
 mod fault;
 mod fetching;
+mod hosting;
 mod kept;
 mod listing;
 mod opening;
