@@ -54,9 +54,9 @@ struct Places {
 enum Look {
     // It is the one with this number.
     At(usize),
-    // It is in front of the part.
+    // It comes earlier than the part.
     Before,
-    // It is behind the part.
+    // It comes later than the part.
     After,
     // It is in the part, if anywhere, and is not there.
     Absent,
@@ -204,7 +204,7 @@ impl<P: OpenPack + Drop, A: Allocator + Copy> IndexFile<P, A> {
     }
 }
 
-// Where an id probably is among those at these places, since ids are spread evenly.
+// The place at which an id probably is, of these: ids are spread evenly.
 fn likely_place(places: Places, wanted: &[u8]) -> usize {
     let next = number_of(wanted.get(1..).unwrap_or(b""));
     let width = places.high.saturating_sub(places.low) as u64;

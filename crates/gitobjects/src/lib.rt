@@ -6,12 +6,14 @@
 //!   and keeps some bases in a bounded cache.
 //! - [`ObjectReader::raw_entry`] answers an entry of a pack as it lies, so that a packer can copy
 //!   it.
+//! - A [`QuickReader`] looks up and reads few objects. It reads indexes by parts, where an
+//!   [`ObjectStore`] reads each as a whole.
 //! - [`StoredFiles`] are the files of the system, and [`MemoryFiles`] are files in memory.
 //!
 //! # Proved
 //!
-//! - [`ObjectReader::read_checked`] answers an object only if its id is the one that was asked for.
-//!   The SHA-1 is computed.
+//! - [`ObjectReader::read_checked`] and [`QuickReader::read_checked`] answer an object only if its id
+//!   is the one that was asked for. The SHA-1 is computed.
 //! - A private part of a read takes the form and the size of an entry from the head with which its
 //!   bytes begin. It inflates the stream to as many bytes as the head says, and to their end. Another
 //!   splits the text of a loose object exactly.
@@ -56,6 +58,8 @@
 //! - A pack may come in the same tick of the file system's clock as a listing. Then it is not seen
 //!   until the folder changes again, or until [`ObjectReader::refresh`].
 //! - The cache of bases is proved safe only.
+//! - A [`QuickReader`] may find no object, or answer another type than an object has. Its index is not
+//!   tested as a whole.
 //! - Any call may fail out of memory, and any file may be refused.
 //!
 //! # Stands on

@@ -165,7 +165,7 @@ fn add_packs<F: ObjectFiles, A: Allocator + Copy>(
     Ok(())
 }
 
-// What is known of an object; `None` at any fault but out of memory.
+// The value that a call answers; `None` at any fault but out of memory.
 fn known<T: Drop>(outcome: Result<T, Cause>) -> Result<Option<T>, AllocError> {
     match outcome {
         Ok(value) => Ok(Some(value)),

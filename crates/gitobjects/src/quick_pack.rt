@@ -23,7 +23,7 @@ const MAX_CHAIN: usize = 4_096;
 // How many bytes of an entry are read at first, and how many if these do not have its whole stream.
 const FRONTS: [usize; 2] = [4_096, MAX_TEXT];
 
-/// A pack that is open, and its index. Of both only the parts are read that are needed.
+/// A pack that is open, and its index. Only the parts that are needed are read of both.
 #[derive(Drop)]
 pub(crate) struct QuickPack<P: OpenPack + Drop, A: Allocator + Copy> {
     alloc: A,

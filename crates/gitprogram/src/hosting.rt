@@ -47,7 +47,7 @@ struct Answered {
     end: Option<End>,
 }
 
-/// Serves a repository from its advertisement on. What is known of it then is kept.
+/// Serves a repository from its advertisement on. The server that it has then is kept.
 pub(crate) fn serve_repository<R, S: Source, W: Sink>(
     rt: &R,
     found: &Directories,

@@ -51,6 +51,9 @@
 //! refs. It also holds of the updates that it refuses, and of the locks that it removes. A lockfile
 //! is removed when its guard is dropped; no clause says so.
 //!
+//! [`PackedPeels`] may say anything of an object. It is to say what `packed-refs` says, and that
+//! file may lie.
+//!
 //! Conflicts of names are judged before the locks are there, so a ref that is packed meanwhile can
 //! escape. If two lines of `packed-refs` have one name, the first counts.
 //!

@@ -1,4 +1,4 @@
-//! What `packed-refs` says of the objects at which refs are.
+//! The word of `packed-refs` on the objects at which refs are.
 
 use crate::directory::GitDirectory;
 use crate::fault::{Cause, RefFault, TextFault};
@@ -9,7 +9,7 @@ use gname::Oid;
 use std::alloc::{AllocError, Allocator, Global};
 use std::fs::Files;
 
-/// What `packed-refs` says of an object at which a ref is.
+/// The word of `packed-refs` on an object at which a ref is.
 #[derive(Clone, Copy, Debug, PartialEq, Eq, Drop)]
 pub enum Peel {
     /// It is no tag.
@@ -18,7 +18,7 @@ pub enum Peel {
     To(Oid),
 }
 
-/// What `packed-refs` says of all objects at which its refs are.
+/// The word of `packed-refs` on all objects at which its refs are.
 #[derive(Drop)]
 pub struct PackedPeels<A: Allocator + Copy = Global> {
     // In the order of the ids.
@@ -33,7 +33,7 @@ impl<A: Allocator + Copy> PackedPeels<A> {
         }
     }
 
-    // What some refs of a file say whose header says that tags are peeled. It fails out of memory.
+    // The word of a file with these refs, whose header says that tags are peeled. It fails out of memory.
     fn of_refs(alloc: A, refs: &[PackedRef<A>]) -> Result<PackedPeels<A>, AllocError> {
         let mut peels = Vec::with_capacity(alloc, refs.len())?;
         for packed in refs {
@@ -47,7 +47,7 @@ impl<A: Allocator + Copy> PackedPeels<A> {
         Ok(PackedPeels { peels })
     }
 
-    /// What the file says of the object with this id; `None` if it says nothing.
+    /// The word on the object with this id; `None` if there is none.
     pub fn get(&self, id: &Oid) -> Option<Peel> {
         let place = self.peels.binary_search_by_key(id, |pair| pair.0).ok()?;
         Some(self.peels.get(place)?.1)
@@ -55,8 +55,8 @@ impl<A: Allocator + Copy> PackedPeels<A> {
 }
 
 impl<R: Files, A: Allocator + Copy> GitDirectory<'_, R, A> {
-    /// What `packed-refs` says of the objects at which its refs are. It says nothing if its header does
-    /// not have the word `fully-peeled`, or it is not there.
+    /// The word of `packed-refs` on the objects at which its refs are. There is none if its header does not
+    /// have the word `fully-peeled`, or the file is not there.
     ///
     /// It fails with `Malformed` if the file is malformed, with `System` or `Memory`.
     pub fn packed_peels(&self) -> Result<PackedPeels<A>, RefFault<A>> {

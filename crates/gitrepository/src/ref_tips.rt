@@ -23,9 +23,9 @@ struct Tag {
     target: Oid,
 }
 
-/// The objects at which refs and HEAD are, and what these lead to if they are tags, as a repository:
-/// each object that is no tag counts as a commit without parents. That is all that a request for refs
-/// needs. A tag of `packed-refs` leads at once to the object that the file names.
+/// The objects at which refs and HEAD are, and what these lead to if they are tags, as a repository. Each
+/// object that is no tag counts as a commit without parents. A request for refs needs no more. A tag of
+/// `packed-refs` leads at once to the object that the file names.
 ///
 /// It is `None` if one of the objects is not found or not read. The repository has to be opened then.
 /// It fails with `Memory`, and with `Objects` if there are too many.
