@@ -15,7 +15,7 @@ use ggraph::PackFault;
 use gitobjects::StoredFiles;
 use gitrepository::{FormFault, StorePacker};
 use gpkt::{FromRead, Sink, Source, ToWrite};
-use gserve::{End, Served, serve};
+use gserve::{End, OnePack, Served, serve};
 use std::alloc::{AllocError, Global};
 use std::io::{BufReader, BufWriter};
 use std::rt::{Env, Files};
@@ -190,7 +190,8 @@ fn serve_opened<R: Files, S: Source, W: Sink>(
     source: &mut S,
     sink: &mut W,
 ) -> Conversation {
-    let Served { requests, end } = serve(&opened.server, &opened.packer, Ends::Plain, source, sink);
+    let mut packer = OnePack::new(&opened.packer);
+    let Served { requests, end } = serve(&opened.server, &mut packer, Ends::Plain, source, sink);
     let outcome = match end {
         End::Closed | End::Ended => Ok(()),
         End::WriteFailed => Err(Fault::of(alloc, Sentence::ClientLost)),
