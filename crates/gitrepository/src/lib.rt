@@ -97,8 +97,10 @@ mod nodes;
 mod opening;
 mod outgoing;
 mod packer;
+mod path_hash;
 mod stored_folder;
 mod tips;
+mod window;
 
 pub use crate::checking::{Checked, check_refs, check_repository};
 pub use crate::commit_graph::read_commit_graph;
