@@ -6,12 +6,14 @@
 //!   and keeps some bases in a bounded cache.
 //! - [`ObjectReader::raw_entry`] answers an entry of a pack as it lies, so that a packer can copy
 //!   it.
+//! - A [`QuickReader`] looks up and reads few objects. It reads indexes by parts, where an
+//!   [`ObjectStore`] reads each as a whole.
 //! - [`StoredFiles`] are the files of the system, and [`MemoryFiles`] are files in memory.
 //!
 //! # Proved
 //!
-//! - [`ObjectReader::read_checked`] answers an object only if its id is the one that was asked for.
-//!   The SHA-1 is computed.
+//! - [`ObjectReader::read_checked`] and [`QuickReader::read_checked`] answer an object only if its id
+//!   is the one that was asked for. The SHA-1 is computed.
 //! - A private part of a read takes the form and the size of an entry from the head with which its
 //!   bytes begin. It inflates the stream to as many bytes as the head says, and to their end. Another
 //!   splits the text of a loose object exactly.
@@ -56,6 +58,8 @@
 //! - A pack may come in the same tick of the file system's clock as a listing. Then it is not seen
 //!   until the folder changes again, or until [`ObjectReader::refresh`].
 //! - The cache of bases is proved safe only.
+//! - A [`QuickReader`] may find no object, or answer another type than an object has. Its index is not
+//!   tested as a whole.
 //! - Any call may fail out of memory, and any file may be refused.
 //!
 //! # Stands on
@@ -70,6 +74,7 @@ mod chain;
 mod entry;
 mod fault;
 mod files;
+mod index_file;
 mod limits;
 mod listed;
 mod listing;
@@ -80,6 +85,8 @@ mod pack;
 mod packs;
 mod parts;
 mod paths;
+mod quick;
+mod quick_pack;
 mod reader;
 mod store;
 mod stored;
@@ -95,6 +102,7 @@ pub use crate::limits::{
 pub use crate::memory::{MemoryFiles, MemoryPack};
 pub use crate::object::Object;
 pub use crate::order::Start;
+pub use crate::quick::QuickReader;
 pub use crate::reader::ObjectReader;
 pub use crate::store::{Found, ObjectStore};
 pub use crate::stored::{StoredFiles, StoredPack};

@@ -310,8 +310,8 @@ impl<'f, F: ObjectFiles, A: Allocator + Copy> ObjectStore<'f, F, A> {
     }
 }
 
-// The loose object in a file; `None` if there is no such file.
-fn read_loose_file<F: ObjectFiles, A: Allocator + Copy>(
+/// The loose object in a file; `None` if there is no such file.
+pub(crate) fn read_loose_file<F: ObjectFiles, A: Allocator + Copy>(
     files: &F,
     alloc: A,
     path: &str,
@@ -323,9 +323,9 @@ fn read_loose_file<F: ObjectFiles, A: Allocator + Copy>(
     }
 }
 
-// The type of the loose object in a file; `None` if there is no such file, or its beginning does
-// not tell.
-fn read_kind<F: ObjectFiles, A: Allocator + Copy>(
+/// The type of the loose object in a file; `None` if there is no such file, or its beginning does
+/// not tell.
+pub(crate) fn read_kind<F: ObjectFiles, A: Allocator + Copy>(
     files: &F,
     alloc: A,
     path: &str,

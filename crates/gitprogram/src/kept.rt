@@ -7,11 +7,30 @@ use std::alloc::{AllocError, Global};
 // The most servers that are kept.
 const MAX_SERVERS: usize = 64;
 
+/// A server, and how much of its repository it has.
+#[derive(Drop)]
+pub(crate) enum Extent {
+    /// It has the whole history.
+    Whole(Server<Global>),
+    /// It has the objects at which refs are, and what tags among them lead to. It answers requests for
+    /// refs alone.
+    Tips(Server<Global>),
+}
+
+impl Extent {
+    /// The server.
+    pub(crate) fn server(&self) -> &Server<Global> {
+        match self {
+            Extent::Whole(server) | Extent::Tips(server) => server,
+        }
+    }
+}
+
 // The server of the repository whose Git directory has this path.
 #[derive(Drop)]
 struct Kept {
     path: String,
-    server: Server<Global>,
+    extent: Extent,
 }
 
 /// The servers of repositories that were served last, the oldest first. They have at most 1,048,576
@@ -30,12 +49,12 @@ impl KeptServers {
     }
 
     /// Takes out the server of the repository with this Git directory; `None` if none is kept.
-    pub(crate) fn take(&mut self, path: &str) -> Option<Server<Global>> {
+    pub(crate) fn take(&mut self, path: &str) -> Option<Extent> {
         let place = self
             .servers
             .iter()
             .position(|kept| kept.path.as_str() == path)?;
-        Some(self.servers.remove(place).server)
+        Some(self.servers.remove(place).extent)
     }
 
     /// Keeps a server of the repository with this Git directory. The oldest go if there are too many. It
@@ -44,11 +63,11 @@ impl KeptServers {
         &mut self,
         alloc: Global,
         path: &str,
-        server: Server<Global>,
+        extent: Extent,
     ) -> Result<(), AllocError> {
-        self.make_room(server.graph().len());
+        self.make_room(extent.server().graph().len());
         let path = String::from_str(alloc, path)?;
-        self.servers.push(Kept { path, server })?;
+        self.servers.push(Kept { path, extent })?;
         Ok(())
     }
 
@@ -77,7 +96,7 @@ impl KeptServers {
     fn nodes(&self) -> usize {
         let mut nodes: usize = 0;
         for kept in &self.servers {
-            nodes = nodes.saturating_add(kept.server.graph().len());
+            nodes = nodes.saturating_add(kept.extent.server().graph().len());
         }
         nodes
     }

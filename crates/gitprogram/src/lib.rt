@@ -2,11 +2,12 @@
 //! fetches, lists or checks Git repositories as they are on disk.
 //!
 //! - `serve` serves every repository below a directory, one connection after the other
-//!   (git-daemon(1)). It reads the refs and lists the packs at each connection, so it shows what Git has
-//!   changed meanwhile. It keeps the graph of a repository while the refs and HEAD stay the same: those
-//!   of at most 64 repositories, with at most 1,048,576 commits and tags. It prints a line about each
-//!   connection.
+//!   (git-daemon(1)). It reads the refs at each connection, so it shows what Git has changed meanwhile. It
+//!   keeps what it read of a repository while the refs and HEAD stay the same: the graphs of at most 64
+//!   repositories, with at most 1,048,576 commits and tags. It prints a line about each connection.
 //! - `upload-pack` serves one connection on standard input and output (git-upload-pack(1)).
+//! - Both answer requests for refs from the objects at which refs are. The history is read at the first
+//!   request that may ask for objects. One of which a part is missing is refused then, as by Git.
 //! - `clone` and `fetch` keep the pack as it came, and then move the refs. `ls` prints the refs of a
 //!   server as git-ls-remote(1) does. `check` looks whether all that the refs reach is there.
 //! - A fault is one sentence on standard error, from one table. The exit status is then 1. It is 2 for
@@ -55,11 +56,13 @@
 //! `ggraph` for graphs, `gname` for names and ids.
 #![tactic(auto)]
 
+mod ahead;
 mod checking;
 mod cloning;
 mod directory;
 mod fault;
 mod fetching;
+mod hosting;
 mod kept;
 mod listing;
 mod opening;

@@ -2,14 +2,14 @@
 
 use crate::directory::Directories;
 use crate::fault::Fault;
-use crate::kept::{KeptServers, has_refs};
+use crate::kept::{Extent, KeptServers, has_refs};
 use crate::sentences::Sentence;
 use ganswer::Server;
-use ggraph::Repository;
-use gitobjects::{ObjectReader, StoredFiles};
+use ggraph::{Head, Refs, Repository};
+use gitobjects::{ObjectReader, QuickReader, StoredFiles};
 use gitrepository::{
-    FormFault, RepositoryFault, StorePacker, Tips, add_leaves, open_refs, open_repository,
-    open_store, read_commit_graph,
+    FormFault, RepositoryFault, StorePacker, Tips, add_leaves, check_form, lead_with_newest,
+    open_refs, open_repository, open_store, open_tips, read_commit_graph,
 };
 use std::alloc::Global;
 use std::rt::Files;
@@ -36,65 +36,136 @@ pub(crate) struct NotOpened {
     pub(crate) form: Option<FormFault>,
 }
 
-// A repository before it is served.
-#[derive(Drop)]
-enum Known {
-    // Its server was kept, and the refs and HEAD are still those that it has.
-    Kept(Server<Global>),
-    // It was read.
-    Read(Repository<Global>),
-}
-
-/// Opens a repository to serve it. A server that was kept serves again if the refs and HEAD are still
-/// those that it has. The objects are always opened anew.
-pub(crate) fn open_served<'f, 'r, R: Files>(
+/// Opens as much of a repository as a request for refs needs. A server that was kept serves again if the
+/// refs and HEAD are still those that it has. Otherwise it has the objects at which refs are; or the whole
+/// history, if one of them is not found at once.
+pub(crate) fn open_shown<R: Files>(
     alloc: Global,
     rt: &R,
-    files: &'f StoredFiles<'r, R>,
+    files: &StoredFiles<'_, R>,
     found: &Directories,
     kept: &mut KeptServers,
-) -> Result<Opened<'f, 'r, R>, NotOpened> {
-    match find_known(alloc, rt, files, found, kept) {
-        Ok((known, reader)) => Ok(Opened {
-            server: make_server(alloc, found, known)?,
-            packer: StorePacker::new(reader),
-        }),
-        Err(fault) => Err(NotOpened {
-            form: form_of(&fault),
-            fault: repository_fault(alloc, found.common.as_str(), &fault),
-        }),
+) -> Result<Extent, NotOpened> {
+    match find_shown(alloc, rt, files, found, kept) {
+        Ok(Shown::Kept(extent)) => Ok(extent),
+        Ok(Shown::Tips(tips)) => Ok(Extent::Tips(make_server(alloc, found, tips)?)),
+        Ok(Shown::Whole(whole)) => Ok(Extent::Whole(make_server(alloc, found, whole)?)),
+        Err(fault) => Err(not_opened(alloc, found, &fault)),
     }
 }
 
-fn find_known<'f, 'r, R: Files>(
+// A repository before its refs are shown.
+#[derive(Drop)]
+enum Shown {
+    // Its server was kept.
+    Kept(Extent),
+    // The objects at which refs are were looked at.
+    Tips(Repository<Global>),
+    // Its history was read.
+    Whole(Repository<Global>),
+}
+
+fn find_shown<R: Files>(
     alloc: Global,
     rt: &R,
-    files: &'f StoredFiles<'r, R>,
+    files: &StoredFiles<'_, R>,
     found: &Directories,
     kept: &mut KeptServers,
-) -> Result<(Known, Reader<'f, 'r, R>), RepositoryFault<Global>> {
+) -> Result<Shown, RepositoryFault<Global>> {
     let path = found.common.as_str();
-    let mut reader = open_reader(alloc, files, path)?;
-    let (refs, head) = found.refs(alloc, rt).read_refs()?;
-    if let Some(server) = kept.take(found.own.as_str()) {
-        if has_refs(&server, &refs, &head) {
-            return Ok((Known::Kept(server), reader));
+    check_form(files, alloc, path)?;
+    let directory = found.refs(alloc, rt);
+    let (refs, head) = directory.read_refs()?;
+    if let Some(extent) = kept.take(found.own.as_str()) {
+        if has_refs(extent.server(), &refs, &head) {
+            return Ok(Shown::Kept(extent));
         }
     }
+    let mut reader = QuickReader::open(files, alloc, path)?;
+    let peels = directory.packed_peels()?;
+    if let Some(tips) = open_tips(&mut reader, &peels, &refs, &head)? {
+        return Ok(Shown::Tips(tips));
+    }
+    let mut reader = open_reader(alloc, files, path)?;
+    let whole = read_history(alloc, files, path, &mut reader, &refs, head)?;
+    Ok(Shown::Whole(whole))
+}
+
+/// Opens the objects of a repository whose refs were shown, and reads its history unless it is known.
+pub(crate) fn open_whole<'f, 'r, R: Files>(
+    alloc: Global,
+    files: &'f StoredFiles<'r, R>,
+    found: &Directories,
+    shown: Extent,
+) -> Result<Opened<'f, 'r, R>, NotOpened> {
+    let tips = match shown {
+        Extent::Whole(server) => return open_objects(alloc, files, found, server),
+        Extent::Tips(tips) => tips,
+    };
+    match find_whole(alloc, files, found, &tips) {
+        Ok((whole, reader)) => Ok(Opened {
+            server: make_server(alloc, found, whole)?,
+            packer: StorePacker::new(reader),
+        }),
+        Err(fault) => Err(not_opened(alloc, found, &fault)),
+    }
+}
+
+// Opens the objects of a repository whose history is known.
+fn open_objects<'f, 'r, R: Files>(
+    alloc: Global,
+    files: &'f StoredFiles<'r, R>,
+    found: &Directories,
+    server: Server<Global>,
+) -> Result<Opened<'f, 'r, R>, NotOpened> {
+    match open_reader(alloc, files, found.common.as_str()) {
+        Ok(reader) => Ok(Opened {
+            server,
+            packer: StorePacker::new(reader),
+        }),
+        Err(fault) => Err(not_opened(alloc, found, &fault)),
+    }
+}
+
+// The history of the refs and HEAD that were shown, and a reader of its objects.
+fn find_whole<'f, 'r, R: Files>(
+    alloc: Global,
+    files: &'f StoredFiles<'r, R>,
+    found: &Directories,
+    tips: &Server<Global>,
+) -> Result<(Repository<Global>, Reader<'f, 'r, R>), RepositoryFault<Global>> {
+    let path = found.common.as_str();
+    let mut reader = open_reader(alloc, files, path)?;
+    let head = tips.head().copy_in(alloc)?;
+    let whole = read_history(alloc, files, path, &mut reader, tips.refs(), head)?;
+    Ok((whole, reader))
+}
+
+// The history that refs and HEAD reach.
+fn read_history<R: Files>(
+    alloc: Global,
+    files: &StoredFiles<'_, R>,
+    path: &str,
+    reader: &mut Reader<'_, '_, R>,
+    refs: &Refs<Global>,
+    head: Head<Global>,
+) -> Result<Repository<Global>, RepositoryFault<Global>> {
     let commits = read_commit_graph(files, alloc, path)?;
-    let repository = open_refs(&mut reader, &commits, &refs, head)?;
-    Ok((Known::Read(repository), reader))
+    open_refs(reader, &commits, refs, head)
+}
+
+fn not_opened(alloc: Global, found: &Directories, fault: &RepositoryFault<Global>) -> NotOpened {
+    NotOpened {
+        form: form_of(fault),
+        fault: repository_fault(alloc, found.common.as_str(), fault),
+    }
 }
 
 fn make_server(
     alloc: Global,
     found: &Directories,
-    known: Known,
+    repository: Repository<Global>,
 ) -> Result<Server<Global>, NotOpened> {
-    let repository = match known {
-        Known::Kept(server) => return Ok(server),
-        Known::Read(repository) => repository,
-    };
     match Server::new(repository.graph, repository.refs, repository.head) {
         Ok(server) => Ok(server),
         Err(fault) => Err(NotOpened {
@@ -110,7 +181,8 @@ fn make_server(
     }
 }
 
-/// Opens a repository to fetch into it from a server whose refs are at these ids.
+/// Opens a repository to fetch into it from a server whose refs are at these ids. Its refs have others in
+/// front of them, so that its newest objects are offered first.
 pub(crate) fn open_client<'f, 'r, R: Files>(
     alloc: Global,
     rt: &R,
@@ -133,6 +205,8 @@ fn open_with_leaves<'f, 'r, R: Files>(
 ) -> Result<(Repository<Global>, Reader<'f, 'r, R>), RepositoryFault<Global>> {
     let (mut repository, mut reader) = open(alloc, rt, files, found)?;
     add_leaves(&mut reader, &mut repository.graph, tips)?;
+    let more = tips.as_slice().len();
+    repository.refs = lead_with_newest(&repository.graph, &repository.refs, more)?;
     Ok((repository, reader))
 }
 

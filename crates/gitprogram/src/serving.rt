@@ -2,11 +2,12 @@
 
 use crate::directory::{Exports, find_served, open_fault};
 use crate::fault::Fault;
+use crate::hosting::{Conversation, serve_repository};
 use crate::kept::KeptServers;
 use crate::output::print;
 use crate::refusals::{Worded, send_error};
 use crate::sentences::Sentence;
-use crate::uploading::{Conversation, REPLY_BUFFER, serve_repository};
+use crate::uploading::REPLY_BUFFER;
 use crate::visit::{Counted, Visit};
 use ganswer::ServeFault;
 use gconnect::hear;

@@ -1,22 +1,16 @@
-//! A repository that is served from its advertisement on, and `gitrepo upload-pack`.
+//! `gitrepo upload-pack`.
 
 ghost use Rattle.std.specs.Prelude.{◌≡◌};
 ghost use Rattle.gitprogram.specs.Versions.{is_version_2, names_version_2};
 
 use crate::directory::{Directories, find_repository};
 use crate::fault::Fault;
+use crate::hosting::serve_repository;
 use crate::kept::KeptServers;
-use crate::opening::{Opened, open_served, repository_fault};
 use crate::refusals::{Worded, send_error};
-use crate::sentences::{Sentence, form_text};
-use ganswer::ServeFault;
-use ggrammar::Ends;
-use ggraph::PackFault;
-use gitobjects::StoredFiles;
-use gitrepository::{FormFault, StorePacker};
+use crate::sentences::Sentence;
 use gpkt::{FromRead, Sink, Source, ToWrite};
-use gserve::{End, OnePack, Served, serve};
-use std::alloc::{AllocError, Global};
+use std::alloc::AllocError;
 use std::io::{BufReader, BufWriter};
 use std::rt::{Env, Files};
 use std::{env, io};
@@ -30,9 +24,6 @@ const NO_VERSION_2: &[u8] =
 
 // The error line for a client of a repository that is not there.
 const NOT_THERE: &[u8] = b"upload-pack: no such repository";
-
-// The error line for a client of a repository that is not opened.
-const NOT_OPENED: &[u8] = b"upload-pack: the repository cannot be read";
 
 /// Serves a repository on standard input and output (git-upload-pack(1)).
 pub(crate) fn upload_pack<R>(rt: &R, dir: &str) -> Result<(), Fault>
@@ -117,100 +108,4 @@ fn is_version_2(key: &[u8]) -> bool
     ensures { result ≡ is_version_2 key.now }
 {
     key == b"version=2".as_slice()
-}
-
-/// A conversation with a client: how many of its requests were answered, and how it came out.
-#[derive(Drop)]
-pub(crate) struct Conversation {
-    pub(crate) requests: u32,
-    pub(crate) outcome: Result<(), Fault>,
-}
-
-impl Conversation {
-    /// A conversation in which no request was answered.
-    pub(crate) fn failed(fault: Fault) -> Conversation {
-        Conversation {
-            requests: 0,
-            outcome: Err(fault),
-        }
-    }
-}
-
-/// Opens a repository, and serves it from its advertisement on. Its server is kept.
-pub(crate) fn serve_repository<R, S: Source, W: Sink>(
-    rt: &R,
-    found: &Directories,
-    kept: &mut KeptServers,
-    source: &mut S,
-    sink: &mut W,
-) -> Conversation
-where
-    R: Files + AllocGlobal,
-{
-    let alloc = rt.alloc();
-    let files = StoredFiles::new(rt);
-    match open_served(alloc, rt, &files, found, kept) {
-        Ok(opened) => {
-            let conversation = serve_opened(alloc, found, &opened, source, sink);
-            let Opened { server, .. } = opened;
-            // A server for which there is no memory is not kept.
-            let _ = kept.put(alloc, found.own.as_str(), server);
-            conversation
-        }
-        Err(cause) => {
-            let _ = send_not_opened(alloc, cause.form, sink);
-            Conversation::failed(cause.fault)
-        }
-    }
-}
-
-// Says to the client that the repository is not opened, and why if its form is not read.
-fn send_not_opened<W: Sink>(
-    alloc: Global,
-    form: Option<FormFault>,
-    sink: &mut W,
-) -> Result<(), AllocError> {
-    match form {
-        Some(form) => {
-            let form = form_text(form);
-            let text = format!(in alloc; "upload-pack: the repository {form}")?;
-            let _ = send_error(text.as_bytes(), sink);
-        }
-        None => {
-            let _ = send_error(NOT_OPENED, sink);
-        }
-    }
-    Ok(())
-}
-
-fn serve_opened<R: Files, S: Source, W: Sink>(
-    alloc: Global,
-    found: &Directories,
-    opened: &Opened<'_, '_, R>,
-    source: &mut S,
-    sink: &mut W,
-) -> Conversation {
-    let mut packer = OnePack::new(&opened.packer);
-    let Served { requests, end } = serve(&opened.server, &mut packer, Ends::Plain, source, sink);
-    let outcome = match end {
-        End::Closed | End::Ended => Ok(()),
-        End::WriteFailed => Err(Fault::of(alloc, Sentence::ClientLost)),
-        End::Refused(fault) => Err(request_fault(alloc, found, &opened.packer, &fault)),
-    };
-    Conversation { requests, outcome }
-}
-
-// The fault of a request that was refused. The packer knows more of its own.
-fn request_fault<R: Files>(
-    alloc: Global,
-    found: &Directories,
-    packer: &StorePacker<'_, StoredFiles<'_, R>, Global>,
-    fault: &ServeFault,
-) -> Fault {
-    if let ServeFault::Pack(PackFault::Other) = fault {
-        if let Some(cause) = packer.take_fault() {
-            return repository_fault(alloc, found.common.as_str(), &cause);
-        }
-    }
-    Fault::of(alloc, Sentence::Request(fault))
 }

@@ -1,8 +1,8 @@
 //! A connection of the server, for the line about it.
 
 use crate::fault::Fault;
+use crate::hosting::Conversation;
 use crate::sentences::Clean;
-use crate::uploading::Conversation;
 use std::alloc::Global;
 use std::io::Write;
 use std::time::Duration;

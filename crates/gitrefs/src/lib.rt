@@ -51,6 +51,9 @@
 //! refs. It also holds of the updates that it refuses, and of the locks that it removes. A lockfile
 //! is removed when its guard is dropped; no clause says so.
 //!
+//! [`PackedPeels`] may say anything of an object. It is to say what `packed-refs` says, and that
+//! file may lie.
+//!
 //! Conflicts of names are judged before the locks are there, so a ref that is packed meanwhile can
 //! escape. If two lines of `packed-refs` have one name, the first counts.
 //!
@@ -76,6 +79,7 @@ mod loose;
 mod packed;
 mod packed_text;
 mod path;
+mod peels;
 mod reading;
 mod texts;
 mod update;
@@ -89,4 +93,5 @@ pub use crate::locked::{commit_file, prepare_ref};
 pub use crate::loose::{LooseRef, parse_loose_ref};
 pub use crate::packed::{PackedRef, parse_packed_refs};
 pub use crate::packed_text::{packed_refs_text, peeled_refs_text};
+pub use crate::peels::{PackedPeels, Peel};
 pub use crate::update::RefUpdate;

@@ -35,8 +35,9 @@ pub fn open_store<'f, F: ObjectFiles, A: Allocator + Copy>(
     Ok(ObjectStore::open(files, alloc, git_dir)?)
 }
 
-// Whether the repository of a Git directory has a form that is read.
-fn check_form<F: ObjectFiles, A: Allocator + Copy>(
+/// Checks that the repository of a Git directory has a form that is read. It fails as [`open_store`]
+/// does at one that has not.
+pub fn check_form<F: ObjectFiles, A: Allocator + Copy>(
     files: &F,
     alloc: A,
     git_dir: &str,

@@ -3,6 +3,8 @@
 //!
 //! - [`open_repository`] answers the graph of all that the refs reach. [`read_commit_graph`] reads
 //!   what says the parents of commits, so that these need not be read.
+//! - [`open_tips`] answers the objects at which refs are, without the history. A request for refs needs no
+//!   more. [`lead_with_newest`] puts refs at the newest objects in front of others.
 //! - A [`StorePacker`] packs commits and tags and what goes with them. Entries of packs go out as
 //!   they lie.
 //! - A [`StoreIndexer`] indexes a pack that comes, and keeps it. [`install_pack`] brings it to the
@@ -15,6 +17,7 @@
 //! - Each entry of the graph is that of an object, or of a commit as the commit-graph says. The id of
 //!   an object is the SHA-1 of a type and bytes, and its parents are those that the bytes name, in
 //!   order. Parents come first. Each ref is at an entry of the graph.
+//! - [`open_tips`] and [`lead_with_newest`] answer refs each of which is at an entry of the graph.
 //! - [`check_refs`] counts a graph in which each entry is that of an object.
 //! - A pack that goes out has a header, as many entries as the header says, and the SHA-1 of all
 //!   bytes before. Each entry has a well-formed head. The pack has at most `MAX_PACK` bytes.
@@ -56,6 +59,9 @@
 //!   has; no clause says so, nor from which file it is read.
 //! - The graph might hold more than the refs reach, and a ref might be left out. HEAD has no
 //!   clause.
+//! - [`open_tips`] might find other objects than those of the refs, or lead a tag elsewhere. For refs of
+//!   `packed-refs` it takes the word of that file, as Git does. [`lead_with_newest`] might leave refs out or
+//!   put others in front.
 //! - [`check_refs`] might look at other objects than those that the refs reach. The graph whose nodes
 //!   it counts may be another one, and its count of objects has no clause.
 //! - [`Tips`] might forget an id, [`add_leaves`] might add other nodes, and a repository of any form
@@ -93,11 +99,13 @@ mod kept;
 mod leaves;
 mod memory_folder;
 mod new_repository;
+mod newest;
 mod nodes;
 mod opening;
 mod outgoing;
 mod packer;
 mod path_hash;
+mod ref_tips;
 mod stored_folder;
 mod tips;
 mod window;
@@ -107,13 +115,15 @@ pub use crate::commit_graph::read_commit_graph;
 pub use crate::copying::PackCounts;
 pub use crate::fault::{CheckFault, FormFault, ObjectCause, RepositoryFault};
 pub use crate::folder::{PackFolder, Stage};
-pub use crate::form::open_store;
+pub use crate::form::{check_form, open_store};
 pub use crate::indexer::{Received, StoreIndexer};
 pub use crate::install::{install_files, install_pack};
 pub use crate::kept::KeptPack;
 pub use crate::leaves::add_leaves;
 pub use crate::memory_folder::{MemoryFolder, PackFile};
 pub use crate::new_repository::NewRepository;
+pub use crate::newest::lead_with_newest;
 pub use crate::opening::{open_refs, open_repository};
 pub use crate::packer::StorePacker;
+pub use crate::ref_tips::open_tips;
 pub use crate::tips::Tips;

@@ -90,8 +90,8 @@ fn is_there<F: ObjectFiles, A: Allocator + Copy>(
     }
 }
 
-// The refs whose objects the graph holds.
-fn held_refs<A: Allocator + Copy>(
+/// The refs whose objects the graph holds.
+pub(crate) fn held_refs<A: Allocator + Copy>(
     alloc: A,
     graph: &Graph<A>,
     listed: &Refs<A>,
@@ -108,9 +108,9 @@ fn held_refs<A: Allocator + Copy>(
     Ok(refs)
 }
 
-// Puts a ref at an object of the graph.
+/// Puts a ref at an object of the graph.
 #[tactic(auto, using(crate::proofs::RefLemmas::AreHeld_set))]
-fn set_held<A: Allocator + Copy>(
+pub(crate) fn set_held<A: Allocator + Copy>(
     graph: &Graph<A>,
     refs: &mut Refs<A>,
     name: RefName<A>,

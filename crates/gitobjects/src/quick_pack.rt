@@ -1,0 +1,232 @@
+//! A pack of which few entries are read.
+
+use crate::fault::Cause;
+use crate::files::{ObjectFiles, OpenPack};
+use crate::index_file::{IndexFile, open_index};
+use crate::object::Object;
+use crate::paths::pack_path;
+use gitobject::ObjectType;
+use gitpack::{EntryForm, MAX_HEAD, apply_delta, read_head};
+use gname::Oid;
+use gzlib::{InflateFault, Inflater};
+use std::alloc::Allocator;
+
+// The bytes of the checksum at the end of a pack.
+const TRAILER: usize = 20;
+
+// The most bytes of an object that is read.
+const MAX_TEXT: usize = 131_072;
+
+// The most entries of a chain of deltas. Git makes none that is longer.
+const MAX_CHAIN: usize = 4_096;
+
+// How many bytes of an entry are read at first, and how many if these do not have its whole stream.
+const FRONTS: [usize; 2] = [4_096, MAX_TEXT];
+
+/// A pack that is open, and its index. Only the parts that are needed are read of both.
+#[derive(Drop)]
+pub(crate) struct QuickPack<P: OpenPack + Drop, A: Allocator + Copy> {
+    alloc: A,
+    index: IndexFile<P, A>,
+    file: P,
+    // The end of the last entry.
+    end: usize,
+}
+
+// An entry: its form, and the text of its stream.
+#[derive(Drop)]
+struct QuickEntry<A: Allocator + Copy> {
+    form: EntryForm,
+    text: Vec<u8, A>,
+}
+
+// An object, or the base of a delta of it.
+#[derive(Clone, Copy, Debug)]
+enum Below {
+    // A whole object of this type.
+    Whole(ObjectType),
+    // A delta of the entry that begins here.
+    Base(usize),
+}
+
+/// Opens the pack that has this name in a folder, without its extension; `None` if it is not there or
+/// can't be used.
+///
+/// It fails with `Memory` alone.
+pub(crate) fn open_quick<F: ObjectFiles, A: Allocator + Copy>(
+    files: &F,
+    alloc: A,
+    folder: &str,
+    stem: &str,
+) -> Result<Option<QuickPack<F::Pack, A>>, Cause> {
+    match open_both(files, alloc, folder, stem) {
+        Err(Cause::Memory) => Err(Cause::Memory),
+        Err(_) => Ok(None),
+        Ok(pack) => Ok(pack),
+    }
+}
+
+fn open_both<F: ObjectFiles, A: Allocator + Copy>(
+    files: &F,
+    alloc: A,
+    folder: &str,
+    stem: &str,
+) -> Result<Option<QuickPack<F::Pack, A>>, Cause> {
+    let index_path = pack_path(alloc, folder, stem, ".idx")?;
+    let Some(index) = open_index(files, alloc, index_path.as_str())? else {
+        return Ok(None);
+    };
+    let path = pack_path(alloc, folder, stem, ".pack")?;
+    let Some((file, length)) = files.open_pack(path.as_str())? else {
+        return Ok(None);
+    };
+    let end = length.saturating_sub(TRAILER);
+    Ok(Some(QuickPack {
+        alloc,
+        index,
+        file,
+        end,
+    }))
+}
+
+impl<P: OpenPack + Drop, A: Allocator + Copy> QuickPack<P, A> {
+    /// Whether the index has the object with this id. It fails with `Read` and `Memory`.
+    pub(crate) fn holds(&mut self, id: &Oid) -> Result<bool, Cause> {
+        Ok(self.index.find(id)?.is_some())
+    }
+
+    // The offset of the entry of an object; `None` if it is not there.
+    fn start_of(&mut self, id: &Oid) -> Result<Option<usize>, Cause> {
+        match self.index.find(id)? {
+            Some(place) => self.index.offset(place),
+            None => Ok(None),
+        }
+    }
+
+    /// The type of the object with this id, by the heads of its chain; `None` if it is not there or they
+    /// do not tell. It fails with `Read` and `Memory`.
+    pub(crate) fn kind_of(&mut self, id: &Oid) -> Result<Option<ObjectType>, Cause> {
+        let mut next = self.start_of(id)?;
+        for _entry in 0..MAX_CHAIN {
+            let Some(start) = next else {
+                return Ok(None);
+            };
+            let front = self.front(start, MAX_HEAD)?;
+            let Some(head) = read_head(front.as_slice()) else {
+                return Ok(None);
+            };
+            match self.below(start, head.form)? {
+                Some(Below::Whole(kind)) => return Ok(Some(kind)),
+                Some(Below::Base(base)) => next = Some(base),
+                None => return Ok(None),
+            }
+        }
+        Ok(None)
+    }
+
+    /// The object with this id; `None` if it is not there, too large or broken. It fails with `Read` and
+    /// `Memory`.
+    pub(crate) fn read(
+        &mut self,
+        id: &Oid,
+        inflater: &mut Inflater,
+    ) -> Result<Option<Object<A>>, Cause> {
+        let mut deltas = Vec::new(self.alloc);
+        let mut next = self.start_of(id)?;
+        for _entry in 0..MAX_CHAIN {
+            let Some(start) = next else {
+                return Ok(None);
+            };
+            let Some(entry) = self.entry_at(start, inflater)? else {
+                return Ok(None);
+            };
+            match self.below(start, entry.form)? {
+                Some(Below::Whole(kind)) => return apply_all(self.alloc, kind, entry.text, deltas),
+                Some(Below::Base(base)) => {
+                    deltas.push(entry.text)?;
+                    next = Some(base);
+                }
+                None => return Ok(None),
+            }
+        }
+        Ok(None)
+    }
+
+    // The bytes from here on, so many at most.
+    fn front(&mut self, start: usize, most: usize) -> Result<Vec<u8, A>, Cause> {
+        let count = self.end.saturating_sub(start).min(most);
+        self.file.read_at(self.alloc, start, count)
+    }
+
+    // The thing below an entry of this form that begins here; `None` if it is not in the pack.
+    fn below(&mut self, start: usize, form: EntryForm) -> Result<Option<Below>, Cause> {
+        let base = match form {
+            EntryForm::Whole(kind) => return Ok(Some(Below::Whole(kind))),
+            EntryForm::OffsetDelta(back) => start.checked_sub(back),
+            EntryForm::RefDelta(id) => self.start_of(&id)?,
+        };
+        match base {
+            Some(base) => Ok(Some(Below::Base(base))),
+            None => Ok(None),
+        }
+    }
+
+    // The entry that begins here; `None` if it is too large or broken.
+    fn entry_at(
+        &mut self,
+        start: usize,
+        inflater: &mut Inflater,
+    ) -> Result<Option<QuickEntry<A>>, Cause> {
+        for most in FRONTS {
+            let front = self.front(start, most)?;
+            match inflate_front(self.alloc, inflater, front.as_slice()) {
+                Ok(entry) => return Ok(Some(entry)),
+                Err(InflateFault::Memory) => return Err(Cause::Memory),
+                Err(InflateFault::Short) => {}
+                Err(_) => return Ok(None),
+            }
+        }
+        Ok(None)
+    }
+}
+
+// The entry with which some bytes begin.
+fn inflate_front<A: Allocator + Copy>(
+    alloc: A,
+    inflater: &mut Inflater,
+    front: &[u8],
+) -> Result<QuickEntry<A>, InflateFault> {
+    let Some(head) = read_head(front) else {
+        return Err(InflateFault::Malformed);
+    };
+    let stream = front.get(head.length..).unwrap_or(b"");
+    if head.size > MAX_TEXT {
+        return Err(InflateFault::Long);
+    }
+    let mut text = Vec::new(alloc);
+    inflater.inflate(stream, &mut text, head.size)?;
+    if text.len() != head.size {
+        return Err(InflateFault::Malformed);
+    }
+    let form = head.form;
+    Ok(QuickEntry { form, text })
+}
+
+// The object that deltas make of a whole one, the last delta of the list first; `None` if one does not
+// fit.
+fn apply_all<A: Allocator + Copy>(
+    alloc: A,
+    kind: ObjectType,
+    base: Vec<u8, A>,
+    deltas: Vec<Vec<u8, A>, A>,
+) -> Result<Option<Object<A>>, Cause> {
+    let mut deltas = deltas;
+    let mut body = base;
+    while let Some(delta) = deltas.pop() {
+        match apply_delta(alloc, body.as_slice(), delta.as_slice(), MAX_TEXT)? {
+            Some(made) => body = made,
+            None => return Ok(None),
+        }
+    }
+    Ok(Some(Object { kind, body }))
+}

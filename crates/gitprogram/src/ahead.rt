@@ -1,0 +1,118 @@
+//! A look at the next request, before it is read.
+
+ghost use Rattle.std.specs.Prelude.{◌≡◌, None};
+
+use gpkt::{Down, Source};
+use std::marker::Model;
+
+// The most bytes that are looked at: those of the first packet of a request for refs.
+const LOOK: usize = 20;
+
+// The bytes of the length of a packet.
+const LENGTH: usize = 4;
+
+/// A source whose next bytes can be looked at.
+#[derive(Drop)]
+pub(crate) struct Ahead<'s, S> {
+    source: &'s mut S,
+    // The bytes that were looked at. Those from `start` to `end` are still to be read.
+    front: [u8; LOOK],
+    start: usize,
+    end: usize,
+    is_down: bool,
+}
+
+impl<'s, S: Source> Ahead<'s, S> {
+    /// A source of which nothing was looked at.
+    pub(crate) fn new(source: &'s mut S) -> Ahead<'s, S> {
+        Ahead {
+            source,
+            front: [0; LOOK],
+            start: 0,
+            end: 0,
+            is_down: false,
+        }
+    }
+
+    /// Whether the next request may ask for objects: it is neither a request for refs, nor a lone flush,
+    /// nor the end of the input. No more is looked at than the first packet.
+    pub(crate) fn may_ask_for_objects(&mut self) -> bool {
+        self.look(LENGTH);
+        match self.ahead() {
+            b"" | b"0000" => false,
+            b"0014" => {
+                self.look(LOOK);
+                self.ahead() != b"0014command=ls-refs\n".as_slice()
+            }
+            _ => true,
+        }
+    }
+
+    // The bytes that were looked at and are still to be read.
+    fn ahead(&self) -> &[u8] {
+        self.front.get(self.start..self.end).unwrap_or(b"")
+    }
+
+    // Looks at so many bytes, or as many as there are. Bytes that are still to be read come first.
+    fn look(&mut self, count: usize) {
+        if self.start == self.end {
+            self.start = 0;
+            self.end = 0;
+        }
+        for _byte in 0..count {
+            if self.is_down || self.end >= count || !self.look_on(count) {
+                break;
+            }
+        }
+    }
+
+    // Looks at more bytes, up to so many. Answers whether there were any.
+    fn look_on(&mut self, count: usize) -> bool {
+        let Some(room) = self.front.get_mut(self.end..count) else {
+            return false;
+        };
+        match self.source.read(room) {
+            Ok(length) => {
+                self.end = self.end.saturating_add(length);
+                length > 0
+            }
+            Err(_) => {
+                self.is_down = true;
+                false
+            }
+        }
+    }
+
+    // Hands over bytes that were looked at, and answers how many.
+    fn hand_over(&mut self, buf: &mut [u8]) -> usize {
+        let ahead = self.front.get(self.start..self.end).unwrap_or(b"");
+        let count = ahead.len().min(buf.len());
+        buf[..count].copy_from_slice(&ahead[..count]);
+        self.start = self.start.saturating_add(count);
+        count
+    }
+}
+
+impl<S: Source> Source for Ahead<'_, S> {
+    ghost remaining = { λ _. None };
+
+    ghost is_down = { λ ahead. ahead.is_down };
+
+    ghost loans = { λ ahead. S.loans ahead.source.now };
+
+    fn read(&mut self, buf: &mut [u8]) -> Result<usize, Down> {
+        if self.is_down {
+            return Err(Down);
+        }
+        if self.start < self.end {
+            return Ok(self.hand_over(buf));
+        }
+        match self.source.read(buf) {
+            Ok(count) => Ok(count),
+            Err(_) => {
+                self.is_down = true;
+                Err(Down)
+            }
+        }
+    }
+}

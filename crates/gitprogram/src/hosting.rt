@@ -1,0 +1,246 @@
+//! A repository that is served to a client, from its advertisement on. Its history is read once a request
+//! needs it.
+
+use crate::ahead::Ahead;
+use crate::directory::Directories;
+use crate::fault::Fault;
+use crate::kept::{Extent, KeptServers};
+use crate::opening::{NotOpened, Opened, open_shown, open_whole, repository_fault};
+use crate::refusals::send_error;
+use crate::sentences::{Sentence, form_text};
+use ganswer::{ServeFault, Server};
+use ggrammar::Ends;
+use ggraph::{Entry, PackFault, Packer};
+use ghello::write_advert;
+use gitobjects::StoredFiles;
+use gitrepository::{FormFault, StorePacker};
+use gpkt::{LineWriter, Sink, Source};
+use gserve::{End, ExchangeEnd, MAX_ERR_TEXT, MAX_REQUESTS, OnePack, err_text, serve_one};
+use std::alloc::{AllocError, Global};
+use std::rt::Files;
+
+// The error line for a client of a repository that is not opened.
+const NOT_OPENED: &[u8] = b"upload-pack: the repository cannot be read";
+
+/// A conversation with a client: how many of its requests were answered, and how it came out.
+#[derive(Drop)]
+pub(crate) struct Conversation {
+    pub(crate) requests: u32,
+    pub(crate) outcome: Result<(), Fault>,
+}
+
+impl Conversation {
+    /// A conversation in which no request was answered.
+    pub(crate) fn failed(fault: Fault) -> Conversation {
+        Conversation {
+            requests: 0,
+            outcome: Err(fault),
+        }
+    }
+}
+
+// How many requests were answered, and how the connection ended; `None` if the next request may ask for
+// objects.
+#[derive(Drop)]
+struct Answered {
+    requests: u32,
+    end: Option<End>,
+}
+
+/// Serves a repository from its advertisement on. The server that it has then is kept.
+pub(crate) fn serve_repository<R, S: Source, W: Sink>(
+    rt: &R,
+    found: &Directories,
+    kept: &mut KeptServers,
+    source: &mut S,
+    sink: &mut W,
+) -> Conversation
+where
+    R: Files + AllocGlobal,
+{
+    let alloc = rt.alloc();
+    let files = StoredFiles::new(rt);
+    let shown = match open_shown(alloc, rt, &files, found, kept) {
+        Ok(shown) => shown,
+        Err(cause) => return refuse(alloc, cause, 0, sink),
+    };
+    let mut source = Ahead::new(source);
+    let Answered { requests, end } = show_refs(shown.server(), &mut source, sink);
+    if let Some(end) = end {
+        keep(alloc, found, kept, shown);
+        return conversation(alloc, requests, end);
+    }
+    match open_whole(alloc, &files, found, shown) {
+        Ok(opened) => {
+            let conversation = answer_all(alloc, found, &opened, requests, &mut source, sink);
+            let Opened { server, .. } = opened;
+            keep(alloc, found, kept, Extent::Whole(server));
+            conversation
+        }
+        Err(cause) => refuse(alloc, cause, requests, sink),
+    }
+}
+
+// Keeps a server. One for which there is no memory is lost.
+fn keep(alloc: Global, found: &Directories, kept: &mut KeptServers, extent: Extent) {
+    let _ = kept.put(alloc, found.own.as_str(), extent);
+}
+
+// Ends a conversation, since the repository is not opened.
+fn refuse<W: Sink>(alloc: Global, cause: NotOpened, requests: u32, sink: &mut W) -> Conversation {
+    let _ = send_not_opened(alloc, cause.form, sink);
+    Conversation {
+        requests,
+        outcome: Err(cause.fault),
+    }
+}
+
+// Advertises, and answers requests up to the first that may ask for objects.
+fn show_refs<S: Source, W: Sink>(
+    server: &Server<Global>,
+    source: &mut Ahead<'_, S>,
+    sink: &mut W,
+) -> Answered {
+    if let Err(end) = advertise(server, sink) {
+        return Answered {
+            requests: 0,
+            end: Some(end),
+        };
+    }
+    for requests in 0..MAX_REQUESTS {
+        if source.may_ask_for_objects() {
+            return Answered {
+                requests,
+                end: None,
+            };
+        }
+        let mut packer = OnePack::new(&NoPacker);
+        let exchange = serve_one(server, &mut packer, Ends::Plain, source, sink);
+        if let Some(end) = end_after(exchange) {
+            return Answered {
+                requests,
+                end: Some(end),
+            };
+        }
+    }
+    Answered {
+        requests: MAX_REQUESTS,
+        end: Some(End::Ended),
+    }
+}
+
+// Writes the advertisement (gitprotocol-v2(5), "Capability Advertisement"), and passes it on.
+fn advertise<W: Sink>(server: &Server<Global>, sink: &mut W) -> Result<(), End> {
+    let advert = match server.advert() {
+        Ok(advert) => advert,
+        Err(fault) => {
+            let mut text = [0; MAX_ERR_TEXT];
+            let length = err_text(&fault, &mut text);
+            let _ = send_error(&text[..length], sink);
+            return Err(End::Refused(fault));
+        }
+    };
+    let mut writer = LineWriter::new(sink);
+    let is_sent = write_advert(&advert, &mut writer).is_ok() && writer.push().is_ok();
+    let _sink = writer.into_inner();
+    if is_sent {
+        Ok(())
+    } else {
+        Err(End::WriteFailed)
+    }
+}
+
+// Answers all requests from the one with this number on.
+fn answer_all<R: Files, S: Source, W: Sink>(
+    alloc: Global,
+    found: &Directories,
+    opened: &Opened<'_, '_, R>,
+    first: u32,
+    source: &mut S,
+    sink: &mut W,
+) -> Conversation {
+    for requests in first..MAX_REQUESTS {
+        let mut packer = OnePack::new(&opened.packer);
+        let exchange = serve_one(&opened.server, &mut packer, Ends::Plain, source, sink);
+        match end_after(exchange) {
+            Some(End::Refused(fault)) => {
+                let fault = request_fault(alloc, found, &opened.packer, &fault);
+                return Conversation {
+                    requests,
+                    outcome: Err(fault),
+                };
+            }
+            Some(end) => return conversation(alloc, requests, end),
+            None => {}
+        }
+    }
+    conversation(alloc, MAX_REQUESTS, End::Ended)
+}
+
+// How a connection ends with an exchange.
+fn end_after(exchange: ExchangeEnd) -> Option<End> {
+    match exchange {
+        ExchangeEnd::Answered => None,
+        ExchangeEnd::Closed => Some(End::Closed),
+        ExchangeEnd::Ended => Some(End::Ended),
+        ExchangeEnd::Refused(fault) => Some(End::Refused(fault)),
+        ExchangeEnd::WriteFailed => Some(End::WriteFailed),
+    }
+}
+
+// A conversation of so many answers that ended so.
+fn conversation(alloc: Global, requests: u32, end: End) -> Conversation {
+    let outcome = match end {
+        End::Closed | End::Ended => Ok(()),
+        End::WriteFailed => Err(Fault::of(alloc, Sentence::ClientLost)),
+        End::Refused(fault) => Err(Fault::of(alloc, Sentence::Request(&fault))),
+    };
+    Conversation { requests, outcome }
+}
+
+// A packer for requests that ask for no object.
+struct NoPacker;
+
+impl Packer<Global> for NoPacker {
+    ghost packs = { λ _ _ _. ⊥ };
+
+    ghost pack_fails = { λ _ _ _. ⊤ };
+
+    fn pack(&self, _alloc: Global, _entries: &[Entry<Global>]) -> Result<Vec<u8>, PackFault> {
+        Err(PackFault::Other)
+    }
+}
+
+// Says to the client that the repository is not opened, and why if its form is not read.
+fn send_not_opened<W: Sink>(
+    alloc: Global,
+    form: Option<FormFault>,
+    sink: &mut W,
+) -> Result<(), AllocError> {
+    match form {
+        Some(form) => {
+            let form = form_text(form);
+            let text = format!(in alloc; "upload-pack: the repository {form}")?;
+            let _ = send_error(text.as_bytes(), sink);
+        }
+        None => {
+            let _ = send_error(NOT_OPENED, sink);
+        }
+    }
+    Ok(())
+}
+
+// The fault of a request that was refused. The packer knows more of its own.
+fn request_fault<R: Files>(
+    alloc: Global,
+    found: &Directories,
+    packer: &StorePacker<'_, StoredFiles<'_, R>, Global>,
+    fault: &ServeFault,
+) -> Fault {
+    if let ServeFault::Pack(PackFault::Other) = fault {
+        if let Some(cause) = packer.take_fault() {
+            return repository_fault(alloc, found.common.as_str(), &cause);
+        }
+    }
+    Fault::of(alloc, Sentence::Request(fault))
+}

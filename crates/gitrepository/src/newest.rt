@@ -1,0 +1,170 @@
+//! The newest objects at which refs are.
+
+ghost use Rattle.std.specs.Prelude.{IfOk, OnOk};
+ghost use Rattle.gdag.specs.Graphs.{Holds};
+ghost use Rattle.gitrepository.specs.Repositories.{AreHeld};
+
+use crate::fault::RepositoryFault;
+use crate::opening::set_held;
+use ggraph::{Graph, MAX_REFS, Refs, distinct_ids};
+use gname::{NameFault, Oid, RefName};
+use std::alloc::{AllocError, Allocator};
+
+// The most refs that are put in front.
+const MAX_NEWEST: usize = 256;
+
+// The bytes of a name that is too long for a file.
+const LONG_NAME: usize = 256;
+
+// An object at which a ref is, and how many objects the longest chain of parents below it has.
+#[derive(Clone, Copy, Drop)]
+struct Tip {
+    id: Oid,
+    height: usize,
+}
+
+/// The same refs, and in front of them others at the newest objects among theirs, 256 at most. An object
+/// is newer than another if a longer chain of parents lies below it. So a client that offers the objects
+/// of its refs in the order of their names offers the newest first, as Git does.
+///
+/// The names of the others begin with `refs/`, and then have 256 bytes of `!`. No file has so long a
+/// name, so no ref of a Git directory gets such a name. No ref is put in front if one of the refs has such
+/// a name, or if there might be too many refs once so many more came. It fails with `Memory`.
+pub fn lead_with_newest<A: Allocator + Copy>(
+    graph: &Graph<A>,
+    refs: &Refs<A>,
+    more: usize,
+) -> Result<Refs<A>, RepositoryFault<A>>
+    ensures { AreHeld graph.now refs.now → IfOk result (AreHeld graph.now) }
+{
+    let alloc = graph.allocator();
+    let prefix = leading_prefix(alloc)?;
+    let mut leading = Refs::new(alloc);
+    if has_room(refs, more) && !is_taken(refs, prefix.as_str()) {
+        put_newest(graph, &mut leading, refs, prefix.as_str())?;
+    }
+    for pair in refs.as_slice() {
+        put(graph, &mut leading, pair.0.copy_in(alloc)?, &pair.1)?;
+    }
+    Ok(leading)
+}
+
+// The beginning of the names of refs that are put in front.
+fn leading_prefix<A: Allocator + Copy>(alloc: A) -> Result<String<A>, AllocError> {
+    let mut prefix = String::from_str(alloc, "refs/")?;
+    for _byte in 0..LONG_NAME {
+        prefix.push_str("!")?;
+    }
+    Ok(prefix)
+}
+
+// Whether there is room for refs in front, once so many more came.
+fn has_room<A: Allocator + Copy>(refs: &Refs<A>, more: usize) -> bool {
+    refs.len().saturating_add(more) <= MAX_REFS - MAX_NEWEST
+}
+
+// Whether the name of one of the refs begins so.
+fn is_taken<A: Allocator + Copy>(refs: &Refs<A>, prefix: &str) -> bool {
+    refs.as_slice()
+        .iter()
+        .any(|pair| pair.0.as_bytes().starts_with(prefix.as_bytes()))
+}
+
+// Puts refs at the newest objects, under names that begin so.
+fn put_newest<A: Allocator + Copy>(
+    graph: &Graph<A>,
+    leading: &mut Refs<A>,
+    refs: &Refs<A>,
+    prefix: &str,
+) -> Result<(), RepositoryFault<A>>
+    ensures { AreHeld graph.now leading.old → OnOk result (AreHeld graph.now leading.new) }
+{
+    let alloc = graph.allocator();
+    let mut number: usize = 0;
+    for tip in &newest_tips(graph, refs)? {
+        let text = format!(in alloc; "{prefix}{number:05}")?;
+        put_named(graph, leading, text.as_bytes(), &tip.id)?;
+        number = number.saturating_add(1);
+    }
+    Ok(())
+}
+
+// Puts a ref with this name at an object.
+fn put_named<A: Allocator + Copy>(
+    graph: &Graph<A>,
+    refs: &mut Refs<A>,
+    name: &[u8],
+    id: &Oid,
+) -> Result<(), RepositoryFault<A>>
+    ensures { AreHeld graph.now refs.old → OnOk result (AreHeld graph.now refs.new) }
+{
+    match RefName::new(graph.allocator(), name) {
+        Ok(name) => put(graph, refs, name, id),
+        Err(NameFault::Memory) => Err(RepositoryFault::Memory),
+        Err(_) => Ok(()),
+    }
+}
+
+// Puts a ref at an object, if the graph holds it.
+fn put<A: Allocator + Copy>(
+    graph: &Graph<A>,
+    refs: &mut Refs<A>,
+    name: RefName<A>,
+    id: &Oid,
+) -> Result<(), RepositoryFault<A>>
+    ensures { AreHeld graph.now refs.old → OnOk result (AreHeld graph.now refs.new) }
+{
+    if graph.contains(id) {
+        set_held(graph, refs, name, *id)
+    } else {
+        Ok(())
+    }
+}
+
+// The newest objects at which refs are, the newest first, each once.
+fn newest_tips<A: Allocator + Copy>(
+    graph: &Graph<A>,
+    refs: &Refs<A>,
+) -> Result<Vec<Tip, A>, AllocError> {
+    let alloc = graph.allocator();
+    let heights = heights_of(graph)?;
+    let ids = refs.ids(alloc)?;
+    let mut tips = Vec::new(alloc);
+    for id in &distinct_ids(alloc, ids.as_slice())? {
+        let height = height_of(graph, heights.as_slice(), id);
+        tips.push(Tip { id: *id, height })?;
+    }
+    tips.sort_unstable_by_key(|tip| usize::MAX - tip.height);
+    tips.truncate(MAX_NEWEST);
+    Ok(tips)
+}
+
+// The height of each object of a graph, in order.
+fn heights_of<A: Allocator + Copy>(graph: &Graph<A>) -> Result<Vec<usize, A>, AllocError> {
+    let mut heights = Vec::with_capacity(graph.allocator(), graph.len())?;
+    for place in 0..graph.len() {
+        let height = height_at(graph, heights.as_slice(), place);
+        heights.push(height)?;
+    }
+    Ok(heights)
+}
+
+// The height of the object at a place, from those of its parents.
+fn height_at<A: Allocator + Copy>(graph: &Graph<A>, heights: &[usize], place: usize) -> usize {
+    let Some((_id, node)) = graph.at(place) else {
+        return 0;
+    };
+    let mut below: usize = 0;
+    for parent in node.parents.as_slice() {
+        below = below.max(height_of(graph, heights, parent));
+    }
+    below.saturating_add(1)
+}
+
+// The height of the object with this id, if it is known; 0 otherwise.
+fn height_of<A: Allocator + Copy>(graph: &Graph<A>, heights: &[usize], id: &Oid) -> usize {
+    match graph.number(id) {
+        Some(number) => heights.get(number).copied().unwrap_or(0),
+        None => 0,
+    }
+}
