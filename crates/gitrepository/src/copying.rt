@@ -236,7 +236,10 @@ impl<F: ObjectFiles, A: Allocator + Copy> Copying<'_, '_, F, A> {
     // Adds the loose objects that are sent to those that are deflated anew.
     fn add_loose(&mut self) -> Result<(), RepositoryFault<A>> {
         for number in 0..self.fates.loose_count() {
-            if let Some((id, Fate::Sent(path))) = self.fates.loose_at(number) {
+            let Some((id, fate)) = self.fates.loose_at(number) else {
+                break;
+            };
+            if let Fate::Sent(path) = fate {
                 self.counts.loose = self.counts.loose.saturating_add(1);
                 self.add_anew(&id, path)?;
             }
