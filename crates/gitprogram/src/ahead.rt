@@ -1,6 +1,6 @@
 //! A look at the next request, before it is read.
 
-ghost use Rattle.std.specs.Prelude.{◌≡◌, None};
+ghost use Rattle.std.specs.Prelude.{◌≤◌, None, length};
 
 use gpkt::{Down, Source};
 use std::marker::Model;
@@ -82,15 +82,15 @@ impl<'s, S: Source> Ahead<'s, S> {
             }
         }
     }
+}
 
-    // Hands over bytes that were looked at, and answers how many.
-    fn hand_over(&mut self, buf: &mut [u8]) -> usize {
-        let ahead = self.front.get(self.start..self.end).unwrap_or(b"");
-        let count = ahead.len().min(buf.len());
-        buf[..count].copy_from_slice(&ahead[..count]);
-        self.start = self.start.saturating_add(count);
-        count
-    }
+// Copies as many of some bytes as there is room for, and answers how many.
+fn copy_front(bytes: &[u8], room: &mut [u8]) -> usize
+    ensures { result ≤ length room.new }
+{
+    let count = bytes.len().min(room.len());
+    room[..count].copy_from_slice(&bytes[..count]);
+    count
 }
 
 impl<S: Source> Source for Ahead<'_, S> {
@@ -105,7 +105,9 @@ impl<S: Source> Source for Ahead<'_, S> {
             return Err(Down);
         }
         if self.start < self.end {
-            return Ok(self.hand_over(buf));
+            let count = copy_front(self.ahead(), buf);
+            self.start = self.start.saturating_add(count);
+            return Ok(count);
         }
         match self.source.read(buf) {
             Ok(count) => Ok(count),

@@ -1,5 +1,6 @@
 //! `gitrepo fetch`, and what it shares with a clone.
 
+use crate::current::fetched_already;
 use crate::directory::{Directories, find_repository};
 use crate::fault::Fault;
 use crate::opening::{open_client, repository_fault};
@@ -70,7 +71,11 @@ where
 {
     let found = find_repository(rt, asked.dir)?;
     let remote = Remote::new(rt.alloc(), &asked.url)?;
-    let tips = list_tips(rt, &remote, asked.specs.as_slice())?;
+    let listed = list_sources(rt, &remote, asked.specs.as_slice())?;
+    if let Some(fetched) = find_current(rt, &found, asked.specs.as_slice(), &listed)? {
+        return report_unless(rt, asked.verbosity, &fetched);
+    }
+    let tips = tips_of(rt.alloc(), &listed)?;
     let wanted = Wanted {
         remote: &remote,
         specs: asked.specs.as_slice(),
@@ -82,14 +87,34 @@ where
     conclude(rt, &found, asked.verbosity, outcome)
 }
 
-// The ids of the server's refs, among which each ref that refspecs name has to be.
-fn list_tips<R>(rt: &R, remote: &Remote, specs: &[Spec<Global>]) -> Result<Tips<Global>, Fault>
+// The server's refs, among which each ref that refspecs name has to be.
+fn list_sources<R>(
+    rt: &R,
+    remote: &Remote,
+    specs: &[Spec<Global>],
+) -> Result<LsReply<Global>, Fault>
 where
     R: AllocGlobal + Net,
 {
     let listed = remote.list(rt, rt.alloc(), &[])?;
     check_sources(rt.alloc(), remote, &listed, specs)?;
-    Ok(tips_of(rt.alloc(), &listed)?)
+    Ok(listed)
+}
+
+// The report of a fetch that brings nothing; `None` of any other.
+fn find_current<R>(
+    rt: &R,
+    found: &Directories,
+    specs: &[Spec<Global>],
+    listed: &LsReply<Global>,
+) -> Result<Option<Fetched<Global>>, Fault>
+where
+    R: Files + AllocGlobal,
+{
+    match fetched_already(rt, found, specs, listed) {
+        Ok(fetched) => Ok(fetched),
+        Err(fault) => Err(repository_fault(rt.alloc(), found.common.as_str(), &fault)),
+    }
 }
 
 // Keeps what was fetched, and prints the report.
@@ -105,9 +130,7 @@ where
     match outcome {
         Ok(fetch) => {
             keep(rt, found, &fetch)?;
-            if !verbosity.quiet {
-                report(rt, &fetch.fetched)?;
-            }
+            report_unless(rt, verbosity, &fetch.fetched)?;
             check_moved(rt.alloc(), &fetch.fetched)
         }
         Err(fault) => Err(fault),
@@ -259,6 +282,18 @@ fn check_moved(alloc: Global, fetched: &Fetched<Global>) -> Result<(), Fault> {
         }
     }
     Ok(())
+}
+
+// Prints what became of each ref, unless it is to be quiet.
+fn report_unless<R: Print + AllocGlobal>(
+    rt: &R,
+    verbosity: Verbosity,
+    fetched: &Fetched<Global>,
+) -> Result<(), Fault> {
+    if verbosity.quiet {
+        return Ok(());
+    }
+    report(rt, fetched)
 }
 
 // Prints what became of each ref.

@@ -1,6 +1,8 @@
 //! A repository that is served to a client, from its advertisement on. Its history is read once a request
 //! needs it.
 
+ghost use Rattle.std.specs.Prelude.{⊤};
+
 use crate::ahead::Ahead;
 use crate::directory::Directories;
 use crate::fault::Fault;

@@ -59,6 +59,7 @@
 mod ahead;
 mod checking;
 mod cloning;
+mod current;
 mod directory;
 mod fault;
 mod fetching;

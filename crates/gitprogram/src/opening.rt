@@ -7,6 +7,7 @@ use crate::sentences::Sentence;
 use ganswer::Server;
 use ggraph::{Head, Refs, Repository};
 use gitobjects::{ObjectReader, QuickReader, StoredFiles};
+use gitrefs::PackedPeels;
 use gitrepository::{
     FormFault, RepositoryFault, StorePacker, Tips, add_leaves, check_form, lead_with_newest,
     open_refs, open_repository, open_store, open_tips, read_commit_graph,
@@ -81,14 +82,26 @@ fn find_shown<R: Files>(
             return Ok(Shown::Kept(extent));
         }
     }
-    let mut reader = QuickReader::open(files, alloc, path)?;
     let peels = directory.packed_peels()?;
-    if let Some(tips) = open_tips(&mut reader, &peels, &refs, &head)? {
+    if let Some(tips) = find_tips(alloc, files, path, &peels, (&refs, &head))? {
         return Ok(Shown::Tips(tips));
     }
     let mut reader = open_reader(alloc, files, path)?;
     let whole = read_history(alloc, files, path, &mut reader, &refs, head)?;
     Ok(Shown::Whole(whole))
+}
+
+// The objects at which refs and HEAD are; `None` if one is not found at once. No pack stays open.
+fn find_tips<R: Files>(
+    alloc: Global,
+    files: &StoredFiles<'_, R>,
+    path: &str,
+    peels: &PackedPeels,
+    listed: (&Refs<Global>, &Head<Global>),
+) -> Result<Option<Repository<Global>>, RepositoryFault<Global>> {
+    let mut reader = QuickReader::open(files, alloc, path)?;
+    let (refs, head) = listed;
+    open_tips(&mut reader, peels, refs, head)
 }
 
 /// Opens the objects of a repository whose refs were shown, and reads its history unless it is known.

@@ -53,14 +53,17 @@ impl<'g, A: Allocator + Copy> Model for History<'g, A> {
 }
 
 impl<'g, A: Allocator + Copy> History<'g, A> {
-    /// No object. The commit-graph says the parents of commits.
+    /// No object. The commit-graph says the parents of commits. There is room for as many objects as it
+    /// has commits.
     pub(crate) fn new(alloc: A, commits: &'g CommitGraph<A>) -> History<'g, A>
         ensures { result.commits ≡ graph_commits commits.now }
     {
+        let mut graph = Graph::new(alloc);
+        graph.make_room(commits.len().min(MAX_NODES));
         History {
             alloc,
             commits,
-            graph: Graph::new(alloc),
+            graph,
             path: Vec::new(alloc),
             looked: Vec::new(alloc),
         }

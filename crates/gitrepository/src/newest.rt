@@ -35,7 +35,7 @@ pub fn lead_with_newest<A: Allocator + Copy>(
     refs: &Refs<A>,
     more: usize,
 ) -> Result<Refs<A>, RepositoryFault<A>>
-    ensures { AreHeld graph.now refs.now → IfOk result (AreHeld graph.now) }
+    ensures { IfOk result (λ leading. AreHeld graph.now leading) }
 {
     let alloc = graph.allocator();
     let prefix = leading_prefix(alloc)?;

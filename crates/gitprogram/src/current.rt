@@ -1,0 +1,122 @@
+//! A fetch that brings nothing.
+
+use crate::directory::Directories;
+use gclient::{Ask, Asks, Fetched, RefUpdate, Settled, Spec};
+use ggraph::Refs;
+use gitobjects::{QuickReader, StoredFiles};
+use gitrepository::{RepositoryFault, check_form};
+use glsreply::{LsReply, RefLine};
+use std::alloc::Global;
+use std::rt::Files;
+
+/// The report of a fetch that brings nothing, since each ref that is asked for stands there already and
+/// its object is here; `None` of any other fetch. The history is not read.
+///
+/// It fails as the repository is refused when it is opened.
+pub(crate) fn fetched_already<R>(
+    rt: &R,
+    found: &Directories,
+    specs: &[Spec<Global>],
+    listed: &LsReply<Global>,
+) -> Result<Option<Fetched<Global>>, RepositoryFault<Global>>
+where
+    R: Files + AllocGlobal,
+{
+    if listed.unborn().is_some() {
+        return Ok(None);
+    }
+    let alloc = rt.alloc();
+    let Some(asks) = asks_of(alloc, specs, listed)? else {
+        return Ok(None);
+    };
+    let files = StoredFiles::new(rt);
+    let path = found.common.as_str();
+    check_form(&files, alloc, path)?;
+    let (refs, _head) = found.refs(alloc, rt).read_refs()?;
+    if !are_set(&asks, &refs) {
+        return Ok(None);
+    }
+    let mut reader = QuickReader::open(&files, alloc, path)?;
+    for id in &asks.ids(alloc)? {
+        if !reader.holds(id)? {
+            return Ok(None);
+        }
+    }
+    Ok(Some(report_of(alloc, asks)?))
+}
+
+// The asks of refspecs, in the order in which a session makes them; `None` if one names no ref.
+fn asks_of(
+    alloc: Global,
+    specs: &[Spec<Global>],
+    listed: &LsReply<Global>,
+) -> Result<Option<Asks<Global>>, RepositoryFault<Global>> {
+    let mut asks = Asks::new(alloc);
+    for spec in specs {
+        if !add_asks(alloc, &mut asks, spec, listed)? {
+            return Ok(None);
+        }
+    }
+    Ok(Some(asks))
+}
+
+// Adds the asks of a refspec, line by line. Answers whether each is for a ref name.
+fn add_asks(
+    alloc: Global,
+    asks: &mut Asks<Global>,
+    spec: &Spec<Global>,
+    listed: &LsReply<Global>,
+) -> Result<bool, RepositoryFault<Global>> {
+    for place in 0..listed.len() {
+        if let Some(line) = listed.at(place) {
+            if !add_ask(alloc, asks, spec, line)? {
+                return Ok(false);
+            }
+        }
+    }
+    Ok(true)
+}
+
+// Adds the ask of a refspec for a ref of the server, if it takes the ref anywhere. Answers whether that
+// is a ref name.
+fn add_ask(
+    alloc: Global,
+    asks: &mut Asks<Global>,
+    spec: &Spec<Global>,
+    line: &RefLine<Global>,
+) -> Result<bool, RepositoryFault<Global>> {
+    match spec.destination(alloc, &line.name) {
+        Ok(Some(name)) => {
+            asks.add(Ask {
+                name,
+                id: line.id,
+                forced: spec.is_forced(),
+            })?;
+            Ok(true)
+        }
+        Ok(None) => Ok(true),
+        Err(_) => Ok(false),
+    }
+}
+
+// Whether each ref that is asked for stands at its id.
+fn are_set(asks: &Asks<Global>, refs: &Refs<Global>) -> bool {
+    (0..asks.len()).all(|place| match asks.at(place) {
+        Some((name, id)) => refs.get(name) == Some(id),
+        None => false,
+    })
+}
+
+// The report of a fetch after which each ref is the same.
+fn report_of(
+    alloc: Global,
+    asks: Asks<Global>,
+) -> Result<Fetched<Global>, RepositoryFault<Global>> {
+    let mut updates = Vec::new(alloc);
+    updates.resize(asks.len(), RefUpdate::Same)?;
+    Ok(Fetched {
+        settled: Settled { asks, updates },
+        requests: 0,
+        unborn: None,
+    })
+}
