@@ -1,6 +1,7 @@
 -- A packer that is asked for one pack at most. What it answered shows in the answer to a request.
 use Rattle.std.specs.Prelude.{Bool, true, false}
 use Rattle.gfetchreply.specs.FetchReplies.{FetchReply, Acks, Ready, Pack}
+use Rattle.ganswer.specs.Answers.{Reply, Fetch}
 use Rattle.ganswer.specs.declared.fault.ServeFault.{ServeFault}
 use Rattle.ganswer.specs.declared.one_pack.Packing.{Packing}
 use Rattle.ganswer.specs.declared.fault.ServeFault.TheVariants as serve
@@ -16,11 +17,16 @@ has_failed packing.Unasked = false
 has_failed packing.Packed = false
 has_failed (packing.Failed fault) = true
 
--- it packed where a reply has a pack, and was not asked where it has none
-abbrev pub packing_of_reply : FetchReply → Packing
-packing_of_reply (Acks commons) = packing.Unasked
-packing_of_reply (Ready commons pack) = packing.Packed
-packing_of_reply (Pack pack) = packing.Packed
+-- it packed where a reply to fetch has a pack, and was not asked where it has none
+abbrev pub packing_of_fetch : FetchReply → Packing
+packing_of_fetch (Acks commons) = packing.Unasked
+packing_of_fetch (Ready commons pack) = packing.Packed
+packing_of_fetch (Pack pack) = packing.Packed
+
+-- it is asked for fetch alone
+abbrev pub packing_of_reply : Reply → Packing
+packing_of_reply (Fetch reply) = packing_of_fetch reply
+packing_of_reply _ = packing.Unasked
 
 -- a fault of its own is reported as it is, and any other where it was not asked
 abbrev pub packing_of_fault : ServeFault → Packing

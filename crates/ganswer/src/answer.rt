@@ -3,6 +3,8 @@
 ghost use Rattle.std.specs.Prelude.{◌≡◌, IfOk, MatchResult};
 ghost use Rattle.grequest.specs.RequestValues.{asked_by_request};
 ghost use Rattle.ganswer.specs.Answers.{Answers, HasFormat, Refuses, reply_of};
+ghost use Rattle.ganswer.specs.OnePack.{packing_of_fault, packing_of_reply};
+ghost use Rattle.ganswer.specs.declared.one_pack.Packing.TheVariants.{Unasked};
 
 use crate::fault::ServeFault;
 use crate::one_pack::OnePack;
@@ -37,24 +39,31 @@ impl<A: Allocator + Copy> Server<A> {
     /// tags, too, that lead from the ids of refs to commits of it.
     ///
     /// It fails with `NoWants` where a fetch wants nothing. Otherwise it fails with `NotOurs` for the first want that is
-    /// not held. Otherwise it fails with `Pack` where the packer fails for the objects to send, with the fault of the
-    /// packer as [`Server::answer_fetch`] takes it. `Memory` comes where the packer was not asked.
+    /// not held. Otherwise it fails with `Pack` where the packer fails for the objects to send, with the packer's fault.
+    ///
+    /// The packer is asked once where a pack is sent or a fault of its own is reported, and otherwise it is not asked. So
+    /// where it fails, that fault is reported, and `Memory` comes only where it was not asked.
     pub fn answer<K: Packer<A>>(
         &self,
         request: &Request<A>,
-        packer: &K,
+        packer: &mut OnePack<'_, K>,
     ) -> Result<Reply<A>, ServeFault>
+        requires unasked { packer.old.answered ≡ Unasked }
         ensures answer { MatchResult result
-            (λ reply. Answers self.now (K.packs packer.now) (asked_by_request request.now)
+            (λ reply. Answers self.now (K.packs packer.old.packer) (asked_by_request request.now)
             (reply_of reply))
-            (Refuses self.now (K.pack_fails packer.now) (asked_by_request request.now)) }
+            (Refuses self.now (K.pack_fails packer.old.packer) (asked_by_request request.now)) }
         ensures format { IfOk result (HasFormat self.now.graph.format) }
+        ensures packing { MatchResult result
+            (λ reply. packer.new.answered ≡ packing_of_reply (reply_of reply))
+            (λ fault. packer.new.answered ≡ packing_of_fault fault) }
+        ensures packer { packer.new.packer ≡ packer.old.packer }
     {
         match request {
             Request::Empty => Ok(Reply::Nothing),
             Request::Ls(asked) => Ok(Reply::Ls(self.answer_ls(asked)?)),
             Request::Fetch(asked) => {
-                let reply = self.answer_fetch(asked, &mut OnePack::new(packer))?;
+                let reply = self.answer_fetch(asked, packer)?;
                 Ok(Reply::Fetch(reply))
             }
         }

@@ -5,7 +5,7 @@ ghost use Rattle.gdag.specs.declared.fault.GraphFault.TheVariants.{Memory as Out
 ghost use Rattle.gfetchreply.specs.Views.{IsReplyOf, reply_in};
 ghost use Rattle.ganswer.specs.Answers.{FetchRefuses};
 ghost use Rattle.ganswer.specs.FetchAnswers.{FetchAnswer, IsReadyFor, IsSent, commons_of};
-ghost use Rattle.ganswer.specs.OnePack.{packing_of_fault, packing_of_reply};
+ghost use Rattle.ganswer.specs.OnePack.{packing_of_fault, packing_of_fetch};
 ghost use Rattle.ganswer.specs.steps.Answers.{ChecksWants, PacksFor};
 ghost use Rattle.ganswer.specs.declared.fault.ServeFault.TheVariants.{Memory};
 ghost use Rattle.ganswer.specs.declared.one_pack.Packing.TheVariants as packing;
@@ -30,14 +30,14 @@ impl<A: Allocator + Copy> Server<A> {
         asked: &FetchRequest<A>,
         packer: &mut OnePack<'_, K>,
     ) -> Result<FetchReply<A>, ServeFault>
-        requires { packer.old.answered ≡ packing.Unasked }
+        requires unasked { packer.old.answered ≡ packing.Unasked }
         ensures answer { MatchResult result
             (λ reply. FetchAnswer self.now (K.packs packer.old.packer) asked.now.asked
             (reply_in reply))
             (FetchRefuses self.now (K.pack_fails packer.old.packer) asked.now.asked) }
         ensures format { IfOk result (IsReplyOf self.now.graph.format) }
         ensures packing { MatchResult result
-            (λ reply. packer.new.answered ≡ packing_of_reply (reply_in reply))
+            (λ reply. packer.new.answered ≡ packing_of_fetch (reply_in reply))
             (λ fault. packer.new.answered ≡ packing_of_fault fault) }
         ensures packer { packer.new.packer ≡ packer.old.packer }
     {

@@ -13,9 +13,10 @@
 //!   fetch the common ids, the pack of the objects to send, or both. It refuses a fetch exactly where nothing is
 //!   wanted, or with the first want that is not held; where the packer may refuse the objects to send; or out of
 //!   memory. The ids of an answer have the format of the graph, and an answer is never refused for its length.
-//! - [`Server::answer_fetch`], which [`Server::answer`] calls, takes one answer of the packer where a pack is sent, and
-//!   where a fault of the packer is reported, which is the one that it answered. Otherwise it takes none. So out of
-//!   memory never hides such a fault. A packer that has failed is asked no more ([`OnePack`]).
+//! - [`Server::answer`] takes one answer of the packer where a pack is sent, and where a fault of the packer is
+//!   reported, which is the one that it answered. Otherwise it takes none. So out of memory never hides such a fault
+//!   (`specs/OnePack.antt`). A packer that has failed is asked no more ([`OnePack`]).
+//! - [`Server::answer_fetch`] does the same for a request for objects alone.
 //! - [`Server::write_ls_answer`] writes the answer to ls-refs, or a beginning of it where the sink fails.
 //! - [`Server::advert`] fails only out of memory, and else advertises `agent=gitv2/1`, `ls-refs=unborn`,
 //!   `fetch`, and the format of the graph's ids.

@@ -11,7 +11,7 @@ use crate::repository::load_server;
 use ggrammar::Ends;
 use ggraph::PlainPack;
 use gpkt::{Sink, Source};
-use gserve::{ExchangeEnd, serve_one};
+use gserve::{ExchangeEnd, OnePack, serve_one};
 use std::alloc::Allocator;
 
 /// `gitv2 ls --stdio-server FILE`: reads one request from `input` and writes its reply to `output`, with no
@@ -51,7 +51,8 @@ fn answer_one<A: Allocator + Copy, S: Source, W: Sink>(
     ensures output_loans { W.loans output.new ≡ W.loans output.old }
 {
     let server = load_server(alloc, file)?;
-    outcome_of(serve_one(&server, &PlainPack, Ends::Plain, input, output))
+    let mut packer = OnePack::new(&PlainPack);
+    outcome_of(serve_one(&server, &mut packer, Ends::Plain, input, output))
 }
 
 // How the work comes out at the end of the exchange.

@@ -11,7 +11,7 @@ use crate::repository::load_server;
 use ggrammar::Ends;
 use ggraph::PlainPack;
 use gpkt::{Sink, Source};
-use gserve::{End, serve};
+use gserve::{End, OnePack, serve};
 use std::alloc::Allocator;
 
 /// `gitv2 upload [--response-end] FILE`: serves one connection from `input` to `output`: the advertisement, and then
@@ -56,7 +56,8 @@ fn answer_all<A: Allocator + Copy, S: Source, W: Sink>(
     ensures output_loans { W.loans output.new ≡ W.loans output.old }
 {
     let server = load_server(alloc, file)?;
-    outcome_of(serve(&server, &PlainPack, ends, input, output).end)
+    let mut packer = OnePack::new(&PlainPack);
+    outcome_of(serve(&server, &mut packer, ends, input, output).end)
 }
 
 // How the work comes out at the end of the connection.

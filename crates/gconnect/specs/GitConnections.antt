@@ -13,8 +13,11 @@ use Rattle.gobject.specs.Packs.{PackFails, Packs}
 use Rattle.ganswer.specs.Servers.{Server}
 use Rattle.ganswer.specs.declared.fault.ServeFault.{ServeFault}
 use Rattle.ganswer.specs.declared.fault.ServeFault.TheVariants as serve
+use Rattle.ganswer.specs.declared.one_pack.Packing.{Packing}
+use Rattle.ganswer.specs.declared.one_pack.Packing.TheVariants.{Unasked}
 use Rattle.gserve.specs.Conversations.{Serves}
 use Rattle.gserve.specs.Exchanges.{LacksBuffer}
+use Rattle.gserve.specs.Packings.{ReportsLastPacking}
 use Rattle.gserve.specs.Refusals.{err_packets}
 use Rattle.gconnect.specs.declared.serving.GitEnd.{GitEnd}
 use Rattle.gconnect.specs.declared.serving.GitEnd.TheVariants as git
@@ -92,3 +95,8 @@ module _ {A : Type 0} (server : Server A) (packs : Packs A) (fails : PackFails A
   ServesGit input output git.WriteFailed =
       (due : List Packet) × IsDueInstead path input due × SendsSome output (canonical_all due)
       × KeepsPassed output.passed_on
+
+-- What the packer answered last. It is asked only where the path is served.
+abbrev pub ReportsGitPacking : GitEnd → Packing → Type 0
+ReportsGitPacking (git.Served served) answered = ReportsLastPacking served.end answered
+ReportsGitPacking _ answered = answered ≡ Unasked

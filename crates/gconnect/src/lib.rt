@@ -7,7 +7,8 @@
 //!   (`specs/GitConnections.antt`). Where it asks for the path that is served, byte for byte, the rest is a
 //!   conversation as `gserve` says. Another path is answered by the packet that says so, and a first line that is
 //!   refused by the packet of its fault, instead of the advertisement; it is passed on, and nothing more is read. Where
-//!   the sink fails a beginning of that packet stands. [`GitEnd`] says which it was.
+//!   the sink fails a beginning of that packet stands. [`GitEnd`] says which it was. A fault of the packer is reported
+//!   as `gserve` says, and out of memory never in its place.
 //! - Out of memory before the first line, nothing is read, and the packet that says so is written all the same: it
 //!   takes none.
 //! - [`fetch_git`] passes the first line on before anything is read, and the rest is a conversation as `gclient`

@@ -2,7 +2,8 @@
 
 ghost use Rattle.std.specs.Prelude.{◌≡◌, ◌↔◌, IsTrue};
 ghost use Rattle.gpkt.specs.Sending.{input_of, output_of};
-ghost use Rattle.gconnect.specs.GitConnections.{Hears, ServesGit, elsewhere_packets};
+ghost use Rattle.ganswer.specs.declared.one_pack.Packing.TheVariants.{Unasked};
+ghost use Rattle.gconnect.specs.GitConnections.{Hears, ReportsGitPacking, ServesGit, elsewhere_packets};
 ghost use Rattle.gserve.specs.Refusals.{err_packets};
 ghost use Rattle.gserve.specs.steps.Connections.{PassesPackets};
 
@@ -12,7 +13,7 @@ use ggrammar::Ends;
 use ggraph::Packer;
 use ghello::{Hello, read_hello};
 use gpkt::{LineBuffer, LineReader, Sink, Source, WriteFault};
-use gserve::{MAX_ERR_TEXT, Served, err_text, serve};
+use gserve::{MAX_ERR_TEXT, OnePack, Served, err_text, serve};
 use std::alloc::Allocator;
 
 /// A repository that is served at a path, as git-daemon(1) exports one.
@@ -45,16 +46,21 @@ pub enum GitEnd {
 ///
 /// Another path, and a first line that is refused, are answered by an `ERR` packet instead of the advertisement, and
 /// nothing after the first line is read. Out of memory before it, nothing is read, and the packet says so.
+///
+/// The packer is asked only where the path is served, and its fault is reported as [`serve`] reports it.
 pub fn serve_git<S: Source, W: Sink, A: Allocator + Copy, K: Packer<A>>(
     export: &Export<'_, A>,
-    packer: &K,
+    packer: &mut OnePack<'_, K>,
     source: &mut S,
     sink: &mut W,
 ) -> GitEnd
-    ensures serves { ServesGit export.now.server.now (K.packs packer.now) (K.pack_fails packer.now)
-        export.now.path.now export.now.ends
+    requires unasked { packer.old.answered ≡ Unasked }
+    ensures serves { ServesGit export.now.server.now (K.packs packer.old.packer)
+        (K.pack_fails packer.old.packer) export.now.path.now export.now.ends
         (input_of S.remaining S.is_down source.old source.new)
         (output_of W.contents W.passed_on W.is_down sink.old sink.new) result }
+    ensures packing { ReportsGitPacking result packer.new.answered }
+    ensures packer { packer.new.packer ≡ packer.old.packer }
     ensures source_loans { S.loans source.new ≡ S.loans source.old }
     ensures sink_loans { W.loans sink.new ≡ W.loans sink.old }
 {

@@ -6,7 +6,8 @@
 //! - [`CommitGraph::add`] adds a file exactly if its text has the form of `specs/`: header, table of
 //!   contents, chunks and trailer. The ids ascend, the fan-out table is theirs, and each list of
 //!   edges has an end. The base graphs are the files before, and each position that the file names is
-//!   that of a commit. A fault says why the file is refused, and the commit-graph is then as it was.
+//!   that of a commit. `Bases`, `TooMany` and `Parents` come only of a file of which they are true, and
+//!   each other fault but `Memory` only of a text of no file. The commit-graph is then as it was.
 //! - [`CommitGraph::find`] finds a commit exactly if one has the id, in any of the files.
 //! - [`CommitGraph::parents_of`] lists the parents that the commit data and the edges spell. Each is
 //!   a commit of the commit-graph. It answers `None` exactly if there are more than the caller allows.
@@ -35,6 +36,8 @@
 //!
 //! - A commit-graph may lie. Nothing here compares it with the commits themselves: a caller relies on
 //!   it only for a commit that the repository has.
+//! - No contract says which of `Header`, `Contents`, `Chunk`, `Order`, `FanOut` and `Edges` comes of a
+//!   text of no file.
 //! - Two files of a chain may have the same commit. [`CommitGraph::find`] answers one of its positions.
 //! - [`CommitGraph::add`] and [`CommitGraph::parents_of`] may fail with out of memory; the contracts do
 //!   not say when. They say nothing of time, or of how much memory a call takes.

@@ -5,6 +5,8 @@
 //!
 //! - [`parse_config`] answers variables only of a text that is a configuration, as `specs/` defines
 //!   it: the variables that it sets, in order, with their sections and values.
+//! - [`bare_config`] writes a configuration that sets exactly the variables of a new bare repository.
+//!   Any bytes of a URL read back as they are.
 //! - No call panics, overflows or reads out of bounds, and each returns, for any text.
 //!
 //! # Differences from Git
@@ -17,7 +19,8 @@
 //!
 //! # What the contracts do not rule out
 //!
-//! A configuration might be refused as malformed. Any call that allocates may fail with out of
+//! A configuration might be refused as malformed. [`bare_config`] might lay out its text in another
+//! way, with other spaces and comments. Any call that allocates may fail with out of
 //! memory; the contracts do not say when.
 //!
 //! There are no tests here.

@@ -75,8 +75,11 @@ fn put_type_and_size<A: Allocator + Copy>(
     Ok(())
 }
 
-// Adds a number, the lowest digit first.
-fn put_size<A: Allocator + Copy>(out: &mut Vec<u8, A>, number: usize) -> Result<(), AllocError>
+/// Adds a number, the lowest digit first.
+pub(crate) fn put_size<A: Allocator + Copy>(
+    out: &mut Vec<u8, A>,
+    number: usize,
+) -> Result<(), AllocError>
     ensures { OnOk result ((text : List ℕ) × IsNumber text × (number ≡ low_first text)
         × ((k : ℕ) → number < 128 ^ (k + 1) → length text ≤ k + 1)
         × (out.new.items ≡ out.old.items ++ text)) }

@@ -1,6 +1,6 @@
-//! The packs of a Git repository as bytes in memory: entries, deltas, the pack index, indexing a
-//! pack, and writing one (gitformat-pack(5)). This crate reads no file, and knows no graph of
-//! objects.
+//! The packs of a Git repository as bytes in memory: entries, deltas that are applied and made, the
+//! pack index, indexing a pack, and writing one (gitformat-pack(5)). This crate reads no file, and
+//! knows no graph of objects.
 //!
 //! # Proved
 //!
@@ -10,6 +10,8 @@
 //! - [`apply_delta`] makes a body exactly if the bytes are a delta of the base. In a delta both
 //!   sizes are right, and each copy lies within the base. The body is the bytes that the copies
 //!   and insertions add, in order. [`made_size`] answers the size of that body.
+//! - [`DeltaBase::make_delta`] answers only a delta of the base that makes the target, with at most
+//!   as many bytes as the limit says.
 //! - [`PackIndex::read`] answers an index only for the text of that index. The lines are sorted by
 //!   their ids, and the fan-out table and both tables of offsets are theirs. [`PackIndex::find`]
 //!   finds an id exactly if it is in the index.
@@ -38,6 +40,8 @@
 //! - Any call that allocates may fail with out of memory; the contracts do not say when.
 //! - [`PackIndex::read`] might refuse the text of an index, and its contract says nothing of
 //!   [`PackIndex::id`], [`PackIndex::crc`] and [`PackIndex::offset`].
+//! - [`DeltaBase::make_delta`] might never find a delta, or find a longer one than need be. The search
+//!   for it is proved safe only: what it finds is applied, and answered if it makes the target.
 //! - [`index_pack`] might refuse a good pack. It might leave out any object, or list one that it
 //!   did not show. It might give an object a wrong offset or a wrong CRC-32, or apply a delta to a
 //!   wrong base. Its contract says nothing of limits and faults.
@@ -55,8 +59,10 @@
 //! ids, `sha1` for checksums.
 #![tactic(auto)]
 
+mod blocks;
 mod children;
 mod delta;
+mod delta_making;
 mod entry;
 mod fault;
 mod frame;
@@ -73,6 +79,7 @@ mod streams;
 mod writing;
 
 pub use crate::delta::{apply_delta, made_size};
+pub use crate::delta_making::DeltaBase;
 pub use crate::entry::{EntryForm, EntryHead, MAX_HEAD, read_head};
 pub use crate::fault::PackFileFault;
 pub use crate::index::{IndexEntry, PackIndex};

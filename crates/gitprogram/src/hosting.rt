@@ -17,7 +17,7 @@ use ghello::write_advert;
 use gitobjects::StoredFiles;
 use gitrepository::{FormFault, StorePacker};
 use gpkt::{LineWriter, Sink, Source};
-use gserve::{End, ExchangeEnd, MAX_ERR_TEXT, MAX_REQUESTS, err_text, serve_one};
+use gserve::{End, ExchangeEnd, MAX_ERR_TEXT, MAX_REQUESTS, OnePack, err_text, serve_one};
 use std::alloc::{AllocError, Global};
 use std::rt::Files;
 
@@ -116,7 +116,8 @@ fn show_refs<S: Source, W: Sink>(
                 end: None,
             };
         }
-        let exchange = serve_one(server, &NoPacker, Ends::Plain, source, sink);
+        let mut packer = OnePack::new(&NoPacker);
+        let exchange = serve_one(server, &mut packer, Ends::Plain, source, sink);
         if let Some(end) = end_after(exchange) {
             return Answered {
                 requests,
@@ -161,7 +162,8 @@ fn answer_all<R: Files, S: Source, W: Sink>(
     sink: &mut W,
 ) -> Conversation {
     for requests in first..MAX_REQUESTS {
-        let exchange = serve_one(&opened.server, &opened.packer, Ends::Plain, source, sink);
+        let mut packer = OnePack::new(&opened.packer);
+        let exchange = serve_one(&opened.server, &mut packer, Ends::Plain, source, sink);
         match end_after(exchange) {
             Some(End::Refused(fault)) => {
                 let fault = request_fault(alloc, found, &opened.packer, &fault);

@@ -1,7 +1,7 @@
 //! Faults.
 
 ghost use Rattle.std.specs.Prelude.{◌≡◌, Some};
-ghost use Rattle.gitrefs.specs.Faults.{text_fault_text};
+ghost use Rattle.gitrefs.specs.Faults.{cause_text, ref_fault_text, text_fault_text};
 ghost use Rattle.gitrefs.specs.declared.fault.TextFault.TheVariants.{Memory};
 
 use gname::OUT_OF_MEMORY_TEXT;
@@ -92,24 +92,30 @@ impl fmt::Display for TextFault {
 impl Error for TextFault {}
 
 impl fmt::Display for Cause {
+    ghost output = { cause_text };
+
     fn fmt<W: fmt::Write>(&self, f: &mut fmt::Formatter<W>) -> fmt::Result {
-        f.write_str(match self {
-            Cause::Malformed => "the file is malformed",
-            Cause::Locked => "the file is locked",
-            Cause::Exists => "the file is there already",
-            Cause::Missing => "there is no git directory",
-            Cause::Moved => "the ref has moved meanwhile",
-            Cause::Symbolic => "the ref is symbolic",
-            Cause::Conflict => "the name of a ref is also that of a directory of refs",
-            Cause::Utf8 => "the name of the ref is not UTF-8",
-            Cause::Refs => "the ref can't be set",
-            Cause::Format => "the new id is none of SHA-1",
-            Cause::System(error) => return fmt::Display::fmt(error, f),
-        })
+        match self {
+            Cause::Malformed => f.write_str("the file is malformed"),
+            Cause::Locked => f.write_str("the file is locked"),
+            Cause::Exists => f.write_str("the file is there already"),
+            Cause::Missing => f.write_str("there is no git directory"),
+            Cause::Moved => f.write_str("the ref has moved meanwhile"),
+            Cause::Symbolic => f.write_str("the ref is symbolic"),
+            Cause::Conflict => {
+                f.write_str("the name of a ref is also that of a directory of refs")
+            }
+            Cause::Utf8 => f.write_str("the name of the ref is not UTF-8"),
+            Cause::Refs => f.write_str("the ref can't be set"),
+            Cause::Format => f.write_str("the new id is none of SHA-1"),
+            Cause::System(error) => fmt::Display::fmt(error, f),
+        }
     }
 }
 
 impl<A: Allocator + Copy> fmt::Display for RefFault<A> {
+    ghost output = { ref_fault_text };
+
     fn fmt<W: fmt::Write>(&self, f: &mut fmt::Formatter<W>) -> fmt::Result {
         match self {
             RefFault::Memory => f.write_str(OUT_OF_MEMORY_TEXT),

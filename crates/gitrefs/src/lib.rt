@@ -19,6 +19,8 @@
 //!   a name is empty, `.` or `..`: [`laws`].
 //! - A file is read only under its lock before it is replaced. A lockfile is renamed only when it
 //!   is written and synced.
+//! - A fault prints the text of `specs/Faults.antt`: the file's path and the cause. No text is known of
+//!   the error of a system call.
 //! - No call panics, overflows or reads out of bounds, and each returns, whatever the files have.
 //!
 //! # Differences from Git

@@ -8,8 +8,10 @@ use crate::fates::{Fate, Fates};
 use crate::fault::{ObjectCause, RepositoryFault};
 use crate::gather::gather;
 use crate::outgoing::Outgoing;
+use crate::path_hash::PathHash;
+use crate::window::{Delta, Window};
 use ggraph::Entry;
-use gitobjects::{Found, ObjectFiles, ObjectReader, RawEntry, StoreFault};
+use gitobjects::{Found, Object, ObjectFiles, ObjectReader, RawEntry, StoreFault};
 use gitpack::EntryForm;
 use gname::Oid;
 use gzlib::Deflater;
@@ -22,11 +24,13 @@ pub struct PackCounts {
     pub whole: u32,
     /// Deltas that were copied.
     pub deltas: u32,
-    /// Loose objects, which were deflated anew.
+    /// Loose objects, which were deflated anew, or deltas of them.
     pub loose: u32,
     /// Deltas whose base does not go out, and entries that are broken while their objects are whole
-    /// in another place. Their objects were deflated anew.
+    /// in another place. Their objects were deflated anew, or deltas of them.
     pub renewed: u32,
+    /// How many of the last two went out as deltas.
+    pub made: u32,
 }
 
 impl PackCounts {
@@ -36,6 +40,7 @@ impl PackCounts {
         deltas: 0,
         loose: 0,
         renewed: 0,
+        made: 0,
     };
 
     /// The number of all objects. It stays at the greatest number if there are more.
@@ -67,18 +72,30 @@ pub(crate) fn write_pack<F: ObjectFiles, A: Allocator + Copy>(
         deflater,
         counts: PackCounts::NONE,
         starts: Vec::new(alloc),
+        anew: Vec::new(alloc),
+        window: Window::new(alloc),
     };
     copying.copy_packs()?;
-    copying.put_loose()?;
+    copying.add_loose()?;
+    copying.put_all_anew()?;
     let counts = copying.counts;
     Ok((copying.outgoing.finish()?, counts))
 }
 
-// An object that lies in a pack: its id, and its place in the index.
+// An object that lies in a pack: its id, its place in the index, and its path.
 #[derive(Clone, Copy, Drop)]
 struct Packed {
     id: Oid,
     place: usize,
+    path: PathHash,
+}
+
+// An object that is deflated anew: its id, its path, and how many such objects were found before.
+#[derive(Clone, Copy, Drop)]
+struct Anew {
+    id: Oid,
+    path: PathHash,
+    number: usize,
 }
 
 // A pack that is written.
@@ -93,6 +110,9 @@ struct Copying<'r, 'f, F: ObjectFiles, A: Allocator + Copy> {
     // The position of each entry of the pack that is copied now, by its place in the index; 0 if it
     // was not put.
     starts: Vec<usize, A>,
+    // The objects that are to be deflated anew, and the last ones that were.
+    anew: Vec<Anew, A>,
+    window: Window<A>,
 }
 
 impl<F: ObjectFiles, A: Allocator + Copy> Copying<'_, '_, F, A> {
@@ -122,18 +142,21 @@ impl<F: ObjectFiles, A: Allocator + Copy> Copying<'_, '_, F, A> {
         let place = self.reader.store().starts(pack).get(number)?.place;
         let id = self.reader.store().index(pack)?.id(place)?;
         match self.fates.of(&id, Found::Packed { pack, place }) {
-            Fate::Sent => Some(Packed { id, place }),
-            _ => None,
+            Fate::Sent(path) => Some(Packed { id, place, path }),
+            Fate::Open | Fate::Left => None,
         }
     }
 
-    // Copies an entry, or deflates its object anew if the entry can't go out as it lies.
+    // Copies an entry. If it can't go out as it lies, its object is deflated anew later.
     fn copy_entry(&mut self, pack: usize, object: Packed) -> Result<(), RepositoryFault<A>> {
         let position = self.outgoing.position();
-        match self.whole_entry(pack, object.place)? {
-            Some(entry) => self.copy_or_renew(pack, &object.id, &entry)?,
-            None => self.renew(&object.id)?,
-        }
+        let Some(entry) = self.whole_entry(pack, object.place)? else {
+            return self.renew(object);
+        };
+        let Some(form) = self.form_of(pack, &entry, position) else {
+            return self.renew(object);
+        };
+        self.copy(form, &entry)?;
         if let Some(slot) = self.starts.get_mut(object.place) {
             *slot = position;
         }
@@ -153,23 +176,19 @@ impl<F: ObjectFiles, A: Allocator + Copy> Copying<'_, '_, F, A> {
         }
     }
 
-    // Copies an entry, or deflates its object anew if it is a delta whose base does not go out.
-    fn copy_or_renew(
-        &mut self,
-        pack: usize,
-        id: &Oid,
-        entry: &RawEntry<A>,
-    ) -> Result<(), RepositoryFault<A>> {
-        match self.form_of(pack, entry, self.outgoing.position()) {
-            Some(form) => self.copy(form, entry),
-            None => self.renew(id),
-        }
+    // Adds an object of a pack to those that are deflated anew.
+    fn renew(&mut self, object: Packed) -> Result<(), RepositoryFault<A>> {
+        self.counts.renewed = self.counts.renewed.saturating_add(1);
+        self.add_anew(&object.id, object.path)
     }
 
-    // Deflates an object of a pack anew.
-    fn renew(&mut self, id: &Oid) -> Result<(), RepositoryFault<A>> {
-        self.counts.renewed = self.counts.renewed.saturating_add(1);
-        self.put_anew(id)
+    fn add_anew(&mut self, id: &Oid, path: PathHash) -> Result<(), RepositoryFault<A>> {
+        self.anew.push(Anew {
+            id: *id,
+            path,
+            number: self.anew.len(),
+        })?;
+        Ok(())
     }
 
     // Puts an entry with its own stream.
@@ -209,28 +228,63 @@ impl<F: ObjectFiles, A: Allocator + Copy> Copying<'_, '_, F, A> {
 
     fn is_sent(&self, id: &Oid) -> bool {
         match self.reader.store().find(id) {
-            Ok(Some(found)) => self.fates.of(id, found) == Fate::Sent,
+            Ok(Some(found)) => self.fates.of(id, found).is_sent(),
             _ => false,
         }
     }
 
-    // Puts the loose objects that are sent.
-    fn put_loose(&mut self) -> Result<(), RepositoryFault<A>> {
+    // Adds the loose objects that are sent to those that are deflated anew.
+    fn add_loose(&mut self) -> Result<(), RepositoryFault<A>> {
         for number in 0..self.fates.loose_count() {
-            if let Some((id, Fate::Sent)) = self.fates.loose_at(number) {
+            let Some((id, fate)) = self.fates.loose_at(number) else {
+                break;
+            };
+            if let Fate::Sent(path) = fate {
                 self.counts.loose = self.counts.loose.saturating_add(1);
-                self.put_anew(&id)?;
+                self.add_anew(&id, path)?;
             }
         }
         Ok(())
     }
 
-    // Deflates an object anew. Its id is computed.
+    // Puts the objects that are deflated anew. Those with paths that end alike come one after the
+    // other, as deltas of them are likely small.
+    fn put_all_anew(&mut self) -> Result<(), RepositoryFault<A>> {
+        self.anew
+            .sort_unstable_by_key(|object| (object.path, object.number));
+        for place in 0..self.anew.len() {
+            if let Some(object) = self.anew.get(place).copied() {
+                self.put_anew(&object.id)?;
+            }
+        }
+        Ok(())
+    }
+
+    // Puts an object as a delta, or whole. Its id is computed.
     fn put_anew(&mut self, id: &Oid) -> Result<(), RepositoryFault<A>> {
         let object = self.reader.read_checked(id)?;
-        let body = object.body.as_slice();
+        let delta = self.window.best_delta(&object)?;
+        match &delta {
+            Some(delta) => self.put_delta(delta)?,
+            None => self.put_whole(&object)?,
+        }
+        self.window.push(id, object, &delta)?;
+        Ok(())
+    }
+
+    fn put_delta(&mut self, delta: &Delta<A>) -> Result<(), RepositoryFault<A>> {
+        self.counts.made = self.counts.made.saturating_add(1);
+        self.put_deflated(EntryForm::RefDelta(delta.base), delta.text.as_slice())
+    }
+
+    fn put_whole(&mut self, object: &Object<A>) -> Result<(), RepositoryFault<A>> {
+        self.put_deflated(EntryForm::Whole(object.kind), object.body.as_slice())
+    }
+
+    // Puts an entry whose stream inflates to these bytes.
+    fn put_deflated(&mut self, form: EntryForm, bytes: &[u8]) -> Result<(), RepositoryFault<A>> {
         let mut stream = Vec::new(self.alloc);
-        self.deflater.deflate(body, &mut stream)?;
-        self.outgoing.put(EntryForm::Whole(object.kind), body.len(), stream.as_slice())
+        self.deflater.deflate(bytes, &mut stream)?;
+        self.outgoing.put(form, bytes.len(), stream.as_slice())
     }
 }

@@ -1,6 +1,7 @@
 //! The fates of objects: which go out, and which do not.
 
 use crate::fault::RepositoryFault;
+use crate::path_hash::PathHash;
 use ggraph::IdHasher;
 use gitobjects::{Found, ObjectFiles, ObjectStore};
 use gname::Oid;
@@ -13,10 +14,28 @@ use std::hash::BuildHasherDefault;
 pub(crate) enum Fate {
     /// It is not settled.
     Open,
-    /// The object goes out.
-    Sent,
+    /// The object goes out. It was found at this path.
+    Sent(PathHash),
     /// The object does not go out: the peer has it.
     Left,
+}
+
+impl Fate {
+    /// Whether the object goes out.
+    pub(crate) fn is_sent(self) -> bool {
+        match self {
+            Fate::Sent(_) => true,
+            Fate::Open | Fate::Left => false,
+        }
+    }
+
+    /// The same fate, of an entry of the tree that has this one.
+    pub(crate) fn of_entry(self, name: &[u8]) -> Fate {
+        match self {
+            Fate::Sent(path) => Fate::Sent(path.join(name)),
+            Fate::Open | Fate::Left => self,
+        }
+    }
 }
 
 /// The fates of all objects of a store. Those of a pack are listed by their places in its index.
@@ -91,7 +110,7 @@ impl<A: Allocator + Copy> Fates<A> {
                 self.loose.insert(*object.0, fate)?;
             }
         }
-        if fate == Fate::Sent {
+        if fate.is_sent() {
             self.sent = self.sent.saturating_add(1);
         }
         Ok(())

@@ -2,8 +2,9 @@
 
 use crate::fates::{Fate, Fates};
 use crate::fault::{ObjectCause, RepositoryFault};
+use crate::path_hash::PathHash;
 use ggraph::Entry;
-use gitobject::{Link, ObjectType, commit_links, tag_link, tree_links};
+use gitobject::{Link, ObjectFault, ObjectType, commit_links, split_entry, tag_link};
 use gitobjects::{Found, Object, ObjectFiles, ObjectReader, StoreFault};
 use gname::Oid;
 use std::alloc::Allocator;
@@ -26,6 +27,7 @@ pub(crate) fn gather<F: ObjectFiles, A: Allocator + Copy>(
 struct Tree {
     id: Oid,
     found: Found,
+    fate: Fate,
 }
 
 /// The fates of objects so far.
@@ -62,8 +64,9 @@ impl<'r, 'f, F: ObjectFiles, A: Allocator + Copy> Gathering<'r, 'f, F, A> {
 
     /// Sends an object and the trees and blobs that it reaches, unless it is settled.
     pub(crate) fn send(&mut self, id: &Oid) -> Result<(), RepositoryFault<A>> {
-        match self.settle(id, Fate::Sent)? {
-            Some(_) => self.walk_from(id, Fate::Sent),
+        let fate = Fate::Sent(PathHash::NONE);
+        match self.settle(id, fate)? {
+            Some(_) => self.walk_from(id, fate),
             None => Ok(()),
         }
     }
@@ -71,7 +74,7 @@ impl<'r, 'f, F: ObjectFiles, A: Allocator + Copy> Gathering<'r, 'f, F, A> {
     // Sends the commits and tags.
     fn send_all(&mut self, entries: &[Entry<A>]) -> Result<(), RepositoryFault<A>> {
         for entry in entries {
-            self.settle(&entry.id, Fate::Sent)?;
+            self.settle(&entry.id, Fate::Sent(PathHash::NONE))?;
         }
         Ok(())
     }
@@ -96,7 +99,7 @@ impl<'r, 'f, F: ObjectFiles, A: Allocator + Copy> Gathering<'r, 'f, F, A> {
     // Sends what the commits and tags reach.
     fn send_trees(&mut self, entries: &[Entry<A>]) -> Result<(), RepositoryFault<A>> {
         for entry in entries {
-            self.walk_from(&entry.id, Fate::Sent)?;
+            self.walk_from(&entry.id, Fate::Sent(PathHash::NONE))?;
         }
         Ok(())
     }
@@ -142,7 +145,7 @@ impl<'r, 'f, F: ObjectFiles, A: Allocator + Copy> Gathering<'r, 'f, F, A> {
             ObjectType::Tag => self.check_tag(id, body)?,
             ObjectType::Blob => {}
         }
-        self.walk_trees(trees, fate)
+        self.walk_trees(trees)
     }
 
     // Checks the object that a tag names, if objects are compared.
@@ -177,14 +180,14 @@ impl<'r, 'f, F: ObjectFiles, A: Allocator + Copy> Gathering<'r, 'f, F, A> {
     }
 
     // Settles what some trees reach. Each object is settled once, so this ends.
-    fn walk_trees(&mut self, trees: Vec<Tree, A>, fate: Fate) -> Result<(), RepositoryFault<A>> {
+    fn walk_trees(&mut self, trees: Vec<Tree, A>) -> Result<(), RepositoryFault<A>> {
         let mut trees = trees;
         for _ in 0..u64::MAX {
             let Some(tree) = trees.pop() else {
                 break;
             };
             let object = self.read_tree(tree)?;
-            self.walk_entries(&tree.id, object.body.as_slice(), fate, &mut trees)?;
+            self.walk_entries(&tree.id, object.body.as_slice(), tree.fate, &mut trees)?;
         }
         Ok(())
     }
@@ -224,12 +227,18 @@ impl<'r, 'f, F: ObjectFiles, A: Allocator + Copy> Gathering<'r, 'f, F, A> {
         fate: Fate,
         trees: &mut Vec<Tree, A>,
     ) -> Result<(), RepositoryFault<A>> {
-        let links = match tree_links(self.alloc, body) {
-            Ok(links) => links,
-            Err(fault) => return Err(RepositoryFault::of_object(id, fault)),
-        };
-        for link in &links {
-            self.settle_link(*link, fate, trees)?;
+        let mut rest = body;
+        for _entry in 0..body.len() {
+            if rest.is_empty() {
+                break;
+            }
+            let Some((entry, after)) = split_entry(rest) else {
+                return Err(RepositoryFault::of_object(id, ObjectFault::Malformed));
+            };
+            if let Some(link) = entry.link() {
+                self.settle_link(link, fate.of_entry(entry.name), trees)?;
+            }
+            rest = after;
         }
         Ok(())
     }
@@ -246,7 +255,11 @@ impl<'r, 'f, F: ObjectFiles, A: Allocator + Copy> Gathering<'r, 'f, F, A> {
             return Ok(());
         };
         if link.kind == ObjectType::Tree {
-            trees.push(Tree { id: link.id, found })?;
+            trees.push(Tree {
+                id: link.id,
+                found,
+                fate,
+            })?;
             return Ok(());
         }
         if self.is_strict {

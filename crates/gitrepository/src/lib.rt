@@ -6,7 +6,7 @@
 //! - [`open_tips`] answers the objects at which refs are, without the history. A request for refs needs no
 //!   more. [`lead_with_newest`] puts refs at the newest objects in front of others.
 //! - A [`StorePacker`] packs commits and tags and what goes with them. Entries of packs go out as
-//!   they lie.
+//!   they lie, and other objects as deltas where these are smaller.
 //! - A [`StoreIndexer`] indexes a pack that comes, and keeps it. [`install_pack`] brings it to the
 //!   directory.
 //! - [`open_store`] refuses a repository of a form that is not read. A [`NewRepository`] is one that a
@@ -37,10 +37,14 @@
 //!   at an id whose object is missing, the repository is refused.
 //! - Parents of a commit that are not sent count as known to the peer, and so does all that their
 //!   trees reach.
-//! - No delta is made. Loose objects are deflated whole, and so is an object whose base the peer
-//!   does not get.
+//! - Deltas are made only of objects that are deflated anew: loose ones, and those whose base the
+//!   peer does not get. Their bases are such objects, too. Git also takes objects that lie whole in
+//!   a pack.
+//! - Objects of which deltas are made are sorted by the ends of their paths, but not by size. One of
+//!   more than 8 MiB goes out whole; in Git that are 512 MiB.
 //! - A graph holds at most 1,048,576 commits and tags, with at most 64 parents each.
-//! - A delta names its base by an offset, whether or not the client asks for `ofs-delta`.
+//! - A delta that is copied names its base by an offset, whether or not the client asks for
+//!   `ofs-delta`. A delta that is made names it by its id.
 //! - Git looks for signs of an attack on SHA-1 as it computes an id. Here none is looked for.
 //! - A pack that comes has a file `.keep` until refs lead to its objects. Git has one there, too.
 //! - The commit-graph of an alternate is not read. `core.commitGraph` counts only in the file `config`
@@ -53,7 +57,7 @@
 //!
 //! - The packer might send other objects than those that are asked for, or send the entry of one
 //!   object for another. No clause says which trees and blobs go out. The stream of an entry may be
-//!   any bytes. The reader compares the CRC-32 of each entry that is copied with that of the index,
+//!   any bytes, and a delta may name a base that does not go out. The reader compares the CRC-32 of each entry that is copied with that of the index,
 //!   but has no clause that says so.
 //! - A commit-graph may lie, and so may the graph then. It is used only for commits that the store
 //!   has; no clause says so, nor from which file it is read.
@@ -104,9 +108,11 @@ mod nodes;
 mod opening;
 mod outgoing;
 mod packer;
+mod path_hash;
 mod ref_tips;
 mod stored_folder;
 mod tips;
+mod window;
 
 pub use crate::checking::{Checked, check_refs, check_repository};
 pub use crate::commit_graph::read_commit_graph;

@@ -16,7 +16,8 @@ use std::cell::{Cell, RefCell};
 ///
 /// A pack has the commits and tags that are asked for. It has all trees and blobs that these reach
 /// and that no parent outside of the list reaches. An entry of a pack goes out as it lies: whole, or
-/// as a delta if its base goes out too. Other objects are deflated anew.
+/// as a delta if its base goes out too. Other objects are deflated anew, as deltas of one another
+/// where these are small.
 #[derive(Drop)]
 pub struct StorePacker<'f, F: ObjectFiles, A: Allocator + Copy> {
     reader: RefCell<ObjectReader<'f, F, A>>,

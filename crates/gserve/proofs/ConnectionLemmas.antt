@@ -32,7 +32,7 @@ use Rattle.gpkt.specs.Sending.{rest_of}
 use Rattle.gserve.specs.steps.Connections.{Advertises, HasAnswered, PassesPackets, RefusesFirst, end_after}
 use Rattle.gserve.specs.steps.Connections.{ReportsRefusal}
 use Rattle.gserve.specs.declared.connection.End.{End}
-use Rattle.gserve.specs.steps.Packings.{ReportsLastPacking, ReportsPacking}
+use Rattle.gserve.specs.Packings.{ReportsLastPacking, ReportsPacking}
 use Rattle.gserve.specs.Refusals.{err_packets}
 use Rattle.gserve.specs.declared.exchange.ExchangeEnd.{ExchangeEnd}
 use Rattle.gserve.specs.declared.connection.End.TheVariants as end

@@ -1,6 +1,7 @@
 pub mod Conversations
 pub mod Exchanges
 pub mod Laws
+pub mod Packings
 pub mod Refusals
 pub mod Replies
 pub mod Talks

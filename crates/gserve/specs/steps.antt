@@ -1,3 +1,2 @@
 -- The steps: what only private functions and proofs speak of.
 pub mod Connections
-pub mod Packings

@@ -5,7 +5,7 @@ ghost use Rattle.gpkt.specs.Packets.{canonical_all};
 ghost use Rattle.gpkt.specs.Sending.{input_of, output_of, Passes};
 ghost use Rattle.ganswer.specs.declared.one_pack.Packing.TheVariants.{Unasked};
 ghost use Rattle.gserve.specs.Conversations.{Serves, advert_packets};
-ghost use Rattle.gserve.specs.steps.Packings.{ReportsLastPacking};
+ghost use Rattle.gserve.specs.Packings.{ReportsLastPacking};
 ghost use Rattle.gserve.specs.steps.Connections.{Advertises, RefusesFirst, end_after};
 
 use crate::exchange::{ExchangeEnd, exchange};
@@ -50,29 +50,31 @@ pub struct Served {
 /// whose packet is written last, or where the sink fails. Where it is out of memory at the start,
 /// the packet that reports so is all that is written, and nothing is read.
 ///
-/// A fault of the packer is reported as the packer gave it: each request asks it at most once, and out of memory
-/// comes only where it was not asked.
+/// A fault of the packer is reported as the packer gave it, and it ends the connection. Each request asks the packer at
+/// most once, and any other fault, such as out of memory, is reported only where the last request did not ask it.
 pub fn serve<S: Source, W: Sink, A: Allocator + Copy, K: Packer<A>>(
     server: &Server<A>,
-    packer: &K,
+    packer: &mut OnePack<'_, K>,
     ends: Ends,
     source: &mut S,
     sink: &mut W,
 ) -> Served
-    ensures serves { Serves server.now (K.packs packer.now) (K.pack_fails packer.now) ends
-        (input_of S.remaining S.is_down source.old source.new)
+    requires unasked { packer.old.answered ≡ Unasked }
+    ensures serves { Serves server.now (K.packs packer.old.packer) (K.pack_fails packer.old.packer)
+        ends (input_of S.remaining S.is_down source.old source.new)
         (output_of W.contents W.passed_on W.is_down sink.old sink.new) result.requests result.end }
+    ensures packing { ReportsLastPacking result.end packer.new.answered }
+    ensures packer { packer.new.packer ≡ packer.old.packer }
     ensures source_loans { S.loans source.new ≡ S.loans source.old }
     ensures sink_loans { W.loans sink.new ≡ W.loans sink.old }
 {
-    let mut packer = OnePack::new(packer);
     let mut writer = LineWriter::new(sink);
-    let served = serve_to(server, &mut packer, ends, source, &mut writer);
+    let served = serve_to(server, packer, ends, source, &mut writer);
     let _sink = writer.into_inner();
     served
 }
 
-// Serves one connection to a writer. What the packer answered last is the fault that ends the connection, or no fault.
+// Serves one connection to a writer.
 fn serve_to<S: Source, W: Sink, A: Allocator + Copy, K: Packer<A>>(
     server: &Server<A>,
     packer: &mut OnePack<'_, K>,

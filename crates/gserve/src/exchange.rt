@@ -5,7 +5,7 @@ ghost use Rattle.gpkt.specs.Sending.{input_of, output_of};
 ghost use Rattle.grequest.specs.RequestValues.{asked_by_request};
 ghost use Rattle.ganswer.specs.declared.one_pack.Packing.TheVariants.{Unasked};
 ghost use Rattle.gserve.specs.Exchanges.{Exchanges, ServesOne};
-ghost use Rattle.gserve.specs.steps.Packings.{ReportsPacking};
+ghost use Rattle.gserve.specs.Packings.{ReportsPacking};
 ghost use Rattle.gserve.specs.steps.Connections.{Replies, ReportsRefusal, end_of_reply};
 
 use crate::send::{send_fetch_reply, send_ls_answer, send_refusal};
@@ -35,30 +35,33 @@ pub enum ExchangeEnd {
 /// (gitprotocol-v2(5), "Command Request"). Nothing after the request's last packet is read. Where
 /// it is out of memory for the reader's buffer nothing is read, and that is reported. A request for
 /// refs takes no memory once it is read, and is answered. A fault of the packer is reported as the packer gave it, and
-/// out of memory comes only where it was not asked.
+/// any other fault, such as out of memory, only where the packer was not asked.
 ///
 /// The source is well where the request was answered, and where there was none.
 pub fn serve_one<S: Source, W: Sink, A: Allocator + Copy, K: Packer<A>>(
     server: &Server<A>,
-    packer: &K,
+    packer: &mut OnePack<'_, K>,
     ends: Ends,
     source: &mut S,
     sink: &mut W,
 ) -> ExchangeEnd
-    ensures exchange { ServesOne server.now (K.packs packer.now) (K.pack_fails packer.now) ends
+    requires unasked { packer.old.answered ≡ Unasked }
+    ensures exchange { ServesOne server.now (K.packs packer.old.packer)
+        (K.pack_fails packer.old.packer) ends
         (input_of S.remaining S.is_down source.old source.new)
         (output_of W.contents W.passed_on W.is_down sink.old sink.new) result }
+    ensures packing { ReportsPacking result packer.new.answered }
+    ensures packer { packer.new.packer ≡ packer.old.packer }
     ensures source_loans { S.loans source.new ≡ S.loans source.old }
     ensures sink_loans { W.loans sink.new ≡ W.loans sink.old }
 {
-    let mut packer = OnePack::new(packer);
     let mut writer = LineWriter::new(sink);
-    let ended = serve_one_to(server, &mut packer, ends, source, &mut writer);
+    let ended = serve_one_to(server, packer, ends, source, &mut writer);
     let _sink = writer.into_inner();
     ended
 }
 
-// Answers one request to a writer. What the packer answered is the fault that is reported, or no fault.
+// Answers one request to a writer.
 fn serve_one_to<S: Source, W: Sink, A: Allocator + Copy, K: Packer<A>>(
     server: &Server<A>,
     packer: &mut OnePack<'_, K>,

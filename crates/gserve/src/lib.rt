@@ -14,9 +14,9 @@
 //!   [`MAX_REQUESTS`]; at the first request that is refused, whose packet is then the last thing
 //!   written, and is passed on; or where the sink fails. The fault is the one of the request's
 //!   grammar, of the server's answer, or the source's.
-//! - Where the packer fails its fault is the one that is reported, and out of memory never in its place. The private
-//!   functions of which [`serve`] and [`serve_one`] consist say so: they take the packer with a record of what it
-//!   answered (`specs/steps/Packings.antt`).
+//! - Where the packer fails its fault is the one that is reported, and out of memory never in its place
+//!   (`specs/Packings.antt`). [`serve`] and [`serve_one`] take the packer with a record of what it answered
+//!   ([`OnePack`]), and any other fault is reported only where the last request did not ask it.
 //! - Where it is out of memory for the buffer or for the advertisement, the packet that reports so
 //!   stands in the advertisement's place, and nothing is read.
 //! - Where the sink fails a beginning of what was due stands written: of the advertisement, of a

@@ -24,6 +24,7 @@
 //!   and for what the indexer says of its pack at no packet. Once it was read, out of memory is reported only where no
 //!   id is strange and the indexer took the pack.
 //! - [`Session::settle`] moves the refs as `Repo::settle` does, once a pack was taken or nothing is wanted.
+//! - [`Session::is_due`] says whether a request is due, before it is made.
 //! - [`Session::pending`] lends the request that waits, whose ids are of the session's format, so that it can be written;
 //!   [`Session::asks`] and [`Session::wants`] lend what is asked for.
 //! - A call that does not fit what the session waits for changes nothing, and reads nothing. Every other fault ends the

@@ -20,7 +20,7 @@ use ggraph::PlainPack;
 use ghello::Hello;
 use gpkt::memory::SliceSource;
 use gpkt::{Down, FromRead, LineWriter, Sink, Source, ToWrite};
-use gserve::{ExchangeEnd, MAX_ERR_TEXT, ServeFault, err_text, serve, serve_one};
+use gserve::{ExchangeEnd, MAX_ERR_TEXT, OnePack, ServeFault, err_text, serve, serve_one};
 use std::alloc::Allocator;
 use std::io::{BufReader, Read, Write};
 use std::net::{Net, OpenListener, OpenStream, SocketAddr, TcpListener, TcpStream};
@@ -72,7 +72,7 @@ impl<'a, N: Source, F: Source, W: Sink, A: Allocator + Copy> Answers<'a, N, F, W
     {
         serve_one(
             self.server,
-            &PlainPack,
+            &mut OnePack::new(&PlainPack),
             Ends::Plain,
             &mut self.far,
             &mut self.far_sink,
@@ -134,7 +134,8 @@ fn greet<A: Allocator + Copy, F: Source, W: Sink>(server: &Server<A>, far: &mut 
 // A connection whose client asks for nothing gets the advertisement alone.
 fn advertise<A: Allocator + Copy, W: Sink>(server: &Server<A>, sink: &mut W) {
     let mut nothing = SliceSource::new(b"");
-    let _served = serve(server, &PlainPack, Ends::Plain, &mut nothing, sink);
+    let mut packer = OnePack::new(&PlainPack);
+    let _served = serve(server, &mut packer, Ends::Plain, &mut nothing, sink);
 }
 
 // Writes the line of a refusal, and passes it on. It takes no memory.

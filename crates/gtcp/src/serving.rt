@@ -16,7 +16,7 @@ use gconnect::{Export, GitEnd, serve_git};
 use ggrammar::Ends;
 use ggraph::Packer;
 use gpkt::{FromRead, Sink, ToWrite};
-use gserve::End;
+use gserve::{End, OnePack};
 use std::alloc::Allocator;
 use std::io::{BufReader, BufWriter, Read, Write};
 use std::net::{OpenListener, OpenStream};
@@ -204,7 +204,7 @@ fn serve_between<A: Allocator + Copy, K: Packer<A>, R: Read, W: Write>(
 {
     let mut source = FromRead::new(reader);
     let mut sink = ToWrite::new(writer);
-    serve_git(export, packer, &mut source, &mut sink)
+    serve_git(export, &mut OnePack::new(packer), &mut source, &mut sink)
 }
 
 // How a connection came out. That its client asked for another path is no fault of it.

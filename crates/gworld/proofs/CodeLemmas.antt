@@ -7,9 +7,6 @@ use Rattle.gclientrepo.specs.declared.ask.Ask.{Ask}
 use Rattle.gclientrepo.specs.declared.ask.RefUpdate.{RefUpdate}
 use Rattle.grequest.specs.Asked.{Asked}
 use Rattle.gsession.specs.Requesting.{Requests, is_due}
-use Rattle.gsession.specs.declared.stage.Stage.{Stage}
-use Rattle.gsession.specs.declared.stage.Stage.TheVariants as stages
-use Rattle.std.proofs.lemmas.Bool.{false≢true}
 use Rattle.gscenario.specs.declared.event.Event.TheVariants as event
 use Rattle.gworld.specs.Runs.{NeedsMemory}
 use Rattle.gworld.specs.declared.incoming.Due.TheVariants.{Refs, Objects}
@@ -52,13 +49,6 @@ some_waits : {A : Type 0} (s : SessionState A) (pending : Option Asked) → IsSo
 some_waits s None waits = waits
 some_waits s (Some asked) waits = refl
 
-not_due : (stage : Stage) (pending : Option Asked) → IsSome pending → is_due stage pending ≡ false
-not_due stage None waits = absurd (false≢true waits)
-not_due stages.Listing (Some asked) waits = refl
-not_due stages.Fetching (Some asked) waits = refl
-not_due stages.Settling (Some asked) waits = refl
-not_due stages.Over (Some asked) waits = refl
-
 -- what a session waits for where it waits for refs, and where it waits for objects
 pub waits_for_refs : (pending : Option Asked) → IsAwaited pending Refs → IsSome pending
 waits_for_refs None is = absurd is
@@ -75,15 +65,14 @@ module _ {A : Type 0} {w now : WorldState A} (same : w ≡ now) where
   pub waits_on : (s : SessionState A) → w.session ≡ Some s → IsSome s.pending → IsSome (waiting now.session)
   waits_on s is waits = rw (← same, is) (some_waits s s.pending waits)
 
-  -- so that none may be asked for
-  pub not_due_step : (s : SessionState A) → w.session ≡ Some s → IsSome s.pending
+  -- where no request is due, none is made
+  pub not_due_step : (s : SessionState A) → w.session ≡ Some s → is_due s.stage s.pending ≡ false
       → AsksNext now now.session (Fault 83) (record w { session = Some s })
-  not_due_step s is waits =
-      rw (← same, is) (s, client.NoOpenRequest, (not_due s.stage s.pending waits, refl), refl, refl)
+  not_due_step s is not_due = rw (← same, is) (s, client.NoOpenRequest, (not_due, refl), refl, refl)
 
-  -- where none waits, memory is needed to ask for one
-  pub may_ask : (s : SessionState A) → w.session ≡ Some s → s.pending ≡ None → NeedsMemory now event.Ask
-  may_ask s is none = rw (← same) (s, is, none)
+  -- where one is due, memory is needed to make it
+  pub may_ask : (s : SessionState A) → w.session ≡ Some s → is_due s.stage s.pending ≡ true → NeedsMemory now event.Ask
+  may_ask s is due = rw (← same) (s, is, due)
 
   pub asked_step : (s after : SessionState A) (asked : Asked) (sent : List Asked) (number : ℕ)
       → w.session ≡ Some s → Requests s w.repo.graph.entries after (Ok asked) → number ≡ length w.sent

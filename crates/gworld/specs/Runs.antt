@@ -1,6 +1,7 @@
 -- Runs: events one after the other, with the outcome of each.
-use Rattle.std.specs.Prelude.{◌≡◌, ◌⊎◌, ⊤, List, [], ◌∷◌, ◌++◌, slice_get, IsSome, None, Some}
+use Rattle.std.specs.Prelude.{◌≡◌, ◌⊎◌, ⊤, true, List, [], ◌∷◌, ◌++◌, slice_get, IsSome, Some}
 use Rattle.gdag.specs.Laws.{AgreesWith}
+use Rattle.gsession.specs.Requesting.{is_due}
 use Rattle.gsession.specs.Sessions.{SessionState}
 use Rattle.gworld.specs.Events.{Step, waiting}
 use Rattle.gworld.specs.Worlds.{PackTools, WorldState}
@@ -27,7 +28,7 @@ Run tools w events outcomes new = RunWith (Step tools) w events outcomes new
 -- for what is there already.
 abbrev pub NeedsMemory : {A : Type 0} → WorldState A → Event A → Type 0
 NeedsMemory w (event.Begin specs) = ⊥
-NeedsMemory {A} w event.Ask = (s : SessionState A) × (w.session ≡ Some s) × (s.pending ≡ None)
+NeedsMemory {A} w event.Ask = (s : SessionState A) × (w.session ≡ Some s) × (is_due s.stage s.pending ≡ true)
 NeedsMemory w (event.Serve number) = IsSome (slice_get w.sent number)
 NeedsMemory w (event.Deliver number count) = IsSome (slice_get w.kept number) × IsSome (waiting w.session)
 NeedsMemory w (event.Forge bytes) = IsSome (waiting w.session)

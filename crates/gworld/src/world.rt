@@ -82,8 +82,8 @@ impl<K: Packer<A> + Indexer<A> + Drop, A: Allocator + Copy> World<K, A> {
     ///
     /// Where a list of the world or a buffer can't grow, the run stops with `Memory`, which has the outcomes of the
     /// events that were done: the world is as these left it, and the next event has not begun. That event needs
-    /// memory: none that names no request or reply, comes to no session that waits for it, or disagrees with the other
-    /// end. The outcomes take their memory before the first event; where there is none for them, no event is done.
+    /// memory: none that names no request or reply, asks where no request is due, comes to no session that waits for it,
+    /// or disagrees with the other end. The outcomes take their memory before the first event; where there is none for them, no event is done.
     ///
     /// What each step promises is said by `Promises` (specs/Promises.antt). Whatever is answered, each ref of the
     /// client is connected.

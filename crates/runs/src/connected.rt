@@ -13,7 +13,7 @@ use glsreply::{LsReply, RefLine, RefText};
 use gname::{Prefix, RefName};
 use gpkt::{Sink, Source};
 use grequest::LsRefsRequest;
-use gserve::{End, Served};
+use gserve::{End, OnePack, Served};
 use std::alloc::{AllocError, Allocator};
 
 /// Serves a connection from its first line on. It answers 1 where the connection had a fault, which is printed.
@@ -41,7 +41,7 @@ fn served<A: Allocator + Copy, K: Packer<A>, I: Source, O: Sink>(
         path: job.command.path.as_bytes(),
         ends: job.command.ends,
     };
-    outcome_of(serve_git(&export, packer, input, output))
+    outcome_of(serve_git(&export, &mut OnePack::new(packer), input, output))
 }
 
 // How a connection came out. That its client asked for another path is no fault of it.

@@ -13,7 +13,7 @@ use gcmd::{ProgramFault, Spec, cmd_failed, finish, send_text};
 use gconnect::{GitFetch, fetch_git};
 use ggraph::{Head, Indexer, SaveFault, save};
 use gpkt::{Sink, Source};
-use gserve::{ExchangeEnd, serve, serve_one};
+use gserve::{ExchangeEnd, OnePack, serve, serve_one};
 use std::alloc::Allocator;
 
 /// Serves one request, or a connection, from a repository's text. It answers the exit status.
@@ -54,7 +54,8 @@ fn answer_all<A: Allocator + Copy, I: Source, O: Sink>(
     output: &mut O,
 ) -> Result<(), ProgramFault<A>> {
     let server = server_of(job.memory, job.file)?;
-    outcome_of_served(serve(&server, packer, job.command.ends, input, output))
+    let mut packer = OnePack::new(packer);
+    outcome_of_served(serve(&server, &mut packer, job.command.ends, input, output))
 }
 
 fn answer_one<A: Allocator + Copy, I: Source, O: Sink>(
@@ -64,7 +65,8 @@ fn answer_one<A: Allocator + Copy, I: Source, O: Sink>(
     output: &mut O,
 ) -> Result<(), ProgramFault<A>> {
     let server = server_of(job.memory, job.file)?;
-    outcome_of_exchange(serve_one(&server, packer, job.command.ends, input, output))
+    let mut packer = OnePack::new(packer);
+    outcome_of_exchange(serve_one(&server, &mut packer, job.command.ends, input, output))
 }
 
 fn outcome_of_exchange<A: Allocator + Copy>(ended: ExchangeEnd) -> Result<(), ProgramFault<A>> {

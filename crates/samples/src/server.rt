@@ -4,7 +4,7 @@ use gcmd::ProgramFault;
 use ggrammar::Ends;
 use ggraph::{Order, PlainPack, load};
 use gpkt::{Sink, Source};
-use gserve::{Served, Server, serve};
+use gserve::{OnePack, Served, Server, serve};
 use std::alloc::Allocator;
 
 /// Serves one connection of the repository whose text is given (gitprotocol-v2(5)), and answers how it ended.
@@ -18,5 +18,6 @@ pub fn serve_text<A: Allocator + Copy, S: Source, W: Sink>(
 ) -> Result<Served, ProgramFault<A>> {
     let repository = load(alloc, text, Order::ParentsFirst)?;
     let server = Server::new(repository.graph, repository.refs, repository.head)?;
-    Ok(serve(&server, &PlainPack, Ends::Plain, source, sink))
+    let mut packer = OnePack::new(&PlainPack);
+    Ok(serve(&server, &mut packer, Ends::Plain, source, sink))
 }

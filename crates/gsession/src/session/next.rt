@@ -22,9 +22,22 @@ impl<A: Allocator + Copy> Session<A> {
     ghost use Rattle.grequest.specs.RequestValues.{IsOfFormat, asked_by_request};
     ghost use Rattle.gwalk.specs.Offers.{AreOffers};
     ghost use Rattle.gsession.specs.Offering.{AreOffersOf};
-    ghost use Rattle.gsession.specs.Requesting.{IsBatch, MakesNext, Requests, fetch_request, waiting_for};
+    ghost use Rattle.gsession.specs.Requesting.{IsBatch, MakesNext, Requests, fetch_request, is_due, waiting_for};
     ghost use Rattle.gsession.specs.Sessions.{after_fault, no_memory};
     ghost use Rattle.gsession.specs.steps.Calls.{FitsBatch};
+
+    /// Whether a request is due: none waits for its reply, and refs or objects are to be asked for.
+    pub fn is_due(&self) -> bool
+        ensures { result ≡ is_due self.now.stage self.now.pending }
+    {
+        if self.pending.is_some() {
+            return false;
+        }
+        match self.stage {
+            Stage::Listing | Stage::Fetching => true,
+            Stage::Settling | Stage::Over => false,
+        }
+    }
 
     /// The next request, which then waits for its reply: for refs at first, then for objects. A request for objects
     /// names as haves the common ids, and a batch of ids that it did not name before; without a batch the client is

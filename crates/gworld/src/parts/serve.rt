@@ -10,7 +10,7 @@ ghost use Rattle.gworld.specs.declared.outcome.Outcome.TheVariants as outcome;
 use super::{KeptReply, Parts, sent_at};
 use crate::fault::NO_SUCH;
 use crate::outcome::Outcome;
-use ganswer::{Reply, ServeFault, Server};
+use ganswer::{OnePack, Reply, ServeFault, Server};
 use ggrammar::Ends;
 use ggraph::Packer;
 use gpkt::memory::{SliceSource, VecSink};
@@ -47,7 +47,7 @@ impl<A: Allocator + Copy> Parts<A> {
         let alloc = self.repo.graph().allocator();
         match sent_at(&self.sent, number) {
             None => Ok(Outcome::Fault { code: NO_SUCH }),
-            Some(sent) => match self.server.answer(&sent.request, packer) {
+            Some(sent) => match self.server.answer(&sent.request, &mut OnePack::new(packer)) {
                 Ok(reply) => keep(alloc, &mut self.kept, &sent.request, reply),
                 Err(fault) => Ok(refuse_request(fault)),
             },
@@ -95,7 +95,8 @@ fn talk<A: Allocator + Copy, K: Packer<A>>(
     serving_is_talking::<A, K>();
     let mut source = SliceSource::new(bytes);
     let mut sink = VecSink::new(alloc);
-    let served = serve(server, packer, Ends::Plain, &mut source, &mut sink);
+    let mut packer = OnePack::new(packer);
+    let served = serve(server, &mut packer, Ends::Plain, &mut source, &mut sink);
     let written = sink.written().len();
     stranger_outcome(written, served.end)
 }

@@ -86,7 +86,7 @@ impl<A: Allocator + Copy> Parts<A> {
                 code: NO_OPEN_REQUEST,
             }),
             Some(session) => {
-                if session.pending().is_some() {
+                if !session.is_due() {
                     return Ok(Outcome::Fault {
                         code: NO_OPEN_REQUEST,
                     });

@@ -1,6 +1,5 @@
--- The steps of an exchange and of a connection: what the packer answered last, by how they ended. A fault of its own is
--- the one that is reported, and where another is reported it was not asked for that request. Where the sink failed
--- nothing is said.
+-- What the packer answered last, by how an exchange or a connection ended. A fault of its own is the one that is
+-- reported, and where another is reported it was not asked for that request. Where the sink failed nothing is said.
 use Rattle.std.specs.Prelude.{◌≡◌, ⊤, false}
 use Rattle.ganswer.specs.OnePack.{has_failed, packing_of_fault}
 use Rattle.ganswer.specs.declared.one_pack.Packing.TheVariants.{Unasked}

@@ -1,0 +1,224 @@
+//! The blocks of a base, by the hashes of their bytes.
+
+use std::alloc::{AllocError, Allocator};
+
+/// The bytes of a block.
+pub(crate) const BLOCK: usize = 16;
+
+// A hash has a digit for each byte, the first byte's the highest. This is the base of the digits,
+// and what the first digit of a block is multiplied with.
+const DIGITS: u32 = 0x0100_0193;
+
+const FIRST_DIGIT: u32 = 0xd69d_215b;
+
+// How many blocks with hashes in the same slot are looked at.
+const MAX_TRIES: usize = 32;
+
+// The length of a match after which none is looked for at its place.
+const NICE_LENGTH: usize = 4_096;
+
+// A block: its hash, and the next block with a hash in the same slot.
+#[derive(Clone, Copy, Drop)]
+struct Block {
+    hash: u32,
+    next: u32,
+}
+
+/// The blocks of a base. The number of a block is kept as one more than it is, and 0 is no block.
+#[derive(Drop)]
+pub(crate) struct Blocks<A: Allocator + Copy> {
+    // The first block in each slot.
+    heads: Vec<u32, A>,
+    blocks: Vec<Block, A>,
+}
+
+/// Bytes of the target that are in the base, too.
+#[derive(Clone, Copy)]
+pub(crate) struct Match {
+    /// The place of the first one in the target.
+    pub(crate) at: usize,
+    /// The place of the first one in the base.
+    pub(crate) offset: usize,
+    /// The number of them.
+    pub(crate) length: usize,
+}
+
+impl<A: Allocator + Copy> Blocks<A> {
+    /// The blocks of a base. It fails out of memory.
+    pub(crate) fn new(alloc: A, base: &[u8]) -> Result<Blocks<A>, AllocError> {
+        let count = base.len() / BLOCK;
+        let mut heads = Vec::with_capacity(alloc, count)?;
+        heads.resize(count, 0u32)?;
+        let mut blocks = Vec::with_capacity(alloc, count)?;
+        blocks.resize(count, Block { hash: 0, next: 0 })?;
+        let mut made = Blocks { heads, blocks };
+        made.add_all(base);
+        Ok(made)
+    }
+
+    // Adds the blocks, the last one first. Blocks with the same bytes, one after the other, come in
+    // as the first of them alone.
+    fn add_all(&mut self, base: &[u8]) {
+        let count = self.blocks.len();
+        let mut after = None;
+        for less in 0..count {
+            let number = count.wrapping_sub(less).wrapping_sub(1);
+            let Some(bytes) = block_at(base, number.wrapping_mul(BLOCK)) else {
+                return;
+            };
+            let hash = hash_of(bytes);
+            self.add(number, hash, after == Some(hash));
+            after = Some(hash);
+        }
+    }
+
+    // Adds a block. It takes the place of the block after it, if that is said.
+    fn add(&mut self, number: usize, hash: u32, takes_place: bool) {
+        let slot = slot_of(hash, self.heads.len());
+        let Some(head) = self.heads.get_mut(slot) else {
+            return;
+        };
+        let next = if takes_place {
+            next_of(self.blocks.as_slice(), *head)
+        } else {
+            *head
+        };
+        *head = (number.wrapping_add(1) & 0xffff_ffff) as u32;
+        if let Some(block) = self.blocks.get_mut(number) {
+            *block = Block { hash, next };
+        }
+    }
+
+    /// The first match with a block that begins at a place from `from` on, and before `to`; `None` if
+    /// there is none. It goes on as far as the bytes are the same.
+    pub(crate) fn next_match(
+        &self,
+        base: &[u8],
+        target: &[u8],
+        from: usize,
+        to: usize,
+    ) -> Option<Match> {
+        let mut hash = hash_of(block_at(target, from)?);
+        for at in from..to {
+            let head = self.heads.get(slot_of(hash, self.heads.len())).copied()?;
+            if head != 0 {
+                let found = self.longest(base, target, at, (hash, head));
+                if found.length >= BLOCK {
+                    return Some(found);
+                }
+            }
+            hash = roll(hash, *target.get(at)?, *target.get(at.wrapping_add(BLOCK))?);
+        }
+        None
+    }
+
+    // The longest match at a place, whose bytes have this hash. The first block in its slot is
+    // given, too.
+    fn longest(&self, base: &[u8], target: &[u8], at: usize, start: (u32, u32)) -> Match {
+        let mut best = Match {
+            at,
+            offset: 0,
+            length: 0,
+        };
+        let mut number = start.1;
+        for _try in 0..MAX_TRIES {
+            let place = (number as usize).wrapping_sub(1);
+            let Some(block) = self.blocks.get(place) else {
+                break;
+            };
+            if block.hash == start.0 {
+                let offset = place.wrapping_mul(BLOCK);
+                let length = common_front(base.get(offset..), target.get(at..));
+                if length > best.length {
+                    best = Match { at, offset, length };
+                }
+                if length >= NICE_LENGTH {
+                    break;
+                }
+            }
+            number = block.next;
+        }
+        best
+    }
+}
+
+impl Match {
+    /// The match with the bytes before it that are the same, too. None of them comes before `least`
+    /// in the target.
+    pub(crate) fn from_front(self, base: &[u8], target: &[u8], least: usize) -> Match {
+        let more = common_back(base.get(..self.offset), target.get(least..self.at));
+        Match {
+            at: self.at.wrapping_sub(more),
+            offset: self.offset.wrapping_sub(more),
+            length: self.length.wrapping_add(more),
+        }
+    }
+}
+
+// The block that begins at an offset.
+fn block_at(bytes: &[u8], offset: usize) -> Option<&[u8]> {
+    bytes.get(offset..)?.get(..BLOCK)
+}
+
+// The block after this one in its slot; 0 if there is none.
+fn next_of(blocks: &[Block], number: u32) -> u32 {
+    match blocks.get((number as usize).wrapping_sub(1)) {
+        Some(block) => block.next,
+        None => 0,
+    }
+}
+
+// The slot of a hash, of so many.
+fn slot_of(hash: u32, slots: usize) -> usize {
+    let spread = u64::from(hash.wrapping_mul(0x9E37_79B1));
+    (spread.wrapping_mul(slots as u64) >> 32) as usize
+}
+
+// The hash of some bytes.
+fn hash_of(bytes: &[u8]) -> u32 {
+    let mut hash = 0u32;
+    for byte in bytes {
+        hash = hash.wrapping_mul(DIGITS).wrapping_add(digit(*byte));
+    }
+    hash
+}
+
+// The hash of the bytes of a block one byte on: the first byte goes, and one comes.
+fn roll(hash: u32, first: u8, next: u8) -> u32 {
+    let rest = hash.wrapping_sub(digit(first).wrapping_mul(FIRST_DIGIT));
+    rest.wrapping_mul(DIGITS).wrapping_add(digit(next))
+}
+
+fn digit(byte: u8) -> u32 {
+    u32::from(byte).wrapping_add(1)
+}
+
+// How many bytes two texts have in common at their beginning.
+fn common_front(one: Option<&[u8]>, other: Option<&[u8]>) -> usize {
+    let (Some(one), Some(other)) = (one, other) else {
+        return 0;
+    };
+    let mut length = 0usize;
+    for (byte, same) in one.iter().zip(other) {
+        if *byte != *same {
+            return length;
+        }
+        length = length.wrapping_add(1);
+    }
+    length
+}
+
+// How many bytes two texts have in common at their end.
+fn common_back(one: Option<&[u8]>, other: Option<&[u8]>) -> usize {
+    let (Some(one), Some(other)) = (one, other) else {
+        return 0;
+    };
+    let mut length = 0usize;
+    for (byte, same) in one.iter().rev().zip(other.iter().rev()) {
+        if *byte != *same {
+            return length;
+        }
+        length = length.wrapping_add(1);
+    }
+    length
+}

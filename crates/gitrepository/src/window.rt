@@ -1,0 +1,190 @@
+//! The objects of a pack of which deltas are made.
+
+use gitobject::ObjectType;
+use gitobjects::Object;
+use gitpack::DeltaBase;
+use gname::Oid;
+use std::alloc::{AllocError, Allocator};
+
+// The most objects in the window, and the most bytes of all of them.
+const MAX_BASES: usize = 10;
+
+const MAX_BYTES: usize = 33_554_432;
+
+// The fewest and the most bytes of an object in the window: 50 bytes, and 8 MiB.
+const LEAST_BODY: usize = 50;
+
+const MOST_BODY: usize = 8_388_608;
+
+// The most deltas of a chain.
+const MAX_CHAIN: usize = 50;
+
+// The bytes of the id of the base, which come before a delta.
+const BASE_ID: usize = 20;
+
+// How many times as large as its target a base is at most.
+const MAX_RATIO: usize = 32;
+
+// An object in the window: its id, and how many deltas lead to it.
+#[derive(Drop)]
+struct Base<A: Allocator + Copy> {
+    id: Oid,
+    kind: ObjectType,
+    depth: usize,
+    body: DeltaBase<A>,
+}
+
+/// A delta of an object in the window.
+#[derive(Drop)]
+pub(crate) struct Delta<A: Allocator + Copy> {
+    /// The id of its base.
+    pub(crate) base: Oid,
+    /// Its bytes.
+    pub(crate) text: Vec<u8, A>,
+    // How many deltas lead to what it makes.
+    depth: usize,
+}
+
+/// The last objects of a pack that went out: bases of deltas.
+#[derive(Drop)]
+pub(crate) struct Window<A: Allocator + Copy> {
+    alloc: A,
+    // The last one comes last.
+    bases: Vec<Base<A>, A>,
+    // The bytes of their bodies.
+    bytes: usize,
+}
+
+impl<A: Allocator + Copy> Window<A> {
+    /// A window with no object.
+    pub(crate) fn new(alloc: A) -> Window<A> {
+        Window {
+            alloc,
+            bases: Vec::new(alloc),
+            bytes: 0,
+        }
+    }
+
+    /// The smallest delta that is found of an object; `None` if none is that is small enough. Its
+    /// base is the last one from here on.
+    pub(crate) fn best_delta(
+        &mut self,
+        object: &Object<A>,
+    ) -> Result<Option<Delta<A>>, AllocError> {
+        let target = object.body.as_slice();
+        if !has_fit_size(target.len()) {
+            return Ok(None);
+        }
+        let mut best: Option<(usize, Delta<A>)> = None;
+        for less in 0..self.bases.len() {
+            let place = self.bases.len().wrapping_sub(less).wrapping_sub(1);
+            let Some(base) = self.bases.get(place) else {
+                break;
+            };
+            let limit = base.limit(object, &best);
+            if limit == 0 {
+                continue;
+            }
+            if let Some(text) = base.body.make_delta(target, limit)? {
+                best = Some((place, base.delta(text)));
+            }
+        }
+        match best {
+            Some((place, delta)) => {
+                self.move_to_end(place)?;
+                Ok(Some(delta))
+            }
+            None => Ok(None),
+        }
+    }
+
+    /// Puts in an object that went out, as this delta or whole. It goes in only if its size is fit,
+    /// and others go, as they went in, until there is room.
+    pub(crate) fn push(
+        &mut self,
+        id: &Oid,
+        object: Object<A>,
+        delta: &Option<Delta<A>>,
+    ) -> Result<(), AllocError> {
+        let size = object.body.len();
+        let depth = depth_of(delta);
+        if !has_fit_size(size) || depth >= MAX_CHAIN {
+            return Ok(());
+        }
+        self.make_room(size);
+        let base = Base {
+            id: *id,
+            kind: object.kind,
+            depth,
+            body: DeltaBase::new(self.alloc, object.body)?,
+        };
+        self.bases.push(base)?;
+        self.bytes = self.bytes.saturating_add(size);
+        Ok(())
+    }
+
+    // Lets objects go, the first ones, until there is room for one of this size.
+    fn make_room(&mut self, size: usize) {
+        for _base in 0..MAX_BASES {
+            let has_room = self.bytes.saturating_add(size) <= MAX_BYTES;
+            if self.bases.is_empty() || (has_room && self.bases.len() < MAX_BASES) {
+                return;
+            }
+            let first = self.bases.remove(0);
+            self.bytes = self.bytes.saturating_sub(first.body.len());
+        }
+    }
+
+    // Moves a base to the end, so that it stays longest.
+    fn move_to_end(&mut self, place: usize) -> Result<(), AllocError> {
+        if place < self.bases.len() {
+            let base = self.bases.remove(place);
+            self.bases.push(base)?;
+        }
+        Ok(())
+    }
+}
+
+impl<A: Allocator + Copy> Base<A> {
+    // The most bytes of a delta of this base that is worth making; 0 if none is.
+    fn limit(&self, object: &Object<A>, best: &Option<(usize, Delta<A>)>) -> usize {
+        let size = object.body.len();
+        let length = self.body.len();
+        if object.kind != self.kind || length / MAX_RATIO > size {
+            return 0;
+        }
+        let (most, depth) = match best {
+            Some((_, delta)) => (delta.text.len().saturating_sub(1), delta.depth),
+            None => ((size / 2).saturating_sub(BASE_ID), 1),
+        };
+        // A longer chain has to save more.
+        let left = MAX_CHAIN.saturating_sub(self.depth);
+        let limit = most.saturating_mul(left) / MAX_CHAIN.saturating_sub(depth).saturating_add(1);
+        if size.saturating_sub(length) >= limit {
+            return 0;
+        }
+        limit
+    }
+
+    // A delta of this base.
+    fn delta(&self, text: Vec<u8, A>) -> Delta<A> {
+        Delta {
+            base: self.id,
+            text,
+            depth: self.depth.saturating_add(1),
+        }
+    }
+}
+
+// Whether an object of this size is a base, and is sent as a delta.
+fn has_fit_size(size: usize) -> bool {
+    LEAST_BODY <= size && size <= MOST_BODY
+}
+
+// How many deltas lead to an object that is sent as this delta, or whole.
+fn depth_of<A: Allocator + Copy>(delta: &Option<Delta<A>>) -> usize {
+    match delta {
+        Some(delta) => delta.depth,
+        None => 0,
+    }
+}
