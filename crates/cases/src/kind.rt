@@ -11,6 +11,8 @@ pub enum Kind {
     Client,
     /// What is printed of a fault.
     Shown,
+    /// What is so near the limits.
+    Large,
     /// What the words of a command line ask for.
     Asked,
     /// What comes of events by chance.
@@ -24,11 +26,12 @@ impl Kind {
             "name" | "prefix" | "id" | "id64" | "spec" | "hello" | "put" | "band" => Some(
                 Kind::Text,
             ),
-            "load" | "load-parents-first" | "pack" => Some(Kind::Text),
+            "load" | "load-parents-first" | "pack" | "scenario" | "name-text" => Some(Kind::Text),
             "missing" | "counted" | "sent" | "sent-tags" | "sent-count" => Some(Kind::History),
             "common" | "ready" | "reaches" | "offered" | "peeled" => Some(Kind::History),
             "known" | "unheld" | "counted-past" => Some(Kind::Client),
             "shown" => Some(Kind::Shown),
+            "grown" | "packed" => Some(Kind::Large),
             "asked" => Some(Kind::Asked),
             "random" => Some(Kind::Random),
             _ => None,

@@ -67,7 +67,7 @@ fn wrong_answer(
     tally: &mut Tally,
 ) -> Result<Option<String>, Trouble> {
     let graph = script.text(fact.graph)?;
-    let is_long = fact.kind == Kind::Random || graph.len() > LONG_GRAPH;
+    let is_long = matches!(fact.kind, Kind::Random | Kind::Large) || graph.len() > LONG_GRAPH;
     for most in [usize::MAX, 1, 3] {
         let answer = answer(alloc, fact, graph, Limits { most, refused: 0 })?;
         tally.count_try();

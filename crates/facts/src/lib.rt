@@ -12,13 +12,14 @@
 //!
 //! # Stands on
 //!
-//! `cases` for facts; `gname`, `grefspec`, `ghello`, `gpkt` and `ggraph` for what is made of texts, `gclient` for what a client
-//! knows; `gcmd` for the lines of faults, which `ganswer`, `gclient`, `ggrammar` and others have; `scarce` for memory that
-//! ends.
+//! `cases` for facts; `gname`, `grefspec`, `ghello`, `gpkt`, `gscenario` and `ggraph` for what is made of texts, `gclient` for
+//! what a client knows; `gcmd` for the lines of faults, which `ganswer`, `gclient`, `ggrammar` and others have; `scarce` for
+//! memory that ends.
 #![tactic(auto)]
 
 mod history;
 mod known;
+mod large;
 mod looking;
 mod made;
 mod shown;

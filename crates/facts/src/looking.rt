@@ -1,6 +1,6 @@
 //! A fact, looked at.
 
-use crate::{history, known, made, shown};
+use crate::{history, known, large, made, shown};
 use cases::{Fact, Kind, Trouble};
 use scarce::Scarce;
 use std::alloc::{Allocator, Global};
@@ -89,8 +89,9 @@ fn found_in_text<A: Allocator + Copy>(
     memory: A,
     fact: &Fact<'_>,
 ) -> Result<String, Trouble> {
-    if fact.kind == Kind::Shown {
-        return shown::answer(look.alloc, fact);
+    match fact.kind {
+        Kind::Shown => shown::answer(look.alloc, fact),
+        Kind::Large => large::answer(look.alloc, fact),
+        _ => made::answer(look.alloc, memory, fact, look.most),
     }
-    made::answer(look.alloc, memory, fact, look.most)
 }

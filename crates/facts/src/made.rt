@@ -1,8 +1,9 @@
 //! What is made of a text: of a name, a prefix, an id, a refspec, the first line of a `git://` connection, a repository, a
-//! pack, of a payload that is to be written, and of one that was read from a side band.
+//! pack, a scenario, of a payload that is to be written, and of one that was read from a side band.
 //!
-//! Due is `ok`, of a pack with the number of its entries, of a first line with its host and its path, of a payload with its
-//! band and how many bytes are on it; or the number and the name of the fault, and its position or its line.
+//! Due is `ok`, of a pack with the number of its entries, of a scenario with that of its events, of a first line with its
+//! host and its path, of a payload with its band and how many bytes are on it; or the number and the name of the fault, and
+//! its position or its line. For `name-text` just the text of the fault is due.
 
 use crate::text::{loaded, saved};
 use crate::told::{told, told_at};
@@ -14,6 +15,7 @@ use gname::{Format, NameFault, Oid, OidFault, Prefix, RefName};
 use gpkt::memory::{Limited, SliceSource, VecSink};
 use gpkt::{Band, LineReader, LineWriter, Source, WriteFault, band_of};
 use grefspec::{Spec, SpecFault};
+use gscenario::{Scenario, ScenarioFault};
 use std::alloc::{Allocator, Global};
 
 /// What is made of the text, which is read in pieces of so many bytes where it comes from a device.
@@ -26,6 +28,7 @@ pub(crate) fn answer<A: Allocator + Copy>(
     let text = fact.text.as_slice();
     match fact.word {
         "name" => name(alloc, memory, text),
+        "name-text" => name_text(alloc, text),
         "prefix" => prefix(alloc, memory, text),
         "id" => id(alloc, fact.format, text),
         "id64" => id(alloc, Format::Sha256, text),
@@ -34,6 +37,7 @@ pub(crate) fn answer<A: Allocator + Copy>(
         "load" => repository(alloc, memory, text, Order::Any),
         "load-parents-first" => repository(alloc, memory, text, Order::ParentsFirst),
         "pack" => pack(alloc, memory, text, most),
+        "scenario" => scenario(alloc, memory, text),
         "band" => band(alloc, text),
         _ => payload(alloc, text, most),
     }
@@ -43,6 +47,14 @@ fn name<A: Allocator + Copy>(alloc: Global, memory: A, text: &[u8]) -> Result<St
     match RefName::new(memory, text) {
         Ok(name) => read_back(alloc, name.as_bytes() == text),
         Err(fault) => name_fault(alloc, &fault),
+    }
+}
+
+// The text of the fault of a name.
+fn name_text(alloc: Global, text: &[u8]) -> Result<String, Trouble> {
+    match RefName::check(text) {
+        Ok(()) => read_back(alloc, true),
+        Err(fault) => Ok(format!(in alloc; "{fault}")?),
     }
 }
 
@@ -173,6 +185,18 @@ fn count_entries<A: Allocator + Copy>(
         rest = others;
     }
     Ok(PlainPack.finish(feed)?.len())
+}
+
+// How many events a scenario has.
+fn scenario<A: Allocator + Copy>(alloc: Global, memory: A, text: &[u8]) -> Result<String, Trouble> {
+    match Scenario::read(memory, text) {
+        Ok(events) => {
+            let count = events.len();
+            Ok(format!(in alloc; "ok {count}")?)
+        }
+        Err(ScenarioFault::Scenario { line }) => told_at(alloc, 92, "Scenario", "line", line),
+        Err(fault) => told(alloc, fault.code(), fault.name()),
+    }
 }
 
 // A payload is written whole as a packet, or nothing of it.
