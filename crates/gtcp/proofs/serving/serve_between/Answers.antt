@@ -4,7 +4,8 @@ use Rattle.gtcp.proofs.serving.serve_between.Goals as goal
 
 pub returns : goal.returns
 returns g c =
-    serves_between c.args.export.now.server.now (g.K.Packer.packs c.args.packer.now)
-    (g.K.Packer.pack_fails c.args.packer.now) c.args.export.now.path.now c.args.export.now.ends _ _ _ _
+    rw (← c.new.ensures.packer)
+    (serves_between c.args.export.now.server.now (g.K.Packer.packs c.new.result.packer)
+    (g.K.Packer.pack_fails c.new.result.packer) c.args.export.now.path.now c.args.export.now.ends _ _ _ _
     c.serve_git.result (search rules) (search rules) refl c.new-source.ensures.down c.new-sink.ensures.down
-    c.serve_git.ensures.serves
+    c.serve_git.ensures.serves)
