@@ -65,9 +65,12 @@ fn add_tip<F: ObjectFiles, A: Allocator + Copy>(
     if graph.contains(id) {
         return Ok(true);
     }
-    match peels.get(id) {
-        Some(Peel::Itself) => Ok(reader.holds(id)? && add_leaf(graph, id)?),
-        Some(Peel::To(target)) => {
+    let Some(peel) = peels.get(id) else {
+        return add_read(graph, reader, id);
+    };
+    match peeled(&peel) {
+        None => Ok(reader.holds(id)? && add_leaf(graph, id)?),
+        Some(target) => {
             let tag = Tag { id: *id, target };
             Ok(
                 reader.holds(id)?
@@ -76,7 +79,14 @@ fn add_tip<F: ObjectFiles, A: Allocator + Copy>(
                     && add_tag(graph, tag)?,
             )
         }
-        None => add_read(graph, reader, id),
+    }
+}
+
+// The object to which a tag leads; `None` of an object that is no tag.
+fn peeled(peel: &Peel) -> Option<Oid> {
+    match peel {
+        Peel::Itself => None,
+        Peel::To(target) => Some(*target),
     }
 }
 
