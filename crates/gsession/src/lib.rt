@@ -43,11 +43,19 @@
 //!
 //! # What the contracts do not rule out
 //!
-//! It may report out of memory as often as it likes where no fault comes before: while a reply to fetch is read, at an
-//! acknowledged id; once it was read, in place of the fault of the graph, too; and in place of too many wants. It may
-//! keep all of a pack and feed it once, start the indexer more often than it has to, or feed it after its fault; take as
-//! long as it likes, and more memory than it needs. Formatting a fault may answer an error (`fmt::Error`) where the text
-//! would be right.
+//! It may report out of memory as often as it likes where no fault comes before. These faults can be hidden so, since the
+//! work that finds them takes memory:
+//!
+//! - A fault of a later packet of a reply. The refs of a reply to ls-refs are kept until its end, and so are the
+//!   acknowledged ids of one to fetch.
+//! - Too many wants. They are counted once the asks are kept and their distinct ids are listed, and an id may need a walk.
+//! - The graph's fault of a pack. The graph finds it while it makes room for the objects. The list of common ids is made
+//!   before that, since objects that came can't be taken back.
+//! - At [`Session::settle`], an id that is not connected and refs that can't be set, if `gclientrepo` needs a walk.
+//!
+//! It may keep all of a pack and feed it once, start the indexer more often than it has to, or feed it after its fault.
+//! It may take as long as it likes, and more memory than it needs. Formatting a fault may answer an error (`fmt::Error`)
+//! where the text would be right.
 //!
 //! No clause speaks of the work. [`Session::request`] walks from the tips anew; [`Session::request_on`] goes on where the
 //! request before left the walk, so all requests over one graph cost what one walk costs. Of the ids that are asked for, one

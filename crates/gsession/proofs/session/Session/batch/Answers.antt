@@ -1,4 +1,4 @@
-use Rattle.std.proofs.Common.{◌≡◌, ◌∙◌, ◌+◌, ◌++◌, ◌≤◌, ◌<◌, length, ap, subst, sym, arith}
+use Rattle.std.proofs.Common.{◌∙◌, ◌+◌, ◌++◌, ◌≤◌, ◌<◌, length, ap, subst, sym, arith}
 use Rattle.gdag.specs.Graphs.{History}
 use Rattle.gdag.specs.Offer.{IsOffer}
 use Rattle.gwalk.specs.Offers.{AreOffers}
