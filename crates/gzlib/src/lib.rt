@@ -18,7 +18,7 @@
 //! No contract says that inflating is RFC 1951's function, or that what is deflated inflates to the
 //! same bytes. No test here shows either; both were tried against zlib. The contracts do not say
 //! which fault comes: an inflater could refuse a good stream. Deflated blocks could be larger than
-//! need be.
+//! need be. [`Inflater::inflate_front`] could append fewer bytes than the text has.
 //!
 //! Any call that allocates may fail with out of memory; the contracts do not say when. They say
 //! nothing of time, or of how much memory a call takes.
