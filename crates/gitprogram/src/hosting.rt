@@ -70,7 +70,7 @@ where
     let Answered { requests, end } = show_refs(shown.server(), &mut source, sink);
     if let Some(end) = end {
         keep(alloc, found, kept, shown);
-        return conversation(alloc, requests, end);
+        return conversation_of(alloc, requests, end);
     }
     match open_whole(alloc, &files, found, shown) {
         Ok(opened) => {
@@ -172,11 +172,11 @@ fn answer_all<R: Files, S: Source, W: Sink>(
                     outcome: Err(fault),
                 };
             }
-            Some(end) => return conversation(alloc, requests, end),
+            Some(end) => return conversation_of(alloc, requests, end),
             None => {}
         }
     }
-    conversation(alloc, MAX_REQUESTS, End::Ended)
+    conversation_of(alloc, MAX_REQUESTS, End::Ended)
 }
 
 // How a connection ends with an exchange.
@@ -191,7 +191,7 @@ fn end_after(exchange: ExchangeEnd) -> Option<End> {
 }
 
 // A conversation of so many answers that ended so.
-fn conversation(alloc: Global, requests: u32, end: End) -> Conversation {
+fn conversation_of(alloc: Global, requests: u32, end: End) -> Conversation {
     let outcome = match end {
         End::Closed | End::Ended => Ok(()),
         End::WriteFailed => Err(Fault::of(alloc, Sentence::ClientLost)),
