@@ -5,6 +5,7 @@ use std::alloc::Allocator;
 use std::cell::Cell;
 
 /// Files that become others after so many calls.
+#[derive(Drop)]
 pub(crate) struct Changing<'f, A: Allocator + Copy> {
     before: &'f MemoryFiles<A>,
     after: &'f MemoryFiles<A>,

@@ -198,9 +198,15 @@ fn try_pack<R: Print + AllocGlobal>(
     at: (Way, usize),
     tally: &mut Tally,
 ) -> Result<(), Trouble> {
-    let mut trial = trial;
-    trial.pack = pack;
-    try_one(rt, trial, at, tally)
+    let changed = Trial {
+        row: trial.row,
+        aim: trial.aim,
+        pack,
+        files: trial.files,
+        after: trial.after,
+        calls: trial.calls,
+    };
+    try_one(rt, changed, at, tally)
 }
 
 fn change(bytes: &mut Vec<u8>, place: usize, bit: u8) {
@@ -246,9 +252,15 @@ fn try_files<R: Print + AllocGlobal>(
     place: usize,
     tally: &mut Tally,
 ) -> Result<(), Trouble> {
-    let mut trial = trial;
-    trial.files = files;
-    try_one(rt, trial, (Way::Changed, place), tally)
+    let changed = Trial {
+        row: trial.row,
+        aim: trial.aim,
+        pack: trial.pack,
+        files,
+        after: trial.after,
+        calls: trial.calls,
+    };
+    try_one(rt, changed, (Way::Changed, place), tally)
 }
 
 fn change_file(files: &mut Vec<File>, number: usize, place: usize, bit: u8) {
