@@ -45,8 +45,8 @@ pub(crate) struct Row<'a> {
     /// The ids at which refs of the peer are.
     pub(crate) tips: Vec<Oid>,
     pub(crate) aims: Vec<Aim>,
-    /// More answers that may come where an allocation is refused, or the store changes.
-    pub(crate) memory: Vec<Vec<u8>>,
+    /// More answers that may come where an allocation is refused, a bit or the store is changed.
+    pub(crate) others: Vec<Vec<u8>>,
     /// Whether it is tried without an allocation refused.
     pub(crate) is_large: bool,
     /// Whether its bytes are cut and changed.
@@ -74,7 +74,7 @@ impl<'a> Row<'a> {
             has: Vec::new(alloc),
             tips: Vec::new(alloc),
             aims: Vec::new(alloc),
-            memory: Vec::new(alloc),
+            others: Vec::new(alloc),
             is_large: false,
             is_swept: false,
         }

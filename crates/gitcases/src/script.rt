@@ -337,7 +337,7 @@ impl<'a> Script<'a> {
             "index" => row.add_aim(Subject::Index, None, due)?,
             "kept" => row.add_aim(Subject::Arrival, None, due)?,
             "open" => row.add_aim(Subject::Opening, None, due)?,
-            "memory" => row.memory.push(due)?,
+            "or" => row.others.push(due)?,
             "sweep" => row.is_swept = true,
             _ => row.is_large = true,
         }
@@ -415,7 +415,7 @@ fn is_of_row(word: &str) -> bool {
             | "open"
             | "read"
             | "raw"
-            | "memory"
+            | "or"
             | "large"
             | "sweep"
     )

@@ -96,24 +96,23 @@ fn judge<R: Print>(
 
 // Whether an answer may come in a way.
 fn is_right(trial: Trial<'_, '_>, way: Way, answer: &str) -> bool {
-    let is_due = answer.as_bytes() == trial.aim.due.as_slice();
     match way {
-        Way::Plain => is_due,
+        Way::Plain => answer.as_bytes() == trial.aim.due.as_slice(),
         Way::Broken => !answer.starts_with(OK),
-        Way::Changed => is_due || !answer.starts_with(OK),
-        Way::Turned => is_due || is_among(trial.row, answer),
-        Way::Scarce => is_due || answer == MEMORY || is_among(trial.row, answer),
+        Way::Changed => !answer.starts_with(OK) || may_come(trial, answer),
+        Way::Turned => may_come(trial, answer),
+        Way::Scarce => answer == MEMORY || may_come(trial, answer),
     }
 }
 
-// Whether an answer is one of those that may come where an allocation is refused, or files change.
-fn is_among(row: &Row<'_>, answer: &str) -> bool {
-    for due in &row.memory {
+// Whether an answer is the one that has to come, or one of the others.
+fn may_come(trial: Trial<'_, '_>, answer: &str) -> bool {
+    for due in &trial.row.others {
         if due.as_slice() == answer.as_bytes() {
             return true;
         }
     }
-    false
+    answer.as_bytes() == trial.aim.due.as_slice()
 }
 
 // Tries it with each allocation refused in turn.
