@@ -131,7 +131,8 @@ impl<'a> Pack<'a> {
                 break;
             }
             rest = rest.wrapping_sub(1);
-            self.body.insert(first, low_bits(rest) | 0x80)?;
+            let place = first.min(self.body.len());
+            self.body.insert(place, low_bits(rest) | 0x80)?;
             rest >>= 7;
         }
         Ok(())

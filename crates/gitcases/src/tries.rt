@@ -167,7 +167,8 @@ fn try_cut<R: Print + AllocGlobal>(
     place: usize,
     tally: &mut Tally,
 ) -> Result<(), Trouble> {
-    let mut cut = trial.pack[..place].to_vec(rt.alloc())?;
+    let front = trial.pack.get(..place).unwrap_or(b"");
+    let mut cut = front.to_vec(rt.alloc())?;
     try_pack(rt, trial, cut.as_slice(), (Way::Broken, place), tally)?;
     mend_trailer(&mut cut)?;
     try_pack(rt, trial, cut.as_slice(), (Way::Broken, place), tally)
