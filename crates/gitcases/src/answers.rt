@@ -1,0 +1,135 @@
+//! The answers of the crates under test, as texts.
+
+use crate::arrivals::of_arrival;
+use crate::changing::Changing;
+use crate::row::{Aim, Row, Subject};
+use crate::stores::{File, GIT_DIR, in_memory};
+use crate::trouble::Trouble;
+use gitobject::ObjectType;
+use gitobjects::{Found, ObjectFiles, ObjectReader, ObjectStore, StoreFault};
+use gitpack::{IndexedPack, ObjectVisitor, PackFileFault, index_pack};
+use gname::Oid;
+use std::alloc::{Allocator, Global};
+
+/// The answer where nothing is wrong.
+pub(crate) const OK: &str = "ok";
+
+/// The answer out of memory.
+pub(crate) const MEMORY: &str = "out of memory";
+
+/// What is tried, with the pack, the files of the store, and others that they become after so many
+/// calls.
+#[derive(Clone, Copy)]
+pub(crate) struct Trial<'t, 'a> {
+    pub(crate) row: &'t Row<'a>,
+    pub(crate) aim: &'t Aim,
+    pub(crate) pack: &'t [u8],
+    pub(crate) files: &'t [File],
+    pub(crate) after: &'t [File],
+    pub(crate) calls: u64,
+}
+
+/// A visitor that takes all objects.
+#[derive(Clone, Copy, Drop)]
+struct Anything;
+
+impl ObjectVisitor for Anything {
+    fn visit(&mut self, _id: &Oid, _kind: ObjectType, _body: &[u8]) -> Result<(), PackFileFault> {
+        Ok(())
+    }
+}
+
+/// The answer, in this memory.
+pub(crate) fn answer_of<A: Allocator + Copy>(
+    alloc: Global,
+    memory: A,
+    trial: Trial<'_, '_>,
+) -> Result<String, Trouble> {
+    match trial.aim.subject {
+        Subject::Index => of_index(alloc, memory, trial.row, trial.pack),
+        Subject::Arrival => of_arrival(alloc, memory, trial),
+        _ => of_reading(alloc, memory, trial),
+    }
+}
+
+// What indexing makes of a pack: `ok` and the number of its objects, or the fault.
+fn of_index<A: Allocator + Copy>(
+    alloc: Global,
+    memory: A,
+    row: &Row<'_>,
+    pack: &[u8],
+) -> Result<String, Trouble> {
+    match index_pack(memory, pack, row.limits, &mut Anything) {
+        Ok(index) => told_index(alloc, &index, row.has.as_slice()),
+        Err(PackFileFault::Memory) => Ok(String::from_str(alloc, MEMORY)?),
+        Err(fault) => Ok(format!(in alloc; "{fault:?}")?),
+    }
+}
+
+// How many objects an index has, if these are among them.
+fn told_index<A: Allocator + Copy>(
+    alloc: Global,
+    index: &IndexedPack<A>,
+    ids: &[Oid],
+) -> Result<String, Trouble> {
+    for id in ids {
+        if index.find(id).is_none() {
+            return Ok(String::from_str(alloc, "an object is not in the index")?);
+        }
+    }
+    let count = index.entries().len();
+    Ok(format!(in alloc; "{OK} {count}")?)
+}
+
+// What opening or reading makes of the files: `ok`, or the fault.
+fn of_reading<A: Allocator + Copy>(
+    alloc: Global,
+    memory: A,
+    trial: Trial<'_, '_>,
+) -> Result<String, Trouble> {
+    let Ok(before) = in_memory(memory, trial.files) else {
+        return Ok(String::from_str(alloc, MEMORY)?);
+    };
+    let Ok(after) = in_memory(memory, trial.after) else {
+        return Ok(String::from_str(alloc, MEMORY)?);
+    };
+    let files = Changing::new(&before, &after, trial.calls);
+    match read_files(&files, memory, trial.aim) {
+        Ok(()) => Ok(String::from_str(alloc, OK)?),
+        Err(fault) => Ok(format!(in alloc; "{fault}")?),
+    }
+}
+
+fn read_files<F: ObjectFiles, A: Allocator + Copy>(
+    files: &F,
+    memory: A,
+    aim: &Aim,
+) -> Result<(), StoreFault<A>> {
+    let store = ObjectStore::open(files, memory, GIT_DIR)?;
+    let Some(id) = aim.id else {
+        return Ok(());
+    };
+    let mut reader = ObjectReader::new(store)?;
+    match aim.subject {
+        Subject::Raw => read_raw(&mut reader, &id),
+        _ => read_checked(&mut reader, &id),
+    }
+}
+
+fn read_checked<F: ObjectFiles, A: Allocator + Copy>(
+    reader: &mut ObjectReader<'_, F, A>,
+    id: &Oid,
+) -> Result<(), StoreFault<A>> {
+    let _object = reader.read_checked(id)?;
+    Ok(())
+}
+
+fn read_raw<F: ObjectFiles, A: Allocator + Copy>(
+    reader: &mut ObjectReader<'_, F, A>,
+    id: &Oid,
+) -> Result<(), StoreFault<A>> {
+    if let Some(Found::Packed { pack, place }) = reader.store().find(id)? {
+        let _entry = reader.raw_entry(pack, place)?;
+    }
+    Ok(())
+}

@@ -1,0 +1,98 @@
+//! Files that change while they are read.
+
+use gitobjects::{Cause, FolderTime, MemoryFiles, MemoryPack, ObjectFiles};
+use std::alloc::Allocator;
+use std::cell::Cell;
+
+/// Files that become others after so many calls.
+#[derive(Drop)]
+pub(crate) struct Changing<'f, A: Allocator + Copy> {
+    before: &'f MemoryFiles<A>,
+    after: &'f MemoryFiles<A>,
+    calls: Cell<u64>,
+}
+
+impl<'f, A: Allocator + Copy> Changing<'f, A> {
+    /// Files that become others after so many calls.
+    pub(crate) fn new(
+        before: &'f MemoryFiles<A>,
+        after: &'f MemoryFiles<A>,
+        calls: u64,
+    ) -> Changing<'f, A> {
+        Changing {
+            before,
+            after,
+            calls: Cell::new(calls),
+        }
+    }
+
+    // The files of the next call.
+    fn files(&self) -> &'f MemoryFiles<A> {
+        match self.calls.get().checked_sub(1) {
+            Some(calls) => {
+                self.calls.set(calls);
+                self.before
+            }
+            None => self.after,
+        }
+    }
+}
+
+impl<'f, A: Allocator + Copy> ObjectFiles for Changing<'f, A> {
+    type Pack = MemoryPack<A>;
+
+    fn read<B: Allocator + Copy>(
+        &self,
+        alloc: B,
+        path: &str,
+        most: usize,
+    ) -> Result<Option<Vec<u8, B>>, Cause> {
+        self.files().read(alloc, path, most)
+    }
+
+    fn read_front<B: Allocator + Copy>(
+        &self,
+        alloc: B,
+        path: &str,
+        most: usize,
+    ) -> Result<Option<Vec<u8, B>>, Cause> {
+        self.files().read_front(alloc, path, most)
+    }
+
+    fn exists(&self, path: &str) -> Result<bool, Cause> {
+        self.files().exists(path)
+    }
+
+    fn canonical<B: Allocator + Copy>(
+        &self,
+        alloc: B,
+        path: &str,
+    ) -> Result<Option<String<B>>, Cause> {
+        self.files().canonical(alloc, path)
+    }
+
+    fn open_pack(&self, path: &str) -> Result<Option<(MemoryPack<A>, usize)>, Cause> {
+        self.files().open_pack(path)
+    }
+
+    // The folder has another time once the files are others.
+    fn changed(&self, path: &str) -> Result<Option<FolderTime>, Cause> {
+        let is_after = self.calls.get() == 0;
+        match self.files().changed(path)? {
+            Some(time) if is_after => Ok(Some(later(time))),
+            time => Ok(time),
+        }
+    }
+
+    fn list<B: Allocator + Copy>(&self, alloc: B, path: &str) -> Result<Vec<u8, B>, Cause> {
+        self.files().list(alloc, path)
+    }
+}
+
+fn later(time: FolderTime) -> FolderTime {
+    FolderTime {
+        seconds: time.seconds.wrapping_add(1),
+        nanoseconds: time.nanoseconds,
+        folder: time.folder,
+    }
+}

@@ -1,0 +1,69 @@
+//! The bytes of deltas (gitformat-pack(5), "Deltified representation").
+
+use crate::trouble::Trouble;
+use std::alloc::Global;
+
+// The most bytes that one instruction inserts.
+const MAX_INSERT: usize = 127;
+
+/// A size: seven bits a byte, the lowest first.
+pub(crate) fn put_size(out: &mut Vec<u8>, size: usize) -> Result<(), Trouble> {
+    let mut rest = size;
+    for _ in 0..usize::BITS {
+        let low = low_bits(rest);
+        rest >>= 7;
+        if rest == 0 {
+            out.push(low)?;
+            break;
+        }
+        out.push(low | 0x80)?;
+    }
+    Ok(())
+}
+
+// The lowest seven bits.
+pub(crate) fn low_bits(number: usize) -> u8 {
+    number.to_le_bytes()[0] & 0x7f
+}
+
+/// The instruction that copies so many bytes of the base from an offset on.
+pub(crate) fn copy_of(alloc: Global, offset: usize, size: usize) -> Result<Vec<u8>, Trouble> {
+    let size = if size == 0x10000 { 0 } else { size };
+    let [one, two, three, four, ..] = offset.to_le_bytes();
+    let [five, six, seven, ..] = size.to_le_bytes();
+    let mut instruction = Vec::new(alloc);
+    instruction.push(0x80)?;
+    for (bit, byte) in [
+        (1u8, one),
+        (2, two),
+        (4, three),
+        (8, four),
+        (16, five),
+        (32, six),
+        (64, seven),
+    ] {
+        put_byte(&mut instruction, bit, byte)?;
+    }
+    Ok(instruction)
+}
+
+// Adds a byte, unless it is 0, and the bit that says so to the first one.
+fn put_byte(instruction: &mut Vec<u8>, bit: u8, byte: u8) -> Result<(), Trouble> {
+    if byte != 0 {
+        instruction.push(byte)?;
+        if let Some(first) = instruction.first_mut() {
+            *first |= bit;
+        }
+    }
+    Ok(())
+}
+
+/// The instructions that insert some bytes.
+pub(crate) fn insertions_of(alloc: Global, bytes: &[u8]) -> Result<Vec<u8>, Trouble> {
+    let mut instructions = Vec::new(alloc);
+    for part in bytes.chunks(MAX_INSERT) {
+        instructions.push(low_bits(part.len()))?;
+        instructions.extend_from_slice(part)?;
+    }
+    Ok(instructions)
+}

@@ -1,0 +1,129 @@
+//! Pack indexes that lie (gitformat-pack(5), "Version 2 pack-*.idx files").
+
+use crate::packs::{Pack, TRAILER};
+use crate::trouble::Trouble;
+use gname::Oid;
+use sha1::Sha1;
+use std::alloc::Global;
+
+/// A line of an index.
+#[derive(Clone, Copy, Drop)]
+struct Line {
+    id: Oid,
+    crc: u32,
+    offset: u64,
+}
+
+/// The lines of an index of a pack.
+#[derive(Drop)]
+pub(crate) struct Lines<'a> {
+    pub(crate) name: &'a str,
+    /// The name of the pack.
+    pub(crate) pack: &'a str,
+    lines: Vec<Line>,
+    is_unsorted: bool,
+}
+
+impl<'a> Lines<'a> {
+    /// No line.
+    pub(crate) fn new(alloc: Global, name: &'a str, pack: &'a str) -> Lines<'a> {
+        Lines {
+            name,
+            pack,
+            lines: Vec::new(alloc),
+            is_unsorted: false,
+        }
+    }
+
+    /// Adds a line.
+    pub(crate) fn push(&mut self, id: Oid, crc: u32, offset: u64) -> Result<(), Trouble> {
+        self.lines.push(Line { id, crc, offset })?;
+        Ok(())
+    }
+
+    /// Leaves the lines in the order in which they were added.
+    pub(crate) fn set_unsorted(&mut self) {
+        self.is_unsorted = true;
+    }
+
+    /// The text of the index.
+    pub(crate) fn bytes(&self, alloc: Global, pack: &Pack<'_>) -> Result<Vec<u8>, Trouble> {
+        let mut lines = self.lines.as_slice().to_vec(alloc)?;
+        if !self.is_unsorted {
+            lines.sort_unstable_by(|one, other| one.id.cmp(&other.id));
+        }
+        let mut text = Vec::new(alloc);
+        text.extend_from_slice(b"\xfftOc\0\0\0\x02")?;
+        put_fan_out(&mut text, lines.as_slice())?;
+        put_ids(&mut text, lines.as_slice())?;
+        put_crcs(&mut text, lines.as_slice())?;
+        put_offsets(&mut text, lines.as_slice())?;
+        put_long_offsets(&mut text, lines.as_slice())?;
+        let pack = pack.bytes(alloc)?;
+        let end = pack.len().saturating_sub(TRAILER);
+        text.extend_from_slice(pack.as_slice().get(end..).unwrap_or(b""))?;
+        let sum = Sha1::digest(text.as_slice());
+        text.extend_from_slice(&sum)?;
+        Ok(text)
+    }
+}
+
+// The number of ids that begin with each byte or one before it.
+fn put_fan_out(text: &mut Vec<u8>, lines: &[Line]) -> Result<(), Trouble> {
+    for first in 0..=u8::MAX {
+        let count = count_up_to(lines, first);
+        text.extend_from_slice(&count.to_be_bytes())?;
+    }
+    Ok(())
+}
+
+fn count_up_to(lines: &[Line], first: u8) -> u32 {
+    let mut count = 0u32;
+    for line in lines {
+        if line.id.as_bytes().first().copied().unwrap_or(0) <= first {
+            count = count.saturating_add(1);
+        }
+    }
+    count
+}
+
+fn put_ids(text: &mut Vec<u8>, lines: &[Line]) -> Result<(), Trouble> {
+    for line in lines {
+        text.extend_from_slice(line.id.as_bytes())?;
+    }
+    Ok(())
+}
+
+fn put_crcs(text: &mut Vec<u8>, lines: &[Line]) -> Result<(), Trouble> {
+    for line in lines {
+        text.extend_from_slice(&line.crc.to_be_bytes())?;
+    }
+    Ok(())
+}
+
+// The highest bit says that the others are a place in the table of 64-bit offsets.
+const IS_LONG: u32 = 0x8000_0000;
+
+fn put_offsets(text: &mut Vec<u8>, lines: &[Line]) -> Result<(), Trouble> {
+    let mut longs = 0u32;
+    for line in lines {
+        let offset = match u32::try_from(line.offset) {
+            Ok(offset) if offset < IS_LONG => offset,
+            _ => {
+                longs = longs.saturating_add(1);
+                longs.saturating_sub(1) | IS_LONG
+            }
+        };
+        text.extend_from_slice(&offset.to_be_bytes())?;
+    }
+    Ok(())
+}
+
+fn put_long_offsets(text: &mut Vec<u8>, lines: &[Line]) -> Result<(), Trouble> {
+    for line in lines {
+        if line.offset >= u64::from(IS_LONG) {
+            text.extend_from_slice(&line.offset.to_be_bytes())?;
+        }
+    }
+    Ok(())
+}

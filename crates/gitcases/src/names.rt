@@ -1,0 +1,90 @@
+//! Texts and objects that lines name.
+
+use crate::trouble::Trouble;
+use gitobject::{ObjectType, id_of};
+use gname::Oid;
+use std::alloc::Global;
+
+/// Bytes that have a name: a text, or a delta.
+#[derive(Drop)]
+struct Text<'a> {
+    name: &'a str,
+    bytes: Vec<u8>,
+}
+
+/// An object that has a name.
+#[derive(Drop)]
+pub(crate) struct Object<'a> {
+    pub(crate) name: &'a str,
+    pub(crate) kind: ObjectType,
+    pub(crate) body: Vec<u8>,
+    pub(crate) id: Oid,
+}
+
+/// All texts and objects. Of two with one name the first counts.
+#[derive(Drop)]
+pub(crate) struct Names<'a> {
+    texts: Vec<Text<'a>>,
+    objects: Vec<Object<'a>>,
+}
+
+impl<'a> Names<'a> {
+    /// No text and no object.
+    pub(crate) fn new(alloc: Global) -> Names<'a> {
+        Names {
+            texts: Vec::new(alloc),
+            objects: Vec::new(alloc),
+        }
+    }
+
+    /// Adds a text.
+    pub(crate) fn add_text(&mut self, name: &'a str, bytes: Vec<u8>) -> Result<(), Trouble> {
+        self.texts.push(Text { name, bytes })?;
+        Ok(())
+    }
+
+    /// Adds bytes to the text that was added last.
+    pub(crate) fn add_to_text(&mut self, bytes: &[u8]) -> Result<(), Trouble> {
+        match self.texts.last_mut() {
+            Some(text) => Ok(text.bytes.extend_from_slice(bytes)?),
+            None => Err(Trouble::NotBegun),
+        }
+    }
+
+    /// Adds an object.
+    pub(crate) fn add_object(
+        &mut self,
+        name: &'a str,
+        kind: ObjectType,
+        body: Vec<u8>,
+    ) -> Result<(), Trouble> {
+        let id = id_of(kind, body.as_slice());
+        self.objects.push(Object {
+            name,
+            kind,
+            body,
+            id,
+        })?;
+        Ok(())
+    }
+
+    /// The bytes of the text with this name.
+    pub(crate) fn text(&self, name: &str) -> Result<&[u8], Trouble> {
+        for text in &self.texts {
+            if text.name == name {
+                return Ok(text.bytes.as_slice());
+            }
+        }
+        Err(Trouble::NoName)
+    }
+
+    /// The object with this name.
+    pub(crate) fn object(&self, name: &str) -> Result<&Object<'a>, Trouble> {
+        for object in &self.objects {
+            if object.name == name {
+                return Ok(object);
+            }
+        }
+        Err(Trouble::NoName)
+    }
+}

@@ -1,0 +1,203 @@
+//! Packs as lines describe them, right or wrong (gitformat-pack(5)).
+
+use crate::deltas::low_bits;
+use crate::names::Object;
+use crate::trouble::Trouble;
+use gitobject::ObjectType;
+use gzlib::{Deflater, crc32_of, put_stored};
+use sha1::Sha1;
+use std::alloc::Global;
+
+/// The bytes of the header and of the trailer.
+pub(crate) const HEADER: usize = 12;
+
+pub(crate) const TRAILER: usize = 20;
+
+// The numbers of the types of deltas.
+const OFFSET_DELTA: u8 = 6;
+
+const REF_DELTA: u8 = 7;
+
+/// A pack: its entries, and a header or a trailer that is not the right one.
+#[derive(Drop)]
+pub(crate) struct Pack<'a> {
+    pub(crate) name: &'a str,
+    // The entries, and where each begins.
+    body: Vec<u8>,
+    starts: Vec<usize>,
+    magic: Option<Vec<u8>>,
+    count: Option<usize>,
+    trailer: Option<Vec<u8>>,
+}
+
+impl<'a> Pack<'a> {
+    /// A pack without entries.
+    pub(crate) fn new(alloc: Global, name: &'a str) -> Pack<'a> {
+        Pack {
+            name,
+            body: Vec::new(alloc),
+            starts: Vec::new(alloc),
+            magic: None,
+            count: None,
+            trailer: None,
+        }
+    }
+
+    /// Puts other bytes in the place of those before the count.
+    pub(crate) fn set_magic(&mut self, bytes: Vec<u8>) {
+        self.magic = Some(bytes);
+    }
+
+    /// Puts another count into the header.
+    pub(crate) fn set_count(&mut self, count: usize) {
+        self.count = Some(count);
+    }
+
+    /// Puts other bytes in the place of the trailer.
+    pub(crate) fn set_trailer(&mut self, bytes: Vec<u8>) {
+        self.trailer = Some(bytes);
+    }
+
+    /// Adds bytes as they are.
+    pub(crate) fn put_bytes(&mut self, bytes: &[u8]) -> Result<(), Trouble> {
+        Ok(self.body.extend_from_slice(bytes)?)
+    }
+
+    /// Begins an entry, by a type and a size.
+    pub(crate) fn put_head(&mut self, kind: u8, size: usize) -> Result<(), Trouble> {
+        self.starts.push(self.body.len().saturating_add(HEADER))?;
+        let low = low_bits(size) & 0xf;
+        let mut rest = size >> 4;
+        let mut byte = (kind & 7).wrapping_mul(16) | low;
+        for _ in 0..usize::BITS {
+            if rest == 0 {
+                break;
+            }
+            self.body.push(byte | 0x80)?;
+            byte = low_bits(rest);
+            rest >>= 7;
+        }
+        self.body.push(byte)?;
+        Ok(())
+    }
+
+    /// Adds the zlib stream of some bytes.
+    pub(crate) fn put_stream(
+        &mut self,
+        deflater: &mut Deflater<Global>,
+        bytes: &[u8],
+    ) -> Result<(), Trouble> {
+        Ok(deflater.deflate(bytes, &mut self.body)?)
+    }
+
+    /// Adds an object.
+    pub(crate) fn put_whole(
+        &mut self,
+        deflater: &mut Deflater<Global>,
+        object: &Object<'_>,
+    ) -> Result<(), Trouble> {
+        self.put_head(object.kind.pack_number(), object.body.len())?;
+        self.put_stream(deflater, object.body.as_slice())
+    }
+
+    /// Adds a delta of the object whose entry begins so many bytes before, in stored blocks.
+    pub(crate) fn put_offset_delta(
+        &mut self,
+        distance: usize,
+        delta: &[u8],
+    ) -> Result<(), Trouble> {
+        self.put_head(OFFSET_DELTA, delta.len())?;
+        self.put_distance(distance)?;
+        Ok(put_stored(&mut self.body, delta)?)
+    }
+
+    /// How many bytes before the next entry that one begins that lies so many entries before it.
+    pub(crate) fn distance_of(&self, back: usize) -> Result<usize, Trouble> {
+        let next = self.body.len().saturating_add(HEADER);
+        let place = self.starts.len().wrapping_sub(back);
+        match self.starts.get(place) {
+            Some(start) => Ok(next.saturating_sub(*start)),
+            None => Err(Trouble::NoNumber),
+        }
+    }
+
+    // Adds a distance: seven bits a byte, the highest first, and one less for each byte more.
+    fn put_distance(&mut self, distance: usize) -> Result<(), Trouble> {
+        let first = self.body.len();
+        self.body.push(low_bits(distance))?;
+        let mut rest = distance >> 7;
+        for _ in 0..usize::BITS {
+            if rest == 0 {
+                break;
+            }
+            rest = rest.wrapping_sub(1);
+            let place = first.min(self.body.len());
+            self.body.insert(place, low_bits(rest) | 0x80)?;
+            rest >>= 7;
+        }
+        Ok(())
+    }
+
+    /// Adds a delta of an object, which is named by its id, in stored blocks.
+    pub(crate) fn put_ref_delta(&mut self, base: &Object<'_>, delta: &[u8]) -> Result<(), Trouble> {
+        self.put_head(REF_DELTA, delta.len())?;
+        self.put_bytes(base.id.as_bytes())?;
+        Ok(put_stored(&mut self.body, delta)?)
+    }
+
+    /// All bytes of the pack.
+    pub(crate) fn bytes(&self, alloc: Global) -> Result<Vec<u8>, Trouble> {
+        let mut bytes = Vec::new(alloc);
+        match &self.magic {
+            Some(magic) => bytes.extend_from_slice(magic.as_slice())?,
+            None => bytes.extend_from_slice(b"PACK\0\0\0\x02")?,
+        }
+        let count = self.count.unwrap_or(self.starts.len());
+        let [one, two, three, four, ..] = count.to_le_bytes();
+        bytes.extend_from_slice(&[four, three, two, one])?;
+        bytes.extend_from_slice(self.body.as_slice())?;
+        match &self.trailer {
+            Some(trailer) => bytes.extend_from_slice(trailer.as_slice())?,
+            None => {
+                let sum = Sha1::digest(bytes.as_slice());
+                bytes.extend_from_slice(&sum)?;
+            }
+        }
+        Ok(bytes)
+    }
+
+    /// Where the entry with this number begins, the first being 1, and the CRC-32 of its bytes.
+    pub(crate) fn entry(&self, number: usize) -> Result<(usize, u32), Trouble> {
+        let Some(place) = number.checked_sub(1) else {
+            return Err(Trouble::NoNumber);
+        };
+        let Some(start) = self.starts.get(place).copied() else {
+            return Err(Trouble::NoNumber);
+        };
+        let end = match self.starts.get(number) {
+            Some(end) => end.saturating_sub(HEADER),
+            None => self.body.len(),
+        };
+        let bytes = self.body.get(start.saturating_sub(HEADER)..end);
+        Ok((start, crc32_of(bytes.unwrap_or(b""))))
+    }
+}
+
+/// The number of a type in a pack, by its name or by its digit.
+pub(crate) fn number_of_kind(word: &str) -> Result<u8, Trouble> {
+    if let Some(kind) = ObjectType::from_name(word.as_bytes()) {
+        return Ok(kind.pack_number());
+    }
+    match word.as_bytes() {
+        [digit @ b'0'..=b'7'] => Ok(digit.wrapping_sub(b'0')),
+        _ => Err(Trouble::NoNumber),
+    }
+}
+
+/// Writes the right trailer over the last bytes of a pack.
+pub(crate) fn mend_trailer(pack: &mut Vec<u8>) -> Result<(), Trouble> {
+    let end = pack.len().saturating_sub(TRAILER);
+    pack.truncate(end);
+    let sum = Sha1::digest(pack.as_slice());
+    Ok(pack.extend_from_slice(&sum)?)
+}

@@ -1,0 +1,144 @@
+//! The bytes that a line spells.
+//!
+//! `\n` is a line feed, `\0` the byte 0, `\x1f` the byte 31, and a backslash before any other
+//! character that character. `{NAME}` is a text, or the forty digits of an object's id, and
+//! `{@NAME}` the twenty bytes of that id. `{BYTES*3}` is `BYTES` three times.
+
+use crate::names::Names;
+use crate::trouble::Trouble;
+use std::alloc::Global;
+
+/// The bytes that a line spells.
+pub(crate) fn spelled(alloc: Global, names: &Names<'_>, line: &str) -> Result<Vec<u8>, Trouble> {
+    let mut bytes = Vec::new(alloc);
+    let mut rest = line;
+    for _ in 0..line.len() {
+        rest = add_next(alloc, names, rest, &mut bytes)?;
+        if rest.is_empty() {
+            break;
+        }
+    }
+    Ok(bytes)
+}
+
+// Adds the bytes up to the next brace, and those of the brace. It answers the text after it.
+fn add_next<'a>(
+    alloc: Global,
+    names: &Names<'_>,
+    rest: &'a str,
+    bytes: &mut Vec<u8>,
+) -> Result<&'a str, Trouble> {
+    let (plain, braced) = before_brace(rest.as_bytes());
+    add_escaped(plain, bytes)?;
+    let Some(braced) = braced else {
+        return Ok("");
+    };
+    let Ok(text) = str::from_utf8(braced) else {
+        return Err(Trouble::OpenBrace);
+    };
+    let Some((inside, after)) = text.split_once('}') else {
+        return Err(Trouble::OpenBrace);
+    };
+    add_braced(alloc, names, inside, bytes)?;
+    let length = rest.len().saturating_sub(after.len());
+    Ok(rest.get(length..).unwrap_or(""))
+}
+
+// The bytes before the first brace that has no backslash, and those after it; `None` if there is no
+// such brace.
+fn before_brace(text: &[u8]) -> (&[u8], Option<&[u8]>) {
+    let mut is_escaped = false;
+    for place in 0..text.len() {
+        let byte = text[place];
+        if byte == b'{' && !is_escaped {
+            return (&text[..place], text.get(place.saturating_add(1)..));
+        }
+        is_escaped = byte == b'\\' && !is_escaped;
+    }
+    (text, None)
+}
+
+/// Adds bytes that are spelled without braces.
+pub(crate) fn add_escaped(text: &[u8], bytes: &mut Vec<u8>) -> Result<(), Trouble> {
+    let mut rest = text;
+    for _ in 0..text.len() {
+        let (byte, others) = match rest {
+            [b'\\', b'x', high, low, others @ ..] => (byte_of(*high, *low), others),
+            [b'\\', letter, others @ ..] => (escaped(*letter), others),
+            [plain, others @ ..] => (*plain, others),
+            [] => break,
+        };
+        bytes.push(byte)?;
+        rest = others;
+    }
+    Ok(())
+}
+
+fn escaped(letter: u8) -> u8 {
+    match letter {
+        b'n' => b'\n',
+        b'r' => b'\r',
+        b'0' => 0,
+        other => other,
+    }
+}
+
+fn byte_of(high: u8, low: u8) -> u8 {
+    digit(high).wrapping_mul(16).wrapping_add(digit(low))
+}
+
+fn digit(letter: u8) -> u8 {
+    match letter {
+        b'0'..=b'9' => letter.wrapping_sub(b'0'),
+        b'a'..=b'f' => letter.wrapping_sub(b'a').wrapping_add(10),
+        _ => 0,
+    }
+}
+
+// Adds what is in braces.
+fn add_braced(
+    alloc: Global,
+    names: &Names<'_>,
+    inside: &str,
+    bytes: &mut Vec<u8>,
+) -> Result<(), Trouble> {
+    if let Some((part, count)) = inside.rsplit_once('*') {
+        return add_times(alloc, part, number_of(count)?, bytes);
+    }
+    if let Some(name) = inside.strip_prefix('@') {
+        let object = names.object(name)?;
+        return Ok(bytes.extend_from_slice(object.id.as_bytes())?);
+    }
+    match names.text(inside) {
+        Ok(text) => Ok(bytes.extend_from_slice(text)?),
+        Err(_) => {
+            let object = names.object(inside)?;
+            Ok(object.id.push_hex(bytes)?)
+        }
+    }
+}
+
+fn add_times(alloc: Global, part: &str, count: usize, bytes: &mut Vec<u8>) -> Result<(), Trouble> {
+    let mut piece = Vec::new(alloc);
+    add_escaped(part.as_bytes(), &mut piece)?;
+    for _ in 0..count {
+        bytes.extend_from_slice(piece.as_slice())?;
+    }
+    Ok(())
+}
+
+/// The number that decimal digits say.
+pub(crate) fn number_of(digits: &str) -> Result<usize, Trouble> {
+    match digits.parse::<usize>() {
+        Ok(number) => Ok(number),
+        Err(_) => Err(Trouble::NoNumber),
+    }
+}
+
+/// The first word of a line, and what follows the space after it.
+pub(crate) fn first_of(line: &str) -> (&str, &str) {
+    match line.split_once(' ') {
+        Some(parts) => parts,
+        None => (line, ""),
+    }
+}

@@ -1,0 +1,128 @@
+//! Git directories in memory, as lines describe them.
+
+use crate::names::Object;
+use crate::trouble::Trouble;
+use gitobjects::MemoryFiles;
+use gname::Oid;
+use gzlib::Deflater;
+use std::alloc::{AllocError, Allocator, Global};
+
+/// The path of each Git directory, and of its objects.
+pub(crate) const GIT_DIR: &str = "/r";
+
+const OBJECTS: &str = "/r/objects";
+
+/// A file.
+#[derive(Drop)]
+pub(crate) struct File {
+    pub(crate) path: String,
+    pub(crate) bytes: Vec<u8>,
+}
+
+/// The files of a Git directory.
+#[derive(Drop)]
+pub(crate) struct Store<'a> {
+    pub(crate) name: &'a str,
+    pub(crate) files: Vec<File>,
+    // The folder to which objects are added.
+    folder: &'a str,
+}
+
+impl<'a> Store<'a> {
+    /// A directory without objects.
+    pub(crate) fn new(alloc: Global, name: &'a str) -> Result<Store<'a>, Trouble> {
+        let mut store = Store {
+            name,
+            files: Vec::new(alloc),
+            folder: OBJECTS,
+        };
+        let path = String::from_str(alloc, "/r/objects/info/packs")?;
+        store.add(path, Vec::new(alloc))?;
+        Ok(store)
+    }
+
+    /// Adds a file.
+    pub(crate) fn add(&mut self, path: String, bytes: Vec<u8>) -> Result<(), Trouble> {
+        self.files.push(File { path, bytes })?;
+        Ok(())
+    }
+
+    /// Adds objects to this folder from now on.
+    pub(crate) fn set_folder(&mut self, folder: &'a str) {
+        self.folder = folder;
+    }
+
+    /// Adds a pack and its index.
+    pub(crate) fn add_packed(
+        &mut self,
+        alloc: Global,
+        name: &str,
+        pack: Vec<u8>,
+        index: Vec<u8>,
+    ) -> Result<(), Trouble> {
+        let folder = self.folder;
+        let path = format!(in alloc; "{folder}/pack/pack-{name}.pack")?;
+        self.add(path, pack)?;
+        let path = format!(in alloc; "{folder}/pack/pack-{name}.idx")?;
+        self.add(path, index)
+    }
+
+    /// Adds the file of a loose object, which inflates to the text.
+    pub(crate) fn add_loose(
+        &mut self,
+        alloc: Global,
+        deflater: &mut Deflater<Global>,
+        id: &Oid,
+        text: &[u8],
+    ) -> Result<(), Trouble> {
+        let mut digits = Vec::new(alloc);
+        id.push_hex(&mut digits)?;
+        let (Some(first), Some(rest)) = (digits.as_slice().get(..2), digits.as_slice().get(2..))
+        else {
+            return Err(Trouble::NoName);
+        };
+        let (Ok(first), Ok(rest)) = (str::from_utf8(first), str::from_utf8(rest)) else {
+            return Err(Trouble::NoName);
+        };
+        let folder = self.folder;
+        let path = format!(in alloc; "{folder}/{first}/{rest}")?;
+        let mut stream = Vec::new(alloc);
+        deflater.deflate(text, &mut stream)?;
+        self.add(path, stream)
+    }
+}
+
+/// The text of a loose object.
+pub(crate) fn loose_text(alloc: Global, object: &Object<'_>) -> Result<Vec<u8>, Trouble> {
+    let kind = object.kind.name();
+    let length = object.body.len();
+    let head = format!(in alloc; "{kind} {length}\0")?;
+    let mut text = Vec::new(alloc);
+    text.extend_from_slice(head.as_str().as_bytes())?;
+    text.extend_from_slice(object.body.as_slice())?;
+    Ok(text)
+}
+
+/// The files, in memory.
+pub(crate) fn in_memory<A: Allocator + Copy>(
+    alloc: A,
+    files: &[File],
+) -> Result<MemoryFiles<A>, AllocError> {
+    let mut memory = MemoryFiles::new(alloc);
+    for file in files {
+        memory.add(file.path.as_str(), file.bytes.as_slice())?;
+    }
+    Ok(memory)
+}
+
+/// Copies of the files.
+pub(crate) fn copies(alloc: Global, files: &[File]) -> Result<Vec<File>, Trouble> {
+    let mut copies = Vec::new(alloc);
+    for file in files {
+        copies.push(File {
+            path: String::from_str(alloc, file.path.as_str())?,
+            bytes: file.bytes.as_slice().to_vec(alloc)?,
+        })?;
+    }
+    Ok(copies)
+}

@@ -1,0 +1,270 @@
+//! Rows, tried in each way.
+
+use crate::answers::{MEMORY, OK, Trial, answer_of};
+use crate::packs::mend_trailer;
+use crate::row::{Row, Subject};
+use crate::script::Script;
+use crate::stores::{File, copies};
+use crate::tally::{Tally, Way};
+use crate::trouble::Trouble;
+use scarce::Scarce;
+
+// The bits of a byte.
+const BITS: [u8; 8] = [1, 2, 4, 8, 16, 32, 64, 128];
+
+// The most allocations that are refused in turn.
+const MAX_REFUSED: u64 = 100_000;
+
+// The most calls after which files become others.
+const MAX_CALLS: u64 = 60;
+
+/// Tries a row.
+pub(crate) fn try_row<R: Print + AllocGlobal>(
+    rt: &R,
+    script: &Script<'_>,
+    row: &Row<'_>,
+    tally: &mut Tally,
+) -> Result<(), Trouble> {
+    tally.count_row();
+    let pack = script.pack_bytes(row.pack)?;
+    let files = script.files(row.store)?;
+    let after = script.files(row.then)?;
+    for aim in &row.aims {
+        let trial = Trial {
+            row,
+            aim,
+            pack: pack.as_slice(),
+            files,
+            after,
+            calls: u64::MAX,
+        };
+        try_all(rt, trial, tally)?;
+    }
+    Ok(())
+}
+
+// Tries it in all ways.
+fn try_all<R: Print + AllocGlobal>(
+    rt: &R,
+    trial: Trial<'_, '_>,
+    tally: &mut Tally,
+) -> Result<(), Trouble> {
+    try_one(rt, trial, (Way::Plain, 0), tally)?;
+    if trial.row.is_large {
+        return Ok(());
+    }
+    try_scarce(rt, trial, tally)?;
+    if !trial.row.then.is_empty() {
+        try_turns(rt, trial, tally)?;
+    }
+    match trial.aim.subject {
+        _ if !trial.row.is_swept => Ok(()),
+        Subject::Index | Subject::Arrival => sweep_pack(rt, trial, tally),
+        _ => sweep_files(rt, trial, tally),
+    }
+}
+
+// Tries it once.
+fn try_one<R: Print + AllocGlobal>(
+    rt: &R,
+    trial: Trial<'_, '_>,
+    (way, place): (Way, usize),
+    tally: &mut Tally,
+) -> Result<(), Trouble> {
+    let alloc = rt.alloc();
+    let answer = answer_of(alloc, alloc, trial)?;
+    judge(rt, trial, (way, place), answer.as_str(), tally)
+}
+
+// Counts an answer, and tells of one that is wrong.
+fn judge<R: Print>(
+    rt: &R,
+    trial: Trial<'_, '_>,
+    (way, place): (Way, usize),
+    answer: &str,
+    tally: &mut Tally,
+) -> Result<(), Trouble> {
+    let is_right = is_right(trial, way, answer);
+    tally.count(way, is_right);
+    if !is_right {
+        let (source, line, title) = (trial.row.source, trial.row.line, trial.row.title);
+        let way = way.name();
+        println!(rt; "{source}:{line}: {title}, {way} at {place}: {answer}")?;
+    }
+    Ok(())
+}
+
+// Whether an answer may come in a way.
+fn is_right(trial: Trial<'_, '_>, way: Way, answer: &str) -> bool {
+    match way {
+        Way::Plain => answer.as_bytes() == trial.aim.due.as_slice(),
+        Way::Broken => !answer.starts_with(OK),
+        Way::Changed => !answer.starts_with(OK) || may_come(trial, answer),
+        Way::Turned => may_come(trial, answer),
+        Way::Scarce => answer == MEMORY || may_come(trial, answer),
+    }
+}
+
+// Whether an answer is the one that has to come, or one of the others.
+fn may_come(trial: Trial<'_, '_>, answer: &str) -> bool {
+    for due in &trial.row.others {
+        if due.as_slice() == answer.as_bytes() {
+            return true;
+        }
+    }
+    answer.as_bytes() == trial.aim.due.as_slice()
+}
+
+// Tries it with each allocation refused in turn.
+fn try_scarce<R: Print + AllocGlobal>(
+    rt: &R,
+    trial: Trial<'_, '_>,
+    tally: &mut Tally,
+) -> Result<(), Trouble> {
+    for number in 1..MAX_REFUSED {
+        let memory = Scarce::new(rt.alloc());
+        memory.refuse(number);
+        let answer = answer_of(rt.alloc(), &memory, trial)?;
+        if memory.is_due() {
+            break;
+        }
+        judge(rt, trial, (Way::Scarce, 0), answer.as_str(), tally)?;
+    }
+    Ok(())
+}
+
+// Tries it while its files become others, after so many calls in turn.
+fn try_turns<R: Print + AllocGlobal>(
+    rt: &R,
+    trial: Trial<'_, '_>,
+    tally: &mut Tally,
+) -> Result<(), Trouble> {
+    let mut trial = trial;
+    for calls in 0..MAX_CALLS {
+        trial.calls = calls;
+        try_one(rt, trial, (Way::Turned, 0), tally)?;
+    }
+    Ok(())
+}
+
+// Tries a pack cut after each byte, and with each bit changed.
+fn sweep_pack<R: Print + AllocGlobal>(
+    rt: &R,
+    trial: Trial<'_, '_>,
+    tally: &mut Tally,
+) -> Result<(), Trouble> {
+    for place in 0..trial.pack.len() {
+        try_cut(rt, trial, place, tally)?;
+        try_bits(rt, trial, place, tally)?;
+    }
+    Ok(())
+}
+
+// Tries a pack that is cut, with the trailer that is there then, and with the right one.
+fn try_cut<R: Print + AllocGlobal>(
+    rt: &R,
+    trial: Trial<'_, '_>,
+    place: usize,
+    tally: &mut Tally,
+) -> Result<(), Trouble> {
+    let front = trial.pack.get(..place).unwrap_or(b"");
+    let mut cut = front.to_vec(rt.alloc())?;
+    try_pack(rt, trial, cut.as_slice(), (Way::Broken, place), tally)?;
+    mend_trailer(&mut cut)?;
+    try_pack(rt, trial, cut.as_slice(), (Way::Broken, place), tally)
+}
+
+// Tries a pack with each bit of a byte changed, with its own trailer, and with the right one.
+fn try_bits<R: Print + AllocGlobal>(
+    rt: &R,
+    trial: Trial<'_, '_>,
+    place: usize,
+    tally: &mut Tally,
+) -> Result<(), Trouble> {
+    for bit in BITS {
+        let mut changed = trial.pack.to_vec(rt.alloc())?;
+        change(&mut changed, place, bit);
+        try_pack(rt, trial, changed.as_slice(), (Way::Broken, place), tally)?;
+        mend_trailer(&mut changed)?;
+        try_pack(rt, trial, changed.as_slice(), (Way::Changed, place), tally)?;
+    }
+    Ok(())
+}
+
+fn try_pack<R: Print + AllocGlobal>(
+    rt: &R,
+    trial: Trial<'_, '_>,
+    pack: &[u8],
+    at: (Way, usize),
+    tally: &mut Tally,
+) -> Result<(), Trouble> {
+    let changed = Trial {
+        row: trial.row,
+        aim: trial.aim,
+        pack,
+        files: trial.files,
+        after: trial.after,
+        calls: trial.calls,
+    };
+    try_one(rt, changed, at, tally)
+}
+
+fn change(bytes: &mut Vec<u8>, place: usize, bit: u8) {
+    if let Some(byte) = bytes.get_mut(place) {
+        *byte ^= bit;
+    }
+}
+
+// Tries the store with each file changed in each bit.
+fn sweep_files<R: Print + AllocGlobal>(
+    rt: &R,
+    trial: Trial<'_, '_>,
+    tally: &mut Tally,
+) -> Result<(), Trouble> {
+    for number in 0..trial.files.len() {
+        for place in 0..trial.files[number].bytes.len() {
+            try_file_bits(rt, trial, (number, place), tally)?;
+        }
+    }
+    Ok(())
+}
+
+// Tries the store with each bit of a byte of a file changed. The answer is the same, or a fault.
+fn try_file_bits<R: Print + AllocGlobal>(
+    rt: &R,
+    trial: Trial<'_, '_>,
+    (number, place): (usize, usize),
+    tally: &mut Tally,
+) -> Result<(), Trouble> {
+    let mut files = copies(rt.alloc(), trial.files)?;
+    for bit in BITS {
+        change_file(&mut files, number, place, bit);
+        try_files(rt, trial, files.as_slice(), place, tally)?;
+        change_file(&mut files, number, place, bit);
+    }
+    Ok(())
+}
+
+fn try_files<R: Print + AllocGlobal>(
+    rt: &R,
+    trial: Trial<'_, '_>,
+    files: &[File],
+    place: usize,
+    tally: &mut Tally,
+) -> Result<(), Trouble> {
+    let changed = Trial {
+        row: trial.row,
+        aim: trial.aim,
+        pack: trial.pack,
+        files,
+        after: trial.after,
+        calls: trial.calls,
+    };
+    try_one(rt, changed, (Way::Changed, place), tally)
+}
+
+fn change_file(files: &mut Vec<File>, number: usize, place: usize, bit: u8) {
+    if let Some(file) = files.get_mut(number) {
+        change(&mut file.bytes, place, bit);
+    }
+}

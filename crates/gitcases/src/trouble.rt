@@ -1,0 +1,56 @@
+//! Why the cases can't be tried.
+
+use std::alloc::{AllocError, AllocFailed};
+use std::io;
+
+/// Why the cases can't be tried.
+#[derive(Clone, Copy, Drop)]
+pub(crate) enum Trouble {
+    /// There is no memory for the program itself.
+    Memory,
+    /// A brace is not closed.
+    OpenBrace,
+    /// Nothing has this name.
+    NoName,
+    /// A word is no number.
+    NoNumber,
+    /// A line does not go on with what is begun.
+    NotBegun,
+    /// No line begins so.
+    UnknownLine,
+    /// Nothing can be printed.
+    NoOutput,
+}
+
+impl Trouble {
+    /// The sentence that is printed.
+    pub(crate) fn text(self) -> &'static str {
+        match self {
+            Trouble::Memory => "out of memory",
+            Trouble::OpenBrace => "a brace is not closed",
+            Trouble::NoName => "nothing has this name",
+            Trouble::NoNumber => "a word is no number",
+            Trouble::NotBegun => "the line does not go on with what is begun",
+            Trouble::UnknownLine => "no line begins so",
+            Trouble::NoOutput => "the output is closed",
+        }
+    }
+}
+
+impl From<AllocError> for Trouble {
+    fn from(_error: AllocError) -> Trouble {
+        Trouble::Memory
+    }
+}
+
+impl<T: Drop> From<AllocFailed<T>> for Trouble {
+    fn from(_error: AllocFailed<T>) -> Trouble {
+        Trouble::Memory
+    }
+}
+
+impl From<io::Error> for Trouble {
+    fn from(_error: io::Error) -> Trouble {
+        Trouble::NoOutput
+    }
+}
