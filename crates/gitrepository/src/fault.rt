@@ -249,7 +249,10 @@ fn write_pack<W: fmt::Write>(fault: PackFileFault, f: &mut fmt::Formatter<W>) ->
     match fault {
         PackFileFault::Memory => f.write_str(OUT_OF_MEMORY_TEXT),
         PackFileFault::Frame => f.write_str("the header or the trailer of the pack is wrong"),
-        PackFileFault::Entry(at) => write!(f, "the entry at byte {at} of the pack is malformed"),
+        PackFileFault::Entry(at) => write!(
+            f,
+            "entry {at} of the pack, counted from 0, is malformed"
+        ),
         PackFileFault::Thin => f.write_str("the base of a delta is not in the pack"),
         PackFileFault::TooLarge => f.write_str("the pack or an object in it is too large"),
         PackFileFault::Format => f.write_str("the base of a delta has no SHA-1 id"),
