@@ -19,7 +19,8 @@
 //!   splits the text of a loose object exactly.
 //! - The window on the packs answers the bytes of a pack, where they are known, whatever blocks it
 //!   holds. The blocks of all packs together are 64 at most, of 1 MiB at most.
-//! - A folder that was listed twice since its names changed is not listed again.
+//! - A private part says when a folder has to be listed again: unless it was listed twice since its
+//!   names changed.
 //! - The path of a loose object is made of a folder and the digits of the id. The lines of
 //!   `info/alternates` are read in order.
 //! - The packs that a private part finds in a listing are all those whose index is listed, and no
@@ -58,8 +59,21 @@
 //! - A pack may come in the same tick of the file system's clock as a listing. Then it is not seen
 //!   until the folder changes again, or until [`ObjectReader::refresh`].
 //! - The cache of bases is proved safe only.
-//! - A [`QuickReader`] may find no object, or answer another type than an object has. Its index is not
-//!   tested as a whole.
+//! - [`ObjectStore::find`] and [`ObjectReader::find`] may answer another place of an object, or none.
+//!   [`ObjectStore::index`] and [`ObjectStore::starts`] may answer those of another pack, or nothing.
+//! - No clause says from which pack an entry is read, and from which position. Only the window is
+//!   exact.
+//! - A pack may be opened that does not fit its index. Its header, its count and its checksum are
+//!   compared, but no clause says so.
+//! - A loose object may be accepted though bytes come after its stream.
+//! - No clause says which alternates are read, from where a relative path begins, or in which order
+//!   packs are opened.
+//! - [`ObjectReader::refresh`] may find nothing new. A folder may be listed more often, or less often,
+//!   than the part says that counts listings.
+//! - [`MemoryFiles`] may answer other bytes than were added.
+//! - A [`QuickReader`] may find no object, say that it holds one that is not there, or answer another
+//!   type than an object has. Its index is not tested as a whole.
+//! - The contracts say nothing of which fault comes, which file it names, or which text it has.
 //! - Any call may fail out of memory, and any file may be refused.
 //!
 //! # Stands on

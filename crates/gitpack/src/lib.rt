@@ -42,9 +42,11 @@
 //!   [`PackIndex::id`], [`PackIndex::crc`] and [`PackIndex::offset`].
 //! - [`DeltaBase::make_delta`] might never find a delta, or find a longer one than need be. The search
 //!   for it is proved safe only: what it finds is applied, and answered if it makes the target.
-//! - [`index_pack`] might refuse a good pack. It might leave out any object, or list one that it
-//!   did not show. It might give an object a wrong offset or a wrong CRC-32, or apply a delta to a
-//!   wrong base. Its contract says nothing of limits and faults.
+//! - [`index_pack`] might refuse a good pack. It might leave out any object, list one that it did not
+//!   show, or list one with another type. It might give an object a wrong offset or a wrong CRC-32,
+//!   or apply a delta to a wrong base. It might accept a pack with bytes after its last entry, a thin
+//!   pack, or one in which the base of a delta comes twice. Its contract says nothing of limits and
+//!   faults.
 //! - [`IndexedPack::find`] answers an object with the id, but no clause says that it is one of
 //!   [`IndexedPack::entries`].
 //! - [`PackWriter`] might refuse an entry. The number of entries is not compared with the count,
