@@ -57,8 +57,8 @@
 //!
 //! - The packer might send other objects than those that are asked for, or send the entry of one
 //!   object for another. No clause says which trees and blobs go out. The stream of an entry may be
-//!   any bytes, and a delta may name a base that does not go out. The reader compares the CRC-32 of each entry that is copied with that of the index,
-//!   but has no clause that says so.
+//!   any bytes, and a delta may name a base that does not go out. The reader compares the CRC-32 of
+//!   each entry that is copied with that of the index, but has no clause that says so.
 //! - A commit-graph may lie, and so may the graph then. It is used only for commits that the store
 //!   has; no clause says so, nor from which file it is read.
 //! - The graph might hold more than the refs reach, and a ref might be left out. HEAD has no
@@ -73,18 +73,25 @@
 //! - The indexer might leave out an entry, or answer one of an object that the pack does not have. It
 //!   looks for the trees and blobs that are named, and compares objects that are here already; no
 //!   clause says so.
+//! - A parent of a commit in the graph may be a tag, a tree or a blob. The types of parents are
+//!   compared, but no clause says so.
+//! - [`PackCounts`] and [`StorePacker::counts`] have no clause: they are for those who measure.
+//! - [`StoreIndexer::kind_of`] may answer another type. The [`Received`] that the indexer gives away
+//!   may be another pack than the one that came, or none.
+//! - A [`NewRepository`] might lack its pack, its refs or HEAD, or be removed once it is finished.
 //! - No contract can say what a file of the system has: only the order of the calls of
-//!   [`install_pack`] is proved.
-//! - Any call may fail out of memory. The contracts say nothing of which fault comes, of time, or of
-//!   how much memory a call takes.
+//!   [`install_pack`] is proved. It might make no file `.keep`, or install nothing.
+//! - Any call may fail out of memory. The contracts say nothing of which fault comes and of its text,
+//!   of time, or of how much memory a call takes.
 //!
 //! There are no tests here.
 //!
 //! # Stands on
 //!
 //! `gitobjects` for objects, `gitcommitgraph` for commit-graphs, `gitrefs` for refs, `gitpack` for
-//! packs, `gitobject` for links, `gzlib` to deflate, `gitconfig` for settings. `ggraph` with `gdag`, `gobject` and `grefs` for graphs and packers, `gname` for ids,
-//! `indexmap` for maps by id. The specs cite `sha1`.
+//! packs, `gitobject` for links, `gzlib` to deflate, `gitconfig` for settings. `ggraph` with `gdag`,
+//! `gobject` and `grefs` for graphs and packers, `gname` for ids, `indexmap` for maps by id. The
+//! specs cite `sha1`.
 #![tactic(auto)]
 
 mod arrival;
