@@ -39,12 +39,16 @@ impl<'s, S: Source> Ahead<'s, S> {
     pub(crate) fn may_ask_for_objects(&mut self) -> bool {
         self.look(LENGTH);
         match self.ahead() {
-            b"" | b"0000" => false,
             b"0014" => {
                 self.look(LOOK);
                 self.ahead() != b"0014command=ls-refs\n".as_slice()
             }
-            _ => true,
+            // The line feed may be left out.
+            b"0013" => {
+                self.look(LOOK - 1);
+                self.ahead() != b"0013command=ls-refs".as_slice()
+            }
+            start => start.len() == LENGTH && start != b"0000".as_slice(),
         }
     }
 

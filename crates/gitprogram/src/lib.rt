@@ -17,9 +17,9 @@
 //!
 //! - No call panics, overflows or reads out of bounds, and each returns, whatever the arguments, the
 //!   files, the standard streams and the peers are.
-//! - The text of a listing is that of git-ls-remote(1) (`specs/Listing.antt`). HEAD of a clone is at
-//!   the branch that the server names (`specs/Heads.antt`). `upload-pack` knows whether its client
-//!   asks for version 2 (`specs/Versions.antt`).
+//! - The text of a listing is that of git-ls-remote(1) (`specs/Listing.antt`). A private part reads
+//!   from the server's answer at which branch HEAD of a clone is to be (`specs/Heads.antt`). Another
+//!   finds version 2 among the keys of `GIT_PROTOCOL` (`specs/Versions.antt`).
 //!
 //! # Only tested
 //!
@@ -46,7 +46,9 @@
 //!
 //! # What the contracts do not rule out
 //!
-//! Anything else: no contract can say what a file, a stream or a socket gives or takes.
+//! Anything else. Most of it is what files, streams and sockets give or take, and no contract can
+//! speak of that. No clause says how many servers are kept, either. A server that is kept lists its
+//! refs though their objects may have gone since.
 //!
 //! # Stands on
 //!

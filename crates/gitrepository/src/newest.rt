@@ -25,7 +25,7 @@ struct Tip {
 
 /// The same refs, and in front of them others at the newest objects among theirs, 256 at most. An object
 /// is newer than another if a longer chain of parents lies below it. So a client that offers the objects
-/// of its refs in the order of their names offers the newest first, as Git does.
+/// of its refs in the order of their names offers the newest first. Git goes by the dates of commits.
 ///
 /// The names of the others begin with `refs/`, and then have 256 bytes of `!`. No file has so long a
 /// name, so no ref of a Git directory gets such a name. No ref is put in front if one of the refs has such

@@ -27,8 +27,8 @@ struct Tag {
 /// object that is no tag counts as a commit without parents. A request for refs needs no more. A tag of
 /// `packed-refs` leads at once to the object that the file names.
 ///
-/// It is `None` if one of the objects is not found or not read. The repository has to be opened then.
-/// It fails with `Memory`, and with `Objects` if there are too many.
+/// It is `None` if one of the objects is not found or not read, or if there are too many. The repository
+/// has to be opened then. It fails with `Memory`.
 pub fn open_tips<F: ObjectFiles, A: Allocator + Copy>(
     reader: &mut QuickReader<'_, F, A>,
     peels: &PackedPeels<A>,
