@@ -269,11 +269,11 @@ def small_limit(folder, source):
 
 
 def only_left_overs(what, path, before):
-    """Of the files that are new, each is a temporary one, a lock, part of a whole pack, a pack without its index, or a ref."""
+    """Each new file is a temporary one, a lock, part of a whole pack, a pack without its index, the file that keeps one, or a ref."""
     for at, _, names in os.walk(path):
         for name in names:
             file = os.path.join(at, name)
-            known = name.startswith("tmp_") or name.endswith((".lock", ".pack")) or "/refs/" in file
+            known = name.startswith("tmp_") or name.endswith((".lock", ".pack", ".keep")) or "/refs/" in file
             index = name.endswith(".idx") and os.path.exists(file.removesuffix("idx") + "pack")
             rest = name in ("HEAD", "config", "packed-refs")
             check(f"{what}: nothing else is left", file in before or known or index or rest, file)
