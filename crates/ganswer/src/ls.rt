@@ -110,8 +110,9 @@ impl<A: Allocator + Copy> Server<A> {
         }
     }
 
-    // The line of a ref with the attributes asked for, where it is asked for. What the id peels to may be known.
-    pub(crate) fn line<'a>(
+    /// The line of a ref, with the attributes that a request asks for. It is `None` if the request does not ask for the
+    /// ref. `known` is the id that the ref peels to, if it is known.
+    pub fn line<'a>(
         &'a self,
         asked: &LsRefsRequest<A>,
         name: &'a RefName<A>,
@@ -132,8 +133,8 @@ impl<A: Allocator + Copy> Server<A> {
         })
     }
 
-    // The id at which HEAD stands.
-    pub(crate) fn head_id(&self) -> Option<Oid>
+    /// The id that HEAD points at, if there is one.
+    pub fn head_id(&self) -> Option<Oid>
         ensures { result ≡ head_id self.now.head self.now.refs }
     {
         match self.head() {
@@ -175,8 +176,8 @@ impl<A: Allocator + Copy> Server<A> {
         }
     }
 
-    // That name, where an unborn HEAD is asked for, and HEAD is.
-    pub(crate) fn unborn(&self, asked: &LsRefsRequest<A>) -> Option<&RefName<A>>
+    /// The name that an unborn HEAD points at, if the request asks for it and HEAD is unborn.
+    pub fn unborn(&self, asked: &LsRefsRequest<A>) -> Option<&RefName<A>>
         ensures { option_copied result ≡ unborn_of self.now asked.now }
     {
         if asked.unborn() && is_asked(asked.prefixes(), self.name_of_head()) {

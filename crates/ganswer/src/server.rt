@@ -188,15 +188,15 @@ impl<A: Allocator + Copy> Server<A> {
         Ok(())
     }
 
-    // The name HEAD.
-    pub(crate) fn name_of_head(&self) -> &RefName<A>
+    /// The name `HEAD`.
+    pub fn name_of_head(&self) -> &RefName<A>
         ensures { result.now ≡ head_name }
     {
         &self.name_of_head
     }
 
-    // What the id of the ref at a position peels to where it is that of a tag, if that is known.
-    pub(crate) fn peeled_at(&self, place: usize) -> Option<Option<Oid>>
+    /// The id that the ref at a position peels to, if it is known: `None` in it if the ref is not at a tag.
+    pub fn peeled_at(&self, place: usize) -> Option<Option<Oid>>
         ensures { (ref : Name × Id) → slice_get self.now.refs place ≡ Some ref
             → IfSome result (IsPeeled self.now.graph.entries ref.1) }
     {

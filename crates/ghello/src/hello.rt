@@ -254,14 +254,29 @@ fn hello_with<'a>(path: Option<&'a [u8]>, host: Option<&'a [u8]>) -> Option<Hell
     }
 }
 
-// A hello that is being read.
+/// A hello that is being read.
 #[derive(Drop)]
-struct HelloReader<A: Allocator + Copy> {
+pub struct HelloReader<A: Allocator + Copy> {
     alloc: A,
     hello: Option<Hello<A>>,
 }
 
 impl<A: Allocator + Copy> HelloReader<A> {
+    /// A hello without packets.
+    pub fn new(alloc: A) -> HelloReader<A>
+        ensures { result.hello ≡ None }
+    {
+        HelloReader { alloc, hello: None }
+    }
+
+    /// What the packet said, once it is taken.
+    pub fn finish(self) -> Option<Hello<A>>
+        ensures { result ≡ self.hello }
+    {
+        let HelloReader { hello, .. } = self;
+        hello
+    }
+
     fn take_packet(&mut self, line: Line<'_>) -> Result<Step, Why>
         ensures { TakesAs (judge [] (packet_of line.entry)) (brings [] (packet_of line.entry))
             (self.new.hello ≡ hello_in (packet_of line.entry ∷ [])) result }

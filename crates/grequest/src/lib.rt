@@ -61,5 +61,6 @@ pub use crate::fetch::{FetchRequest, MAX_HAVES, MAX_WANTS};
 pub use crate::flag::{FetchFlag, LsRefsFlag};
 pub use crate::ls_refs::{LsRefsRequest, MAX_PREFIXES};
 pub use crate::read::{read_request, read_request_in};
+pub use crate::reading::RequestReader;
 pub use crate::request::Request;
 pub use crate::write::write_request;

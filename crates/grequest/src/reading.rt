@@ -29,7 +29,7 @@ pub(crate) const MAX_ARGUMENTS: u32 = 4_294_967_295;
 
 /// A request that is being read.
 #[derive(Drop)]
-pub(crate) struct RequestReader<A: Allocator + Copy> {
+pub struct RequestReader<A: Allocator + Copy> {
     alloc: A,
     format: Format,
     section: Section,
@@ -62,7 +62,7 @@ impl<A: Allocator + Copy> RequestReader<A> {
 
     /// A request without packets.
     #[tactic(auto, unfolding(crate::specs::RequestLines::capability_texts, crate::specs::RequestLines::argument_texts))]
-    pub(crate) fn new(alloc: A, format: Format) -> RequestReader<A>
+    pub fn new(alloc: A, format: Format) -> RequestReader<A>
         ensures { result ≡ record { format = format; state = state_of format [] } }
     {
         RequestReader {
@@ -76,7 +76,7 @@ impl<A: Allocator + Copy> RequestReader<A> {
     }
 
     /// What the packets asked, once the last is taken.
-    pub(crate) fn finish(self) -> Request<A>
+    pub fn finish(self) -> Request<A>
         ensures asked { asked_by_request result ≡ self.state.asked }
         ensures format { IsOfFormat self.format result }
     {
