@@ -70,10 +70,10 @@ def shown(items):
     return [item.shown() for item in items]
 
 
-def report(command, outcomes, side, known, is_quiet):
+def report(command, outcomes, notes, side, known, is_quiet):
     """Prints all, or all but the known differences. Answers the exit status."""
     print("%s: %d rows\n" % (command, sum(outcome.row.place != ADVERTISEMENT for outcome in outcomes)))
-    print("\n".join(summary(outcomes, side, known)))
+    print("\n".join([*summary(outcomes, side, known), "", *notes]))
     differing = [outcome for outcome in outcomes if outcome.kind in ("differs", "asks otherwise")]
     for outcome in sorted(differing, key=lambda it: (known.word(side, it) != "", it.row.name)):
         if not is_quiet or not known.word(side, outcome):
@@ -138,7 +138,7 @@ def main():
     if asked.json:
         with open(asked.json, "w") as file:
             json.dump(as_json(outcomes, name, known), file, indent=1)
-    return report(asked.client or asked.server or asked.git_url, outcomes, name, known, asked.quiet)
+    return report(asked.client or asked.server or asked.git_url, outcomes, side.notes(), name, known, asked.quiet)
 
 
 if __name__ == "__main__":

@@ -7,11 +7,12 @@ import subprocess
 import tempfile
 from collections import Counter
 
-from replay import ADVERTISEMENT, ALIKE, FOLDER, PROGRAM_ENV, replay
+from replay import ADVERTISEMENT, FOLDER, PROGRAM_ENV, replay
 from replay_client import ClientSide
 from replay_server import PipeServer, capability_rows, server_side
 
 PAGE = os.path.join(FOLDER, "..", "docs", "DIFFERENCES.md")
+README = os.path.join(FOLDER, "..", "README.md")
 BEGIN, END = "<!-- conform.py writes what follows -->\n", "<!-- conform.py wrote what precedes -->\n"
 SERVER = "git upload-pack"
 CLIENT = "git -C {repository} fetch --quiet --no-tags {url} {specs}"
@@ -23,17 +24,13 @@ NAME_REASONS = {
 
 
 def write(cases, known, is_compared):
-    """Writes the section between the two marks, or compares it. Answers the exit status."""
+    """Writes the section between the two marks, and the two lines of README; or compares them. Answers the exit status."""
     version = subprocess.check_output(["git", "version"], env=PROGRAM_ENV).decode().split()[2]
     with open(PAGE) as file:
-        page = file.read()
-    head, _, rest = page.partition(BEGIN)
-    old, _, tail = rest.partition(END)
-    if is_compared and "With git %s." % version not in old:
-        print("docs/DIFFERENCES.md is not compared: it is of another git than %s" % version)
-        return 0
-    server, client = outcomes_of_git(cases)
-    new = "\n".join(section(cases, known, version, server, client)) + "\n"
+        if is_compared and "With git %s." % version not in file.read():
+            print("docs/DIFFERENCES.md is not compared: it is of another git than %s" % version)
+            return 0
+    server, client, notes = outcomes_of_git(cases)
     unknown = [
         (side, outcome.row.name)
         for side, outcomes in (("server", server), ("client", client))
@@ -42,38 +39,81 @@ def write(cases, known, is_compared):
     ]
     for side, name in unknown:
         print("no reason is known why git's %s differs: %s" % (side, name))
-    if is_compared and new != old:
-        print("docs/DIFFERENCES.md is not what examples/conform.py --differences writes")
-    if not is_compared:
-        with open(PAGE, "w") as file:
-            file.write(head + BEGIN + new + END + tail)
-    print("%d rows are alike, %d differ" % (alike(server) + alike(client), len(differing(server) + differing(client))))
-    return 1 if unknown or (is_compared and new != old) else 0
+    tables = "\n".join(section(cases, known, version, server, client, notes))
+    lines = list(summary_lines(server, client))
+    changes = ((PAGE, with_tables(tables)), (README, with_lines(lines)))
+    stale = [path for path, change in changes if is_stale(path, change, is_compared)]
+    for path in stale:
+        print("%s is not what examples/conform.py --differences writes" % os.path.relpath(path, os.path.dirname(FOLDER)))
+    print("\n".join(lines))
+    return 1 if unknown or stale else 0
+
+
+def is_stale(path, change, is_compared):
+    """Changes a page, or answers whether it would change."""
+    with open(path) as file:
+        page = file.read()
+    if is_compared:
+        return change(page) != page
+    with open(path, "w") as file:
+        file.write(change(page))
+    return False
+
+
+def with_tables(tables):
+    """Puts the tables between the marks of a page."""
+
+    def change(page):
+        head, _, rest = page.partition(BEGIN)
+        return head + BEGIN + tables + "\n" + END + rest.partition(END)[2]
+
+    return change
+
+
+def with_lines(lines):
+    """Puts each line in the place of the one that begins as it does, if there is any."""
+
+    def change(page):
+        for line in lines:
+            page = re.sub(re.escape(line.partition(":")[0]) + ":.*", lambda _: line, page)
+        return page
+
+    return change
+
+
+def summary_lines(server, client):
+    """The two lines of README."""
+    counts = [Counter(it.kind for it in side if it.row.place != ADVERTISEMENT) for side in (server, client)]
+    lines = (
+        ("- **git's server** (`git upload-pack`): of %d rows %d are answered the same, %d are refused by both, and %d differ.", "same"),
+        ("- **git's client** (`git fetch`): of %d rows %d are accepted by both, %d are refused by both, and %d differ.", "accepted alike"),
+    )
+    for (text, kind), count in zip(lines, counts):
+        differ = count["differs"] + count["asks otherwise"]
+        played = count[kind] + count["refused alike"] + differ
+        yield text % (played, count[kind], count["refused alike"], differ)
 
 
 def outcomes_of_git(cases):
-    """The outcomes of stock git as a server and as a client."""
+    """The outcomes of stock git as a server and as a client, and notes on its requests."""
     with tempfile.TemporaryDirectory() as folder:
         side = server_side(cases, PipeServer(shlex.split(SERVER), False), folder)
         server = replay(cases, side)
         server += capability_rows(side)
     with tempfile.TemporaryDirectory() as folder:
-        client = replay(cases, ClientSide(cases, shlex.split(CLIENT), folder))
-    return server, client
+        side = ClientSide(cases, shlex.split(CLIENT), folder)
+        client = replay(cases, side)
+    return server, client, list(side.notes())
 
 
 def differing(outcomes):
     return [outcome for outcome in outcomes if outcome.kind in ("differs", "asks otherwise")]
 
 
-def alike(outcomes):
-    return sum(outcome.kind in ALIKE for outcome in outcomes)
-
-
 # ---- the section
 
 
-def section(cases, known, version, server, client):
+def section(cases, known, version, server, client, notes):
     """The lines of the section."""
     yield "With git %s. `--server '%s'`, `--client '%s'`.\n" % (version, SERVER, CLIENT)
     yield from answered_alike(server, client)
@@ -81,6 +121,8 @@ def section(cases, known, version, server, client):
     yield from rows_of(known, "server", server)
     yield "\n## What a client does otherwise\n\n| Row | Here | git | Why |\n|---|---|---|---|"
     yield from rows_of(known, "client", client)
+    yield "\nGit's requests have other lines, too. A number says in how many requests of the rows that were compared.\n"
+    yield from ("- %s" % note for note in notes)
     yield "\n## Why\n\n| Word | What it means |\n|---|---|"
     yield from ("| %s | %s |" % pair for pair in known.whys.items())
     yield "\n## What both servers refuse\n\n| Row | Here | git |\n|---|---|---|"
@@ -102,7 +144,7 @@ def answered_alike(server, client):
         ("answered the same, or accepted by both", ("same", "accepted alike")),
         ("refused by both", ("refused alike",)),
         ("different", ("differs",)),
-        ("not comparable, since the client asks for something else", ("asks otherwise",)),
+        ("not comparable, since the client makes other requests", ("asks otherwise",)),
         ("not plain, so not replayed", ("not plain",)),
     ]
     for text, kinds in lines:

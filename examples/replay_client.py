@@ -142,7 +142,7 @@ def payloads_of(lines):
 
 
 class ClientSide:
-    """Replays rows with one client. `asked` counts the kinds of request lines that only the rows or only the client have."""
+    """Replays rows with one client. `asked` counts the requests with lines that only the row or only the client has."""
 
     def __init__(self, cases, words, folder):
         self.cases, self.words, self.folder = cases, words, folder
@@ -150,6 +150,12 @@ class ClientSide:
         self.is_new = any("{new}" in word for word in words)
         self.is_tcp = any("{url}" in word or "{address}" in word for word in words)
         self.asked = {"row": Counter(), "client": Counter()}
+
+    def notes(self):
+        """How the requests differ that were compared."""
+        for who, text in (("row", "only in the rows"), ("client", "only in the client's requests")):
+            words = ["%s %d" % (word, self.asked[who][word]) for word in sorted(self.asked[who])]
+            yield "request lines %s: %s" % (text, ", ".join(words) or "none")
 
     def play(self, row):
         """The outcome of a row."""
@@ -234,7 +240,7 @@ class ClientSide:
             converse(Stream(source, write, process.stdin.close), exchanges, lines, heard)
 
     def count(self, exchanges, heard):
-        """Counts the kinds of lines in which a request is another than the row's."""
+        """Counts the first words of the lines in which a request is another than the row's."""
         for (lines, _), asked in zip(exchanges[1:], heard.requests):
             due = payloads_of(lines)
             if fits(due, asked):
@@ -294,8 +300,8 @@ def items_asked(payloads):
 
 
 def kinds_of(payloads):
-    """The first word of each line that has one, or the line."""
-    return Counter(payload.split(b" ")[0].split(b"=")[0].decode(errors="replace") for payload in payloads)
+    """The words with which the lines begin."""
+    return {payload.split(b" ")[0].split(b"=")[0].decode(errors="replace") for payload in payloads}
 
 
 def read_refs(path):

@@ -62,9 +62,10 @@ class UrlServer:
     def answer(self, sent, _, name):
         """Sends all bytes in a connection, closes its half, and reads up to the end."""
         path = ("%s/%s.git" % (self.base, name)).encode()
-        usual = packet(HELLO)
-        hello = packet(b"git-upload-pack %s\0host=%s\0\0version=2\0" % (path, self.address[0].encode()))
-        sent = sent.replace(usual, hello, 1) if sent.startswith(usual) else sent
+        if sent.startswith(b"git-upload-pack /p\0", 4):
+            end = int(sent[:4], 16)
+            first = sent[4:end].replace(b" /p\0", b" " + path + b"\0", 1)
+            sent = packet(first.replace(b"\0host=h\0", b"\0host=127.0.0.1\0")) + sent[end:]
         with socket.create_connection(self.address, timeout=LIMIT["seconds"]) as stream:
             end = lambda: stream.shutdown(socket.SHUT_WR)
             thread = threading.Thread(target=feed, args=(stream.sendall, sent, self.pieces, end))
@@ -158,6 +159,11 @@ class ServerSide:
     def __init__(self, cases, server, repositories):
         self.cases, self.server, self.repositories = cases, server, repositories
         self.same, self.more, self.less = set(), set(), set()
+
+    def notes(self):
+        """How the advertisements compare."""
+        for found, text in ((self.same, "in both"), (self.more, "only the server's"), (self.less, "only in the rows")):
+            yield "capabilities %s: %s" % (text, ", ".join(sorted(found)) or "none")
 
     def play(self, row):
         """The outcome of a row."""
