@@ -119,6 +119,7 @@ def converse(stream, exchanges, twin, heard):
         send(exchanges[0][1])
         left = [(payloads_of(asked), reply) for asked, reply in exchanges[1:]]
         left = [(asked, reply) for asked, reply in left if asked]
+        heard["left"] = len(left)
         while True:
             if not left:
                 stream.end()
@@ -215,21 +216,23 @@ class ClientSide:
             errors = process.stderr.read()
             process.wait()
             clock.cancel()
-            listener.close()
+            half_closed(listener, socket.SHUT_RDWR)
             talk.join(LIMIT["seconds"])
         return Heard(heard["requests"], heard["strayed"], heard["left"], end_of(process, errors))
 
     def serve_tcp(self, listener, process, exchanges, lines, heard):
-        try:
-            connection, _ = listener.accept()
-        except OSError:
-            return
-        with connection:
-            connection.settimeout(LIMIT["seconds"])
-            with connection.makefile("rb") as source:
-                stream = Stream(source, connection.sendall, lambda: half_closed(connection))
-                if stream.packet():
-                    converse(stream, exchanges, lines, heard)
+        # A client may list the refs in a connection of its own, so each connection begins anew.
+        while True:
+            try:
+                connection, _ = listener.accept()
+            except OSError:
+                return
+            with connection:
+                connection.settimeout(LIMIT["seconds"])
+                with connection.makefile("rb") as source:
+                    stream = Stream(source, connection.sendall, lambda: half_closed(connection))
+                    if stream.packet():
+                        converse(stream, exchanges, lines, heard)
 
     def serve_pipes(self, _, process, exchanges, lines, heard):
         with os.fdopen(process.stdout.fileno(), "rb", closefd=False) as source:
@@ -288,9 +291,9 @@ class Lines:
         return Line(line.who, line.how, self.twin.to_real(line.bytes))
 
 
-def half_closed(connection):
+def half_closed(stream, way=socket.SHUT_WR):
     try:
-        connection.shutdown(socket.SHUT_WR)
+        stream.shutdown(way)
     except OSError:
         pass
 

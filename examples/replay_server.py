@@ -71,15 +71,14 @@ class UrlServer:
             thread = threading.Thread(target=feed, args=(stream.sendall, sent, self.pieces, end))
             thread.start()
             written = b""
+            why, piece = "", b"more"
             try:
-                while True:
+                while piece:
                     piece = stream.recv(65536)
-                    if not piece:
-                        break
                     written += piece
-                why = ""
             except ConnectionResetError:
-                why = "the connection is reset"
+                # Input that nobody reads resets a connection, so this is no more than its end.
+                pass
             except socket.timeout:
                 why = "it takes too long"
             thread.join()
