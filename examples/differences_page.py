@@ -124,7 +124,7 @@ def section(cases, known, version, server, client, notes):
     yield "\nGit's requests have other lines, too. A number says in how many requests of the rows that were compared.\n"
     yield from ("- %s" % note for note in notes)
     yield "\n## Why\n\n| Word | What it means |\n|---|---|"
-    words = {known.word("server", outcome) for outcome in server} | {known.word("client", outcome) for outcome in client}
+    words = {known.word("server", it) for it in differing(server)} | {known.word("client", it) for it in differing(client)}
     yield from ("| %s | %s |" % (word, why) for word, why in known.whys.items() if word in words)
     yield "\n## What both servers refuse\n\n| Row | Here | git |\n|---|---|---|"
     for outcome in server:
