@@ -188,6 +188,10 @@ class Liar:
     def __exit__(self, *_):
         self.socket.close()
 
+    def send(self, stream, place, said):
+        """Sends what is said at a place: `advert`, `refs` or `pack`."""
+        stream.sendall(said)
+
     def accept(self):
         while True:
             try:
@@ -201,14 +205,14 @@ class Liar:
         try:
             with stream, stream.makefile("rb") as file:
                 file.read(int(file.read(4), 16) - 4)
-                stream.sendall(advert)
+                self.send(stream, "advert", advert)
                 while message := read_message(file):
                     if message[0].startswith(b"command=ls-refs"):
-                        stream.sendall(refs)
+                        self.send(stream, "refs", refs)
                     else:
                         is_done = any(line.startswith(b"done") for line in message)
                         acks = b"" if is_done else packet(b"acknowledgments\n") + packet(b"ready\n") + b"0001"
-                        stream.sendall(acks + pack)
+                        self.send(stream, "pack", acks + pack)
         except (OSError, ValueError):
             pass
 
@@ -241,7 +245,7 @@ def spoken():
     for what, refs in (
         ("nothing", b""), ("an ERR line", packet(b"ERR " + escape)), ("a short id", packet(b"1234 refs/heads/x\n") + b"0000"),
         ("a name with control bytes", packet(TIP.hex().encode() + b" refs/heads/" + escape) + b"0000"),
-        ("a million refs", b"".join(packet(b"%040x refs/heads/%d\n" % (n + 1, n)) for n in range(1_000_000)) + b"0000"),
+        ("100,000 refs", b"".join(packet(b"%040x refs/heads/%d\n" % (n + 1, n)) for n in range(100_000)) + b"0000"),
         ("an attribute that climbs", packet(TIP.hex().encode() + b" HEAD symref-target:../../x\n") + b"0000"),
         ("a list that is cut", good[:-6]),
     ):
