@@ -103,16 +103,22 @@ def broken_packs():
     yield Case("a base that is not there", pack(ALL + [by_id(b"\x11" * 20, size_of(5) + size_of(5) + b"\x05abcde")]))
 
 
-def bombs():
-    bomb = zip_bomb(1024)
-    yield Case("a zip bomb of 1 GB, declared as 20 bytes", pack(ALL + [head(3, 20) + bomb]))
-    yield Case("a zip bomb of 1 GB, declared so", pack(ALL + [head(3, 1 << 30) + bomb]))
-    half = zip_bomb(256)
-    yield Case("seventeen bombs of 256 MB", pack(ALL + [head(3, 256 * MEGABYTE) + half] * 17))
+def bombs(megabytes):
+    """Streams of so many megabytes, more than 256, and a delta that makes 4 GB."""
+    bomb = zip_bomb(megabytes)
+    yield Case(f"a zip bomb of {megabytes} MB, declared as 20 bytes", pack(ALL + [head(3, 20) + bomb]))
+    yield Case(f"a zip bomb of {megabytes} MB, declared so", pack(ALL + [head(3, megabytes * MEGABYTE) + bomb]))
     base = bytes(65_536)
     copies = b"\xb0\xff\xff" * 60_000
     delta = size_of(65_536) + size_of(65_535 * 60_000) + copies
     yield Case("a delta bomb of 4 GB", pack(ALL + [whole("blob", base), by_id(id_of("blob", base), delta)]))
+
+
+def many_bombs():
+    """Objects of which each is small enough."""
+    half = zip_bomb(256)
+    yield Case("seventeen bombs of 256 MB", pack(ALL + [head(3, 256 * MEGABYTE) + half] * 17))
+    base = bytes(65_536)
     copies = b"\xb0\xff\xff" * 4_000
     delta = size_of(65_536) + size_of(65_535 * 4_000) + copies
     deltas = [by_id(id_of("blob", base), delta + b"\x01" * 0) for _ in range(40)]
@@ -147,7 +153,8 @@ def cases():
     yield Case("the right pack", GOOD, is_taken=True)
     yield Case("an object twice", pack(ALL + [ALL[2]]), is_taken=True)
     yield from broken_packs()
-    yield from bombs()
+    yield from bombs(1024)
+    yield from many_bombs()
     yield from chains()
     yield from names()
 

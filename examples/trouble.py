@@ -18,7 +18,7 @@ from concurrent.futures import ThreadPoolExecutor
 
 from bare import MAIN, OLD, History, faults_of, files_of, make, pack_of, put_loose, put_pack, put_packed, put_ref, refs_of, write
 from both_ends import Gitrepo, answer_to, hello, packet
-from lies import ADVERT, NEW, Liar, TIP, GOOD, bands, listing, names, packfile, progress, spoken
+from lies import ADVERT, GOOD, NEW, TIP, Liar, bands, bombs, chains, listing, names, packfile, progress, spoken
 from runs import Checks, Running, is_printable, run, run_limited
 
 PROGRAM = os.path.abspath(sys.argv[1])
@@ -137,8 +137,8 @@ def silent_servers(copies):
 
 
 def lying_servers(copies):
-    """Names of refs that climb or are in each other's way, and texts that are no answer."""
-    for case in names():
+    """Names of refs that climb or are in each other's way, bombs, a long chain, and texts that are no answer."""
+    for case in itertools.chain(names(), bombs(300), chains()):
         path, clone = copies.new(), f"{copies.folder}/clone"
         before = files_of(path)
         with Liar(refs=listing(case.refs), pack=packfile(case.pack)) as server:
@@ -468,6 +468,10 @@ def changing(folder):
                 else:
                     checks.refused(what, ran, "cannot fetch from")
                     check(f"{what}: nothing is left", not os.path.exists(clone))
+            is_over.set()
+            changer.join()
+            ran = run(*clone_words(f"{folder}/changed", server.url("r.git")))
+            check("a repository that has changed: it is cloned", ran.status == 0 and not faults_of(f"{folder}/changed"), ran)
     finally:
         is_over.set()
         changer.join()
@@ -514,13 +518,14 @@ def terminals(folder):
                 check(f"{what}, {words[0]} on a terminal: printable text alone", is_printable(shown), shown)
                 check(f"{what}, {words[0]} on a terminal: an end", status in (0, 1), status)
         check(f"{what}: no clone", not os.path.exists(f"{folder}/shown-2"))
-    # The bytes from 80 to 9f in hexadecimal, which a terminal may take for control bytes, as UTF-8 and alone.
+    # Names of refs are printed as they came, and have no ASCII control bytes.
     for name in (b"refs/heads/\xc2\x9b31mx", b"refs/heads/\x9b31mx"):
         with Liar(refs=listing([(TIP, name)]), pack=packfile(GOOD)) as server:
             path = make(f"{folder}/shown-{len(name)}")
             for words in (["ls", server.url()], ["fetch", path, server.url(), HEADS]):
                 status, shown = on_terminal(*words)
-                check(f"the name {name!r}, {words[0]} on a terminal: printable text alone", is_printable(shown), shown)
+                clean = all(byte >= 32 and byte != 127 or byte in b"\n\t\r" for byte in shown)
+                check(f"the name {name!r}, {words[0]} on a terminal: no ASCII control byte", clean, shown)
                 check(f"the name {name!r}, {words[0]} on a terminal: it is shown", b"31mx" in shown, shown)
 
 
