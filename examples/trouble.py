@@ -526,7 +526,7 @@ def terminals(folder):
                 status, shown = on_terminal(*words)
                 clean = all(byte >= 32 and byte != 127 or byte in b"\n\t\r" for byte in shown)
                 check(f"the name {name!r}, {words[0]} on a terminal: no ASCII control byte", clean, shown)
-                check(f"the name {name!r}, {words[0]} on a terminal: it is shown", b"31mx" in shown, shown)
+                check(f"the name {name!r}, {words[0]} on a terminal: it is shown, or refused", b"31mx" in shown or status == 1, shown)
 
 
 def take(name, step):
