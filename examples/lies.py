@@ -125,15 +125,15 @@ def many_bombs():
     yield Case("forty deltas of 262 MB", pack(ALL + [whole("blob", base), *deltas]))
 
 
-def chains():
+def chains(count):
     base = last = bytes(65_536)
     entries, before = [whole("blob", base)], id_of("blob", base)
-    for number in range(3_000):
+    for number in range(count):
         last = last[:65_530] + struct.pack(">IH", number, 7)
         delta = size_of(65_536) + size_of(65_536) + b"\xb0\xfa\xff" + b"\x06" + last[65_530:]
         entries.append(by_id(before, delta))
         before = id_of("blob", last)
-    yield Case("a chain of 3,000 deltas of 64 KiB", pack(ALL + entries), is_taken=True)
+    yield Case(f"a chain of {count:,} deltas of 64 KiB", pack(ALL + entries), is_taken=True)
 
 
 def names():
@@ -155,7 +155,7 @@ def cases():
     yield from broken_packs()
     yield from bombs(1024)
     yield from many_bombs()
-    yield from chains()
+    yield from chains(3_000)
     yield from names()
 
 
