@@ -138,7 +138,7 @@ def silent_servers(copies):
 
 def lying_servers(copies):
     """Names of refs that climb or are in each other's way, bombs, a long chain, and texts that are no answer."""
-    for case in itertools.chain(names(), bombs(300), chains(300)):
+    for case in itertools.chain(names(), bombs(300), chains(100)):
         path, clone = copies.new(), f"{copies.folder}/clone"
         before = files_of(path)
         with Liar(refs=listing(case.refs), pack=packfile(case.pack)) as server:
