@@ -1,5 +1,6 @@
 -- A connection: the bytes that came and went, and the packets that were heard and said.
-use Rattle.std.specs.Prelude.{◌≡◌, ℕ, ◌+◌, ◌⊎◌, ◌++◌, List, [], length, drop, Bool, true, false, Option, Some, None, IsSome, Result, Ok, Err}
+use Rattle.std.specs.Prelude.{◌≡◌, ℕ, ◌+◌, ◌⊎◌, ◌++◌, List, [], length, drop, Bool}
+use Rattle.std.specs.Prelude.{true, false, Option, Some, None, IsSome, Result, Ok, Err}
 use Rattle.std.specs.Io.KnownBytes.{Appends, Consumes}
 use Rattle.gpkt.specs.Change.{Change}
 use Rattle.gpkt.specs.Devices.{KeepsPassed}
@@ -24,8 +25,8 @@ abbrev pub bytes_in : Option Bytes → Bytes
 bytes_in None = []
 bytes_in (Some bytes) = bytes
 
--- What was passed on, where nothing was said before: what had been, and perhaps more. Where something was said: all that
--- was written till then, and perhaps more.
+-- Where nothing was said before, all that had been passed on is passed on, and perhaps more. Where something was said,
+-- all that was written till then is passed on, and perhaps more.
 abbrev pub HasPassed : Bytes → Option Bytes → Change → Change → Type 0
 HasPassed said between written passed_on =
     ((said ≡ []) × KeepsPassed passed_on)
@@ -112,10 +113,10 @@ module _ {C A : Type 0} where
     pub sent : Appends written.old written.new said
     pub moves : Moves holds old new more said
 
-  -- It broke off. Until its last turn began, this was heard and said, and all that was said was sent and passed on. Of
-  -- what it said since then, this was written.
-  pub record BreaksOff (holds : C → Talk → Type 0) (turn : C → Turn) (old new : Connection C A) (read written passed_on : Change)
-      : Type 0 where
+  -- It broke off. Until its last turn began, this was heard and said, and all that was said was sent and passed on.
+  -- Since then some was said, and this was written of it.
+  pub record BreaksOff (holds : C → Talk → Type 0) (turn : C → Turn) (old new : Connection C A)
+      (read written passed_on : Change) : Type 0 where
     pub mid : Connection C A
     pub between : Option Bytes
     pub before : Drives holds old mid read (record { old = written.old; new = between })

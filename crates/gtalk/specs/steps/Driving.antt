@@ -1,5 +1,6 @@
 -- Steps of driving a connection: how much is left of a turn, and what one turn does.
-use Rattle.std.specs.Prelude.{◌≡◌, ℕ, ◌+◌, ◌*◌, ◌-◌, ◌<◌, ◌≤◌, ◌⊎◌, length, [], Bool, true, false, Option, Some, None, Result, Ok, Err, IsSome}
+use Rattle.std.specs.Prelude.{◌≡◌, ℕ, ◌+◌, ◌*◌, ◌-◌, ◌<◌, ◌≤◌, ◌⊎◌, length, [], Bool}
+use Rattle.std.specs.Prelude.{true, false, Option, Some, None, Result, Ok, Err, IsSome}
 use Rattle.gpkt.specs.Change.{Change}
 use Rattle.gpkt.specs.Devices.{PassesAll}
 use Rattle.gpkt.specs.Packets.{max_packet}
