@@ -295,73 +295,73 @@ def without_advertisement(said):
 REASONS = [
     (
         "error line",
-        "Both refuse the request. Here an `ERR` line reports it to the client; git prints it on standard error alone, and ends.",
+        "Both refuse the request. Here the client gets an `ERR` line. Git prints its reason on standard error, and ends.",
         r"ERR .*",
         r"(fatal|BUG): .*",
     ),
     (
         "no wants",
-        "A fetch that wants nothing is refused here; git writes nothing, and waits for the next request.",
+        "A fetch that wants nothing is refused here. Git writes nothing, and waits for the next request.",
         r"ERR upload-pack: no wants",
         r"",
     ),
     (
         "cut short",
-        "An input that ends within a packet where a request is due is refused here; for git the connection has ended.",
+        "An input that ends within a request's first packet is refused here. For Git the connection has ended.",
         r"ERR upload-pack: unexpected end",
         r"",
     ),
     (
         "limit",
-        "Requests have fewer wants, haves and prefixes here, so that one takes a bounded amount of memory.",
+        "A request has fewer wants, haves and prefixes here, so that it takes bounded memory.",
         r"ERR upload-pack: limit exceeded",
         r"(?!fatal).*",
     ),
     (
         "prefix",
-        "A prefix that begins no ref name is refused here; git takes any bytes, which then match nothing.",
+        "A prefix that begins no ref name is refused here. Git takes any bytes, which then match nothing.",
         r"ERR upload-pack: bad ref name",
         r"(?!fatal).*",
     ),
     (
         "end of an id",
-        "An id is all that follows `want ` or `have ` here; git reads its digits, and looks at nothing after them.",
+        "Nothing may follow an id here. Git reads its digits, and ignores the rest.",
         r"ERR upload-pack: bad object id",
         r"(?!fatal).*",
     ),
     (
         "capability",
-        "`agent` and `object-format` have one value here, of the manual's form; git takes any agent, none, or several.",
+        "`agent` and `object-format` have one value here, of the manual's form. Git takes any agent, none, or several.",
         r"ERR upload-pack: bad line",
         r"(?!fatal).*",
     ),
     (
         "unborn",
-        "An unborn HEAD is shown wherever `unborn` was asked for; git shows it only where `symrefs` was, too.",
+        "An unborn HEAD is shown if `unborn` was asked for. Git shows it only if `symrefs` was, too.",
         r"unborn HEAD .*",
         r"",
     ),
     (
         "repeated have",
-        "A common id is acknowledged once; git does so for each `have` that names it.",
+        "A common id is acknowledged once. Git does so for each `have` that names it.",
         r"",
         r"ACK .*",
     ),
     (
         "ready",
-        "Each wanted id has to reach a common one before a pack is sent; git takes parents of a common id for common.",
+        "A pack is sent once each wanted id reaches a common one. Git takes parents of a common id for common.",
         r"",
         r"ready .*",
     ),
     (
         "response-end",
-        "`gitv2 upload --response-end` ends each reply of a stateless connection itself; for git its HTTP helper does.",
+        "`gitv2 upload --response-end` ends each reply of a stateless connection. For Git its HTTP helper does.",
         r"response-end",
         r"",
     ),
     (
         "fewer capabilities",
-        "Git has more capabilities and arguments. Here all that is served is advertised, and nothing else is taken.",
+        "Git has more capabilities and arguments. Nothing is taken here that is not advertised.",
         r"agent=gitv2/1 .*|ERR upload-pack: unknown capability",
         r"agent=git/.*|(?!fatal).*",
     ),
@@ -469,38 +469,49 @@ def main(data):
     print("| Reason | What it means |\n|---|---|")
     for word, meaning, _, _ in REASONS:
         print(f"| {word} | {meaning} |")
-    print("\n## Requests\n\n| Case | Here | git | Reason |\n|---|---|---|---|")
     rows = [(name, ours, theirs, reason_of(ours, theirs)) for name, (ours, theirs) in table.items()]
+    print("\n## Requests that both refuse\n\n| Here | Cases | One of them | Git's standard error |\n|---|---|---|---|")
+    both = {}
+    for name, ours, theirs, reason in rows:
+        if reason == BOTH_REFUSE:
+            both.setdefault(ours, []).append((name, theirs))
+    for ours, cases_of in both.items():
+        name, theirs = cases_of[0]
+        print(f"| {shown(ours)} | {len(cases_of)} | {name} | {shown(theirs)} |")
+    print("\n## Other requests\n\n| Case | Here | Git | Reason |\n|---|---|---|---|")
     order = [word for word, _, _, _ in REASONS]
     for name, ours, theirs, reason in sorted(rows, key=lambda row: order.index(row[3])):
-        print(f"| {name} | {shown(ours)} | {shown(theirs)} | {reason} |")
+        if reason != BOTH_REFUSE:
+            print(f"| {name} | {shown(ours)} | {shown(theirs)} | {reason} |")
     print(NAMES)
     for name, due, answer in name_rows(cases.names):
         print(f"| {shown(name)} | {due} | {answer} | {NAME_REASONS[due]} |")
 
 
-INTRODUCTION = """# Differences from git
+# The reason of requests that both refuse.
+BOTH_REFUSE = "error line"
 
-Written by `examples/against-git.sh`, which replays the served cases of `crates/conformance/data` through
-`git upload-pack` {version}, protocol version 2, and their ref names through `git check-ref-format`.
+INTRODUCTION = """# Differences from Git
 
-The ids of the cases are made up, so git has a repository with the same graph, and ids are put in each other's place.
-Packs are compared by the commits and tags in them: their order, their format, and git's trees are its own. Where a case
-stops at the packet that is refused here, a flush is added, so that git has a complete request. Progress is left out.
+{replayed} cases of `crates/conformance/data` were replayed through `git upload-pack` {version}, protocol version 2. Git answers {alike}
+of them alike, and refuses {refused} more as gitv2 does. The tables have the others. `examples/against-git.sh` writes this page.
 
-{replayed} cases were replayed. {alike} of them are answered alike, and {refused} more are refused by both, though git sends
-no `ERR` line. Left out are {packers} cases with a packer that fails or lies, {broken} with an incomplete file, which git
-can't have, and those with our client at the other end. [PROTOCOL.md](PROTOCOL.md) marks each difference **own**.
+The ids of the cases are made up, so Git has a repository with the same graph, and ids are exchanged. Packs are compared by their
+commits and tags, since their formats differ. If a case ends at the packet that is refused here, a flush is added, so that Git has a
+complete request. Progress is left out.
+
+Not replayed are {packers} cases with a packer that fails or lies, {broken} with an incomplete file, which Git can't have, and those with
+our client. [PROTOCOL.md](PROTOCOL.md) marks each difference **own**.
 """
 
 NAMES = """
 ## Ref names
 
-| Name | Here | git | Reason |
+| Name | Here | Git | Reason |
 |---|---|---|---|"""
 
 NAME_REASONS = {
-    "ok": "`git check-ref-format` takes names of one part only with `--allow-onelevel`; HEAD is a ref's name",
+    "ok": "`git check-ref-format` takes names of one part only with `--allow-onelevel`",
     "11 TooLong": "names have at most 1,000 bytes here",
 }
 
