@@ -291,11 +291,12 @@ def without_advertisement(said):
 
 # ---- differences
 
-# Why git answers otherwise: a word for the table, what it means, what is due here, and what git answers.
+# Why git answers otherwise: a word, what it means, what is due here, and what git answers. The first is of requests that both
+# refuse.
 REASONS = [
     (
         "error line",
-        "Both refuse the request. Here the client gets an `ERR` line. Git prints its reason on standard error, and ends.",
+        "Here the client gets an `ERR` line. Git prints its reason on standard error, and ends.",
         r"ERR .*",
         r"(fatal|BUG): .*",
     ),
@@ -461,40 +462,45 @@ def name_rows(names):
                 yield name.decode(errors="backslashreplace"), due, "ok" if is_taken else "refused"
 
 
+def print_both(rows):
+    """The requests that both refuse, by the line that the client gets here."""
+    print("\n## Requests that both refuse\n")
+    print(f"{REASONS[0][1]}\n\n| Here | Cases | One of them | Git's standard error |\n|---|---|---|---|")
+    both = {}
+    for name, ours, theirs in rows:
+        both.setdefault(ours, []).append((name, theirs))
+    for ours, cases in both.items():
+        name, theirs = cases[0]
+        print(f"| {shown(ours)} | {len(cases)} | {name} | {shown(theirs)} |")
+
+
+def print_others(rows):
+    """The other requests, by the reason why they differ."""
+    print("\n## Other requests\n\nEach case has the answer here, and then Git's.")
+    for word, meaning, _, _ in REASONS[1:]:
+        print(f"\n{meaning}\n")
+        for name, ours, theirs, reason in rows:
+            if reason == word:
+                print(f"- {name}: {shown(ours)}, {shown(theirs)}")
+
+
 def main(data):
     cases = Cases(data)
     with tempfile.TemporaryDirectory() as folder:
         table, counts = replay(cases, folder)
-    print(INTRODUCTION.format(version=git("version").decode().split()[2], **counts))
-    print("| Reason | What it means |\n|---|---|")
-    for word, meaning, _, _ in REASONS:
-        print(f"| {word} | {meaning} |")
+    print(INTRODUCTION.format(version=git("version").decode().split()[2], **counts), end="")
     rows = [(name, ours, theirs, reason_of(ours, theirs)) for name, (ours, theirs) in table.items()]
-    print("\n## Requests that both refuse\n\n| Here | Cases | One of them | Git's standard error |\n|---|---|---|---|")
-    both = {}
-    for name, ours, theirs, reason in rows:
-        if reason == BOTH_REFUSE:
-            both.setdefault(ours, []).append((name, theirs))
-    for ours, cases_of in both.items():
-        name, theirs = cases_of[0]
-        print(f"| {shown(ours)} | {len(cases_of)} | {name} | {shown(theirs)} |")
-    print("\n## Other requests\n\n| Case | Here | Git | Reason |\n|---|---|---|---|")
-    order = [word for word, _, _, _ in REASONS]
-    for name, ours, theirs, reason in sorted(rows, key=lambda row: order.index(row[3])):
-        if reason != BOTH_REFUSE:
-            print(f"| {name} | {shown(ours)} | {shown(theirs)} | {reason} |")
+    print_both([(name, ours, theirs) for name, ours, theirs, reason in rows if reason == REASONS[0][0]])
+    print_others(rows)
     print(NAMES)
     for name, due, answer in name_rows(cases.names):
-        print(f"| {shown(name)} | {due} | {answer} | {NAME_REASONS[due]} |")
+        print(f"- {shown(name)}: {due}, {answer}. {NAME_REASONS[due]}")
 
-
-# The reason of requests that both refuse.
-BOTH_REFUSE = "error line"
 
 INTRODUCTION = """# Differences from Git
 
 {replayed} cases of `crates/conformance/data` were replayed through `git upload-pack` {version}, protocol version 2. Git answers {alike}
-of them alike, and refuses {refused} more as gitv2 does. The tables have the others. `examples/against-git.sh` writes this page.
+of them alike, and refuses {refused} more as gitv2 does. The lists have the others. `examples/against-git.sh` writes this page.
 
 The ids of the cases are made up, so Git has a repository with the same graph, and ids are exchanged. Packs are compared by their
 commits and tags, since their formats differ. If a case ends at the packet that is refused here, a flush is added, so that Git has a
@@ -507,12 +513,12 @@ our client. [PROTOCOL.md](PROTOCOL.md) marks each difference **own**.
 NAMES = """
 ## Ref names
 
-| Name | Here | Git | Reason |
-|---|---|---|---|"""
+Here, `RefName::new`; for Git, `git check-ref-format`:
+"""
 
 NAME_REASONS = {
-    "ok": "`git check-ref-format` takes names of one part only with `--allow-onelevel`",
-    "11 TooLong": "names have at most 1,000 bytes here",
+    "ok": "Git takes names of one part only with `--allow-onelevel`.",
+    "11 TooLong": "Names have at most 1,000 bytes here.",
 }
 
 main(sys.argv[1])
