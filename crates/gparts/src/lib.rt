@@ -1,0 +1,26 @@
+//! Packers that give a pack in parts, so that nobody holds one whole.
+//!
+//! # Proved
+//!
+//! - The parts that a [`PartPacker`] gives are, in order, a pack of the entries. Where it fails, they are
+//!   the beginning of one, and the fault is one of its own.
+//! - Any packer of `gobject` is one, as a [`WholePack`]. Its packs and its faults are those of that packer.
+//! - No call panics, overflows or reads out of bounds, and each returns.
+//!
+//! # What the contracts do not rule out
+//!
+//! A packer may take as long as it likes, more memory than it needs, and more calls than it needs, as
+//! long as each gives a byte. It may fail after any part.
+//!
+//! There are no tests here.
+//!
+//! # Stands on
+//!
+//! `gobject` for entries, packers and faults; the proofs cite `gname`.
+#![tactic(auto)]
+
+mod parts;
+mod whole;
+
+pub use crate::parts::PartPacker;
+pub use crate::whole::{WholePack, WholeParts};
