@@ -17,60 +17,18 @@ from both_ends import (
     packet, refs, tip,
 )
 from lies import cases, progress, spoken, Liar, listing, packfile
+from runs import MEMORY, SECONDS, Checks, is_sentence, run
 
 PROGRAM = os.path.abspath(sys.argv[1])
 HEADS, TAGS = "+refs/heads/*:refs/heads/*", "+refs/tags/*:refs/tags/*"
-# The most memory of a process, in MB, and the most seconds of a run that is refused.
-MEMORY, SECONDS = 600, 90
 KILLS = 40
 CHANGES = 12
-tried = 0
-wrong = []
-most = (0, "")
+checks = Checks()
+check, within_bounds = checks.check, checks.within_bounds
 
 
-class Ran:
-    """A run that ended: its status, its texts, its seconds, and its memory in MB."""
-
-    def __init__(self, *words, **more):
-        began = time.monotonic()
-        with tempfile.TemporaryFile() as out, tempfile.TemporaryFile() as told:
-            process = subprocess.Popen([PROGRAM, *words], stdout=out, stderr=told, env=ENV, **more)
-            timer = threading.Timer(SECONDS, process.kill)
-            timer.start()
-            _, status, used = os.wait4(process.pid, 0)
-            process.returncode = os.waitstatus_to_exitcode(status)
-            timer.cancel()
-            out.seek(0)
-            told.seek(0)
-            self.out, self.told = out.read(), told.read()
-        self.status, self.seconds, self.memory = process.returncode, time.monotonic() - began, used.ru_maxrss / 1024
-
-    def __repr__(self):
-        return f"status {self.status} in {self.seconds:.1f} s with {self.memory:.0f} MB, {self.out[-200:]!r}, {self.told[-400:]!r}"
-
-
-def check(what, is_right, got=""):
-    """Counts a check, and prints a line where it is wrong."""
-    global tried
-    tried += 1
-    if not is_right:
-        wrong.append(what)
-        print(f"WRONG {what}: {str(got)[:900]}", flush=True)
-
-
-def within_bounds(what, ran):
-    """Whether a run was quick and small enough, ended by itself, and printed no byte that a terminal takes for more."""
-    global most
-    most = max(most, (ran.memory, what))
-    check(f"{what}: {MEMORY} MB at most", ran.memory <= MEMORY, ran)
-    check(f"{what}: ends by itself", ran.status >= 0 and ran.seconds < SECONDS, ran)
-    shown = ran.told + ran.out
-    check(f"{what}: printable text alone", all(32 <= byte < 127 or byte in b"\n\t\r" for byte in shown), ran)
-
-
-def is_sentence(told):
-    return told.startswith(b"gitrepo: ") and told.count(b"\n") == 1 and told.endswith(b"\n")
+def gitrepo(*words, **more):
+    return run(PROGRAM, *words, **more)
 
 
 def state_of(path):
@@ -79,7 +37,7 @@ def state_of(path):
 
 
 def fetch(path, url, *more):
-    return Ran("fetch", *more, path, url, HEADS, TAGS)
+    return gitrepo("fetch", *more, path, url, HEADS, TAGS)
 
 
 # ---- packs and servers that lie
@@ -92,7 +50,7 @@ def lying_packs(folder, base):
         before = state_of(path)
         with Liar(refs=listing(case.refs), pack=packfile(case.pack)) as server:
             ran = fetch(path, server.url())
-            clone = Ran("clone", server.url(), f"{path}-clone")
+            clone = gitrepo("clone", server.url(), f"{path}-clone")
         worst = max(worst, (ran.seconds, case.what))
         within_bounds(case.what, ran)
         after = state_of(path)
@@ -118,8 +76,8 @@ def lying_servers(folder, base):
         before = state_of(path)
         with server:
             ran = fetch(path, server.url())
-            clone = Ran("clone", server.url(), f"{path}-clone")
-            listed = Ran("ls", server.url())
+            clone = gitrepo("clone", server.url(), f"{path}-clone")
+            listed = gitrepo("ls", server.url())
         for how, one in (("fetch", ran), ("clone", clone), ("ls", listed)):
             within_bounds(f"{what}, {how}", one)
             check(f"{what}, {how}: a sentence, if it is refused", one.status == 0 or is_sentence(one.told), one)
@@ -238,7 +196,7 @@ def full_disk(folder, source):
     try:
         with GitDaemon(os.path.dirname(source)) as theirs:
             url = theirs.url(os.path.basename(source))
-            ran = Ran("clone", url, f"{disk}/r.git")
+            ran = gitrepo("clone", url, f"{disk}/r.git")
             check("a full disk, clone: a sentence", ran.status == 1 and is_sentence(ran.told), ran)
             check("a full disk, clone: no folder", not os.path.exists(f"{disk}/r.git"), os.listdir(disk))
             git(None, "init", "--quiet", "--bare", f"{disk}/s.git")
@@ -259,12 +217,12 @@ def small_limit(folder, source):
     with GitDaemon(os.path.dirname(source)) as theirs:
         path = f"{folder}/limited.git"
         new_repository(path)
-        ran = Ran("fetch", path, theirs.url(os.path.basename(source)), HEADS, preexec_fn=limit_files)
+        ran = gitrepo("fetch", path, theirs.url(os.path.basename(source)), HEADS, preexec_fn=limit_files)
         check("a limit on files: fails", ran.status != 0, ran)
         check("a limit on files: fsck", not faults_of(path), faults_of(path))
         check("a limit on files: no ref", refs(path) == "")
         only_left_overs("a limit on files", path, set())
-        ran = Ran("fetch", path, theirs.url(os.path.basename(source)), HEADS)
+        ran = gitrepo("fetch", path, theirs.url(os.path.basename(source)), HEADS)
         check("a limit on files: the next fetch", ran.status == 0 and not faults_of(path), ran)
 
 
@@ -285,7 +243,7 @@ def kills(folder, source):
         url = theirs.url(os.path.basename(source))
         old = f"{folder}/old.git"
         git(None, "clone", "--quiet", "--bare", "--single-branch", "--branch=side/91-0", "--no-tags", url, old)
-        whole = Ran("clone", url, f"{folder}/whole.git").seconds
+        whole = gitrepo("clone", url, f"{folder}/whole.git").seconds
         found = {"before": 0, "after": 0}
         for number in range(KILLS):
             path = f"{folder}/killed-{number}.git"
@@ -350,9 +308,7 @@ def main():
                 step()
             except (OSError, ValueError, subprocess.SubprocessError) as error:
                 check("a step comes to its end", False, repr(error))
-    print(f"at most {most[0]:.0f} MB ({most[1]})")
-    print(f"{tried} checks, {len(wrong)} wrong, {time.monotonic() - began:.0f} s")
-    return 1 if wrong else 0
+    return checks.end(f"{time.monotonic() - began:.0f} s")
 
 
 sys.exit(main())

@@ -103,31 +103,37 @@ def broken_packs():
     yield Case("a base that is not there", pack(ALL + [by_id(b"\x11" * 20, size_of(5) + size_of(5) + b"\x05abcde")]))
 
 
-def bombs():
-    bomb = zip_bomb(1024)
-    yield Case("a zip bomb of 1 GB, declared as 20 bytes", pack(ALL + [head(3, 20) + bomb]))
-    yield Case("a zip bomb of 1 GB, declared so", pack(ALL + [head(3, 1 << 30) + bomb]))
-    half = zip_bomb(256)
-    yield Case("seventeen bombs of 256 MB", pack(ALL + [head(3, 256 * MEGABYTE) + half] * 17))
+def bombs(megabytes):
+    """Streams of so many megabytes, more than 256, and a delta that makes 4 GB."""
+    bomb = zip_bomb(megabytes)
+    yield Case(f"a zip bomb of {megabytes} MB, declared as 20 bytes", pack(ALL + [head(3, 20) + bomb]))
+    yield Case(f"a zip bomb of {megabytes} MB, declared so", pack(ALL + [head(3, megabytes * MEGABYTE) + bomb]))
     base = bytes(65_536)
     copies = b"\xb0\xff\xff" * 60_000
     delta = size_of(65_536) + size_of(65_535 * 60_000) + copies
     yield Case("a delta bomb of 4 GB", pack(ALL + [whole("blob", base), by_id(id_of("blob", base), delta)]))
+
+
+def many_bombs():
+    """Objects of which each is small enough."""
+    half = zip_bomb(256)
+    yield Case("seventeen bombs of 256 MB", pack(ALL + [head(3, 256 * MEGABYTE) + half] * 17))
+    base = bytes(65_536)
     copies = b"\xb0\xff\xff" * 4_000
     delta = size_of(65_536) + size_of(65_535 * 4_000) + copies
     deltas = [by_id(id_of("blob", base), delta + b"\x01" * 0) for _ in range(40)]
     yield Case("forty deltas of 262 MB", pack(ALL + [whole("blob", base), *deltas]))
 
 
-def chains():
+def chains(count):
     base = last = bytes(65_536)
     entries, before = [whole("blob", base)], id_of("blob", base)
-    for number in range(3_000):
+    for number in range(count):
         last = last[:65_530] + struct.pack(">IH", number, 7)
         delta = size_of(65_536) + size_of(65_536) + b"\xb0\xfa\xff" + b"\x06" + last[65_530:]
         entries.append(by_id(before, delta))
         before = id_of("blob", last)
-    yield Case("a chain of 3,000 deltas of 64 KiB", pack(ALL + entries), is_taken=True)
+    yield Case(f"a chain of {count:,} deltas of 64 KiB", pack(ALL + entries), is_taken=True)
 
 
 def names():
@@ -147,8 +153,9 @@ def cases():
     yield Case("the right pack", GOOD, is_taken=True)
     yield Case("an object twice", pack(ALL + [ALL[2]]), is_taken=True)
     yield from broken_packs()
-    yield from bombs()
-    yield from chains()
+    yield from bombs(1024)
+    yield from many_bombs()
+    yield from chains(3_000)
     yield from names()
 
 
@@ -188,6 +195,10 @@ class Liar:
     def __exit__(self, *_):
         self.socket.close()
 
+    def send(self, stream, place, said):
+        """Sends what is said at a place: `advert`, `refs` or `pack`."""
+        stream.sendall(said)
+
     def accept(self):
         while True:
             try:
@@ -201,14 +212,14 @@ class Liar:
         try:
             with stream, stream.makefile("rb") as file:
                 file.read(int(file.read(4), 16) - 4)
-                stream.sendall(advert)
+                self.send(stream, "advert", advert)
                 while message := read_message(file):
                     if message[0].startswith(b"command=ls-refs"):
-                        stream.sendall(refs)
+                        self.send(stream, "refs", refs)
                     else:
                         is_done = any(line.startswith(b"done") for line in message)
                         acks = b"" if is_done else packet(b"acknowledgments\n") + packet(b"ready\n") + b"0001"
-                        stream.sendall(acks + pack)
+                        self.send(stream, "pack", acks + pack)
         except (OSError, ValueError):
             pass
 
@@ -241,7 +252,7 @@ def spoken():
     for what, refs in (
         ("nothing", b""), ("an ERR line", packet(b"ERR " + escape)), ("a short id", packet(b"1234 refs/heads/x\n") + b"0000"),
         ("a name with control bytes", packet(TIP.hex().encode() + b" refs/heads/" + escape) + b"0000"),
-        ("a million refs", b"".join(packet(b"%040x refs/heads/%d\n" % (n + 1, n)) for n in range(1_000_000)) + b"0000"),
+        ("100,000 refs", b"".join(packet(b"%040x refs/heads/%d\n" % (n + 1, n)) for n in range(100_000)) + b"0000"),
         ("an attribute that climbs", packet(TIP.hex().encode() + b" HEAD symref-target:../../x\n") + b"0000"),
         ("a list that is cut", good[:-6]),
     ):
