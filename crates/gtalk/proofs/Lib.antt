@@ -1,0 +1,4 @@
+pub mod Digits
+pub mod Partials
+pub mod Moves
+pub mod Driving

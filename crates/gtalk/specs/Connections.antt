@@ -1,0 +1,110 @@
+-- A connection: the bytes that came and went, and the packets that were heard and said.
+use Rattle.std.specs.Prelude.{◌≡◌, ℕ, ◌+◌, ◌⊎◌, ◌++◌, List, [], length, drop, Bool, true, false, Option, Some, None, Result, Ok, Err}
+use Rattle.std.specs.Io.KnownBytes.{Appends, Consumes}
+use Rattle.gpkt.specs.Change.{Change}
+use Rattle.gpkt.specs.Packets.{Bytes, Packet, SpellsAll, canonical_all}
+use Rattle.gtalk.specs.Talks.{IsNearer, Left, Talk}
+use Rattle.gtalk.specs.Partial.{IsKept, IsStopped}
+use Rattle.gtalk.specs.declared.connection.Connection.{Connection}
+use Rattle.gtalk.specs.declared.conversation.Stop.{Stop}
+use Rattle.gtalk.specs.declared.conversation.Turn.{Turn}
+use Rattle.gtalk.specs.declared.conversation.Turn.TheVariants.{Listens, Speaks, Done}
+use Rattle.gtalk.specs.declared.fault.TalkFault.{TalkFault}
+use Rattle.gtalk.specs.declared.fault.TalkFault.TheVariants.{Io, Memory}
+
+-- the bytes that came are the packets that were heard, and these bytes after them
+pub record Spelt (heard : List Packet) (partial received : Bytes) : Type 0 where
+  pub front : Bytes
+  pub parts : received ≡ front ++ partial
+  pub spells : SpellsAll heard front
+
+-- the bytes of a queue, which is made when something is said for the first time
+abbrev pub bytes_in : Option Bytes → Bytes
+bytes_in None = []
+bytes_in (Some bytes) = bytes
+
+module _ {C A : Type 0} where
+  -- what a clause reads of a connection
+  abbrev pub conversation_of : Connection C A → C
+  conversation_of connection = connection.conversation
+
+  abbrev pub has_stopped : Connection C A → Option Stop
+  has_stopped connection = connection.stopped
+
+  -- the bytes that are kept of the packet that is coming
+  abbrev pub partial_of : Connection C A → Bytes
+  partial_of connection = connection.incoming
+
+  -- the bytes that are still to be sent
+  abbrev pub pending_of : Connection C A → Bytes
+  pending_of connection = drop connection.sent (bytes_in connection.outgoing)
+
+  -- nothing more is heard or said: the conversation is done, or it listens and no packet comes any more
+  abbrev pub IsDone : (C → Turn) → Connection C A → Type 0
+  IsDone turn connection =
+      (turn connection.conversation ≡ Done)
+      ⊎ ((turn connection.conversation ≡ Listens) × ((why : Stop) × (connection.stopped ≡ Some why)))
+
+  -- whose turn it is on a connection
+  abbrev pub IsTurn : (C → Turn) → Connection C A → Turn → Type 0
+  IsTurn turn connection Listens = (turn connection.conversation ≡ Listens) × (connection.stopped ≡ None)
+  IsTurn turn connection Speaks = turn connection.conversation ≡ Speaks
+  IsTurn turn connection Done = IsDone turn connection
+
+  -- These bytes came and these were sent: they are those of a talk that the conversation holds. What it said and what
+  -- is not sent yet waits.
+  pub record Holds (holds : C → Talk → Type 0) (connection : Connection C A) (received sent : Bytes) : Type 0 where
+    pub talk : Talk
+    pub held : holds connection.conversation talk
+    pub stopped : talk.stopped ≡ connection.stopped
+    pub partial : Bytes
+    pub heard : Spelt talk.heard partial received
+    pub rest : IsStopped connection.stopped partial
+    pub kept : IsKept connection.stopped partial connection.incoming
+    pub said : canonical_all talk.said ≡ sent ++ drop connection.sent (bytes_in connection.outgoing)
+
+  -- some bytes came and some were sent of which this holds
+  abbrev pub IsHeld : (C → Talk → Type 0) → Connection C A → Type 0
+  IsHeld holds connection = (received : Bytes) × (sent : Bytes) × Holds holds connection received sent
+
+  -- from one state to the other these bytes were received, and these were sent
+  abbrev pub Moves : (C → Talk → Type 0) → Connection C A → Connection C A → Bytes → Bytes → Type 0
+  Moves holds old new more said =
+      (received sent : Bytes) → Holds holds old received sent → Holds holds new (received ++ more) (sent ++ said)
+
+  -- the conversation is nearer to its end, as far as it held what came and went
+  abbrev pub Advances : (C → Talk → Type 0) → (C → Turn) → (C → Left) → Connection C A → Connection C A → Type 0
+  Advances holds turn left old new =
+      IsHeld holds old → IsNearer turn left old.conversation new.conversation
+
+  -- so many bytes more are kept of a packet, or the conversation is nearer to its end
+  abbrev pub Grows : (C → Talk → Type 0) → (C → Turn) → (C → Left) → Connection C A → Connection C A → ℕ → Type 0
+  Grows holds turn left old new count =
+      ((new.conversation ≡ old.conversation) × (length new.incoming ≡ length old.incoming + count))
+      ⊎ Advances holds turn left old new
+
+  -- what was read was received
+  pub record HearsRead (holds : C → Talk → Type 0) (old new : Connection C A) (read : Change) : Type 0 where
+    pub more : Bytes
+    pub received : Consumes read.old read.new more
+    pub moves : Moves holds old new more []
+
+  -- what was sent was written
+  pub record SendsSaid (holds : C → Talk → Type 0) (old new : Connection C A) (written : Change) : Type 0 where
+    pub said : Bytes
+    pub sent : Appends written.old written.new said
+    pub moves : Moves holds old new [] said
+
+  -- what was read was received, and what was sent was written
+  pub record Drives (holds : C → Talk → Type 0) (old new : Connection C A) (read written : Change) : Type 0 where
+    pub more : Bytes
+    pub said : Bytes
+    pub received : Consumes read.old read.new more
+    pub sent : Appends written.old written.new said
+    pub moves : Moves holds old new more said
+
+-- whether the sink is down after a conversation was driven, and before it
+abbrev pub LeavesSink : Result Unit TalkFault → Bool → Bool → Type 0
+LeavesSink (Ok done) was_down is_down = is_down ≡ false
+LeavesSink (Err Io) was_down is_down = is_down ≡ true
+LeavesSink (Err Memory) was_down is_down = is_down ≡ was_down

@@ -1,0 +1,244 @@
+//! A connection between two devices that block.
+
+ghost use Rattle.std.specs.Prelude.{◌≡◌, ◌<◌, ◌≤◌, [], Ok, is_err, None, IfOk, IsSome, OnErr, OnOk, length, take};
+ghost use Rattle.std.specs.Io.KnownBytes.{Consumes, IsAtEnd, Keeps};
+ghost use Rattle.gpkt.specs.Change.{change_of};
+ghost use Rattle.gpkt.specs.Devices.{PassesAll};
+ghost use Rattle.gtalk.specs.Connections.{Drives, HearsRead, IsDone, IsHeld, LeavesSink, SendsSaid, conversation_of, has_stopped, pending_of};
+ghost use Rattle.gtalk.specs.Partial.{LeavesSource};
+ghost use Rattle.gtalk.specs.Talks.{IsNearer};
+ghost use Rattle.gtalk.specs.steps.Driving.{IsDownBy, IsFewer, IsLater, StaysKnown, reading_left};
+
+use crate::connection::Connection;
+use crate::conversation::{Conversation, Turn};
+use crate::fault::TalkFault;
+use gpkt::{Down, Sink, Source};
+use std::alloc::Allocator;
+
+// The most bytes of one read.
+const PIECE: usize = 4_096;
+
+/// Holds a conversation to its end. All that is said is passed on before anything more is read, and nothing is read
+/// that is not heard.
+///
+/// It fails where the sink fails, and where there is no memory for what is said. That the source fails or ends is for
+/// the conversation to hear.
+pub fn drive<C: Conversation, A: Allocator + Copy, S: Source, W: Sink>(
+    connection: &mut Connection<C, A>,
+    source: &mut S,
+    sink: &mut W,
+) -> Result<(), TalkFault>
+    requires held { IsHeld C.holds connection.old }
+    requires all_sent { pending_of connection.old ≡ [] }
+    ensures drives { Drives C.holds connection.old connection.new
+        (change_of S.remaining source.old source.new) (change_of W.contents sink.old sink.new) }
+    ensures done { OnOk result (IsDone C.turn connection.new) }
+    ensures all_sent { OnOk result (pending_of connection.new ≡ []) }
+    ensures passed_on { OnOk result (IsSome (W.contents sink.old)
+        → PassesAll (W.contents sink.new) (change_of W.passed_on sink.old sink.new)) }
+    ensures sink { LeavesSink result (W.is_down sink.old) (W.is_down sink.new) }
+    ensures source { LeavesSource (has_stopped connection.old) (S.remaining source.old)
+        (S.is_down source.old)
+        → LeavesSource (has_stopped connection.new) (S.remaining source.new)
+        (S.is_down source.new) }
+    ensures source_loans { S.loans source.new ≡ S.loans source.old }
+    ensures sink_loans { W.loans sink.new ≡ W.loans sink.old }
+{
+    loop {
+        match connection.turn() {
+            Turn::Listens => listen(connection, source),
+            Turn::Speaks => match speak(connection, sink) {
+                Ok(()) => {}
+                Err(fault) => return Err(fault),
+            },
+            Turn::Done => return pass_on(sink),
+        }
+    }
+}
+
+// Says all of this turn, and sends it. Where it listens then, all of it is passed on.
+fn speak<C: Conversation, A: Allocator + Copy, W: Sink>(
+    connection: &mut Connection<C, A>,
+    sink: &mut W,
+) -> Result<(), TalkFault>
+    requires turn { C.turn (conversation_of connection.old) ≡ Turn.Speaks }
+    requires held { IsHeld C.holds connection.old }
+    requires all_sent { pending_of connection.old ≡ [] }
+    ensures sends { SendsSaid C.holds connection.old connection.new
+        (change_of W.contents sink.old sink.new) }
+    ensures stopped { has_stopped connection.new ≡ has_stopped connection.old }
+    ensures fewer { OnOk result ((C.left (conversation_of connection.new)).turns
+        < (C.left (conversation_of connection.old)).turns) }
+    ensures all_sent { OnOk result (pending_of connection.new ≡ []) }
+    ensures passed_on { OnOk result (StaysKnown (W.contents sink.old)
+        (change_of W.passed_on sink.old sink.new)) }
+    ensures down { IsDownBy result (W.is_down sink.old) (W.is_down sink.new) }
+    ensures loans { W.loans sink.new ≡ W.loans sink.old }
+{
+    loop {
+        match connection.turn() {
+            Turn::Speaks => match say_some(connection, sink) {
+                Ok(()) => {}
+                Err(fault) => return Err(fault),
+            },
+            Turn::Listens => return pass_on(sink),
+            Turn::Done => return Ok(()),
+        }
+    }
+}
+
+// Says some packets, and sends them.
+fn say_some<C: Conversation, A: Allocator + Copy, W: Sink>(
+    connection: &mut Connection<C, A>,
+    sink: &mut W,
+) -> Result<(), TalkFault>
+    requires turn { C.turn (conversation_of connection.old) ≡ Turn.Speaks }
+    requires held { IsHeld C.holds connection.old }
+    requires all_sent { pending_of connection.old ≡ [] }
+    ensures sends { SendsSaid C.holds connection.old connection.new
+        (change_of W.contents sink.old sink.new) }
+    ensures stopped { has_stopped connection.new ≡ has_stopped connection.old }
+    ensures nearer { OnOk result (IsNearer C.turn C.left (conversation_of connection.old)
+        (conversation_of connection.new)) }
+    ensures all_sent { OnOk result (pending_of connection.new ≡ []) }
+    ensures passed_on { Keeps (W.passed_on sink.old) (W.passed_on sink.new) }
+    ensures down { IsDownBy result (W.is_down sink.old) (W.is_down sink.new) }
+    ensures loans { W.loans sink.new ≡ W.loans sink.old }
+{
+    match connection.speak() {
+        Ok(()) => send(connection, sink),
+        Err(fault) => Err(fault),
+    }
+}
+
+// Sends all that waits.
+fn send<C: Conversation, A: Allocator + Copy, W: Sink>(
+    connection: &mut Connection<C, A>,
+    sink: &mut W,
+) -> Result<(), TalkFault>
+    ensures sends { SendsSaid C.holds connection.old connection.new
+        (change_of W.contents sink.old sink.new) }
+    ensures conversation { conversation_of connection.new ≡ conversation_of connection.old }
+    ensures stopped { has_stopped connection.new ≡ has_stopped connection.old }
+    ensures all_sent { OnOk result (pending_of connection.new ≡ []) }
+    ensures passed_on { Keeps (W.passed_on sink.old) (W.passed_on sink.new) }
+    ensures down { IsDownBy result (W.is_down sink.old) (W.is_down sink.new) }
+    ensures loans { W.loans sink.new ≡ W.loans sink.old }
+{
+    while !connection.output().is_empty() {
+        match send_some(connection, sink) {
+            Ok(()) => {}
+            Err(fault) => return Err(fault),
+        }
+    }
+    Ok(())
+}
+
+// Sends some of what waits.
+fn send_some<C: Conversation, A: Allocator + Copy, W: Sink>(
+    connection: &mut Connection<C, A>,
+    sink: &mut W,
+) -> Result<(), TalkFault>
+    requires some { 0 < length (pending_of connection.old) }
+    ensures sends { SendsSaid C.holds connection.old connection.new
+        (change_of W.contents sink.old sink.new) }
+    ensures conversation { conversation_of connection.new ≡ conversation_of connection.old }
+    ensures stopped { has_stopped connection.new ≡ has_stopped connection.old }
+    ensures fewer { OnOk result (length (pending_of connection.new)
+        < length (pending_of connection.old)) }
+    ensures passed_on { Keeps (W.passed_on sink.old) (W.passed_on sink.new) }
+    ensures down { IsDownBy result (W.is_down sink.old) (W.is_down sink.new) }
+    ensures loans { W.loans sink.new ≡ W.loans sink.old }
+{
+    match sink.write(connection.output()) {
+        Ok(count) => {
+            connection.sent(count);
+            Ok(())
+        }
+        Err(Down) => Err(TalkFault::Io),
+    }
+}
+
+// Passes on all that was sent.
+fn pass_on<W: Sink>(sink: &mut W) -> Result<(), TalkFault>
+    ensures bytes { Keeps (W.contents sink.old) (W.contents sink.new) }
+    ensures passed_on { OnOk result
+        (PassesAll (W.contents sink.new) (change_of W.passed_on sink.old sink.new)) }
+    ensures sink { LeavesSink result (W.is_down sink.old) (W.is_down sink.new) }
+    ensures down { IsDownBy result (W.is_down sink.old) (W.is_down sink.new) }
+    ensures loans { W.loans sink.new ≡ W.loans sink.old }
+{
+    match sink.flush() {
+        Ok(()) => Ok(()),
+        Err(Down) => Err(TalkFault::Io),
+    }
+}
+
+// Listens until it speaks, or nothing more is heard.
+fn listen<C: Conversation, A: Allocator + Copy, S: Source>(
+    connection: &mut Connection<C, A>,
+    source: &mut S,
+)
+    requires turn { C.turn (conversation_of connection.old) ≡ Turn.Listens }
+    requires goes_on { has_stopped connection.old ≡ None }
+    requires held { IsHeld C.holds connection.old }
+    ensures hears { HearsRead C.holds connection.old connection.new
+        (change_of S.remaining source.old source.new) }
+    ensures source { LeavesSource (has_stopped connection.old) (S.remaining source.old)
+        (S.is_down source.old)
+        → LeavesSource (has_stopped connection.new) (S.remaining source.new)
+        (S.is_down source.new) }
+    ensures fewer { IsFewer C.left connection.old connection.new }
+    ensures pending { pending_of connection.new ≡ pending_of connection.old }
+    ensures loans { S.loans source.new ≡ S.loans source.old }
+{
+    loop {
+        match connection.turn() {
+            Turn::Listens => hear_some(connection, source),
+            Turn::Speaks | Turn::Done => return,
+        }
+    }
+}
+
+// Reads once, and no further than the packet that is coming.
+#[tactic(auto, using(crate::proofs::Partials::lacks_fewer))]
+fn hear_some<C: Conversation, A: Allocator + Copy, S: Source>(
+    connection: &mut Connection<C, A>,
+    source: &mut S,
+)
+    requires turn { C.turn (conversation_of connection.old) ≡ Turn.Listens }
+    requires goes_on { has_stopped connection.old ≡ None }
+    requires held { IsHeld C.holds connection.old }
+    ensures hears { HearsRead C.holds connection.old connection.new
+        (change_of S.remaining source.old source.new) }
+    ensures source { LeavesSource (has_stopped connection.new) (S.remaining source.new)
+        (S.is_down source.new) }
+    ensures later { IsLater C.turn C.left (conversation_of connection.old)
+        (conversation_of connection.new) }
+    ensures fewer { reading_left C.turn C.left connection.new
+        < reading_left C.turn C.left connection.old }
+    ensures pending { pending_of connection.new ≡ pending_of connection.old }
+    ensures loans { S.loans source.new ≡ S.loans source.old }
+{
+    let mut piece = [0; PIECE];
+    let most = connection.wanted().min(PIECE);
+    match read_front(source, &mut piece, most) {
+        Ok(0) => connection.receive_end(),
+        Ok(count) => connection.receive(&piece[..count]),
+        Err(Down) => connection.receive_failure(),
+    }
+}
+
+// Reads so many bytes at most, into the front of `piece`.
+fn read_front<S: Source>(source: &mut S, piece: &mut [u8], most: usize) -> Result<usize, Down>
+    requires { most ≤ length piece.old }
+    ensures few { IfOk result (λ n. n ≤ most) }
+    ensures bytes { IfOk result
+        (λ n. Consumes (S.remaining source.old) (S.remaining source.new) (take n piece.new)) }
+    ensures end { result ≡ Ok 0 → 0 < most → IsAtEnd (S.remaining source.new) }
+    ensures err { OnErr result (Keeps (S.remaining source.old) (S.remaining source.new)) }
+    ensures down { S.is_down source.new ≡ is_err result }
+    ensures loans { S.loans source.new ≡ S.loans source.old }
+{
+    source.read(&mut piece[..most])
+}

@@ -1,0 +1,190 @@
+//! What a connection does with bytes.
+
+ghost use Rattle.std.specs.Prelude.{◌≡◌, ◌<◌, ◌≤◌, [], None, Some, length, take, drop, IsOkUnless, OnErr, OnOk};
+ghost use Rattle.gtalk.specs.Connections.{Advances, Grows, Holds, IsTurn, Moves, bytes_in, conversation_of, has_stopped, partial_of, pending_of};
+ghost use Rattle.gtalk.specs.Partial.{IsByBytes, IsByEnd, Lacks};
+ghost use Rattle.gtalk.specs.Talks.{no_talk, queue_room};
+
+use crate::connection::Connection;
+use crate::conversation::{Conversation, Stop, Turn};
+use crate::fault::TalkFault;
+use crate::incoming::Incoming;
+use crate::outgoing::Outgoing;
+use gpkt::LineFault;
+use std::alloc::Allocator;
+
+impl<C, A: Allocator + Copy> Connection<C, A> {
+    /// The conversation.
+    pub fn conversation(&self) -> &C
+        ensures { result.now ≡ conversation_of self.now }
+    {
+        &self.conversation
+    }
+
+    /// The conversation, as the calls left it. What waits to be sent is dropped.
+    pub fn into_conversation(self) -> C
+    where
+        C: Drop,
+        ensures { result ≡ conversation_of self }
+    {
+        let Connection { conversation, .. } = self;
+        conversation
+    }
+
+    /// The bytes that are to be sent next.
+    pub fn output(&self) -> &[u8]
+        ensures { result.now ≡ pending_of self.now }
+    {
+        let bytes = bytes_of(&self.outgoing);
+        &bytes[self.sent.min(bytes.len())..]
+    }
+}
+
+impl<C: Conversation, A: Allocator + Copy> Connection<C, A> {
+    /// A connection on which nothing came and nothing was sent. It takes no memory.
+    pub fn new(conversation: C, alloc: A) -> Connection<C, A>
+        ensures holds { C.holds conversation no_talk → Holds C.holds result [] [] }
+        ensures conversation { conversation_of result ≡ conversation }
+        ensures goes_on { has_stopped result ≡ None }
+        ensures pending { pending_of result ≡ [] }
+    {
+        Connection {
+            conversation,
+            alloc,
+            stopped: None,
+            incoming: Incoming::new(alloc),
+            outgoing: None,
+            sent: 0,
+        }
+    }
+
+    /// Whose turn it is. It is nobody's, too, where the conversation listens and no packet comes any more.
+    pub fn turn(&self) -> Turn
+        ensures { IsTurn C.turn self.now result }
+    {
+        match self.conversation.turn() {
+            Turn::Listens if self.stopped.is_some() => Turn::Done,
+            turn => turn,
+        }
+    }
+
+    /// How many bytes are received at most before a packet is heard: 0 only once no packet comes any more.
+    pub fn wanted(&self) -> usize
+        ensures lacks { Lacks (partial_of self.now) result }
+        ensures some { has_stopped self.now ≡ None → 0 < result }
+    {
+        self.incoming.lacks()
+    }
+
+    /// Receives bytes, no more than are [`wanted`](Connection::wanted).
+    ///
+    /// Where they are no packet, or there is no memory for them, the conversation hears that no packet comes any more.
+    pub fn receive(&mut self, bytes: &[u8])
+        requires turn { C.turn (conversation_of self.old) ≡ Turn.Listens }
+        requires goes_on { has_stopped self.old ≡ None }
+        requires wanted { Lacks (partial_of self.old) (length bytes.now) }
+        ensures moves { Moves C.holds self.old self.new bytes.now [] }
+        ensures pending { pending_of self.new ≡ pending_of self.old }
+        ensures stopped { IsByBytes (has_stopped self.new) }
+        ensures grows { Grows C.holds C.turn C.left self.old self.new (length bytes.now) }
+    {
+        if self.incoming.take(bytes).is_err() {
+            let why = Stop::Refused(LineFault::Memory);
+            self.stopped = Some(why);
+            self.conversation.stop(why);
+            return;
+        }
+        match self.incoming.line() {
+            Ok(None) => {}
+            Ok(Some(line)) => {
+                self.conversation.hear(line);
+                self.incoming.clear();
+            }
+            Err(fault) => {
+                let why = Stop::Refused(fault);
+                self.stopped = Some(why);
+                self.conversation.stop(why);
+            }
+        }
+    }
+
+    /// Receives the end of the input.
+    pub fn receive_end(&mut self)
+        requires turn { C.turn (conversation_of self.old) ≡ Turn.Listens }
+        requires goes_on { has_stopped self.old ≡ None }
+        ensures moves { Moves C.holds self.old self.new [] [] }
+        ensures pending { pending_of self.new ≡ pending_of self.old }
+        ensures stopped { IsByEnd (has_stopped self.new) }
+        ensures advances { Advances C.holds C.turn C.left self.old self.new }
+    {
+        let why = self.incoming.end();
+        self.stopped = Some(why);
+        self.conversation.stop(why);
+    }
+
+    /// Receives that the device has failed.
+    pub fn receive_failure(&mut self)
+        requires turn { C.turn (conversation_of self.old) ≡ Turn.Listens }
+        requires goes_on { has_stopped self.old ≡ None }
+        ensures moves { Moves C.holds self.old self.new [] [] }
+        ensures pending { pending_of self.new ≡ pending_of self.old }
+        ensures stopped { has_stopped self.new ≡ Some Stop.Failed }
+        ensures advances { Advances C.holds C.turn C.left self.old self.new }
+    {
+        self.stopped = Some(Stop::Failed);
+        self.conversation.stop(Stop::Failed);
+    }
+
+    /// Says what is next, once all that was said before is sent.
+    ///
+    /// Its only fault is [`TalkFault::Memory`], and only a first call has it. Nothing is said then, and the connection
+    /// is as it was.
+    pub fn speak(&mut self) -> Result<(), TalkFault>
+        requires turn { C.turn (conversation_of self.old) ≡ Turn.Speaks }
+        requires all_sent { pending_of self.old ≡ [] }
+        ensures memory { IsOkUnless result TalkFault.Memory }
+        ensures moves { Moves C.holds self.old self.new [] [] }
+        ensures same { OnErr result (conversation_of self.new ≡ conversation_of self.old) }
+        ensures pending { OnErr result (pending_of self.new ≡ []) }
+        ensures stopped { has_stopped self.new ≡ has_stopped self.old }
+        ensures advances { OnOk result (Advances C.holds C.turn C.left self.old self.new) }
+    {
+        let mut out = match self.outgoing.take() {
+            Some(out) => out,
+            None => match Outgoing::new(self.alloc) {
+                Ok(out) => out,
+                Err(_) => return Err(TalkFault::Memory),
+            },
+        };
+        out.clear();
+        self.conversation.say(&mut out);
+        self.outgoing = Some(out);
+        self.sent = 0;
+        Ok(())
+    }
+
+    /// So many bytes of the output were sent.
+    pub fn sent(&mut self, count: usize)
+        requires { count ≤ length (pending_of self.old) }
+        ensures moves { Moves C.holds self.old self.new [] (take count (pending_of self.old)) }
+        ensures pending { pending_of self.new ≡ drop count (pending_of self.old) }
+        ensures conversation { conversation_of self.new ≡ conversation_of self.old }
+        ensures stopped { has_stopped self.new ≡ has_stopped self.old }
+    {
+        let len = bytes_of(&self.outgoing).len();
+        let sent = self.sent;
+        prove!(sent <= len || count == 0);
+        self.sent = sent + count;
+    }
+}
+
+// The bytes of a queue, if there is one.
+fn bytes_of<A: Allocator + Copy>(outgoing: &Option<Outgoing<A>>) -> &[u8]
+    ensures bytes { result.now ≡ bytes_in outgoing.now }
+    ensures few { length result.now ≤ queue_room }
+{
+    match outgoing {
+        Some(out) => out.as_bytes(),
+        None => &[],
+    }
+}
