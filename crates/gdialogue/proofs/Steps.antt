@@ -1,0 +1,311 @@
+-- The steps of a dialogue: a packet that is heard, and packets that are said.
+use Rattle.std.proofs.Common.{◌≡◌, ℕ, ◌+◌, ◌<◌, ◌≤◌, ◌^◌, Bool, true, false, List, [], ◌∷◌, ◌++◌, length, Option, Some, None, Result, Ok, Err, refl, sym, ap, ◌∙◌, subst, arith, length-append, append-nil, append_assoc}
+use Rattle.std.proofs.lemmas.List.{length_push}
+use Rattle.gpkt.specs.Packets.{Bytes, Packet}
+use Rattle.ggrammar.specs.Grammar.{Judge, LawsOf, Open, Whole, IsOpen, IsWhole}
+use Rattle.ggrammar.specs.MessageReading.{IsReason, TakesPacket}
+use Rattle.ggrammar.specs.declared.message.Step.{Step}
+use Rattle.ggrammar.specs.declared.message.Step.TheVariants as step
+use Rattle.ggrammar.specs.declared.fault.Why.{Why}
+use Rattle.ggrammar.specs.declared.fault.MessageFault.{MessageFault}
+use Rattle.gtalk.specs.Talks.{Talk, Says, hearing, no_talk, saying, stopping}
+use Rattle.gtalk.specs.declared.conversation.Stop.{Stop}
+use Rattle.gdialogue.specs.Sides.{LeadsTo, MayAnswer, SaysSome}
+use Rattle.gdialogue.specs.declared.side.Said.{Said}
+use Rattle.gdialogue.specs.declared.side.Said.TheVariants as said
+use Rattle.gdialogue.specs.declared.side.Answer.{Answer}
+use Rattle.gdialogue.specs.declared.side.Answer.TheVariants as answer
+use Rattle.gdialogue.specs.Dialogues.{Answered, HasEnded, HoldsEnding, HoldsHearing, HoldsSaying, HoldsStage, IsRefused, IsSoFar, reason_of}
+use Rattle.gdialogue.specs.Dialogues as dialogue
+use Rattle.gdialogue.specs.declared.dialogue.Stage.{Stage}
+use Rattle.gdialogue.specs.declared.dialogue.Stage.TheVariants as stage
+
+module _ {S M R : Type 0} (judge : S → Judge) (brings : S → List Packet → Packet → Bool)
+    (opens : S → List Packet → Bool → Type 0) (answers : S → List Packet → List Packet → Bool → S → Type 0)
+    (refuses : S → MessageFault → List Packet → S → Type 0) (judge_of : M → Judge) (brings_of : M → List Packet → Packet → Bool)
+    (message_holds left : M → List Packet → Type 0) (may : R → List Packet → Bool → Type 0) where
+  abbrev Hearing : S → M → ℕ → Talk → Type 0
+  Hearing = HoldsHearing judge brings opens answers refuses judge_of brings_of message_holds may
+
+  abbrev Saying : S → R → Talk → Type 0
+  Saying = HoldsSaying judge brings opens answers refuses judge_of brings_of message_holds may
+
+  abbrev Ending : S → R → Talk → Type 0
+  Ending = HoldsEnding judge brings opens answers refuses judge_of brings_of message_holds may
+
+  abbrev Stands : S → Stage M R → Talk → Type 0
+  Stands = HoldsStage judge brings opens answers refuses judge_of brings_of message_holds may
+
+  abbrev SoFar : S → Bool → List Packet → Option Stop → List Packet → S → Type 0
+  SoFar = IsSoFar judge brings opens answers refuses
+
+  abbrev Ended : S → List Packet → Option Stop → List Packet → S → Type 0
+  Ended = HasEnded judge brings opens answers refuses
+
+  pub begins : (side : S) (message : M) → message_holds message [] → judge_of message ≡ judge side → brings_of message ≡ brings side
+      → LawsOf (judge side) → opens side [] true → Hearing side message 0 no_talk
+  begins side message held judged brought laws opened = record {
+    first = side;
+    heard = [];
+    answered = dialogue.Answered.opened [] opened;
+    front = [];
+    all = refl;
+    judged = judged;
+    brought = brought;
+    goes = laws.nothing;
+    held = held;
+    count = refl;
+    unstopped = refl;
+  }
+
+  -- what a message does with a packet
+  abbrev Takes : M → M → Packet → Result Step Why → Type 0
+  Takes message new packet result = (front : List Packet) → IsOpen (judge_of message) front → message_holds message front
+      → TakesPacket (judge_of message) (brings_of message) message_holds left front packet new result
+
+  open_there : (side : S) (message : M) (frame : ℕ) (talk : Talk) (h : Hearing side message frame talk)
+      → IsOpen (judge_of message) h.front
+  open_there side message frame talk h = subst (λ j. IsOpen j h.front) (sym h.judged) h.goes
+
+  taken : (side : S) (message new : M) (frame : ℕ) (packet : Packet) (result other : Result Step Why) (talk : Talk)
+      → Takes message new packet result → result ≡ other → (h : Hearing side message frame talk)
+      → TakesPacket (judge_of message) (brings_of message) message_holds left h.front packet new other
+  taken side message new frame packet result other talk takes is h =
+      subst (TakesPacket (judge_of message) (brings_of message) message_holds left h.front packet new) is
+      (takes h.front (open_there side message frame talk h) h.held)
+
+  -- all packets, the one that is heard among them
+  with_packet : (side : S) (message : M) (frame : ℕ) (packet : Packet) (talk : Talk) (h : Hearing side message frame talk)
+      → talk.heard ++ packet ∷ [] ≡ h.heard ++ (h.front ++ packet ∷ [])
+  with_packet side message frame packet talk h =
+      ap (λ l. l ++ packet ∷ []) h.all ∙ append_assoc h.heard h.front (packet ∷ [])
+
+  pub goes_on_hearing : (side : S) (message new : M) (frame next : ℕ) (packet : Packet) (result : Result Step Why)
+      → ((j : Judge) → LawsOf j) → judge_of new ≡ judge_of message → brings_of new ≡ brings_of message
+      → Takes message new packet result → result ≡ Ok step.Open
+      → ((front : List Packet) → IsOpen (judge_of message) front → length front < 2 ^ 60)
+      → (frame < 2 ^ 60 → next ≡ frame + 1)
+      → (talk : Talk) → Hearing side message frame talk → Hearing side new next (hearing talk packet)
+  goes_on_hearing side message new frame next packet result laws judged brought takes is bounded counts talk h =
+      let t = taken side message new frame packet result (Ok step.Open) talk takes is h in
+      let there = open_there side message frame talk h in
+      let few : frame < 2 ^ 60 = subst (λ n. n < 2 ^ 60) (sym h.count) (bounded h.front there) in
+      record {
+        first = h.first;
+        heard = h.heard;
+        answered = h.answered;
+        front = h.front ++ packet ∷ [];
+        all = with_packet side message frame packet talk h;
+        judged = judged ∙ h.judged;
+        brought = brought ∙ h.brought;
+        goes = subst (λ j. IsOpen j (h.front ++ packet ∷ [])) h.judged ((laws (judge_of message)).goes_on h.front packet there t.0);
+        held = t.1;
+        count = counts few ∙ ap (λ n. n + 1) h.count ∙ sym (length_push h.front packet);
+        unstopped = h.unstopped;
+      }
+
+  whole_message : (side : S) (message new : M) (frame : ℕ) (packet : Packet) (result : Result Step Why) (talk : Talk)
+      → Takes message new packet result → result ≡ Ok step.Whole → (h : Hearing side message frame talk)
+      → IsWhole (judge side) (h.front ++ packet ∷ []) × message_holds new (h.front ++ packet ∷ [])
+  whole_message side message new frame packet result talk takes is h =
+      let t = taken side message new frame packet result (Ok step.Whole) talk takes is h in (
+        record {
+          front = h.front;
+          last = packet;
+          parts = refl;
+          goes = h.goes;
+          ends = subst (λ j. j h.front packet ≡ Whole) h.judged t.0;
+        },
+        t.1,
+      )
+
+  -- it opens with a reply
+  pub opens_with : (side : S) (reply : R) → ((packets : List Packet) (goes : Bool) → may reply packets goes → opens side packets goes)
+      → Saying side reply no_talk
+  opens_with side reply opened = record { first = side; due = λ rest goes h. so_far rest goes (opened rest goes h) }
+    where
+      so_far : (rest : List Packet) (goes : Bool) → opens side rest goes → SoFar side goes [] None ([] ++ rest) side
+      so_far rest true h = (dialogue.Answered.opened rest h, refl)
+      so_far rest false h = dialogue.HasEnded.opened rest h
+
+  -- what is said to a message
+  abbrev AnswersIt : S → M → Answer R → S → Type 0
+  AnswersIt side message result after = (lines packets : List Packet) (goes : Bool) → IsWhole (judge side) lines → message_holds message lines
+      → MayAnswer may result packets goes → answers side lines packets goes after
+
+  -- how the talk ended, by its packets
+  ends_so : (first after : S) (heard all said : List Packet) (stop stopped : Option Stop) → all ≡ heard → stopped ≡ stop
+      → Ended first heard stop said after
+      → Ended first all stopped said after
+  ends_so first after heard all said stop stopped is same h =
+      subst (λ l. Ended first l stopped said after) (sym is)
+      (subst (λ s. Ended first heard s said after) (sym same) h)
+
+  -- an answer that may be said, and what was heard and said with it
+  answered_so : (side after : S) (first : S) (heard lines : List Packet) (packets rest : List Packet) (all : List Packet) (stopped : Option Stop) (goes : Bool)
+      → Answered judge brings opens answers refuses first heard packets side → IsWhole (judge side) lines → answers side lines rest goes after
+      → all ≡ heard ++ lines → stopped ≡ None → SoFar first goes all stopped (packets ++ rest) after
+  answered_so side after first heard lines packets rest all stopped true so_far whole says is same = (
+    subst (λ l. Answered judge brings opens answers refuses first l (packets ++ rest) after) (sym is)
+        (dialogue.Answered.more heard packets lines rest side after so_far whole says),
+    same,
+  )
+  answered_so side after first heard lines packets rest all stopped false so_far whole says is same =
+      ends_so first after (heard ++ lines) all (packets ++ rest) None stopped is same
+      (dialogue.HasEnded.last heard packets lines rest side after so_far whole says)
+
+  pub answers_message : (side after : S) (message new : M) (frame : ℕ) (packet : Packet) (result : Result Step Why) (answered : Answer R) (reply : R)
+      → Takes message new packet result → result ≡ Ok step.Whole → AnswersIt side new answered after → answered ≡ answer.GoesOn reply
+      → (talk : Talk) → Hearing side message frame talk → Saying after reply (hearing talk packet)
+  answers_message side after message new frame packet result answered reply takes is does same talk h =
+      let w = whole_message side message new frame packet result talk takes is h in
+      let lines = h.front ++ packet ∷ [] in
+      record {
+        first = h.first;
+        due = λ rest goes may_say.
+            answered_so side after h.first h.heard lines talk.said rest (talk.heard ++ packet ∷ []) talk.stopped goes h.answered w.0
+            (does lines rest goes w.0 w.1 (subst (λ a. MayAnswer may a rest goes) (sym same) may_say))
+            (with_packet side message frame packet talk h) h.unstopped;
+      }
+
+  pub answers_last : (side after : S) (message new : M) (frame : ℕ) (packet : Packet) (result : Result Step Why) (answered : Answer R) (reply : R)
+      → Takes message new packet result → result ≡ Ok step.Whole → AnswersIt side new answered after → answered ≡ answer.Last reply
+      → (talk : Talk) → Hearing side message frame talk → Ending after reply (hearing talk packet)
+  answers_last side after message new frame packet result answered reply takes is does same talk h =
+      let w = whole_message side message new frame packet result talk takes is h in
+      let lines = h.front ++ packet ∷ [] in
+      record {
+        first = h.first;
+        due = λ rest goes may_say.
+            answered_so side after h.first h.heard lines talk.said rest (talk.heard ++ packet ∷ []) talk.stopped false h.answered w.0
+            (does lines rest false w.0 w.1 (subst (λ a. MayAnswer may a rest false) (sym same) (refl, (goes, may_say))))
+            (with_packet side message frame packet talk h) h.unstopped;
+      }
+
+  -- what is said to a message that is refused
+  abbrev RefusesIt : S → MessageFault → R → S → Type 0
+  RefusesIt side fault reply after = (packets : List Packet) (goes : Bool) → may reply packets goes → refuses side fault packets after
+
+  -- a message is refused
+  refuses_so : (side after : S) (message : M) (frame : ℕ) (rest lines all : List Packet) (stop stopped : Option Stop) (why : Why)
+      (talk : Talk) (h : Hearing side message frame talk) → refuses side (record { frame = frame; why = why }) rest after
+      → IsRefused (judge side) (brings side) lines stop (record { frame = length h.front; why = why })
+      → all ≡ h.heard ++ lines → stopped ≡ stop
+      → Ended h.first all stopped (talk.said ++ rest) after
+  refuses_so side after message frame rest lines all stop stopped why talk h says refused is same =
+      ends_so h.first after (h.heard ++ lines) all (talk.said ++ rest) stop stopped is same
+      (dialogue.HasEnded.refused h.heard talk.said lines rest stop (record { frame = length h.front; why = why }) side after h.answered refused
+      (subst (λ n. refuses side (record { frame = n; why = why }) rest after) h.count says))
+
+  pub refuses_packet : (side after : S) (message new : M) (frame : ℕ) (packet : Packet) (result : Result Step Why) (why : Why) (reply : R)
+      → Takes message new packet result → result ≡ Err why → RefusesIt side (record { frame = frame; why = why }) reply after
+      → (talk : Talk) → Hearing side message frame talk → Ending after reply (hearing talk packet)
+  refuses_packet side after message new frame packet result why reply takes is says talk h =
+      let t = taken side message new frame packet result (Err why) talk takes is h in
+      let reason : IsReason (judge side h.front packet) (brings side h.front packet) why =
+      subst (λ b. IsReason (judge side h.front packet) (b h.front packet) why) h.brought
+      (subst (λ j. IsReason (j h.front packet) (brings_of message h.front packet) why) h.judged t.0) in
+      record {
+        first = h.first;
+        due = λ rest goes may_say.
+            refuses_so side after message frame rest (h.front ++ packet ∷ []) (talk.heard ++ packet ∷ []) None talk.stopped why talk h (says rest goes may_say)
+            (dialogue.packet h.front packet why h.goes reason) (with_packet side message frame packet talk h) h.unstopped;
+      }
+
+  pub refuses_stop : (side after : S) (message : M) (frame : ℕ) (stop : Stop) (reply : R)
+      → RefusesIt side (record { frame = frame; why = reason_of stop }) reply after
+      → (talk : Talk) → Hearing side message frame talk → Ending after reply (stopping talk stop)
+  refuses_stop side after message frame stop reply says talk h = record {
+    first = h.first;
+    due = λ rest goes may_say.
+        refuses_so side after message frame rest h.front talk.heard (Some stop) (Some stop) (reason_of stop) talk h (says rest goes may_say)
+        (dialogue.stopped h.front stop h.goes) h.all refl;
+  }
+
+  -- what a call said, and what it leads to
+  abbrev Led : R → R → Bytes → Said → Type 0
+  Led = SaysSome may
+
+  led_to : (old new : R) (out : Bytes) (result other : Said) (h : Led old new out result) → result ≡ other → LeadsTo may old new h.said other
+  led_to old new out result other h is = subst (LeadsTo may old new h.said) is h.leads
+
+  -- more of a reply follows
+  pub says_more : (side : S) (old new : R) (out : Bytes) (result : Said) → Led old new out result → result ≡ said.More
+      → (talk : Talk) → Saying side old talk → Says (Stands side (stage.Says new)) talk out
+  says_more side old new out result says is talk h =
+      let leads = led_to old new out result said.More says is in
+      record {
+        more = says.said;
+        spelt = says.spelt;
+        held = record {
+          first = h.first;
+          due = λ rest goes may_say.
+              subst (λ p. SoFar h.first goes talk.heard talk.stopped p side) (sym (append_assoc talk.said says.said rest))
+              (h.due (says.said ++ rest) goes (leads rest goes may_say));
+        };
+      }
+
+  pub ends_more : (side : S) (old new : R) (out : Bytes) (result : Said) → Led old new out result → result ≡ said.More
+      → (talk : Talk) → Ending side old talk → Says (Stands side (stage.Ends new)) talk out
+  ends_more side old new out result says is talk h =
+      let leads = led_to old new out result said.More says is in
+      record {
+        more = says.said;
+        spelt = says.spelt;
+        held = record {
+          first = h.first;
+          due = λ rest goes may_say.
+              subst (λ p. Ended h.first talk.heard talk.stopped p side) (sym (append_assoc talk.said says.said rest))
+              (h.due (says.said ++ rest) goes (leads rest goes may_say));
+        };
+      }
+
+  -- the whole of a reply is said, and the next message is heard
+  pub hears_next : (side : S) (message : M) (old new : R) (out : Bytes) (result : Said) → Led old new out result → result ≡ said.Whole
+      → message_holds message [] → judge_of message ≡ judge side → brings_of message ≡ brings side → LawsOf (judge side)
+      → (talk : Talk) → Saying side old talk → Says (Stands side (stage.Hears message 0)) talk out
+  hears_next side message old new out result says is held judged brought laws talk h =
+      let so_far = h.due says.said true (led_to old new out result said.Whole says is) in
+      record {
+        more = says.said;
+        spelt = says.spelt;
+        held = record {
+          first = h.first;
+          heard = talk.heard;
+          answered = so_far.0;
+          front = [];
+          all = sym (append-nil talk.heard);
+          judged = judged;
+          brought = brought;
+          goes = laws.nothing;
+          held = held;
+          count = refl;
+          unstopped = so_far.1;
+        };
+      }
+
+  -- a reply that ends the dialogue
+  pub says_last : (side : S) (old new : R) (out : Bytes) (result : Said) → Led old new out result → result ≡ said.Last
+      → (talk : Talk) → Saying side old talk → Says (Stands side stage.Over) talk out
+  says_last side old new out result says is talk h = record {
+    more = says.said;
+    spelt = says.spelt;
+    held = record { first = h.first; ended = h.due says.said false (led_to old new out result said.Last says is) };
+  }
+
+  -- the last reply is said
+  pub ends_whole : (side : S) (old new : R) (out : Bytes) (result : Said) → Led old new out result → result ≡ said.Whole
+      → (talk : Talk) → Ending side old talk → Says (Stands side stage.Over) talk out
+  ends_whole side old new out result says is talk h = record {
+    more = says.said;
+    spelt = says.spelt;
+    held = record { first = h.first; ended = h.due says.said true (led_to old new out result said.Whole says is) };
+  }
+
+  pub ends_last : (side : S) (old new : R) (out : Bytes) (result : Said) → Led old new out result → result ≡ said.Last
+      → (talk : Talk) → Ending side old talk → Says (Stands side stage.Over) talk out
+  ends_last side old new out result says is talk h = record {
+    more = says.said;
+    spelt = says.spelt;
+    held = record { first = h.first; ended = h.due says.said false (led_to old new out result said.Last says is) };
+  }

@@ -1,0 +1,118 @@
+-- A dialogue: messages that were heard, and what was said to each.
+use Rattle.std.specs.Prelude.{◌≡◌, ℕ, ◌+◌, ◌-◌, ◌^◌, Bool, true, false, List, [], ◌∷◌, ◌++◌, length, Option, Some, None}
+use Rattle.gpkt.specs.Packets.{Packet}
+use Rattle.gpkt.specs.declared.fault.LineFault.TheVariants.{Io}
+use Rattle.ggrammar.specs.Grammar.{Judge, IsOpen, IsWhole}
+use Rattle.ggrammar.specs.MessageReading.{IsReason}
+use Rattle.ggrammar.specs.declared.fault.Why.{Why}
+use Rattle.ggrammar.specs.declared.fault.Why.TheVariants as why
+use Rattle.ggrammar.specs.declared.fault.MessageFault.{MessageFault}
+use Rattle.gtalk.specs.Talks.{Left, Talk}
+use Rattle.gtalk.specs.declared.conversation.Turn.{Turn}
+use Rattle.gtalk.specs.declared.conversation.Turn.TheVariants.{Listens, Speaks, Done}
+use Rattle.gtalk.specs.declared.conversation.Stop.{Stop}
+use Rattle.gtalk.specs.declared.conversation.Stop.TheVariants as stop
+use Rattle.gdialogue.specs.declared.dialogue.Dialogue.{Dialogue}
+use Rattle.gdialogue.specs.declared.dialogue.Stage.{Stage}
+use Rattle.gdialogue.specs.declared.dialogue.Stage.TheVariants as stage
+
+-- why a message is refused of which no packet comes any more
+abbrev pub reason_of : Stop → Why
+reason_of stop.Ended = why.Ended
+reason_of (stop.Refused fault) = why.Line fault
+reason_of stop.Failed = why.Line Io
+
+-- why a message is refused: its last packet does not fit, or no packet comes any more
+pub data IsRefused (judge : Judge) (brings : List Packet → Packet → Bool)
+    : List Packet → Option Stop → MessageFault → Type 0 where
+  packet : (front : List Packet) (packet : Packet) (why : Why) → IsOpen judge front
+      → IsReason (judge front packet) (brings front packet) why
+      → IsRefused judge brings (front ++ packet ∷ []) None (record { frame = length front; why = why })
+  stopped : (front : List Packet) (stop : Stop) → IsOpen judge front
+      → IsRefused judge brings front (Some stop) (record { frame = length front; why = reason_of stop })
+
+-- ---- the turns of a dialogue
+
+abbrev pub turn_of : {M R : Type 0} → Stage M R → Turn
+turn_of (stage.Hears message frame) = Listens
+turn_of (stage.Says reply) = Speaks
+turn_of (stage.Ends reply) = Speaks
+turn_of stage.Over = Done
+
+-- how much is left: two turns for each message that is answered, and the packets of this one, of which there are fewer
+-- than 2^60
+abbrev pub left_of : {M R : Type 0} → (R → ℕ) → ℕ → Stage M R → Left
+left_of calls messages (stage.Hears message frame) = record { turns = messages + messages + 2; steps = 2 ^ 60 - frame }
+left_of calls messages (stage.Says reply) = record { turns = messages + messages + 3; steps = calls reply }
+left_of calls messages (stage.Ends reply) = record { turns = 1; steps = calls reply }
+left_of calls messages stage.Over = record { turns = 0; steps = 0 }
+
+module _ {S : Type 0} (judge : S → Judge) (brings : S → List Packet → Packet → Bool)
+    (opens : S → List Packet → Bool → Type 0) (answers : S → List Packet → List Packet → Bool → S → Type 0)
+    (refuses : S → MessageFault → List Packet → S → Type 0) where
+  -- The first end opened the dialogue; then these messages were heard, one after the other, each was answered by the
+  -- end as it then was, and all of this was said.
+  pub data Answered (first : S) : List Packet → List Packet → S → Type 0 where
+    opened : (said : List Packet) → opens first said true → Answered first [] said first
+    more : (heard said lines reply : List Packet) (mid last : S) → Answered first heard said mid
+        → IsWhole (judge mid) lines → answers mid lines reply true last
+        → Answered first (heard ++ lines) (said ++ reply) last
+
+  -- how a dialogue ends: with its opening, with an answer that is the last, or with a message that is refused
+  pub data HasEnded (first : S) : List Packet → Option Stop → List Packet → S → Type 0 where
+    opened : (said : List Packet) → opens first said false → HasEnded first [] None said first
+    last : (heard said lines reply : List Packet) (mid last : S) → Answered first heard said mid
+        → IsWhole (judge mid) lines → answers mid lines reply false last
+        → HasEnded first (heard ++ lines) None (said ++ reply) last
+    refused : (heard said lines reply : List Packet) (stop : Option Stop) (fault : MessageFault) (mid last : S)
+        → Answered first heard said mid → IsRefused (judge mid) (brings mid) lines stop fault
+        → refuses mid fault reply last
+        → HasEnded first (heard ++ lines) stop (said ++ reply) last
+
+  -- so far, a dialogue that goes on or has ended
+  abbrev pub IsSoFar : S → Bool → List Packet → Option Stop → List Packet → S → Type 0
+  IsSoFar first true heard stop said side = Answered first heard said side × (stop ≡ None)
+  IsSoFar first false heard stop said side = HasEnded first heard stop said side
+
+  module _ {M R : Type 0} (judge_of : M → Judge) (brings_of : M → List Packet → Packet → Bool)
+      (message_holds : M → List Packet → Type 0) (may : R → List Packet → Bool → Type 0) where
+    -- a message is being heard, and all that came before it was answered
+    pub record HoldsHearing (side : S) (message : M) (frame : ℕ) (talk : Talk) : Type 0 where
+      pub first : S
+      pub heard : List Packet
+      pub answered : Answered first heard talk.said side
+      pub front : List Packet
+      pub all : talk.heard ≡ heard ++ front
+      pub judged : judge_of message ≡ judge side
+      pub brought : brings_of message ≡ brings side
+      pub goes : IsOpen (judge side) front
+      pub held : message_holds message front
+      pub count : frame ≡ length front
+      pub unstopped : talk.stopped ≡ None
+
+    -- an answer is being said: with all that it may still say the message is answered
+    pub record HoldsSaying (side : S) (reply : R) (talk : Talk) : Type 0 where
+      pub first : S
+      pub due : (rest : List Packet) (goes : Bool) → may reply rest goes
+          → IsSoFar first goes talk.heard talk.stopped (talk.said ++ rest) side
+
+    -- the last packets are being said: with all that it may still say the dialogue has ended
+    pub record HoldsEnding (side : S) (reply : R) (talk : Talk) : Type 0 where
+      pub first : S
+      pub due : (rest : List Packet) (goes : Bool) → may reply rest goes
+          → HasEnded first talk.heard talk.stopped (talk.said ++ rest) side
+
+    -- the dialogue has ended
+    pub record HoldsOver (side : S) (talk : Talk) : Type 0 where
+      pub first : S
+      pub ended : HasEnded first talk.heard talk.stopped talk.said side
+
+    abbrev pub HoldsStage : S → Stage M R → Talk → Type 0
+    HoldsStage side (stage.Hears message frame) talk = HoldsHearing side message frame talk
+    HoldsStage side (stage.Says reply) talk = HoldsSaying side reply talk
+    HoldsStage side (stage.Ends reply) talk = HoldsEnding side reply talk
+    HoldsStage side stage.Over talk = HoldsOver side talk
+
+    -- this was heard and said so far in a dialogue
+    abbrev pub Holds : Dialogue S M R → Talk → Type 0
+    Holds dialogue talk = HoldsStage dialogue.side dialogue.stage talk
