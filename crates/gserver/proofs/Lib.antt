@@ -1,0 +1,5 @@
+pub mod TextLemmas
+pub mod HeardLemmas
+pub mod FillingLemmas
+pub mod StepLemmas
+pub mod SayLemmas

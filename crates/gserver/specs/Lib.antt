@@ -1,0 +1,5 @@
+pub mod PackSaying
+pub mod Saying
+pub mod ErrTexts
+pub mod Heard
+pub mod steps
