@@ -34,7 +34,7 @@ ENV = {
     "GIT_CONFIG_COUNT": str(len(SETTINGS)),
 }
 for _place, (_key, _value) in enumerate(SETTINGS.items()):
-    ENV |= {f"GIT_CONFIG_KEY_{_place}": _key, f"GIT_CONFIG_VALUE_{_place}": _value}
+    ENV.update({f"GIT_CONFIG_KEY_{_place}": _key, f"GIT_CONFIG_VALUE_{_place}": _value})
 
 
 class Ended:

@@ -3,6 +3,7 @@ pub mod Answers
 pub mod Changes
 pub mod Faults
 pub mod FetchAnswers
+pub mod BegunFetches
 pub mod Laws
 pub mod LsAnswers
 pub mod OnePack

@@ -4,6 +4,7 @@ ghost use Rattle.std.specs.Prelude.{◌≡◌, ◌↔◌, IfOk, IfErr, IsTrue, M
 ghost use Rattle.gdag.specs.declared.fault.GraphFault.TheVariants.{Memory as OutOfMemory};
 ghost use Rattle.gfetchreply.specs.Views.{IsReplyOf, reply_in};
 ghost use Rattle.ganswer.specs.Answers.{FetchRefuses};
+ghost use Rattle.ganswer.specs.BegunFetches.{BeginsFetch, FetchDeclines};
 ghost use Rattle.ganswer.specs.FetchAnswers.{FetchAnswer, IsReadyFor, IsSent, commons_of};
 ghost use Rattle.ganswer.specs.OnePack.{packing_of_fault, packing_of_fetch};
 ghost use Rattle.ganswer.specs.steps.Answers.{ChecksWants, PacksFor};
@@ -19,6 +20,17 @@ use ggraph::{Entry, GraphFault, Packer, common_ids, ready, send_list, send_list_
 use gname::Oid;
 use grequest::FetchRequest;
 use std::alloc::Allocator;
+
+/// The answer to a request for objects, before the objects to send are packed.
+#[derive(Drop)]
+pub enum BegunFetch<A: Allocator + Copy> {
+    /// These ids are common, and that is not enough: no pack follows.
+    Acks(Acks<A>),
+    /// These ids are common, and that is enough: these objects follow.
+    Ready(Acks<A>, Vec<Entry<A>, A>),
+    /// These objects follow, and nothing is acknowledged.
+    Pack(Vec<Entry<A>, A>),
+}
 
 impl<A: Allocator + Copy> Server<A> {
     /// The answer to a request for objects (gitprotocol-v2(5), "fetch"), as [`Server::answer`] gives it. The packer is
@@ -41,17 +53,39 @@ impl<A: Allocator + Copy> Server<A> {
             (λ fault. packer.new.answered ≡ packing_of_fault fault) }
         ensures packer { packer.new.packer ≡ packer.old.packer }
     {
+        match self.begin_fetch(asked)? {
+            BegunFetch::Acks(commons) => Ok(FetchReply::Acks(commons)),
+            BegunFetch::Ready(commons, list) => {
+                let pack = self.pack(asked, list.as_slice(), packer)?;
+                Ok(FetchReply::Ready(commons, pack))
+            }
+            BegunFetch::Pack(list) => {
+                let pack = self.pack(asked, list.as_slice(), packer)?;
+                Ok(FetchReply::Pack(pack))
+            }
+        }
+    }
+
+    /// The answer to a request for objects, before the objects to send are packed: for an owner that
+    /// packs them itself.
+    ///
+    /// It fails with `NoWants` if nothing is wanted, with `NotOurs` at the first want that is not held,
+    /// and with `Memory` if there is not enough for a walk or the list.
+    pub fn begin_fetch(&self, asked: &FetchRequest<A>) -> Result<BegunFetch<A>, ServeFault>
+        ensures { MatchResult result (BeginsFetch self.now asked.now.asked)
+            (FetchDeclines self.now asked.now.asked) }
+    {
         self.check_wants(asked.wants())?;
         let commons = self.commons(asked)?;
         if asked.is_direct() {
-            let pack = self.pack(asked, commons.ids(), packer)?;
-            return Ok(FetchReply::Pack(pack));
+            let list = self.objects(asked, commons.ids())?;
+            return Ok(BegunFetch::Pack(list));
         }
         if !self.is_ready(asked, commons.ids())? {
-            return Ok(FetchReply::Acks(commons));
+            return Ok(BegunFetch::Acks(commons));
         }
-        let pack = self.pack(asked, commons.ids(), packer)?;
-        Ok(FetchReply::Ready(commons, pack))
+        let list = self.objects(asked, commons.ids())?;
+        Ok(BegunFetch::Ready(commons, list))
     }
 
     // Whether something is wanted, and all of it is held.
@@ -103,10 +137,10 @@ impl<A: Allocator + Copy> Server<A> {
     fn pack<K: Packer<A>>(
         &self,
         asked: &FetchRequest<A>,
-        commons: &[Oid],
+        list: &[Entry<A>],
         packer: &mut OnePack<'_, K>,
     ) -> Result<PackBytes<A>, ServeFault>
-        requires commons { commons.now ≡ commons_of self.now asked.now.asked }
+        requires sent { IsSent self.now asked.now.asked list.now }
         requires unasked { packer.old.answered ≡ packing.Unasked }
         ensures pack { PacksFor self.now (K.packs packer.old.packer)
             (K.pack_fails packer.old.packer) asked.now.asked result }
@@ -115,8 +149,8 @@ impl<A: Allocator + Copy> Server<A> {
             (λ fault. packer.new.answered ≡ packing_of_fault fault) }
         ensures packer { packer.new.packer ≡ packer.old.packer }
     {
-        let list = self.objects(asked, commons)?;
-        let bytes = packer.pack(self.graph().allocator(), list.as_slice())?;
+        let _ = asked;
+        let bytes = packer.pack(self.graph().allocator(), list)?;
         Ok(PackBytes::new(bytes).unwrap())
     }
 

@@ -17,6 +17,8 @@
 //!   reported, which is the one that it answered. Otherwise it takes none. So out of memory never hides such a fault
 //!   (`specs/OnePack.antt`). A packer that has failed is asked no more ([`OnePack`]).
 //! - [`Server::answer_fetch`] does the same for a request for objects alone.
+//! - [`Server::begin_fetch`] gives the same answer before the objects are packed (`specs/BegunFetches.antt`), so that the
+//!   caller can pack them in parts.
 //! - [`Server::write_ls_answer`] writes the answer to ls-refs, or a beginning of it where the sink fails.
 //! - [`Server::advert`] fails only out of memory, and else advertises `agent=gitv2/1`, `ls-refs=unborn`,
 //!   `fetch`, and the format of the graph's ids.
@@ -62,5 +64,6 @@ mod write;
 
 pub use crate::answer::Reply;
 pub use crate::fault::{BuildFault, ServeFault};
+pub use crate::fetch::BegunFetch;
 pub use crate::one_pack::{OnePack, Packing};
 pub use crate::server::Server;

@@ -1,12 +1,13 @@
--- The register of CRC-32 by a table: what stands above the lowest eight bits only moves down.
-use Rattle.std.proofs.Common.{◌≡◌, ℕ, zero, suc, ◌+◌, ◌*◌, ◌/◌, ◌%◌, ◌^◌, ◌<◌, ◌==◌, List, [], ◌∷◌, ◌++◌, Bool, true, false, length, take, get_or, refl, ap, sym, ◌∙◌, arith}
+-- The register of CRC-32 by tables: bits of the register go their ways without heed of the others,
+-- and what stands above the lowest eight bits only moves down.
+use Rattle.std.proofs.Common.{◌≡◌, ℕ, zero, suc, ◌+◌, ◌*◌, ◌/◌, ◌%◌, ◌^◌, ◌<◌, ◌≤◌, ◌==◌, List, [], ◌∷◌, ◌++◌, Bool, true, false, length, length-drop, take, drop, drop-cons, get_or, refl, ap, sym, ◌∙◌, arith}
 use Rattle.std.specs.Prelude.{if◌then◌else◌, bit_xor}
 use Rattle.std.proofs.Math.Nat.{pow-suc}
-use Rattle.std.proofs.lemmas.List.{take_more}
+use Rattle.std.proofs.lemmas.List.{take_more, at_drop_all}
 use Rattle.std.proofs.lemmas.Nat.{xor_shr, xor_mod, xor_comm}
-use Rattle.std.specs.Int.Bits.{xor_assoc, xor_shifted}
+use Rattle.std.specs.Int.Bits.{xor_assoc, xor_shifted, xor_zero_l}
 use Rattle.gzlib.specs.Crc.{shift_out, shift_bits, next_register, register_after, HasCrcOf}
-use Rattle.gzlib.specs.declared.crc.TheConstants.{TABLE}
+use Rattle.gzlib.specs.steps.CrcTables.{after_bytes}
 use Rattle.gzlib.specs.declared.crc.Crc32.{Crc32}
 
 -- a choice of two registers, each with the same bits added
@@ -47,40 +48,134 @@ shift_byte n =
     let turned : n ≡ bit_xor (n % 256) (n / 256 * 2 ^ 8) = sym parts ∙ xor_comm (n / 256 * 2 ^ 8) (n % 256) in
     ap (shift_bits 8) turned ∙ shift_bits_high 8 (n % 256) (n / 256) ∙ xor_comm (shift_bits 8 (n % 256)) (n / 256)
 
--- the entries of the table, from a place on
-entries : ℕ → ℕ → List ℕ
-entries zero from = []
-entries (suc count) from = shift_bits 8 from ∷ entries count (suc from)
-
-table_is : TABLE ≡ entries 256 0
-unfolding entries
-table_is = refl
-
-entry_is : (count from i : ℕ) → i < count → get_or (entries count from) i 0 ≡ shift_bits 8 (from + i)
-unfolding entries
-entry_is zero from i h = absurd (omega (arith, h))
-entry_is (suc count) from zero h =
-    let same : from ≡ from + zero = omega arith in
-    ap (shift_bits 8) same
-entry_is (suc count) from (suc i) h =
-    let next : suc from + i ≡ from + suc i = omega arith in
-    entry_is count (suc from) i (omega arith) ∙ ap (shift_bits 8) next
-
-table_entry : (i : ℕ) → i < 256 → get_or TABLE i 0 ≡ shift_bits 8 i
-table_entry i h =
-    let same : 0 + i ≡ i = omega arith in
-    ap (λ (t : List ℕ). get_or t i 0) table_is ∙ entry_is 256 0 i h ∙ ap (shift_bits 8) same
-
 -- the step of the table is that of the definition
-pub next_by_table : (r b i : ℕ) → b < 2 ^ 8 → i ≡ bit_xor (r % 256) b → bit_xor (r / 256) (get_or TABLE i 0) ≡ next_register r b
-unfolding next_register
+pub next_by_table : (r b i : ℕ) → b < 2 ^ 8 → i ≡ bit_xor b (r % 256) → bit_xor (r / 256) (after_bytes 1 i) ≡ next_register r b
+unfolding next_register after_bytes
 next_by_table r b i h e =
     let zero_high : b / 2 ^ 8 ≡ 0 = omega arith in
     let low_b : b % 2 ^ 8 ≡ b = omega arith in
     let high : bit_xor r b / 256 ≡ r / 256 = xor_shr r b 8 ∙ ap (bit_xor (r / 256)) zero_high ∙ xor_zero (r / 256) in
-    let low : bit_xor r b % 256 ≡ i = xor_mod r b 8 ∙ ap (bit_xor (r % 256)) low_b ∙ sym e in
-    let small : i < 256 = omega arith in
-    sym (shift_byte (bit_xor r b) ∙ rw (high, low, table_entry i small) refl)
+    let low : bit_xor r b % 256 ≡ i = xor_mod r b 8 ∙ ap (bit_xor (r % 256)) low_b ∙ xor_comm (r % 256) b ∙ sym e in
+    sym (shift_byte (bit_xor r b) ∙ rw (high, low) refl)
+
+-- a bit goes out of two registers, of which the lowest bits are these
+shift_out_each : (x y r s : ℕ) → r < 2 → s < 2
+    → (if bit_xor r s == 1 then bit_xor (bit_xor x y) 0xEDB8_8320 else bit_xor x y)
+    ≡ bit_xor (if r == 1 then bit_xor x 0xEDB8_8320 else x) (if s == 1 then bit_xor y 0xEDB8_8320 else y)
+shift_out_each x y zero zero h k = refl
+shift_out_each x y zero (suc zero) h k = xor_assoc x y 0xEDB8_8320
+shift_out_each x y (suc zero) zero h k = xor_swap x y 0xEDB8_8320
+shift_out_each x y (suc zero) (suc zero) h k =
+    sym (
+    xor_assoc x 0xEDB8_8320 (bit_xor y 0xEDB8_8320)
+    ∙ ap (λ (n : ℕ). bit_xor x (bit_xor 0xEDB8_8320 n)) (xor_comm y 0xEDB8_8320)
+    ∙ ap (bit_xor x) (sym (xor_assoc 0xEDB8_8320 0xEDB8_8320 y))
+    )
+shift_out_each x y zero (suc (suc s)) h k = absurd (omega (arith, k))
+shift_out_each x y (suc zero) (suc (suc s)) h k = absurd (omega (arith, k))
+shift_out_each x y (suc (suc r)) s h k = absurd (omega (arith, h))
+
+shift_out_xor : (a b : ℕ) → shift_out (bit_xor a b) ≡ bit_xor (shift_out a) (shift_out b)
+shift_out_xor a b =
+    let half : bit_xor a b / 2 ≡ bit_xor (a / 2) (b / 2) = xor_shr a b 1 in
+    let twice_a : a % 2 % 2 ≡ a % 2 = omega arith in
+    let twice_b : b % 2 % 2 ≡ b % 2 = omega arith in
+    let low : bit_xor a b % 2 ≡ bit_xor (a % 2) (b % 2) = xor_mod a b 1 in
+    rw (half, low) (shift_out_each (a / 2) (b / 2) (a % 2) (b % 2) (omega arith) (omega arith))
+
+shift_bits_xor : (k a b : ℕ) → shift_bits k (bit_xor a b) ≡ bit_xor (shift_bits k a) (shift_bits k b)
+shift_bits_xor zero a b = refl
+shift_bits_xor (suc k) a b = ap (shift_bits k) (shift_out_xor a b) ∙ shift_bits_xor k (shift_out a) (shift_out b)
+
+shift_bits_add : (j k a : ℕ) → shift_bits (j + k) a ≡ shift_bits k (shift_bits j a)
+shift_bits_add zero k a =
+    let same : zero + k ≡ k = omega arith in
+    rw same refl
+shift_bits_add (suc j) k a =
+    let next : suc j + k ≡ suc (j + k) = omega arith in
+    rw next (shift_bits_add j k (shift_out a))
+
+-- what a part of the register becomes, and what the rest of it becomes
+register_after_xor : (p q : ℕ) (bytes : List ℕ)
+    → register_after (bit_xor p q) bytes ≡ bit_xor (shift_bits (8 * length bytes) p) (register_after q bytes)
+unfolding next_register
+register_after_xor p q [] = refl
+register_after_xor p q (b ∷ bytes) =
+    let parts : shift_bits 8 (bit_xor (bit_xor p q) b) ≡ bit_xor (shift_bits 8 p) (shift_bits 8 (bit_xor q b)) =
+    ap (shift_bits 8) (xor_assoc p q b) ∙ shift_bits_xor 8 p (bit_xor q b) in
+    let more : 8 * length (b ∷ bytes) ≡ 8 + 8 * length bytes = omega arith in
+    ap (λ (r : ℕ). register_after r bytes) parts
+    ∙ register_after_xor (shift_bits 8 p) (shift_bits 8 (bit_xor q b)) bytes
+    ∙ ap (λ (n : ℕ). bit_xor n (register_after (shift_bits 8 (bit_xor q b)) bytes)) (sym (shift_bits_add 8 (8 * length bytes) p))
+    ∙ ap (λ (n : ℕ). bit_xor (shift_bits n p) (register_after (shift_bits 8 (bit_xor q b)) bytes)) (sym more)
+
+-- the first byte goes its way with the lowest byte of the register
+first_byte : (r b : ℕ) (bytes : List ℕ) → b < 2 ^ 8
+    → register_after r (b ∷ bytes) ≡ bit_xor (after_bytes (suc (length bytes)) (bit_xor b (r % 256))) (register_after (r / 256) bytes)
+unfolding next_register after_bytes
+first_byte r b bytes h =
+    let c = bit_xor b (r % 256) in
+    let parts : next_register r b ≡ bit_xor (shift_bits 8 c) (r / 256) = sym (next_by_table r b c h refl) ∙ xor_comm (r / 256) (shift_bits 8 c) in
+    let more : 8 * suc (length bytes) ≡ 8 + 8 * length bytes = omega arith in
+    ap (λ (n : ℕ). register_after n bytes) parts
+    ∙ register_after_xor (shift_bits 8 c) (r / 256) bytes
+    ∙ ap (λ (n : ℕ). bit_xor n (register_after (r / 256) bytes)) (sym (shift_bits_add 8 (8 * length bytes) c))
+    ∙ ap (λ (n : ℕ). bit_xor (shift_bits n c) (register_after (r / 256) bytes)) (sym more)
+
+-- the same of the byte at a place, after what others have become
+byte_more : (acc r q i k : ℕ) (bytes : List ℕ) → r / 256 ≡ q → i < length bytes → i + k ≡ length bytes → get_or bytes i 0 < 2 ^ 8
+    → bit_xor acc (register_after r (drop i bytes))
+    ≡ bit_xor (bit_xor acc (after_bytes k (bit_xor (get_or bytes i 0) (r % 256)))) (register_after q (drop (suc i) bytes))
+byte_more acc r q i k bytes down h e small =
+    let rest = drop (suc i) bytes in
+    let now = bit_xor (get_or bytes i 0) (r % 256) in
+    let count : suc (length rest) ≡ k = omega (arith, length-drop (suc i) bytes) in
+    ap (λ (xs : List ℕ). bit_xor acc (register_after r xs)) (drop-cons bytes i 0 h)
+    ∙ ap (bit_xor acc) (first_byte r (get_or bytes i 0) rest small)
+    ∙ ap (λ (n : ℕ). bit_xor acc (bit_xor (after_bytes n now) (register_after (r / 256) rest))) count
+    ∙ ap (λ (n : ℕ). bit_xor acc (bit_xor (after_bytes k now) (register_after n rest))) down
+    ∙ sym (xor_assoc acc (after_bytes k now) (register_after q rest))
+
+-- the same once all of the register has met bytes
+byte_last : (acc i k : ℕ) (bytes : List ℕ) → i < length bytes → i + k ≡ length bytes → get_or bytes i 0 < 2 ^ 8
+    → bit_xor acc (register_after 0 (drop i bytes))
+    ≡ bit_xor (bit_xor acc (after_bytes k (get_or bytes i 0))) (register_after 0 (drop (suc i) bytes))
+byte_last acc i k bytes h e small =
+    byte_more acc 0 0 i k bytes refl h e small
+    ∙ ap (λ (n : ℕ). bit_xor (bit_xor acc (after_bytes k n)) (register_after 0 (drop (suc i) bytes))) (xor_zero (get_or bytes i 0))
+
+none_left : (acc : ℕ) (bytes : List ℕ) → length bytes ≤ 8 → bit_xor acc (register_after 0 (drop 8 bytes)) ≡ acc
+none_left acc bytes h = at_drop_all (λ (xs : List ℕ). bit_xor acc (register_after 0 xs)) bytes 8 h ∙ xor_zero acc
+
+-- what eight bytes and the register become
+pub eight_bytes : (r : ℕ) (bytes : List ℕ) → r < 2 ^ 32 → length bytes ≡ 8 → ((i : ℕ) → get_or bytes i 0 < 2 ^ 8)
+    → bit_xor (bit_xor (bit_xor (bit_xor (bit_xor (bit_xor (bit_xor
+    (after_bytes 8 (bit_xor (get_or bytes 0 0) (r % 256)))
+    (after_bytes 7 (bit_xor (get_or bytes 1 0) (r / 256 % 256))))
+    (after_bytes 6 (bit_xor (get_or bytes 2 0) (r / 65536 % 256))))
+    (after_bytes 5 (bit_xor (get_or bytes 3 0) (r / 16777216 % 256))))
+    (after_bytes 4 (get_or bytes 4 0)))
+    (after_bytes 3 (get_or bytes 5 0)))
+    (after_bytes 2 (get_or bytes 6 0)))
+    (after_bytes 1 (get_or bytes 7 0))
+    ≡ register_after r bytes
+eight_bytes r bytes fits len small =
+    let second : r / 256 / 256 ≡ r / 65536 = omega arith in
+    let third : r / 65536 / 256 ≡ r / 16777216 = omega arith in
+    let fourth : r / 16777216 / 256 ≡ 0 = omega (arith, fits) in
+    sym (
+    sym (xor_zero_l (register_after r bytes))
+    ∙ byte_more 0 r (r / 256) 0 8 bytes refl (omega (arith, len)) (omega (arith, len)) (small 0)
+    ∙ ap (λ (n : ℕ). bit_xor n (register_after (r / 256) (drop 1 bytes))) (xor_zero_l (after_bytes 8 (bit_xor (get_or bytes 0 0) (r % 256))))
+    ∙ byte_more _ (r / 256) (r / 65536) 1 7 bytes second (omega (arith, len)) (omega (arith, len)) (small 1)
+    ∙ byte_more _ (r / 65536) (r / 16777216) 2 6 bytes third (omega (arith, len)) (omega (arith, len)) (small 2)
+    ∙ byte_more _ (r / 16777216) 0 3 5 bytes fourth (omega (arith, len)) (omega (arith, len)) (small 3)
+    ∙ byte_last _ 4 4 bytes (omega (arith, len)) (omega (arith, len)) (small 4)
+    ∙ byte_last _ 5 3 bytes (omega (arith, len)) (omega (arith, len)) (small 5)
+    ∙ byte_last _ 6 2 bytes (omega (arith, len)) (omega (arith, len)) (small 6)
+    ∙ byte_last _ 7 1 bytes (omega (arith, len)) (omega (arith, len)) (small 7)
+    ∙ none_left _ bytes (omega (arith, len))
+    )
 
 pub register_after-append : (r : ℕ) (xs ys : List ℕ) → register_after r (xs ++ ys) ≡ register_after (register_after r xs) ys
 register_after-append r [] ys = refl

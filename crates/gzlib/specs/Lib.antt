@@ -4,3 +4,4 @@ pub mod Stored
 pub mod Inflate
 pub mod Faults
 pub mod Deflate
+pub mod steps

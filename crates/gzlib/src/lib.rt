@@ -33,6 +33,7 @@ mod bits;
 mod blocks;
 mod code;
 mod crc;
+mod crc_tables;
 mod deflate;
 mod fault;
 mod inflate;

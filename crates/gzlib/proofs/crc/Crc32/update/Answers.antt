@@ -1,16 +1,17 @@
-use Rattle.std.proofs.Common.{◌∙◌, ℕ, get_or, sym, ap, arith, ◌≡◌, take}
-use Rattle.std.proofs.lemmas.List.{take_all}
-use Rattle.gzlib.proofs.CrcLemmas.{register_after_more, HasCrcOf-append}
-use Rattle.gzlib.specs.Crc.{register_after, next_register}
+use Rattle.std.proofs.Common.{◌∙◌, ◌++◌, ◌≡◌, ℕ, ap, sym}
+use Rattle.std.proofs.lemmas.List.{take-append-drop}
+use Rattle.gzlib.specs.Crc.{register_after}
+use Rattle.gzlib.proofs.CrcLemmas.{register_after-append, HasCrcOf-append}
 use Rattle.gzlib.proofs.crc.Crc32.update.Goals as goal
 
-pub loop-byte-preserved : goal.loop-byte-preserved
-loop-byte-preserved c =
-    c.next_register-register.ensures
-    ∙ ap (λ (r : ℕ). next_register r (get_or c.args.bytes.now c.loop-byte.byte-index 0)) c.loop-byte.invariant
-    ∙ sym (register_after_more c.args.self.now.register c.args.bytes.now c.loop-byte.byte-index c.loop-byte-test.true)
+pub loop-eight-preserved : goal.loop-eight-preserved
+loop-eight-preserved c =
+    let parts : c.in-Some.eight.now ++ c.in-Some.after.now ≡ c.loop-eight.rest.now =
+    rw (c.in-Some.ensures.cases.0, c.in-Some.ensures.cases.1) (take-append-drop 8 c.loop-eight.rest.now) in
+    ap (λ (r : ℕ). register_after r c.in-Some.after.now) c.next_eight-register.ensures
+    ∙ sym (register_after-append c.loop-eight.register c.in-Some.eight.now c.in-Some.after.now)
+    ∙ ap (register_after c.loop-eight.register) parts
+    ∙ c.loop-eight.invariant
 
 pub returns : goal.returns
-returns c = λ m has.
-    let all : take c.loop-byte.byte-index c.args.bytes.now ≡ c.args.bytes.now = take_all c.loop-byte.byte-index c.args.bytes.now (omega arith) in
-    HasCrcOf-append c.args.self.now _ m c.args.bytes.now has (c.loop-byte.invariant ∙ ap (register_after c.args.self.now.register) all)
+returns c = λ m has. HasCrcOf-append c.args.self.now _ m c.args.bytes.now has (c.next_few-self.ensures ∙ c.loop-eight.invariant)

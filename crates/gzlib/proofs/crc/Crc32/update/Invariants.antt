@@ -1,6 +1,10 @@
-use Rattle.std.proofs.Common.{◌≡◌, take}
+use Rattle.std.proofs.Common.{◌≡◌, length}
 use Rattle.gzlib.specs.Crc.{register_after}
 use Rattle.gzlib.proofs.crc.Crc32.update.Given as goal
 
-abbrev pub invariant-loop-byte : goal.invariant-loop-byte
-invariant-loop-byte l = l.register ≡ register_after l.self.register (take l.byte-index l.bytes)
+-- the rest leads where all bytes lead
+abbrev pub invariant-loop-eight : goal.invariant-loop-eight
+invariant-loop-eight l = register_after l.register l.rest ≡ register_after l.self.register l.bytes
+
+abbrev pub decreases-loop-eight : goal.decreases-loop-eight
+decreases-loop-eight l = length l.rest

@@ -1,0 +1,36 @@
+-- What is answered to fetch before the objects to send are packed (gitprotocol-v2(5), "fetch").
+use Rattle.std.specs.Prelude.{◌≡◌, true, false, []}
+use Rattle.gdag.specs.Graphs.{IsFirstAbsent}
+use Rattle.grequest.specs.Asked.{FetchAsked, is_direct}
+use Rattle.gfetchreply.specs.Values.{Acks}
+use Rattle.ganswer.specs.FetchAnswers.{CanServe, IsReadyFor, IsSent, commons_of}
+use Rattle.ganswer.specs.Servers.{Server}
+use Rattle.ganswer.specs.declared.fault.ServeFault.{ServeFault}
+use Rattle.ganswer.specs.declared.fault.ServeFault.TheVariants as serve
+use Rattle.ganswer.specs.declared.fetch.BegunFetch.{BegunFetch}
+use Rattle.ganswer.specs.declared.fetch.BegunFetch.TheVariants as begun
+
+-- the common ids, to be acknowledged
+abbrev pub acks_for : {A : Type 0} → Server A → FetchAsked → Acks
+acks_for server asked = record { format = server.graph.format; ids = commons_of server asked }
+
+-- the ids that are acknowledged, and the objects that are sent
+abbrev pub BeginsWith : {A : Type 0} → Server A → FetchAsked → BegunFetch A → Type 0
+BeginsWith server asked (begun.Pack list) = (is_direct asked ≡ true) × IsSent server asked list.items
+BeginsWith server asked (begun.Ready commons list) =
+    (is_direct asked ≡ false) × (commons ≡ acks_for server asked) × IsReadyFor server asked
+    × IsSent server asked list.items
+BeginsWith server asked (begun.Acks commons) =
+    (is_direct asked ≡ false) × (commons ≡ acks_for server asked) × ¬ (IsReadyFor server asked)
+
+-- a request that can be served is begun so
+pub record BeginsFetch {A : Type 0} (server : Server A) (asked : FetchAsked) (fetch : BegunFetch A) : Type 0 where
+  pub can : CanServe server asked
+  pub begins : BeginsWith server asked fetch
+
+-- Why fetch is not begun: nothing is wanted; otherwise the first want that is not held; or out of memory.
+abbrev pub FetchDeclines : {A : Type 0} → Server A → FetchAsked → ServeFault → Type 0
+FetchDeclines server asked serve.NoWants = asked.wants ≡ []
+FetchDeclines server asked (serve.NotOurs id) = IsFirstAbsent server.graph.entries asked.wants id
+FetchDeclines server asked serve.Memory = CanServe server asked
+FetchDeclines server asked _ = ⊥

@@ -1,0 +1,2 @@
+-- The steps: what only private functions and proofs speak of.
+pub mod CrcTables
