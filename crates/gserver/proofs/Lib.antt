@@ -3,3 +3,5 @@ pub mod HeardLemmas
 pub mod FillingLemmas
 pub mod StepLemmas
 pub mod SayLemmas
+pub mod RefLemmas
+pub mod FetchLemmas

@@ -1,2 +1,3 @@
 pub mod Filling
 pub mod Stepping
+pub mod RefLines

@@ -11,7 +11,7 @@ use gpkt::MAX_BAND;
 use gtalk::Outgoing;
 use std::alloc::Allocator;
 
-/// What was said of a pack.
+/// The part of a pack that was said.
 pub(crate) enum Piece {
     /// A piece, after which more may come.
     More,

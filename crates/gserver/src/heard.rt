@@ -1,4 +1,4 @@
-//! What a server hears: the first line of a connection, or a request.
+//! A server hears the first line of a connection, or a request.
 
 use ggrammar::{Message, Step, Why};
 use ghello::HelloReader;

@@ -17,7 +17,7 @@ use gparts::PartPacker;
 use gtalk::Outgoing;
 use std::alloc::Allocator;
 
-/// What is said next.
+/// The packets that are said next.
 #[derive(Drop)]
 pub(crate) enum Rest<A: Allocator + Copy, R, P> {
     Nothing,
@@ -36,7 +36,7 @@ pub(crate) enum Rest<A: Allocator + Copy, R, P> {
     ResponseEnd,
 }
 
-/// What is to come after a step.
+/// The part that is to come after a step.
 #[derive(Drop)]
 pub(crate) enum Stepped<A: Allocator + Copy, R, P> {
     /// More of the reply.
@@ -89,7 +89,7 @@ pub(crate) fn step<A: Allocator + Copy, B: Allocator + Copy, R: PartPacker<A> + 
     }
 }
 
-// What follows the heading of the acknowledgments.
+// The place after the heading of the acknowledgments.
 fn after_heading<A: Allocator + Copy, R: Drop, P: Drop>(
     acks: Acks<A>,
     pack: Option<(R, P)>,

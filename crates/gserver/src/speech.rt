@@ -1,4 +1,4 @@
-//! What a server says to a message.
+//! The packets that a server says to a message.
 
 ghost use Rattle.std.specs.Prelude.{◌≡◌, ◌≤◌, ◌+◌, length};
 ghost use Rattle.gpkt.specs.Packets.{max_packet};
