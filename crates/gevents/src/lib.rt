@@ -1,0 +1,57 @@
+//! Many conversations at once, on one thread, over sockets that do not block.
+//!
+//! [`serve_all`] accepts peers at a listener. A [`Service`] begins a conversation with each and takes the
+//! connection back once it has ended. The loop moves bytes between the sockets and the connections, each
+//! as its socket is ready (`mio`), so no peer waits for another one to send or to take.
+//!
+//! - A peer moves bytes at most 256 times before the others have their turn.
+//! - [`Limits`] says how many connections there may be, in all and from one IP address. A peer beyond
+//!   that gets what the service says in place of a conversation, and is closed.
+//! - Each peer has its time: for its first message, for the first byte of a request and for the rest of
+//!   it, for taking bytes, and for the whole connection. A peer that is listened to and had its time is
+//!   heard as one whose device failed, so the conversation may say a last word. Any other is closed.
+//! - A connection takes no memory for bytes before the first one comes. It takes some hundred bytes for
+//!   itself, and what the conversation has.
+//! - The thread sleeps while nothing can be done. It looks at the deadlines ten times a second while
+//!   there are peers.
+//! - A conversation that works for a time before it answers holds up all others for that time.
+//!
+//! # Proved
+//!
+//! - A connection that comes back to its service is one of its conversation ([`Service::ended`] requires
+//!   it). Bytes came and bytes were sent of which the connection holds (`gtalk`), and the count of those
+//!   that were sent is right. So the loop cannot make up or drop a byte between a socket and its
+//!   conversation.
+//! - Over any reader: the bytes of one read are received, no further than the packet that is coming, and
+//!   the end of the input only at its end. Over any writer: the bytes that one write took count as sent.
+//! - No call panics, overflows or reads out of bounds, and each returns.
+//!
+//! # Only tested
+//!
+//! All that sockets and the clock do: who is accepted and who is refused, that each ready peer has its
+//! turn, and when a peer is given up (`examples/many-clients.py`).
+//!
+//! # What the contracts do not rule out
+//!
+//! - Bytes that a socket gives might be others than the peer sent, since no contract can speak of them. A
+//!   peer might never have its turn, or be given up at once. A connection might never come back.
+//! - The address of a peer, how a connection ended and how long it took have no clause.
+//!
+//! # Stands on
+//!
+//! `gtalk` for connections, `mio` for readiness, `slab` for the places of peers. The proofs cite `gpkt`.
+#![tactic(auto)]
+
+mod accepting;
+mod event_loop;
+mod leaver;
+mod limits;
+mod moving;
+mod patience;
+mod peer;
+mod service;
+mod slot;
+
+pub use crate::event_loop::serve_all;
+pub use crate::limits::Limits;
+pub use crate::service::{End, Refusal, Service, Visit};
