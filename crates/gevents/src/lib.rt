@@ -20,8 +20,7 @@
 //!
 //! - A connection that comes back to its service is one of its conversation ([`Service::ended`] requires
 //!   it). Bytes came and bytes were sent of which the connection holds (`gtalk`), and the count of those
-//!   that were sent is right. So the loop cannot make up or drop a byte between a socket and its
-//!   conversation.
+//!   that were sent is right.
 //! - Over any reader: the bytes of one read are received, no further than the packet that is coming, and
 //!   the end of the input only at its end. Over any writer: the bytes that one write took count as sent.
 //! - No call panics, overflows or reads out of bounds, and each returns.
@@ -33,8 +32,9 @@
 //!
 //! # What the contracts do not rule out
 //!
-//! - Bytes that a socket gives might be others than the peer sent, since no contract can speak of them. A
-//!   peer might never have its turn, or be given up at once. A connection might never come back.
+//! - No contract says which bytes a socket gives or takes. So none says that the bytes of a connection
+//!   are those of its socket, as one says of each read and write over any reader and writer.
+//! - A peer might never have its turn, or be given up at once. A connection might never come back.
 //! - The address of a peer, how a connection ended and how long it took have no clause.
 //!
 //! # Stands on
