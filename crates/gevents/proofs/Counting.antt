@@ -4,7 +4,7 @@ use Rattle.std.specs.Io.KnownBytes.{Keeps}
 use Rattle.std.proofs.KnownBytes.{Appends-kept, Appends-nil}
 use Rattle.gpkt.specs.Change.{Change}
 use Rattle.gpkt.specs.Packets.{Bytes}
-use Rattle.gtalk.specs.Connections.{Holds, Moves}
+use Rattle.gtalk.specs.Connections.{Moves}
 use Rattle.gtalk.specs.Talks.{Talk}
 use Rattle.gtalk.specs.declared.connection.Connection.{Connection}
 use Rattle.gevents.specs.Peers.{IsCounted, SendsCounted, count_of}
@@ -44,3 +44,22 @@ module _ {C A : Type 0} (holds : C → Talk → Type 0) where
     moves = stays;
     counted = refl;
   }
+
+-- what one way says, the other does
+pub counted_as : {C A : Type 0} (one other : C → Talk → Type 0) → ((conversation : C) (talk : Talk) → one conversation talk → other conversation talk)
+    → (c : Connection C A) (count : ℕ) → IsCounted {A = A} one c count → IsCounted {A = A} other c count
+counted_as one other says c count h = record {
+  received = h.received;
+  sent = h.sent;
+  held = record {
+    talk = h.held.talk;
+    held = says c.conversation h.held.talk h.held.held;
+    stopped = h.held.stopped;
+    partial = h.held.partial;
+    heard = h.held.heard;
+    rest = h.held.rest;
+    kept = h.held.kept;
+    said = h.held.said;
+  };
+  counted = h.counted;
+}

@@ -16,6 +16,12 @@ abbrev pub written_count : {E : Type 0} → Result ℕ E → ℕ
 written_count (Ok count) = count
 written_count (Err fault) = 0
 
+-- two ways to say what was heard and said so far say the same
+abbrev pub Agree : {C : Type 0} → (C → Talk → Type 0) → (C → Talk → Type 0) → Type 0
+Agree {C} one other =
+    ((conversation : C) (talk : Talk) → one conversation talk → other conversation talk)
+    × ((conversation : C) (talk : Talk) → other conversation talk → one conversation talk)
+
 module _ {C A : Type 0} (holds : C → Talk → Type 0) where
   -- these bytes came and these were sent, of which the connection holds, and so many were sent
   pub record IsCounted (connection : Connection C A) (count : ℕ) : Type 0 where

@@ -1,5 +1,7 @@
 //! Those who connect.
 
+ghost use Rattle.gevents.specs.Peers.{Agree};
+
 use crate::event_loop::{Calls, Loop};
 use crate::patience::Patience;
 use crate::peer::Peer;
@@ -19,7 +21,9 @@ const STARVED: [i32; 4] = [24, 23, 12, 105];
 
 impl<C: Conversation + Drop, A: Allocator + Copy> Loop<'_, C, A> {
     /// Accepts some of the connections that wait.
-    pub(crate) fn accept<S: Service<C, A>>(&mut self, service: &mut S) -> io::Result<()> {
+    pub(crate) fn accept<S: Service<C, A>>(&mut self, service: &mut S) -> io::Result<()>
+        requires { Agree S.holds C.holds }
+    {
         for _ in 0..ACCEPTS {
             if self.is_full() || self.calls == Calls::None {
                 self.calls = Calls::None;
@@ -42,7 +46,9 @@ impl<C: Conversation + Drop, A: Allocator + Copy> Loop<'_, C, A> {
         mut stream: TcpStream,
         address: SocketAddr,
         service: &mut S,
-    ) {
+    )
+        requires { Agree S.holds C.holds }
+    {
         self.calls = Calls::Some;
         match self.refusal(address.ip()) {
             None => {

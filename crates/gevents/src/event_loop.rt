@@ -1,5 +1,7 @@
 //! The loop.
 
+ghost use Rattle.gevents.specs.Peers.{Agree};
+
 use crate::limits::Limits;
 use crate::service::Service;
 use crate::slot::Slot;
@@ -68,6 +70,7 @@ where
     A: Allocator + Copy,
     R: Net + Clock,
     S: Service<C, A>,
+    requires { Agree S.holds C.holds }
 {
     let poll = Poll::new(rt)?;
     poll.registry()
@@ -115,7 +118,9 @@ impl<C: Conversation + Drop, A: Allocator + Copy> Loop<'_, C, A> {
         rt: &R,
         events: &mut Events<A>,
         service: &mut S,
-    ) -> io::Result<()> {
+    ) -> io::Result<()>
+        requires { Agree S.holds C.holds }
+    {
         let timeout = self.timeout();
         match self.poll.poll(&mut *events, timeout) {
             Err(error) if error.kind() != ErrorKind::Interrupted => return Err(error),
@@ -156,7 +161,9 @@ impl<C: Conversation + Drop, A: Allocator + Copy> Loop<'_, C, A> {
     }
 
     // Gives up those that had their time.
-    fn give_up<S: Service<C, A>>(&mut self, service: &mut S) {
+    fn give_up<S: Service<C, A>>(&mut self, service: &mut S)
+        requires { Agree S.holds C.holds }
+    {
         if self.now < self.next {
             return;
         }

@@ -5,7 +5,7 @@ ghost use Rattle.std.specs.Io.KnownBytes.{Consumes, IsAtEnd, Keeps};
 ghost use Rattle.gpkt.specs.Change.{change_of};
 ghost use Rattle.gtalk.specs.Connections.{HearsRead, IsTurn, has_stopped, pending_of};
 ghost use Rattle.gtalk.specs.Partial.{IsByEnd};
-ghost use Rattle.gevents.specs.Peers.{SendsCounted, written_count};
+ghost use Rattle.gevents.specs.Peers.{Agree, SendsCounted, written_count};
 
 use crate::limits::Limits;
 use crate::peer::Peer;
@@ -73,12 +73,9 @@ impl<C: Conversation, A: Allocator + Copy> Peer<C, A> {
     }
 
     /// Hands the connection back, and answers the socket.
-    pub(crate) fn end<S: Service<C, A>>(
-        self,
-        end: End,
-        now: Instant,
-        service: &mut S,
-    ) -> TcpStream {
+    pub(crate) fn end<S: Service<C, A>>(self, end: End, now: Instant, service: &mut S) -> TcpStream
+        requires { Agree S.holds C.holds }
+    {
         let Peer {
             stream,
             address,

@@ -1,11 +1,9 @@
 //! The one that holds the conversations of a loop.
 
-ghost use Rattle.std.specs.Prelude.{◌≡◌};
-ghost use Rattle.gtalk.specs.Connections.{conversation_of};
 ghost use Rattle.gtalk.specs.Talks.{no_talk};
 ghost use Rattle.gevents.specs.Peers.{IsCounted};
 
-use gtalk::{Connection, Conversation};
+use gtalk::Connection;
 use std::alloc::Allocator;
 use std::net::SocketAddr;
 use std::time::Duration;
@@ -50,15 +48,20 @@ pub struct Visit {
 }
 
 /// The one that holds the conversations of a loop.
-pub trait Service<C: Conversation, A: Allocator + Copy> {
+pub trait Service<C, A: Allocator + Copy> {
+    ghost use Rattle.gtalk.specs.Talks.{Talk};
+
+    // This was heard and said so far, as the conversation says itself.
+    ghost holds: { C → Talk → Type 0 };
+
     /// The conversation with a peer that has connected.
     fn begin(&mut self, address: SocketAddr) -> C
-        ensures { C.holds result no_talk };
+        ensures { holds result no_talk };
 
     /// Takes back a connection that has ended. Bytes came and went on it, as many as `visit` says, of which the
     /// conversation holds.
     fn ended(&mut self, connection: Connection<C, A>, visit: &Visit)
-        requires { ∥ IsCounted C.holds connection visit.now.sent ∥₁ };
+        requires { ∥ IsCounted holds connection visit.now.sent ∥₁ };
 
     /// The bytes that a peer gets in place of a conversation. As many are sent as the socket takes at once.
     fn refuse(&mut self, address: SocketAddr, why: Refusal) -> &[u8];

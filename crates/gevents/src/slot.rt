@@ -1,5 +1,7 @@
 //! Those that are served.
 
+ghost use Rattle.gevents.specs.Peers.{Agree};
+
 use crate::event_loop::Loop;
 use crate::leaver::Leaver;
 use crate::moving::After;
@@ -34,7 +36,9 @@ impl<C: Conversation, A: Allocator + Copy> Slot<C, A> {
 
 impl<C: Conversation + Drop, A: Allocator + Copy> Loop<'_, C, A> {
     /// Takes a peer among those that are served. It has its first turn once its socket is ready.
-    pub(crate) fn admit<S: Service<C, A>>(&mut self, peer: Peer<C, A>, service: &mut S) {
+    pub(crate) fn admit<S: Service<C, A>>(&mut self, peer: Peer<C, A>, service: &mut S)
+        requires { Agree S.holds C.holds }
+    {
         match self.slots.insert(Slot::Talks(peer)) {
             Ok(key) => {
                 let after = if self.watch(key, true) {
@@ -53,7 +57,9 @@ impl<C: Conversation + Drop, A: Allocator + Copy> Loop<'_, C, A> {
     }
 
     /// Gives a socket its turn.
-    pub(crate) fn advance<S: Service<C, A>>(&mut self, key: usize, service: &mut S) {
+    pub(crate) fn advance<S: Service<C, A>>(&mut self, key: usize, service: &mut S)
+        requires { Agree S.holds C.holds }
+    {
         let after = match self.slots.get_mut(key) {
             Some(Slot::Talks(peer)) => peer.advance(self.now, self.limits),
             Some(Slot::Leaves(leaver)) => leaver.advance(),
@@ -63,7 +69,9 @@ impl<C: Conversation + Drop, A: Allocator + Copy> Loop<'_, C, A> {
     }
 
     /// Gives one up, if it had its time.
-    pub(crate) fn give_up_one<S: Service<C, A>>(&mut self, key: usize, service: &mut S) {
+    pub(crate) fn give_up_one<S: Service<C, A>>(&mut self, key: usize, service: &mut S)
+        requires { Agree S.holds C.holds }
+    {
         let after = match self.slots.get_mut(key) {
             Some(Slot::Talks(peer)) => peer.give_up(self.now, self.limits),
             Some(Slot::Leaves(leaver)) => leaver.give_up(self.now),
@@ -73,7 +81,9 @@ impl<C: Conversation + Drop, A: Allocator + Copy> Loop<'_, C, A> {
     }
 
     // Ends a turn, or the connection.
-    fn settle<S: Service<C, A>>(&mut self, key: usize, after: After, service: &mut S) {
+    fn settle<S: Service<C, A>>(&mut self, key: usize, after: After, service: &mut S)
+        requires { Agree S.holds C.holds }
+    {
         match after {
             After::Waits => {}
             After::GoesOn => {
@@ -101,7 +111,9 @@ impl<C: Conversation + Drop, A: Allocator + Copy> Loop<'_, C, A> {
     }
 
     // Parts with one. A peer with which the conversation came to its end has time to close its end.
-    fn part<S: Service<C, A>>(&mut self, key: usize, end: End, service: &mut S) {
+    fn part<S: Service<C, A>>(&mut self, key: usize, end: End, service: &mut S)
+        requires { Agree S.holds C.holds }
+    {
         match self.slots.try_remove(key) {
             Some(Slot::Talks(peer)) => {
                 let stream = peer.end(end, self.now, service);

@@ -1,7 +1,6 @@
 use Rattle.std.proofs.Math.Logic.{∥∥₁_map}
 use Rattle.gevents.proofs.Counting.{counted_sent}
-use Rattle.gevents.specs.Peers.{written_count}
-use Rattle.std.proofs.Common.{ap, ◌+◌, ◌∙◌, ◌≡◌, min, ◌^◌, ◌-◌}
+use Rattle.std.proofs.Common.{ap, ◌+◌, ◌∙◌, min, ◌^◌, ◌-◌}
 use Rattle.gevents.proofs.peer.Peer.write_once.Goals as goal
 
 pub invariant_of-self : goal.invariant_of-self
