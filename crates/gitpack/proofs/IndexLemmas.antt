@@ -1,5 +1,5 @@
 -- The pack index and the frame of a pack.
-use Rattle.std.proofs.Common.{◌≡◌, ℕ, zero, suc, ◌+◌, ◌<◌, ◌≤◌, ◌≢◌, Bool, true, false, cond, refl, set, eq-eqb, eqb-true, List, [], ◌∷◌, ◌++◌, length, take, drop, get_or, nat_eq, nat_le, sym, ap, subst, ◌∙◌, append_assoc, add-one, arith}
+use Rattle.std.proofs.Common.{◌≡◌, ℕ, zero, suc, ◌+◌, ◌-◌, ◌<◌, ◌≤◌, ◌≢◌, Bool, true, false, cond, refl, set, eq-eqb, eqb-true, List, [], ◌∷◌, ◌++◌, length, take, drop, get_or, nat_eq, nat_le, sym, ap, subst, ◌∙◌, append_assoc, add-one, arith}
 use Rattle.std.specs.Int.{w32, to_be_bytes, from_be_bytes}
 use Rattle.std.specs.Cmp.Lexicographic.{pointwise}
 use Rattle.std.specs.Prelude.{count_by, slice_index}
@@ -9,7 +9,8 @@ use Rattle.std.proofs.lemmas.List.{get_or-set_same, get_or-set_other, length-tak
 use Rattle.std.proofs.lemmas.List.Sums.{count_by-le-length, count_by_more_no, count_by_more_yes, sum_by-cons}
 use Rattle.std.proofs.lemmas.Slice.Eq.{bytes_eq-Decides}
 use Rattle.std.proofs.lemmas.Nat.{be_bytes_4}
-use Rattle.std.proofs.lemmas.List.{append-nil, take-append-drop}
+use Rattle.std.proofs.Math.Seq.{take-add}
+use Rattle.std.proofs.lemmas.List.{append-nil, length-append, take-append-drop, take-append-le}
 use Rattle.sha1.specs.Sha1.{sha1}
 use Rattle.gname.specs.Ids.{Id}
 use Rattle.gitpack.specs.Packs.{with_trailer}
@@ -26,6 +27,17 @@ pub trailer_read : (n : ℕ) (pack body trailer sum id : List ℕ) → body ≡ 
     → (id ≡ sha1 body) × (pack ≡ with_trailer body)
 trailer_read n pack body trailer sum id is rest digest same bytes =
     (bytes ∙ sym same ∙ digest, cut_at n pack body trailer is rest ∙ ap (λ l. body ++ l) (sym same ∙ digest))
+
+-- what is hashed once more bytes came: what was hashed before, and a part of all bytes
+pub hashed_more : (old piece new part : List ℕ) → new ≡ old ++ piece → part ≡ take (length new - 20 - (length old - 20)) (drop (length old - 20) new)
+    → take (length old - 20) old ++ part ≡ take (length new - 20) new
+hashed_more old piece new part grown is =
+    let n = length old - 20 in
+    let m = length new - 20 - (length old - 20) in
+    let longer = ap length grown ∙ length-append old piece in
+    let front : take n new ≡ take n old = ap (take n) grown ∙ take-append-le n old piece (omega arith) in
+    let both : n + m ≡ length new - 20 = omega (arith, longer) in
+    ap (λ l. l ++ part) (sym front) ∙ ap (λ l. take n new ++ l) is ∙ sym (take-add n m new) ∙ ap (λ k. take k new) both
 
 below_take : (n : ℕ) (l : List ℕ) → ((i : ℕ) → get_or l i 0 < 256) → (i : ℕ) → get_or (take n l) i 0 < 256
 below_take zero l h i = omega arith

@@ -7,7 +7,7 @@
 //!   more. [`lead_with_newest`] puts refs at the newest objects in front of others.
 //! - A [`StorePacker`] packs commits and tags and what goes with them. Entries of packs go out as
 //!   they lie, and other objects as deltas where these are smaller.
-//! - A [`StoreIndexer`] indexes a pack that comes, and keeps it. [`install_pack`] brings it to the
+//! - A [`StoreIndexer`] indexes a pack while it comes, and keeps it. [`install_pack`] brings it to the
 //!   directory.
 //! - [`open_store`] refuses a repository of a form that is not read. A [`NewRepository`] is one that a
 //!   clone makes. [`check_repository`] checks that all that the refs reach is there.
@@ -72,7 +72,8 @@
 //!   might be opened or refused. The names of peeled refs in a new repository might be wrong.
 //! - The indexer might leave out an entry, or answer one of an object that the pack does not have. It
 //!   looks for the trees and blobs that are named, and compares objects that are here already; no
-//!   clause says so.
+//!   clause says so, nor when it reads an object. A loose object that comes here meanwhile may be left
+//!   uncompared.
 //! - A parent of a commit in the graph may be a tag, a tree or a blob. The types of parents are
 //!   compared, but no clause says so.
 //! - [`PackCounts`] and [`StorePacker::counts`] have no clause: they are for those who measure.
@@ -100,6 +101,7 @@ mod commit_graph;
 mod copying;
 mod fates;
 mod fault;
+mod feed;
 mod folder;
 mod form;
 mod gather;
@@ -125,9 +127,10 @@ pub use crate::checking::{Checked, check_refs, check_repository};
 pub use crate::commit_graph::read_commit_graph;
 pub use crate::copying::PackCounts;
 pub use crate::fault::{CheckFault, FormFault, ObjectCause, RepositoryFault};
+pub use crate::feed::{Received, StoreFeed};
 pub use crate::folder::{PackFolder, Stage};
 pub use crate::form::{check_form, open_store};
-pub use crate::indexer::{Received, StoreIndexer};
+pub use crate::indexer::StoreIndexer;
 pub use crate::install::{install_files, install_pack};
 pub use crate::kept::KeptPack;
 pub use crate::leaves::add_leaves;
