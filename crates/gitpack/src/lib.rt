@@ -17,7 +17,7 @@
 //!   finds an id exactly if it is in the index.
 //! - [`IndexedPack::write_index`] writes the text of version 2, with its own checksum.
 //! - [`PackWriter`] writes the header with the count, then each entry as it is put, and then the
-//!   SHA-1 of all.
+//!   SHA-1 of all. [`put_header`] and [`put_entry`] write one of these alone.
 //! - [`IncomingPack`] accepts only packs of version 2 whose trailer is the SHA-1 of all bytes
 //!   before, and gives the pack back as it came, in whatever pieces. Each object that the visitor is
 //!   shown has the id of its type and bytes, and the objects come out sorted by their ids.
@@ -50,7 +50,7 @@
 //!   limits and faults, and of when an object is shown.
 //! - [`IndexedPack::find`] answers an object with the id, but no clause says that it is one of
 //!   [`IndexedPack::entries`].
-//! - [`PackWriter`] might refuse an entry. The number of entries is not compared with the count,
+//! - [`PackWriter`] and [`put_entry`] might refuse an entry. The number of entries is not compared with the count,
 //!   and no clause bounds the bytes of the pack.
 //! - The contracts say nothing of time, or of how much memory a call takes.
 //!
@@ -89,4 +89,4 @@ pub use crate::fault::PackFileFault;
 pub use crate::incoming::IncomingPack;
 pub use crate::index::{IndexEntry, PackIndex};
 pub use crate::indexing::{IndexLimits, IndexedEntry, IndexedPack, ObjectVisitor, index_pack};
-pub use crate::writing::PackWriter;
+pub use crate::writing::{PackWriter, put_entry, put_header};
