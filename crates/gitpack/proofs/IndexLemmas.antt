@@ -23,21 +23,19 @@ use Rattle.gitpack.specs.steps.FirstBytes.{begins_with, ids_below, ids_beginning
 pub cut_at : (n : ℕ) (bytes front back : List ℕ) → front ≡ take n bytes → back ≡ drop n bytes → bytes ≡ front ++ back
 cut_at n bytes front back is rest = sym (take-append-drop n bytes) ∙ ap (λ l. l ++ drop n bytes) (sym is) ∙ ap (λ l. front ++ l) (sym rest)
 
+-- bytes that were hashed but for the last twenty, and those that come with a piece more
+pub hashed_more : (old piece new : List ℕ) (from to : ℕ) → new ≡ old ++ piece → from ≡ length old - 20 → to ≡ length new - 20
+    → take from old ++ take (to - from) (drop from new) ≡ take to new
+hashed_more old piece new from to all is end =
+    let count = ap length all ∙ length-append old piece in
+    let front : take from old ≡ take from new = sym (ap (take from) all ∙ take-append-le from old piece (omega (arith, is))) in
+    let sum : from + (to - from) ≡ to = omega (arith, is, end, count) in
+    ap (λ l. l ++ take (to - from) (drop from new)) front ∙ sym (take-add from (to - from) new) ∙ ap (λ n. take n new) sum
+
 pub trailer_read : (n : ℕ) (pack body trailer sum id : List ℕ) → body ≡ take n pack → trailer ≡ drop n pack → sum ≡ sha1 body → sum ≡ trailer → id ≡ trailer
     → (id ≡ sha1 body) × (pack ≡ with_trailer body)
 trailer_read n pack body trailer sum id is rest digest same bytes =
     (bytes ∙ sym same ∙ digest, cut_at n pack body trailer is rest ∙ ap (λ l. body ++ l) (sym same ∙ digest))
-
--- what is hashed once more bytes came: what was hashed before, and a part of all bytes
-pub hashed_more : (old piece new part : List ℕ) → new ≡ old ++ piece → part ≡ take (length new - 20 - (length old - 20)) (drop (length old - 20) new)
-    → take (length old - 20) old ++ part ≡ take (length new - 20) new
-hashed_more old piece new part grown is =
-    let n = length old - 20 in
-    let m = length new - 20 - (length old - 20) in
-    let longer = ap length grown ∙ length-append old piece in
-    let front : take n new ≡ take n old = ap (take n) grown ∙ take-append-le n old piece (omega arith) in
-    let both : n + m ≡ length new - 20 = omega (arith, longer) in
-    ap (λ l. l ++ part) (sym front) ∙ ap (λ l. take n new ++ l) is ∙ sym (take-add n m new) ∙ ap (λ k. take k new) both
 
 below_take : (n : ℕ) (l : List ℕ) → ((i : ℕ) → get_or l i 0 < 256) → (i : ℕ) → get_or (take n l) i 0 < 256
 below_take zero l h i = omega arith

@@ -67,9 +67,9 @@ impl<A: Allocator + Copy> PackBytes<A> {
     pub(crate) fn push(&mut self, piece: &[u8]) -> Result<(), AllocError>
         ensures { OnOk result (self.new ≡ self.old ++ piece.now) }
     {
-        let from = self.bytes.len().saturating_sub(ID_BYTES);
+        let from = body_length(self.bytes.as_slice());
         self.bytes.extend_from_slice(piece)?;
-        let to = self.bytes.len().saturating_sub(ID_BYTES);
+        let to = body_length(self.bytes.as_slice());
         self.hasher.update(&self.bytes.as_slice()[from..to]);
         Ok(())
     }
@@ -91,6 +91,13 @@ impl<A: Allocator + Copy> PackBytes<A> {
             trailer,
         })
     }
+}
+
+// The number of bytes but the last twenty.
+fn body_length(pack: &[u8]) -> usize
+    ensures { result ≡ length pack.now - 20 }
+{
+    pack.len().saturating_sub(ID_BYTES)
 }
 
 /// All bytes of a pack but the last twenty.
