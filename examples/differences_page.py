@@ -117,25 +117,26 @@ def section(cases, known, version, server, client, notes):
     """The lines of the section."""
     yield "With git %s. `--server '%s'`, `--client '%s'`.\n" % (version, SERVER, CLIENT)
     yield from answered_alike(server, client)
-    yield "\n## What a server answers otherwise\n\n| Row | Here | git | Why |\n|---|---|---|---|"
-    yield from rows_of(known, "server", server)
-    yield "\n## What a client does otherwise\n\n| Row | Here | git | Why |\n|---|---|---|---|"
-    yield from rows_of(known, "client", client)
+    yield "\n## What a server answers otherwise\n\nThe number of rows is in brackets, then the first row, and the answer here and of git.\n"
+    yield from reasons_of(known, "server", server)
+    yield "\n## What a client does otherwise\n"
+    yield from reasons_of(known, "client", client)
     yield "\nGit's requests have other lines, too. A number says in how many requests of the rows that were compared.\n"
     yield from ("- %s" % note for note in notes)
-    yield "\n## Why\n\n| Word | What it means |\n|---|---|"
-    words = {known.word("server", it) for it in differing(server)} | {known.word("client", it) for it in differing(client)}
-    yield from ("| %s | %s |" % (word, why) for word, why in known.whys.items() if word in words)
-    yield "\n## What both servers refuse\n\n| Row | Here | git |\n|---|---|---|"
-    for outcome in server:
-        if outcome.kind == "refused alike":
-            yield "| %s | %s | %s |" % (outcome.row.name, *(code(part) for part in parted(outcome)))
+    yield "\n## What both servers refuse\n\nEach line is the answer here.\n"
+    yield from refused_rows(server)
     yield "\n## Ref names\n\n| Name | Here | git | Why |\n|---|---|---|---|"
     yield from name_rows(cases.names)
-    yield "\n## Rows that are not replayed\n\n| Why | Server | Client |\n|---|---|---|"
-    counts = [Counter(outcome.why for outcome in side if outcome.kind == "not plain") for side in (server, client)]
-    for why in sorted(set(counts[0]) | set(counts[1])):
-        yield "| %s | %s | %s |" % (why, *(count[why] or "" for count in counts))
+
+
+def refused_rows(server):
+    """A line for each answer to rows that both servers refuse: how many they are, and the first of them."""
+    refused = {}
+    for outcome in server:
+        if outcome.kind == "refused alike":
+            refused.setdefault(parted(outcome)[0], []).append(outcome.row.name)
+    for here, names in refused.items():
+        yield "- %s (%d: %s)" % (code(here), len(names), names[0])
 
 
 def answered_alike(server, client):
@@ -153,23 +154,19 @@ def answered_alike(server, client):
         yield "| %s | %d | %d |" % (text, *counts)
 
 
-def rows_of(known, side, outcomes):
-    """A line for each row that differs, in the order of the reasons."""
-    order = list(known.whys)
-    found = [(known.word(side, outcome), outcome) for outcome in differing(outcomes)]
-    for word, outcome in sorted(found, key=lambda pair: order.index(pair[0]) if pair[0] else -1):
-        if outcome.row.place == ADVERTISEMENT:
-            yield "| %s | nothing more | `%s` | %s |" % (outcome.row.name, outcome.why, word)
-            continue
-        here, there = client_parts(outcome) if side == "client" else parted(outcome)
-        yield "| %s | %s | %s | %s |" % (outcome.row.name, code(here), code(there), word)
+def reasons_of(known, side, outcomes):
+    """A line for each reason why rows differ: how many they are, and the first of them."""
+    for word, why in known.whys.items():
+        rows = [outcome for outcome in differing(outcomes) if known.word(side, outcome) == word]
+        if rows:
+            yield "- %s (%d: %s%s)" % (why, len(rows), rows[0].row.name, answers_of(rows[0]) if side == "server" else "")
 
 
-def client_parts(outcome):
-    """How the row's client ends, and how git does."""
-    if outcome.kind == "asks otherwise":
-        return tuple("%d requests" % sum(item.text.startswith("command=") for item in side) for side in (outcome.due, outcome.got))
-    return outcome.due[-1].text, outcome.got[-1].text
+def answers_of(outcome):
+    """What git's server answers in the place of ours."""
+    if outcome.row.place == ADVERTISEMENT:
+        return ", `%s`" % outcome.why
+    return "; %s, %s" % tuple(code(part) for part in parted(outcome))
 
 
 def parted(outcome):

@@ -12,7 +12,7 @@
 //!
 //! # What the contracts do not rule out
 //!
-//! Anything else: no clause says what a line means. That cases are read as docs/CASES.md says is tried by all of them.
+//! Anything else: no clause says what a line means. That cases are read as crates/conformance/FORMAT.md says is tried by all of them.
 //!
 //! # Stands on
 //!

@@ -1,39 +1,6 @@
 //! Reading of a file of cases.
 //!
-//! A line that begins with `#`, and an empty one, say nothing. `text NAME` begins a text: its lines, each ended by a line
-//! feed, up to an empty one; and so `talk NAME` begins lines that cases use. `long NAME` makes a long text (`long.rt`).
-//! `row NAME` begins a case. Its lines are
-//!
-//! | Line | Meaning |
-//! |---|---|
-//! | `run COMMAND` | a program that the case is run through; several may stand, as one for each end |
-//! | `use NAME` | the lines of this talk |
-//! | `C: TEXT`, `S: TEXT` | the client, the server sends a packet of the text and a line feed; `0000`, `0001` and `0002` are the marks |
-//! | `C. BYTES`, `S. BYTES` | a packet of just these bytes |
-//! | `C1 BYTES`, `S1 BYTES`, also 2 and 3 | a packet of this side band |
-//! | `S1* BYTES` | as many packets of side band 1 as it takes, each as full as may be |
-//! | `C= BYTES`, `S= BYTES` | these bytes, which need not be a packet |
-//! | `\| TEXT` | a line on standard output that is no packet |
-//! | `! TEXT` | a line on standard error, by which the status is 1 |
-//! | `report TEXT` | a line of a fetch's report |
-//! | `file NAME` | the text that the client's file has afterwards |
-//! | `times N` | the next line counts N times; in a text, too |
-//! | `packer NAME`, `indexer NAME` | one that fails or lies, in place of the plain one (`liars.rt`) |
-//! | `memory TEXT` | of the faults that are met where an allocation is refused, the next that differs from the one before |
-//! | `packets N..` | where the packets of the last message begin that is read, and where it ends, counted from its beginning |
-//! | `cut ..`, `change ..` | what is due where the request is cut or changed (`table.rt`) |
-//! | `long` | the case is tried whole and in pieces alone |
-//! | `deep` | each byte is changed to each other value |
-//! | `late` | the connection is tried with a peer that is late, and with allocations refused over a socket |
-//! | `plain` | its replies have no ends of their own, even where they may |
-//!
-//! Each case and each fact is tried with ids of SHA-1 and with ids of SHA-256, but for those between `single` and `both`,
-//! and in the rest of a file after `single`. The same lines say it with both: an id in braces has sixty-four digits, the
-//! first line of a repository and the object format of an advertisement are those of SHA-256, and after each line
-//! `C: command=` stands the object format.
-//!
-//! A line `KIND DUE: TEXT` says what is made of a text, what is printed of a fault, what words of the command line ask for,
-//! and after `graph NAME` what is found in a repository, or what comes of events by chance (`kind.rt`).
+//! `crates/conformance/FORMAT.md` has the format of rows, facts, texts and talks.
 
 use crate::case::{Case, Fact, Said};
 use crate::command::first_of;

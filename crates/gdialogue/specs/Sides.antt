@@ -27,8 +27,8 @@ module _ {R : Type 0} (may : R → List Packet → Bool → Type 0) where
     pub spelt : bytes ≡ canonical_all said
     pub leads : LeadsTo old new said result
 
-  -- An answer may say these packets, and then the dialogue goes on or not. Nothing goes on after a last answer, whatever
-  -- its reply says of that.
+  -- An answer may say these packets, and then the dialogue goes on or not. It never goes on after a last answer,
+  -- whatever the reply says of that.
   abbrev pub MayAnswer : Answer R → List Packet → Bool → Type 0
   MayAnswer (answer.GoesOn reply) packets goes = may reply packets goes
   MayAnswer (answer.Last reply) packets goes = (goes ≡ false) × ((reply_goes : Bool) × may reply packets reply_goes)

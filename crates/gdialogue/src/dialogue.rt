@@ -15,7 +15,7 @@ use gtalk::{Conversation, Outgoing, Stop, Turn};
 use std::alloc::Allocator;
 use std::mem;
 
-// What is heard or said next.
+// The part of a dialogue that is next.
 #[derive(Drop)]
 enum Stage<M, R> {
     // A message, of which so many packets have come.
@@ -30,8 +30,8 @@ enum Stage<M, R> {
 /// A dialogue, as one end holds it: a conversation of packets ([`Conversation`]).
 ///
 /// It hears one message after the other and says the answer of its [`Side`] to each, as long as answers go on. A message
-/// is refused at the first packet that does not fit, or where no packet comes any more; what the side says to that is
-/// the last that is said.
+/// is refused at the first packet that does not fit, or where no packet comes any more. The side's words on that
+/// are the last.
 #[derive(Drop)]
 pub struct Dialogue<S, M, R> {
     side: S,

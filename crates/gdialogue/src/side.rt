@@ -9,7 +9,7 @@ use ggrammar::{Message, MessageFault};
 use gtalk::Outgoing;
 use std::alloc::Allocator;
 
-/// What a call has said of a reply.
+/// How much a call has said of a reply.
 #[derive(Clone, Copy, Debug, PartialEq, Eq)]
 pub enum Said {
     /// Some of it, and more follows.
@@ -31,14 +31,14 @@ pub trait Reply {
     // How many more calls say some of it, at most.
     ghost calls: { Self → ℕ };
 
-    /// Says the next packets, as many as it likes, into an empty queue. Where it has not said all, fewer calls are left.
+    /// Says the next packets, as many as it likes, into an empty queue.
     fn say<A: Allocator + Copy>(&mut self, out: &mut Outgoing<A>) -> Said
         requires empty { out.old ≡ [] }
         ensures says { SaysSome may self.old self.new out.new result }
         ensures fewer { result ≡ Said.More → calls self.new < calls self.old };
 }
 
-/// What is said to a message.
+/// The answer to a message.
 #[derive(Drop)]
 pub enum Answer<R> {
     /// This, and then the next message is heard, unless the reply itself ends the dialogue.
@@ -51,7 +51,7 @@ pub enum Answer<R> {
 pub trait Side<M: Message, R: Reply> {
     ghost use Rattle.ggrammar.specs.declared.fault.MessageFault.{MessageFault};
 
-    // What the grammar says of the next message.
+    // The grammar of the next message.
     ghost judge: { Self → Judge };
 
     // Whether a packet of it brings something to keep, which takes memory.
@@ -60,10 +60,10 @@ pub trait Side<M: Message, R: Reply> {
     // Before the first message it says these packets, and goes on or not. An end that only answers `SaysNothing`.
     ghost opens: { Self → List Packet → Bool → Type 0 };
 
-    // To this message it says these packets, goes on or not, and is left so.
+    // It answers this message with these packets, goes on or not, and is left so.
     ghost answers: { Self → List Packet → List Packet → Bool → Self → Type 0 };
 
-    // To a message that is refused it says these packets, and is left so.
+    // It answers a refused message with these packets, and is left so.
     ghost refuses: { Self → MessageFault → List Packet → Self → Type 0 };
 
     // How many more messages it answers and then goes on, at most.

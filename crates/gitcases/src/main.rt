@@ -1,6 +1,6 @@
 //! Cases of Git's packs and Git directories, from files, tried on the crates that read them.
 //!
-//! The arguments name files of cases; docs/CASES.md has their lines. A row says which answer a pack
+//! The arguments name files of cases; FORMAT.md has their lines. A row says which answer a pack
 //! or a store gets. It is tried as it is, cut after each byte, with each bit changed, while its files
 //! change, and with each allocation refused in turn. An answer that is wrong is a line on standard
 //! output. The last lines count the tries.

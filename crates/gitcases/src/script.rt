@@ -1,4 +1,4 @@
-//! Reading of files of cases. docs/CASES.md has the meaning of each line.
+//! Reading of files of cases. FORMAT.md has the meaning of each line.
 
 use crate::deltas::{copy_of, insertions_of, put_size};
 use crate::indexes::Lines;

@@ -1,16 +1,18 @@
 -- How much is left while a connection is driven, and what its devices are left as.
-use Rattle.std.proofs.Common.{◌≡◌, ℕ, ◌+◌, ◌<◌, ◌≤◌, ◌⊎◌, Bool, length, Option, Some, None, Result, Ok, Err, IsSome, inl, inr, refl, ap, ◌∙◌, arith}
+use Rattle.std.proofs.Common.{◌≡◌, ℕ, ◌+◌, ◌<◌, ◌≤◌, ◌⊎◌, ◌++◌, [], Bool, true, false, length, Option, Some, None, Result, Ok, Err, IsSome, OnErr, inl, inr, refl, sym, subst, ap, ◌∙◌, arith, append-nil}
 use Rattle.std.specs.Io.KnownBytes.{Appends, Keeps}
 use Rattle.gpkt.specs.Packets.{Bytes, max_packet}
-use Rattle.gtalk.specs.Talks.{IsNearer, Left}
-use Rattle.gtalk.specs.Connections.{IsDone, LeavesSink}
-use Rattle.gtalk.specs.steps.Driving.{IsFewer, IsLater, calls_left, reading_left, reads_left, saying_left, turns_left, unstopped}
+use Rattle.gpkt.specs.Devices.{KeepsPassed, PassesAll}
+use Rattle.gtalk.specs.Talks.{IsNearer, Left, Talk}
+use Rattle.gtalk.specs.Connections.{BreaksOff, HasPassed, HearsRead, IsDone, LeavesSink, SendsSaid, pending_of}
+use Rattle.gtalk.specs.steps.Driving.{Driven, IsFewer, IsLater, calls_left, reading_left, reads_left, saying_left, turns_left, unstopped}
 use Rattle.gtalk.specs.declared.connection.Connection.{Connection}
 use Rattle.gtalk.specs.declared.conversation.Stop.{Stop}
 use Rattle.gtalk.specs.declared.conversation.Turn.{Turn}
 use Rattle.gtalk.specs.declared.conversation.Turn.TheVariants.{Listens, Speaks, Done}
 use Rattle.gtalk.specs.declared.fault.TalkFault.{TalkFault}
 use Rattle.gtalk.specs.declared.fault.TalkFault.TheVariants.{Io, Memory}
+use Rattle.gtalk.proofs.Moves.{more_heard, more_said, nothing_driven}
 
 -- ---- measures
 
@@ -109,16 +111,104 @@ module _ {C A : Type 0} (turn : C → Turn) (left : C → Left) where
 -- ---- devices
 
 pub keeps_known : (a b : Option Bytes) → Keeps a b → IsSome a → IsSome b
-keeps_known None b keeps some = cc some
+keeps_known None b keeps some = absurd (cc some)
 keeps_known (Some x) None keeps some = absurd keeps
-keeps_known (Some x) (Some y) keeps some = some
+keeps_known (Some x) (Some y) keeps some = refl
 
 pub appends_known : (a b : Option Bytes) (more : Bytes) → Appends a b more → IsSome a → IsSome b
-appends_known None b more appends some = cc some
+appends_known None b more appends some = absurd (cc some)
 appends_known (Some x) None more appends some = absurd appends
-appends_known (Some x) (Some y) more appends some = some
+appends_known (Some x) (Some y) more appends some = refl
 
 pub leaves_sink : (result : Result Unit TalkFault) (first was is : Bool) → LeavesSink result was is → was ≡ first → LeavesSink result first is
 leaves_sink (Ok done) first was is h same = h
 leaves_sink (Err Io) first was is h same = h
 leaves_sink (Err Memory) first was is h same = h ∙ same
+
+-- where it keeps what was passed on, it keeps it and perhaps more
+pub keeps_passed : (a b : Option Bytes) → Keeps a b → KeepsPassed (record { old = a; new = b })
+keeps_passed None b keeps = tt
+keeps_passed (Some x) None keeps = keeps
+keeps_passed (Some x) (Some y) keeps = ([], keeps ∙ sym (append-nil x))
+
+pub keeps_then_passed : (a b c : Option Bytes) → Keeps a b → KeepsPassed (record { old = b; new = c }) → KeepsPassed (record { old = a; new = c })
+keeps_then_passed None b c keeps h = tt
+keeps_then_passed (Some x) None c keeps h = absurd keeps
+keeps_then_passed (Some x) (Some y) None keeps h = h
+keeps_then_passed (Some x) (Some y) (Some z) keeps (more, is) = (more, is ∙ ap (λ l. l ++ more) keeps)
+
+-- what was passed on at a turn's beginning is passed on at its end
+passed_since : (between passed last : Option Bytes) → passed ≡ between → IsSome passed → KeepsPassed (record { old = passed; new = last })
+    → (bytes : Bytes) × (more : Bytes) × (between ≡ Some bytes) × (last ≡ Some (bytes ++ more))
+passed_since between None last same some h = absurd (cc some)
+passed_since between (Some x) None same some h = absurd h
+passed_since between (Some x) (Some y) same some (more, is) = (x, more, sym same, ap Some is)
+
+module _ {C A D : Type 0} (holds : C → Talk → Type 0) (turn : C → Turn) (contents passed_on : D → Option Bytes) where
+  abbrev Drove : Bool → Connection C A → Connection C A → Option Bytes → Option Bytes → D → D → Type 0
+  Drove passed old new first last begun sink = Driven {A = A} holds passed old new (record { old = first; new = last })
+      (record { old = contents begun; new = contents sink }) (record { old = passed_on begun; new = passed_on sink }) (sink ≡ begun)
+
+  -- where it was known what was written and passed on, it is known what is passed on now
+  known_now : (passed : Bool) (old mid : Connection C A) (first last : Option Bytes) (begun sink : D) → Drove passed old mid first last begun sink
+      → IsSome (contents begun) → IsSome (passed_on begun) → IsSome (passed_on sink)
+  known_now false old mid first last begun sink h some known = subst (λ d. IsSome (passed_on d)) (sym (h.quiet refl).1) known
+  known_now true old mid first last begun sink h some known =
+      subst IsSome (sym (h.known refl some known)) (appends_known (contents begun) (contents sink) h.drives.said h.drives.sent some)
+
+  pub driven_nothing : (c : Connection C A) (first : Option Bytes) (begun : D) → Drove false c c first first begun begun
+  unfolding nothing_driven
+  driven_nothing c first begun = record {
+    drives = nothing_driven holds c first (contents begun);
+    quiet = λ none. (refl, refl);
+    known = λ is. absurd (cc is);
+  }
+
+  pub driven_heard : (passed : Bool) (old mid new : Connection C A) (first between last : Option Bytes) (begun sink : D)
+      → Drove passed old mid first between begun sink → HearsRead {A = A} holds mid new (record { old = between; new = last })
+      → Drove passed old new first last begun sink
+  unfolding more_heard
+  driven_heard passed old mid new first between last begun sink h k = record {
+    drives = more_heard holds old mid new first between last (contents begun) (contents sink) h.drives k;
+    quiet = h.quiet;
+    known = h.known;
+  }
+
+  pub driven_said : (passed : Bool) (old mid new : Connection C A) (first between : Option Bytes) (begun sink after : D)
+      → Drove passed old mid first between begun sink
+      → SendsSaid {A = A} holds mid new (record { old = contents sink; new = contents after })
+      → PassesAll (contents after) (record { old = passed_on sink; new = passed_on after })
+      → Drove true old new first between begun after
+  driven_said passed old mid new first between begun sink after h k all = record {
+    drives = more_said holds old mid new first between (contents begun) (contents sink) (contents after) h.drives k;
+    quiet = λ none. absurd (cc none);
+    known = λ is some known. all (known_now passed old mid first between begun sink h some known);
+  }
+
+  -- it breaks off in a turn, or where nothing was passed on yet
+  pub breaks_off : (passed : Bool) (old mid new : Connection C A) (first between : Option Bytes) (begun sink after : D)
+      → Drove passed old mid first between begun sink
+      → ((turn mid.conversation ≡ Speaks) ⊎ IsDone {A = A} turn mid) → pending_of mid ≡ []
+      → SendsSaid {A = A} holds mid new (record { old = contents sink; new = contents after })
+      → KeepsPassed (record { old = passed_on sink; new = passed_on after })
+      → BreaksOff {A = A} holds turn old new (record { old = first; new = between })
+      (record { old = contents begun; new = contents after }) (record { old = passed_on begun; new = passed_on after })
+  breaks_off passed old mid new first between begun sink after h turns all_sent last keeps = record {
+    mid = mid;
+    between = contents sink;
+    before = h.drives;
+    turns = turns;
+    all_sent = all_sent;
+    last = last;
+    passed = passed_so passed h;
+  }
+    where
+      passed_so : (p : Bool) (d : Drove p old mid first between begun sink)
+          → HasPassed d.drives.said (contents sink) (record { old = contents begun; new = contents after }) (record { old = passed_on begun; new = passed_on after })
+      passed_so false d = inl ((d.quiet refl).0, subst (λ s. KeepsPassed (record { old = passed_on s; new = passed_on after })) (d.quiet refl).1 keeps)
+      passed_so true d = inr (λ some known. passed_since (contents sink) (passed_on sink) (passed_on after) (d.known refl some known)
+          (known_now true old mid first between begun sink d some known) keeps)
+
+pub on_err : {P Q : Type 0} (result : Result Unit TalkFault) → (P → Q) → OnErr result P → OnErr result Q
+on_err (Ok done) f h = tt
+on_err (Err fault) f h = f h

@@ -188,7 +188,7 @@ module _ {C A : Type 0} (holds : C → Talk → Type 0) where
 
   -- ---- a connection and its devices
 
-  pub nothing_driven : (c : Connection C A) (read written : Option Bytes)
+  unfoldable pub nothing_driven : (c : Connection C A) (read written : Option Bytes)
       → Drives {A = A} holds c c (record { old = read; new = read }) (record { old = written; new = written })
   nothing_driven c read written = record {
     more = [];
@@ -211,7 +211,7 @@ module _ {C A : Type 0} (holds : C → Talk → Type 0) where
     moves = one_move old mid new [] [] h.said k.said h.moves k.moves;
   }
 
-  pub more_heard : (old mid new : Connection C A) (first between last written latest : Option Bytes)
+  unfoldable pub more_heard : (old mid new : Connection C A) (first between last written latest : Option Bytes)
       → Drives {A = A} holds old mid (record { old = first; new = between }) (record { old = written; new = latest })
       → HearsRead {A = A} holds mid new (record { old = between; new = last })
       → Drives {A = A} holds old new (record { old = first; new = last }) (record { old = written; new = latest })

@@ -1,7 +1,9 @@
 -- A connection: the bytes that came and went, and the packets that were heard and said.
-use Rattle.std.specs.Prelude.{◌≡◌, ℕ, ◌+◌, ◌⊎◌, ◌++◌, List, [], length, drop, Bool, true, false, Option, Some, None, Result, Ok, Err}
+use Rattle.std.specs.Prelude.{◌≡◌, ℕ, ◌+◌, ◌⊎◌, ◌++◌, List, [], length, drop, Bool}
+use Rattle.std.specs.Prelude.{true, false, Option, Some, None, IsSome, Result, Ok, Err}
 use Rattle.std.specs.Io.KnownBytes.{Appends, Consumes}
 use Rattle.gpkt.specs.Change.{Change}
+use Rattle.gpkt.specs.Devices.{KeepsPassed}
 use Rattle.gpkt.specs.Packets.{Bytes, Packet, SpellsAll, canonical_all}
 use Rattle.gtalk.specs.Talks.{IsNearer, Left, Talk}
 use Rattle.gtalk.specs.Partial.{IsKept, IsStopped}
@@ -22,6 +24,14 @@ pub record Spelt (heard : List Packet) (partial received : Bytes) : Type 0 where
 abbrev pub bytes_in : Option Bytes → Bytes
 bytes_in None = []
 bytes_in (Some bytes) = bytes
+
+-- Where nothing was said before, all that had been passed on is passed on, and perhaps more. Where something was said,
+-- all that was written till then is passed on, and perhaps more.
+abbrev pub HasPassed : Bytes → Option Bytes → Change → Change → Type 0
+HasPassed said between written passed_on =
+    ((said ≡ []) × KeepsPassed passed_on)
+    ⊎ (IsSome written.old → IsSome passed_on.old
+    → (bytes : Bytes) × (more : Bytes) × (between ≡ Some bytes) × (passed_on.new ≡ Some (bytes ++ more)))
 
 module _ {C A : Type 0} where
   -- what a clause reads of a connection
@@ -102,6 +112,18 @@ module _ {C A : Type 0} where
     pub received : Consumes read.old read.new more
     pub sent : Appends written.old written.new said
     pub moves : Moves holds old new more said
+
+  -- It broke off. Until its last turn began, this was heard and said, and all that was said was sent and passed on.
+  -- Since then some was said, and this was written of it.
+  pub record BreaksOff (holds : C → Talk → Type 0) (turn : C → Turn) (old new : Connection C A)
+      (read written passed_on : Change) : Type 0 where
+    pub mid : Connection C A
+    pub between : Option Bytes
+    pub before : Drives holds old mid read (record { old = written.old; new = between })
+    pub turns : (turn mid.conversation ≡ Speaks) ⊎ IsDone turn mid
+    pub all_sent : drop mid.sent (bytes_in mid.outgoing) ≡ []
+    pub last : SendsSaid holds mid new (record { old = between; new = written.new })
+    pub passed : HasPassed before.said between written passed_on
 
 -- whether the sink is down after a conversation was driven, and before it
 abbrev pub LeavesSink : Result Unit TalkFault → Bool → Bool → Type 0

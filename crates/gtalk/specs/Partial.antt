@@ -1,5 +1,6 @@
 -- A packet of which some bytes have come (gitprotocol-common(5), "pkt-line Format").
-use Rattle.std.specs.Prelude.{◌≡◌, ℕ, Bool, true, false, ◌+◌, ◌≤◌, ◌⊎◌, ◌++◌, [], length, Option, Some, None, Result, Ok, Err}
+use Rattle.std.specs.Prelude.{◌≡◌, ℕ, Bool, true, false, ◌+◌, ◌≤◌, ◌⊎◌, ◌++◌}
+use Rattle.std.specs.Prelude.{[], length, Option, Some, None, Result, Ok, Err}
 use Rattle.std.specs.Io.KnownBytes.{IsAtEnd}
 use Rattle.gpkt.specs.Packets.{Bytes, Packet, Spells, digit_count, max_packet}
 use Rattle.gpkt.specs.LineReading.{AnnouncesAtFront, IsPartialLine, NoLine}

@@ -1,4 +1,4 @@
-//! What a connection is made of.
+//! The parts of a connection.
 
 ghost use Rattle.gtalk.specs.Partial.{IsPartial};
 

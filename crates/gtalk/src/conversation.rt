@@ -8,7 +8,7 @@ use crate::outgoing::Outgoing;
 use gpkt::{Line, LineFault};
 use std::alloc::Allocator;
 
-/// Whose turn it is.
+/// The end whose turn it is.
 #[derive(Clone, Copy, Debug, PartialEq, Eq)]
 pub enum Turn {
     /// The peer's: a packet is heard, or that none comes.
@@ -32,12 +32,12 @@ pub enum Stop {
 
 /// One end of a conversation: a value that hears packets and says packets.
 ///
-/// It knows no device, and no bytes but those of its packets. Its history is not kept: `holds` says what was heard and
-/// said so far. `left` counts down, so that each conversation ends.
+/// It knows no device. Its history is not kept: `holds` says what was heard and said so far. `left` counts down, so that
+/// each conversation ends.
 pub trait Conversation {
     ghost use Rattle.gtalk.specs.declared.conversation.Turn.{Turn};
 
-    // Whose turn it is.
+    // The end whose turn it is.
     ghost turn: { Self → Turn };
 
     // This was heard and said so far.
@@ -46,7 +46,7 @@ pub trait Conversation {
     // How much of it is left, at most.
     ghost left: { Self → Left };
 
-    /// Whose turn it is.
+    /// Tells whose turn it is.
     fn turn(&self) -> Turn
         ensures { result ≡ turn self.now };
 

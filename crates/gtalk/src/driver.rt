@@ -3,11 +3,11 @@
 ghost use Rattle.std.specs.Prelude.{◌≡◌, ◌<◌, ◌≤◌, [], Ok, is_err, None, IfOk, IsSome, OnErr, OnOk, length, take};
 ghost use Rattle.std.specs.Io.KnownBytes.{Consumes, IsAtEnd, Keeps};
 ghost use Rattle.gpkt.specs.Change.{change_of};
-ghost use Rattle.gpkt.specs.Devices.{PassesAll};
-ghost use Rattle.gtalk.specs.Connections.{Drives, HearsRead, IsDone, IsHeld, LeavesSink, SendsSaid, conversation_of, has_stopped, pending_of};
+ghost use Rattle.gpkt.specs.Devices.{KeepsPassed, PassesAll};
+ghost use Rattle.gtalk.specs.Connections.{BreaksOff, Drives, HearsRead, IsDone, IsHeld, LeavesSink, SendsSaid, conversation_of, has_stopped, pending_of};
 ghost use Rattle.gtalk.specs.Partial.{LeavesSource};
 ghost use Rattle.gtalk.specs.Talks.{IsNearer};
-ghost use Rattle.gtalk.specs.steps.Driving.{IsDownBy, IsFewer, IsLater, StaysKnown, reading_left};
+ghost use Rattle.gtalk.specs.steps.Driving.{IsDownBy, IsFewer, IsLater, reading_left};
 
 use crate::connection::Connection;
 use crate::conversation::{Conversation, Turn};
@@ -21,8 +21,8 @@ const PIECE: usize = 4_096;
 /// Holds a conversation to its end. All that is said is passed on before anything more is read, and nothing is read
 /// that is not heard.
 ///
-/// It fails where the sink fails, and where there is no memory for what is said. That the source fails or ends is for
-/// the conversation to hear.
+/// It fails where the sink fails, and where there is no memory for what is said. The conversation hears
+/// that the source ends or fails.
 pub fn drive<C: Conversation, A: Allocator + Copy, S: Source, W: Sink>(
     connection: &mut Connection<C, A>,
     source: &mut S,
@@ -36,6 +36,9 @@ pub fn drive<C: Conversation, A: Allocator + Copy, S: Source, W: Sink>(
     ensures all_sent { OnOk result (pending_of connection.new ≡ []) }
     ensures passed_on { OnOk result (IsSome (W.contents sink.old)
         → PassesAll (W.contents sink.new) (change_of W.passed_on sink.old sink.new)) }
+    ensures broken { OnErr result (BreaksOff C.holds C.turn connection.old connection.new
+        (change_of S.remaining source.old source.new) (change_of W.contents sink.old sink.new)
+        (change_of W.passed_on sink.old sink.new)) }
     ensures sink { LeavesSink result (W.is_down sink.old) (W.is_down sink.new) }
     ensures source { LeavesSource (has_stopped connection.old) (S.remaining source.old)
         (S.is_down source.old)
@@ -44,19 +47,21 @@ pub fn drive<C: Conversation, A: Allocator + Copy, S: Source, W: Sink>(
     ensures source_loans { S.loans source.new ≡ S.loans source.old }
     ensures sink_loans { W.loans sink.new ≡ W.loans sink.old }
 {
+    let mut passed = false;
     loop {
         match connection.turn() {
             Turn::Listens => listen(connection, source),
             Turn::Speaks => match speak(connection, sink) {
-                Ok(()) => {}
+                Ok(()) => passed = true,
                 Err(fault) => return Err(fault),
             },
+            Turn::Done if passed => return Ok(()),
             Turn::Done => return pass_on(sink),
         }
     }
 }
 
-// Says all of this turn, and sends it. Where it listens then, all of it is passed on.
+// Says all of this turn, sends it, and passes it on.
 fn speak<C: Conversation, A: Allocator + Copy, W: Sink>(
     connection: &mut Connection<C, A>,
     sink: &mut W,
@@ -70,8 +75,10 @@ fn speak<C: Conversation, A: Allocator + Copy, W: Sink>(
     ensures fewer { OnOk result ((C.left (conversation_of connection.new)).turns
         < (C.left (conversation_of connection.old)).turns) }
     ensures all_sent { OnOk result (pending_of connection.new ≡ []) }
-    ensures passed_on { OnOk result (StaysKnown (W.contents sink.old)
-        (change_of W.passed_on sink.old sink.new)) }
+    ensures passed_on { OnOk result
+        (PassesAll (W.contents sink.new) (change_of W.passed_on sink.old sink.new)) }
+    ensures kept { OnErr result (KeepsPassed (change_of W.passed_on sink.old sink.new)) }
+    ensures sink { LeavesSink result (W.is_down sink.old) (W.is_down sink.new) }
     ensures down { IsDownBy result (W.is_down sink.old) (W.is_down sink.new) }
     ensures loans { W.loans sink.new ≡ W.loans sink.old }
 {
@@ -81,8 +88,7 @@ fn speak<C: Conversation, A: Allocator + Copy, W: Sink>(
                 Ok(()) => {}
                 Err(fault) => return Err(fault),
             },
-            Turn::Listens => return pass_on(sink),
-            Turn::Done => return Ok(()),
+            Turn::Listens | Turn::Done => return pass_on(sink),
         }
     }
 }
@@ -164,6 +170,7 @@ fn pass_on<W: Sink>(sink: &mut W) -> Result<(), TalkFault>
     ensures bytes { Keeps (W.contents sink.old) (W.contents sink.new) }
     ensures passed_on { OnOk result
         (PassesAll (W.contents sink.new) (change_of W.passed_on sink.old sink.new)) }
+    ensures kept { OnErr result (KeepsPassed (change_of W.passed_on sink.old sink.new)) }
     ensures sink { LeavesSink result (W.is_down sink.old) (W.is_down sink.new) }
     ensures down { IsDownBy result (W.is_down sink.old) (W.is_down sink.new) }
     ensures loans { W.loans sink.new ≡ W.loans sink.old }

@@ -1,4 +1,4 @@
-//! What a connection does with bytes.
+//! The bytes that a connection receives and sends.
 
 ghost use Rattle.std.specs.Prelude.{◌≡◌, ◌<◌, ◌≤◌, [], None, Some, length, take, drop, IsOkUnless, OnErr, OnOk};
 ghost use Rattle.gtalk.specs.Connections.{Advances, Grows, Holds, IsTurn, Moves, bytes_in, conversation_of, has_stopped, partial_of, pending_of};
@@ -21,7 +21,7 @@ impl<C, A: Allocator + Copy> Connection<C, A> {
         &self.conversation
     }
 
-    /// The conversation, as the calls left it. What waits to be sent is dropped.
+    /// The conversation, as the calls left it. Bytes that wait to be sent are dropped.
     pub fn into_conversation(self) -> C
     where
         C: Drop,
@@ -58,7 +58,7 @@ impl<C: Conversation, A: Allocator + Copy> Connection<C, A> {
         }
     }
 
-    /// Whose turn it is. It is nobody's, too, where the conversation listens and no packet comes any more.
+    /// Tells whose turn it is. It is nobody's, too, where the conversation listens and no packet comes any more.
     pub fn turn(&self) -> Turn
         ensures { IsTurn C.turn self.now result }
     {
@@ -78,7 +78,8 @@ impl<C: Conversation, A: Allocator + Copy> Connection<C, A> {
 
     /// Receives bytes, no more than are [`wanted`](Connection::wanted).
     ///
-    /// Where they are no packet, or there is no memory for them, the conversation hears that no packet comes any more.
+    /// The conversation hears the packet that they complete. If they are no packet, or there is no memory for them, it hears
+    /// that no packet comes any more.
     pub fn receive(&mut self, bytes: &[u8])
         requires turn { C.turn (conversation_of self.old) ≡ Turn.Listens }
         requires goes_on { has_stopped self.old ≡ None }

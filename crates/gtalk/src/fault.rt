@@ -9,7 +9,7 @@ use std::fmt;
 /// Why a conversation was broken off.
 #[derive(Clone, Copy, Debug, PartialEq, Eq)]
 pub enum TalkFault {
-    /// The sink failed. A beginning of what was said stands written.
+    /// The sink failed. A beginning of what was said was written.
     Io,
     /// Out of memory for what is said. Nothing of it was said, and the conversation is as before.
     Memory,

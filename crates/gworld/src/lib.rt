@@ -23,6 +23,7 @@
 //!   out of memory. A session that took the pack of a complete reply to its request settles, and each ref that may
 //!   move does, unless there would be too many refs or the client is out of memory. (`Promises`,
 //!   specs/Promises.antt, has a definition for each of these.)
+//!   A reply to an older request ends the session, or brings the objects of that request alone.
 //! - Whatever bytes came before, a complete reply to ls-refs that answers the request that waits is taken, unless a ref
 //!   can't have its name, too much is wanted, or the client has no memory. A session that wants nothing settles.
 //! - **At all times** ([`laws::fronts_are_runs`], [`laws::refs_are_always_whole`]): a front of a run is a run, and in
@@ -36,7 +37,8 @@
 //!   tips reach, and can then settle. Each ref that may move does. The premise is that each reply arrives whole, and
 //!   nothing is refused. Only limits and want of memory refuse an event of such a fetch ([`laws::only_limits_refuse`]).
 //! - The promises follow from the definition of a step ([`laws::runs_keep_promises`]), and a packer and an indexer that
-//!   are faithful are so in each world.
+//!   are faithful are so in each world. The one premise on the worlds of a run is what their types keep: the order of
+//!   refs, and the lists of a session.
 //! - Each fault has the number, the name and the text of the tables (specs/Faults.antt). No call panics, overflows
 //!   or reads out of bounds, and each returns.
 //!

@@ -1,8 +1,11 @@
 -- Steps of driving a connection: how much is left of a turn, and what one turn does.
-use Rattle.std.specs.Prelude.{◌≡◌, ℕ, ◌+◌, ◌*◌, ◌-◌, ◌<◌, ◌≤◌, ◌⊎◌, length, Bool, true, Option, Some, None, Result, Ok, Err, IsSome}
+use Rattle.std.specs.Prelude.{◌≡◌, ℕ, ◌+◌, ◌*◌, ◌-◌, ◌<◌, ◌≤◌, ◌⊎◌, length, [], Bool}
+use Rattle.std.specs.Prelude.{true, false, Option, Some, None, Result, Ok, Err, IsSome}
 use Rattle.gpkt.specs.Change.{Change}
-use Rattle.gpkt.specs.Packets.{Bytes, max_packet}
-use Rattle.gtalk.specs.Talks.{Left}
+use Rattle.gpkt.specs.Devices.{PassesAll}
+use Rattle.gpkt.specs.Packets.{max_packet}
+use Rattle.gtalk.specs.Talks.{Left, Talk}
+use Rattle.gtalk.specs.Connections.{Drives}
 use Rattle.gtalk.specs.declared.connection.Connection.{Connection}
 use Rattle.gtalk.specs.declared.conversation.Stop.{Stop}
 use Rattle.gtalk.specs.declared.fault.TalkFault.{TalkFault}
@@ -57,6 +60,9 @@ IsDownBy (Ok done) was_down is_down = is_down ≡ was_down
 IsDownBy (Err Io) was_down is_down = is_down ≡ true
 IsDownBy (Err Memory) was_down is_down = is_down ≡ was_down
 
--- where it was known what was written and what was passed on, it is known what is passed on now
-abbrev pub StaysKnown : Option Bytes → Change → Type 0
-StaysKnown written passed_on = IsSome written → IsSome passed_on.old → IsSome passed_on.new
+-- what was heard and said so far, and what of it was passed on: nothing was said yet, or all of it was passed on
+pub record Driven {C A : Type 0} (holds : C → Talk → Type 0) (passed : Bool) (old new : Connection C A)
+    (read written passed_on : Change) (Untouched : Type 0) : Type 0 where
+  pub drives : Drives holds old new read written
+  pub quiet : passed ≡ false → (drives.said ≡ []) × Untouched
+  pub known : passed ≡ true → IsSome written.old → PassesAll written.new passed_on

@@ -1,17 +1,18 @@
--- What was received and sent so far, and how many turns are left.
-use Rattle.std.proofs.Common.{◌≡◌, []}
+-- What was received, sent and passed on so far, and how many turns are left.
+use Rattle.std.proofs.Common.{◌≡◌, [], true, false}
 use Rattle.gpkt.specs.Change.{change_of}
-use Rattle.gtalk.specs.Connections.{Drives, has_stopped, pending_of}
+use Rattle.gtalk.specs.Connections.{has_stopped, pending_of}
 use Rattle.gtalk.specs.Partial.{LeavesSource}
-use Rattle.gtalk.specs.steps.Driving.{StaysKnown, turns_left}
+use Rattle.gtalk.specs.steps.Driving.{Driven, turns_left}
 use Rattle.gtalk.proofs.driver.drive.Given as goal
 
 abbrev pub invariant-loop-connection : goal.invariant-loop-connection
 invariant-loop-connection g l = record {
-  drives : Drives g.C.Conversation.holds l.initial.connection l.connection (change_of g.S.Source.remaining l.initial.source l.source) (change_of g.W.Sink.contents l.initial.sink l.sink);
+  driven : Driven g.C.Conversation.holds l.passed l.initial.connection l.connection (change_of g.S.Source.remaining l.initial.source l.source)
+      (change_of g.W.Sink.contents l.initial.sink l.sink) (change_of g.W.Sink.passed_on l.initial.sink l.sink) (l.sink ≡ l.initial.sink);
   all_sent : pending_of l.connection ≡ [];
-  known : StaysKnown (g.W.Sink.contents l.initial.sink) (change_of g.W.Sink.passed_on l.initial.sink l.sink);
   down : g.W.Sink.is_down l.sink ≡ g.W.Sink.is_down l.initial.sink;
+  up : l.passed ≡ true → g.W.Sink.is_down l.sink ≡ false;
   source : LeavesSource (has_stopped l.initial.connection) (g.S.Source.remaining l.initial.source) (g.S.Source.is_down l.initial.source)
       → LeavesSource (has_stopped l.connection) (g.S.Source.remaining l.source) (g.S.Source.is_down l.source);
   source_loans : g.S.Source.loans l.source ≡ g.S.Source.loans l.initial.source;
