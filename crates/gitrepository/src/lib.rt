@@ -6,7 +6,8 @@
 //! - [`open_tips`] answers the objects at which refs are, without the history. A request for refs needs no
 //!   more. [`lead_with_newest`] puts refs at the newest objects in front of others.
 //! - A [`StorePacker`] packs commits and tags and what goes with them. Entries of packs go out as
-//!   they lie, and other objects as deltas where these are smaller.
+//!   they lie, and other objects as deltas where these are smaller. It gives a pack whole, or in
+//!   parts, and then holds one entry at a time.
 //! - A [`StoreIndexer`] indexes a pack while it comes, and keeps it. [`install_pack`] brings it to the
 //!   directory.
 //! - [`open_store`] refuses a repository of a form that is not read. A [`NewRepository`] is one that a
@@ -20,7 +21,8 @@
 //! - [`open_tips`] and [`lead_with_newest`] answer refs each of which is at an entry of the graph.
 //! - [`check_refs`] counts a graph in which each entry is that of an object.
 //! - A pack that goes out has a header, as many entries as the header says, and the SHA-1 of all
-//!   bytes before. Each entry has a well-formed head. The pack has at most `MAX_PACK` bytes.
+//!   bytes before. Each entry has a well-formed head. The pack has at most `MAX_PACK` bytes. Parts of
+//!   it are such a pack in order, or the beginning of one that ends in a fault.
 //! - A pack is accepted only if its trailer is the SHA-1 of all bytes before. Each entry that the
 //!   indexer answers is that of an object, or is a tree or blob that a tag names. The entry of this
 //!   tag is among the answer.
@@ -89,10 +91,10 @@
 //!
 //! # Stands on
 //!
-//! `gitobjects` for objects, `gitcommitgraph` for commit-graphs, `gitrefs` for refs, `gitpack` for
-//! packs, `gitobject` for links, `gzlib` to deflate, `gitconfig` for settings. `ggraph` with `gdag`,
-//! `gobject` and `grefs` for graphs and packers, `gname` for ids, `indexmap` for maps by id. The
-//! specs cite `sha1`.
+//! `gparts` for packers that give parts, `gitobjects` for objects, `gitcommitgraph` for
+//! commit-graphs, `gitrefs` for refs, `gitpack` for packs, `gitobject` for links, `gzlib` to deflate,
+//! `gitconfig` for settings. `ggraph` with `gdag`, `gobject` and `grefs` for graphs and packers,
+//! `gname` for ids, `indexmap` for maps by id, `sha1` for the trailer of a pack.
 #![tactic(auto)]
 
 mod arrival;
@@ -117,6 +119,7 @@ mod nodes;
 mod opening;
 mod outgoing;
 mod packer;
+mod parts;
 mod path_hash;
 mod ref_tips;
 mod stored_folder;
@@ -139,5 +142,6 @@ pub use crate::new_repository::NewRepository;
 pub use crate::newest::lead_with_newest;
 pub use crate::opening::{open_refs, open_repository};
 pub use crate::packer::StorePacker;
+pub use crate::parts::StoreParts;
 pub use crate::ref_tips::open_tips;
 pub use crate::tips::Tips;
