@@ -39,13 +39,13 @@ pub(crate) struct Arrival<A: Allocator + Copy> {
 /// A visitor of the objects of a pack that comes, with the store to which they come, and the ids at
 /// which refs of the peer are.
 #[derive(Drop)]
-pub(crate) struct Inspector<'r, 't, 'f, F: ObjectFiles, A: Allocator + Copy> {
-    /// All that is known of the objects.
-    pub arrival: &'r mut Arrival<A>,
-    /// A reader of the store.
-    pub reader: &'r mut ObjectReader<'f, F, A>,
-    /// The ids at which refs of the peer are.
-    pub tips: &'t Tips<A>,
+pub(crate) struct Inspector<'a, 'r, 't, 'f, F: ObjectFiles, A: Allocator + Copy> {
+    // All that is known of the objects.
+    arrival: &'a mut Arrival<A>,
+    // A reader of the store.
+    reader: &'r mut ObjectReader<'f, F, A>,
+    // The ids at which refs of the peer are.
+    tips: &'t Tips<A>,
 }
 
 impl<A: Allocator + Copy> Model for Arrival<A> {
@@ -243,7 +243,25 @@ fn check_need<F: ObjectFiles, A: Allocator + Copy>(
     }
 }
 
-impl<F: ObjectFiles, A: Allocator + Copy> Inspector<'_, '_, '_, F, A> {
+impl<'a, 'r, 't, 'f, F: ObjectFiles, A: Allocator + Copy> Inspector<'a, 'r, 't, 'f, F, A> {
+    /// A visitor that adds to what is known of the objects.
+    pub(crate) fn new(
+        arrival: &'a mut Arrival<A>,
+        reader: &'r mut ObjectReader<'f, F, A>,
+        tips: &'t Tips<A>,
+    ) -> Inspector<'a, 'r, 't, 'f, F, A> {
+        Inspector {
+            arrival,
+            reader,
+            tips,
+        }
+    }
+
+    /// The fault for which an object was refused, which is given away; `None` if there is none.
+    pub(crate) fn take_fault(&mut self) -> Option<RepositoryFault<A>> {
+        self.arrival.take_fault()
+    }
+
     // Compares an object with the one that is here, if there is one.
     fn compare(
         &mut self,
@@ -271,7 +289,7 @@ impl<F: ObjectFiles, A: Allocator + Copy> Inspector<'_, '_, '_, F, A> {
     }
 }
 
-impl<F: ObjectFiles, A: Allocator + Copy> ObjectVisitor for Inspector<'_, '_, '_, F, A> {
+impl<F: ObjectFiles, A: Allocator + Copy> ObjectVisitor for Inspector<'_, '_, '_, '_, F, A> {
     fn visit(&mut self, id: &Oid, kind: ObjectType, body: &[u8]) -> Result<(), PackFileFault> {
         match self.inspect(id, kind, body) {
             Ok(()) => Ok(()),

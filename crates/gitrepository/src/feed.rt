@@ -65,12 +65,8 @@ impl<A: Allocator + Copy> StoreFeed<A> {
     ) -> Result<(), AllocError>
         ensures { OnOk result (self.new ≡ self.old ++ piece.now) }
     {
-        let mut inspector = Inspector {
-            arrival: &mut self.arrival,
-            reader,
-            tips,
-        };
-        self.pack.feed(piece, &mut inspector)
+        let mut inspector = Inspector::new(&mut self.arrival, reader, tips);
+        feed_pack(&mut self.pack, piece, &mut inspector)
     }
 
     /// The pack, once it came whole, and the entries of its commits and tags.
@@ -82,31 +78,38 @@ impl<A: Allocator + Copy> StoreFeed<A> {
         ensures { IfOk result (λ it. IsIndexed self it.1.items) }
     {
         let StoreFeed { pack, mut arrival } = self;
-        let received = finish_pack(pack, &mut arrival, reader, tips)?;
+        let received = {
+            let mut inspector = Inspector::new(&mut arrival, reader, tips);
+            finish_pack(pack, &mut inspector)?
+        };
         let entries = arrival.into_entries(reader, &received.index)?;
         Ok((received, entries))
     }
+}
+
+// Gives a pack its next bytes. It fails only out of memory.
+fn feed_pack<F: ObjectFiles, A: Allocator + Copy>(
+    pack: &mut IncomingPack<A>,
+    piece: &[u8],
+    inspector: &mut Inspector<'_, '_, '_, '_, F, A>,
+) -> Result<(), AllocError>
+    ensures { OnOk result (pack.new ≡ pack.old ++ piece.now) }
+{
+    pack.feed(piece, inspector)
 }
 
 // Indexes a pack that came whole. The fault is that for which an object was refused, if there is
 // one.
 fn finish_pack<F: ObjectFiles, A: Allocator + Copy>(
     pack: IncomingPack<A>,
-    arrival: &mut Arrival<A>,
-    reader: &mut ObjectReader<'_, F, A>,
-    tips: &Tips<A>,
+    inspector: &mut Inspector<'_, '_, '_, '_, F, A>,
 ) -> Result<Received<A>, RepositoryFault<A>>
     ensures { IfOk result (λ received. (count : ℕ)
         × IsFramed count received.index.checksum pack) }
 {
-    let mut inspector = Inspector {
-        arrival: &mut *arrival,
-        reader,
-        tips,
-    };
-    match pack.finish(&mut inspector) {
+    match pack.finish(inspector) {
         Ok((bytes, index)) => Ok(Received { bytes, index }),
-        Err(PackFileFault::Refused) => Err(refusal(arrival.take_fault())),
+        Err(PackFileFault::Refused) => Err(refusal(inspector.take_fault())),
         Err(fault) => Err(RepositoryFault::from(fault)),
     }
 }
