@@ -6,7 +6,10 @@ use Rattle.gname.specs.Ids.{Id, id_text}
 abbrev pub below : List ℕ → List ℕ → List ℕ
 below folder name = folder ++ 47 ∷ name
 
--- the path of a loose object: a folder for the first two digits of its id, and in it a file for the
--- others
+-- the path of the folder of a loose object: the first two digits of its id
+abbrev pub loose_folder : List ℕ → Id → List ℕ
+loose_folder folder id = below folder (take 2 (id_text id))
+
+-- the path of a loose object: in that folder a file for the other digits
 abbrev pub loose_path : List ℕ → Id → List ℕ
-loose_path folder id = below (below folder (take 2 (id_text id))) (drop 2 (id_text id))
+loose_path folder id = below (loose_folder folder id) (drop 2 (id_text id))

@@ -31,6 +31,9 @@ pub struct RawEntry<A: Allocator + Copy> {
 // No zlib stream inflates to more than so many times its length.
 const MAX_RATIO: usize = 1_032;
 
+// An inflater takes room for one more match (RFC 1951, section 3.2.5).
+const MATCH: usize = 258;
+
 /// Inflates the entry that has exactly these bytes.
 ///
 /// It fails with `Head`, `ObjectSize`, `Stream` and `Memory`.
@@ -53,7 +56,7 @@ pub(crate) fn inflate_entry<A: Allocator + Copy>(
         return Err(Cause::ObjectSize);
     }
     let room = size.min(stream.len().saturating_mul(MAX_RATIO));
-    let mut text = Vec::with_capacity(alloc, room)?;
+    let mut text = Vec::with_capacity(alloc, room.saturating_add(MATCH))?;
     match inflater.inflate(stream, &mut text, size) {
         Ok(length) if length == stream.len() && text.len() == size => {
             let form = head.form;

@@ -59,7 +59,8 @@
 //! - A pack may come in the same tick of the file system's clock as a listing. Then it is not seen
 //!   until the folder changes again, or until [`ObjectReader::refresh`].
 //! - The cache of bases is proved safe only.
-//! - [`ObjectStore::find`] and [`ObjectReader::find`] may answer another place of an object, or none.
+//! - [`ObjectStore::find`], [`ObjectStore::find_in`] and [`ObjectReader::find`] may answer another place
+//!   of an object, or none.
 //!   [`ObjectStore::index`] and [`ObjectStore::starts`] may answer those of another pack, or nothing.
 //! - No clause says from which pack an entry is read, and from which position. Only the window is
 //!   exact.
@@ -92,6 +93,7 @@ mod index_file;
 mod limits;
 mod listed;
 mod listing;
+mod loose_folders;
 mod memory;
 mod object;
 mod order;
@@ -113,6 +115,7 @@ pub use crate::limits::{
     MAX_ALTERNATES, MAX_BASE, MAX_DEPTH, MAX_FOLDERS, MAX_INDEX, MAX_KEPT, MAX_NAMES, MAX_OBJECT,
     MAX_STREAM,
 };
+pub use crate::loose_folders::LooseFolders;
 pub use crate::memory::{MemoryFiles, MemoryPack};
 pub use crate::object::Object;
 pub use crate::order::Start;

@@ -1,6 +1,6 @@
 //! The paths of files that hold objects (gitrepository-layout(5)).
 
-ghost use Rattle.std.specs.Prelude.{◌≡◌, ◌++◌, IfOk, string_bytes};
+ghost use Rattle.std.specs.Prelude.{◌≡◌, ◌++◌, IfOk, IfSome, drop, string_bytes, take};
 ghost use Rattle.gitobjects.specs.Paths as paths;
 
 use crate::fault::Cause;
@@ -36,6 +36,22 @@ pub(crate) fn pack_path<A: Allocator + Copy>(
     Ok(path)
 }
 
+/// The path of the folder of a loose object in a folder of objects.
+pub(crate) fn loose_folder<A: Allocator + Copy>(
+    alloc: A,
+    folder: &str,
+    id: &Oid,
+) -> Result<String<A>, Cause>
+    ensures { IfOk result (λ path. string_bytes path ≡ paths.loose_folder folder.now id.now) }
+{
+    let mut buffer = [0; MAX_ID_TEXT];
+    let count = id.to_hex(&mut buffer);
+    let Some((first, _rest)) = split_digits(&buffer[..count]) else {
+        return Err(Cause::NotText);
+    };
+    Ok(join(alloc, folder, first)?)
+}
+
 /// The path of a loose object in a folder of objects.
 pub(crate) fn loose_path<A: Allocator + Copy>(
     alloc: A,
@@ -46,13 +62,23 @@ pub(crate) fn loose_path<A: Allocator + Copy>(
 {
     let mut buffer = [0; MAX_ID_TEXT];
     let count = id.to_hex(&mut buffer);
-    let digits = &buffer[..count];
-    let Some((first, rest)) = digits.split_at_checked(2) else {
-        return Err(Cause::NotText);
-    };
-    let (Ok(first), Ok(rest)) = (str::from_utf8(first), str::from_utf8(rest)) else {
+    let Some((first, rest)) = split_digits(&buffer[..count]) else {
         return Err(Cause::NotText);
     };
     let own = join(alloc, folder, first)?;
     Ok(join(alloc, own.as_str(), rest)?)
+}
+
+// The first two digits of an id, and the others; `None` if there are no two.
+fn split_digits(digits: &[u8]) -> Option<(&str, &str)>
+    ensures { IfSome result (λ parts. (parts.0.now ≡ take 2 digits.now)
+        × (parts.1.now ≡ drop 2 digits.now)) }
+{
+    let Some((first, rest)) = digits.split_at_checked(2) else {
+        return None;
+    };
+    match (str::from_utf8(first), str::from_utf8(rest)) {
+        (Ok(first), Ok(rest)) => Some((first, rest)),
+        _ => None,
+    }
 }

@@ -6,11 +6,12 @@ use crate::entry::{Inflated, RawEntry, inflate_entry};
 use crate::fault::{Cause, FileFault, FirstFault, StoreFault, fault_at};
 use crate::files::ObjectFiles;
 use crate::limits::{MAX_FRONT, MAX_STREAM};
+use crate::loose_folders::LooseFolders;
 use crate::object::{Object, loose_kind, read_loose};
 use crate::order::Start;
 use crate::pack::LocalForm;
 use crate::packs::Packs;
-use crate::paths::{join, loose_path};
+use crate::paths::{join, loose_folder, loose_path};
 use gitobject::ObjectType;
 use gitpack::PackIndex;
 use gname::Oid;
@@ -136,9 +137,14 @@ impl<'f, F: ObjectFiles, A: Allocator + Copy> ObjectStore<'f, F, A> {
     /// It fails with `Memory`. If the object is not found, it names the first folder that it cannot
     /// look into.
     pub fn find(&self, id: &Oid) -> Result<Option<Found>, StoreFault<A>> {
-        if let Some(found) = self.find_packed(id) {
-            return Ok(Some(found));
+        match self.find_packed(id) {
+            Some(found) => Ok(Some(found)),
+            None => self.find_loose(id),
         }
+    }
+
+    // The same, if the object is loose.
+    fn find_loose(&self, id: &Oid) -> Result<Option<Found>, StoreFault<A>> {
         let mut faults = FirstFault::new();
         for folder in &self.folders {
             match self.has_loose(folder.path.as_str(), id) {
@@ -149,6 +155,48 @@ impl<'f, F: ObjectFiles, A: Allocator + Copy> ObjectStore<'f, F, A> {
         }
         faults.finish()?;
         Ok(None)
+    }
+
+    /// The place of the object with this id, as by [`ObjectStore::find`]. A loose object is looked for
+    /// only if its folder was there when that was first looked for.
+    pub fn find_in(
+        &self,
+        id: &Oid,
+        folders: &mut LooseFolders,
+    ) -> Result<Option<Found>, StoreFault<A>> {
+        if let Some(found) = self.find_packed(id) {
+            return Ok(Some(found));
+        }
+        if self.has_folder(id, folders)? {
+            self.find_loose(id)
+        } else {
+            Ok(None)
+        }
+    }
+
+    // Whether the folder of a loose object with this id was there. One that can't be looked for
+    // counts as there.
+    fn has_folder(&self, id: &Oid, folders: &mut LooseFolders) -> Result<bool, StoreFault<A>> {
+        if let Some(is_there) = folders.get(id) {
+            return Ok(is_there);
+        }
+        let is_there = self.look_for_folder(id)?;
+        folders.note(id, is_there);
+        Ok(is_there)
+    }
+
+    fn look_for_folder(&self, id: &Oid) -> Result<bool, StoreFault<A>> {
+        for folder in &self.folders {
+            let path = match loose_folder(self.alloc, folder.path.as_str(), id) {
+                Ok(path) => path,
+                Err(cause) => return Err(fault_at(self.alloc, folder.path.as_str(), cause)),
+            };
+            match self.files.exists(path.as_str()) {
+                Ok(false) => {}
+                Ok(true) | Err(_) => return Ok(true),
+            }
+        }
+        Ok(false)
     }
 
     // The first pack that has the object.

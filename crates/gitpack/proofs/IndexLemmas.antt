@@ -1,5 +1,5 @@
 -- The pack index and the frame of a pack.
-use Rattle.std.proofs.Common.{◌≡◌, ℕ, zero, suc, ◌+◌, ◌<◌, ◌≤◌, ◌≢◌, Bool, true, false, cond, refl, set, eq-eqb, eqb-true, List, [], ◌∷◌, ◌++◌, length, take, drop, get_or, nat_eq, nat_le, sym, ap, subst, ◌∙◌, append_assoc, add-one, arith}
+use Rattle.std.proofs.Common.{◌≡◌, ℕ, zero, suc, ◌+◌, ◌-◌, ◌<◌, ◌≤◌, ◌≢◌, Bool, true, false, cond, refl, set, eq-eqb, eqb-true, List, [], ◌∷◌, ◌++◌, length, take, drop, get_or, nat_eq, nat_le, sym, ap, subst, ◌∙◌, append_assoc, add-one, arith}
 use Rattle.std.specs.Int.{w32, to_be_bytes, from_be_bytes}
 use Rattle.std.specs.Cmp.Lexicographic.{pointwise}
 use Rattle.std.specs.Prelude.{count_by, slice_index}
@@ -9,7 +9,8 @@ use Rattle.std.proofs.lemmas.List.{get_or-set_same, get_or-set_other, length-tak
 use Rattle.std.proofs.lemmas.List.Sums.{count_by-le-length, count_by_more_no, count_by_more_yes, sum_by-cons}
 use Rattle.std.proofs.lemmas.Slice.Eq.{bytes_eq-Decides}
 use Rattle.std.proofs.lemmas.Nat.{be_bytes_4}
-use Rattle.std.proofs.lemmas.List.{append-nil, take-append-drop}
+use Rattle.std.proofs.Math.Seq.{take-add}
+use Rattle.std.proofs.lemmas.List.{append-nil, length-append, take-append-drop, take-append-le}
 use Rattle.sha1.specs.Sha1.{sha1}
 use Rattle.gname.specs.Ids.{Id}
 use Rattle.gitpack.specs.Packs.{with_trailer}
@@ -21,6 +22,15 @@ use Rattle.gitpack.specs.steps.FirstBytes.{begins_with, ids_below, ids_beginning
 
 pub cut_at : (n : ℕ) (bytes front back : List ℕ) → front ≡ take n bytes → back ≡ drop n bytes → bytes ≡ front ++ back
 cut_at n bytes front back is rest = sym (take-append-drop n bytes) ∙ ap (λ l. l ++ drop n bytes) (sym is) ∙ ap (λ l. front ++ l) (sym rest)
+
+-- bytes that were hashed but for the last twenty, and those that come with a piece more
+pub hashed_more : (old piece new : List ℕ) (from to : ℕ) → new ≡ old ++ piece → from ≡ length old - 20 → to ≡ length new - 20
+    → take from old ++ take (to - from) (drop from new) ≡ take to new
+hashed_more old piece new from to all is end =
+    let count = ap length all ∙ length-append old piece in
+    let front : take from old ≡ take from new = sym (ap (take from) all ∙ take-append-le from old piece (omega (arith, is))) in
+    let sum : from + (to - from) ≡ to = omega (arith, is, end, count) in
+    ap (λ l. l ++ take (to - from) (drop from new)) front ∙ sym (take-add from (to - from) new) ∙ ap (λ n. take n new) sum
 
 pub trailer_read : (n : ℕ) (pack body trailer sum id : List ℕ) → body ≡ take n pack → trailer ≡ drop n pack → sum ≡ sha1 body → sum ≡ trailer → id ≡ trailer
     → (id ≡ sha1 body) × (pack ≡ with_trailer body)

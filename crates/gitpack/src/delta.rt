@@ -78,7 +78,7 @@ fn follow<A: Allocator + Copy>(
         (λ body. (is : List Instruction) × Makes base.now is commands.now body.items
         × (length body.items ≡ size))) }
 {
-    let mut body = Vec::new(alloc);
+    let mut body = Vec::with_capacity(alloc, first_room(base, commands, size))?;
     let mut rest = commands;
     while !rest.is_empty() {
         let Some((part, after)) = split_instruction(base, rest) else {
@@ -95,6 +95,12 @@ fn follow<A: Allocator + Copy>(
     } else {
         Ok(None)
     }
+}
+
+// The room that is made at once for the body of a delta. It grows where parts of the base come more
+// than once.
+fn first_room(base: &[u8], commands: &[u8], size: usize) -> usize {
+    size.min(base.len().saturating_add(commands.len()))
 }
 
 // The bytes that the first instruction of a text adds, and the text after it. It is `None` if the

@@ -1,12 +1,14 @@
 //! The header and the trailer of a pack.
 
-ghost use Rattle.std.specs.Prelude.{◌≡◌, ◌++◌, ◌↔◌, List, ℕ, IfSome, IsTrue};
-ghost use Rattle.gitpack.specs.Packs.{pack_header, with_trailer};
+ghost use Rattle.std.specs.Prelude.{◌≡◌, ◌-◌, ◌++◌, ◌↔◌, [], List, ℕ, IfSome, IsTrue, OnOk, length, take};
+ghost use Rattle.gitpack.specs.Packs.{IsFramed, pack_header, with_trailer};
 ghost use Rattle.sha1.specs.Sha1.{sha1};
 
 use gitobject::{ID_BYTES, id_of_bytes};
 use gname::Oid;
 use sha1::Sha1;
+use std::alloc::{AllocError, Allocator};
+use std::marker::Model;
 
 /// The bytes of a header.
 pub(crate) const HEADER_BYTES: usize = 12;
@@ -14,17 +16,123 @@ pub(crate) const HEADER_BYTES: usize = 12;
 /// The signature of a pack, and version 2.
 pub(crate) const SIGNATURE: &[u8; 8] = b"PACK\0\0\0\x02";
 
-/// The bytes of a pack before its trailer, and the trailer, which is their SHA-1; `None` if it is
-/// not.
-pub(crate) fn split_trailer(pack: &[u8]) -> Option<(&[u8], Oid)>
+/// The bytes of a pack that came so far, of which the last twenty may be its trailer. All others are
+/// hashed as they come. Contracts see the bytes.
+#[derive(Drop)]
+pub(crate) struct PackBytes<A: Allocator + Copy> {
+    bytes: Vec<u8, A>,
+    hasher: Sha1,
+}
+
+/// A pack whose frame is right.
+#[derive(Drop)]
+pub(crate) struct FramedPack<A: Allocator + Copy> {
+    /// The whole pack.
+    pub bytes: Vec<u8, A>,
+    /// The number of entries that the header names.
+    pub count: u32,
+    /// The trailer.
+    pub trailer: Oid,
+}
+
+impl<A: Allocator + Copy> Model for PackBytes<A> {
+    ghost use Rattle.std.specs.Prelude.{◌-◌, ℕ, List, length, take};
+    ghost use Rattle.sha1.specs.Sha1.{Holds};
+
+    ghost Value = { List ℕ };
+
+    ghost view = { λ pack. pack.bytes.items };
+
+    ghost invariant = { λ pack.
+        Holds pack.hasher (take (length pack.bytes.items - 20) pack.bytes.items) };
+}
+
+impl<A: Allocator + Copy> PackBytes<A> {
+    /// No byte has come yet.
+    pub(crate) fn new(alloc: A) -> PackBytes<A>
+        ensures { result ≡ [] }
+    {
+        PackBytes {
+            bytes: Vec::new(alloc),
+            hasher: Sha1::new(),
+        }
+    }
+
+    /// All bytes but the last twenty.
+    pub(crate) fn body(&self) -> &[u8] {
+        body_of(self.bytes.as_slice())
+    }
+
+    /// Adds the next bytes. It fails only out of memory.
+    pub(crate) fn push(&mut self, piece: &[u8]) -> Result<(), AllocError>
+        ensures { OnOk result (self.new ≡ self.old ++ piece.now) }
+    {
+        let from = body_length(self.bytes.as_slice());
+        self.bytes.extend_from_slice(piece)?;
+        let to = body_length(self.bytes.as_slice());
+        self.hasher.update(&self.bytes.as_slice()[from..to]);
+        Ok(())
+    }
+
+    /// The whole pack; `None` if its trailer is not the SHA-1 of all bytes before, or if it begins
+    /// with no header.
+    pub(crate) fn finish(self) -> Option<FramedPack<A>>
+        ensures bytes { IfSome result (λ pack. pack.bytes.items ≡ self) }
+        ensures frame { IfSome result (λ pack. IsFramed pack.count pack.trailer self) }
+    {
+        let PackBytes { bytes, hasher } = self;
+        let sum = hasher.finalize();
+        let Some((count, trailer)) = frame_of(bytes.as_slice(), &sum) else {
+            return None;
+        };
+        Some(FramedPack {
+            bytes,
+            count,
+            trailer,
+        })
+    }
+}
+
+// The number of bytes but the last twenty.
+fn body_length(pack: &[u8]) -> usize
+    ensures { result ≡ length pack.now - 20 }
+{
+    pack.len().saturating_sub(ID_BYTES)
+}
+
+/// All bytes of a pack but the last twenty.
+pub(crate) fn body_of(pack: &[u8]) -> &[u8] {
+    match pack.split_last_chunk::<ID_BYTES>() {
+        Some((body, _last)) => body,
+        None => b"",
+    }
+}
+
+// The number of entries and the trailer of a pack, whose bytes but the last twenty have this SHA-1.
+// It is `None` if the trailer is another one, or if the pack begins with no header.
+fn frame_of(pack: &[u8], sum: &[u8; ID_BYTES]) -> Option<(u32, Oid)>
+    requires { sum.now ≡ sha1 (take (length pack.now - 20) pack.now) }
+    ensures { IfSome result (λ frame. IsFramed frame.0 frame.1 pack.now) }
+{
+    let Some((body, trailer)) = split_trailer(pack, sum) else {
+        return None;
+    };
+    match entry_count(body) {
+        Some(count) => Some((count, trailer)),
+        None => None,
+    }
+}
+
+// The bytes of a pack before its trailer, and the trailer; `None` if it is not their SHA-1.
+fn split_trailer<'p>(pack: &'p [u8], sum: &[u8; ID_BYTES]) -> Option<(&'p [u8], Oid)>
+    requires { sum.now ≡ sha1 (take (length pack.now - 20) pack.now) }
     ensures { IfSome result (λ parts. (parts.1 ≡ sha1 parts.0.now)
         × (pack.now ≡ with_trailer parts.0.now)) }
 {
     let Some((body, trailer)) = pack.split_last_chunk::<ID_BYTES>() else {
         return None;
     };
-    let sum = Sha1::digest(body);
-    if !is_same(&sum, trailer) {
+    if !is_same(sum, trailer) {
         return None;
     }
     Some((body, id_of_bytes(trailer)))

@@ -1,12 +1,12 @@
 //! The pack index of version 2 (gitformat-pack(5)).
 
-ghost use Rattle.std.specs.Prelude.{◌≡◌, ◌==◌, ◌≢◌, All, IfOk, IfSome, IsTrue, MatchOption, length};
+ghost use Rattle.std.specs.Prelude.{◌≡◌, ◌==◌, ◌≢◌, ◌^◌, ◌<◌, All, IfOk, IfSome, IsTrue, MatchOption, length};
 ghost use Rattle.std.specs.List.{HoldsAt};
 ghost use Rattle.gitpack.specs.Indexes.{AreEntries, IsIndex};
 
 use crate::frame::is_same;
 use crate::index_reading::read_entries;
-use crate::index_writing::body_of;
+use crate::index_writing::{body_of, count_by_first, first_byte};
 use gitobject::{ID_BYTES, id_of_bytes};
 use gname::Oid;
 use std::alloc::{AllocError, Allocator};
@@ -30,6 +30,8 @@ pub struct IndexEntry {
 #[derive(Drop)]
 pub struct PackIndex<A: Allocator + Copy> {
     entries: Vec<IndexEntry, A>,
+    // For each byte, how many ids begin with it or a lower one.
+    ends: [u32; 256],
     checksum: Oid,
 }
 
@@ -68,7 +70,12 @@ impl<A: Allocator + Copy> PackIndex<A> {
         if !is_same(written.as_slice(), text) {
             return Ok(None);
         }
-        Ok(Some(PackIndex { entries, checksum }))
+        let ends = ends_of(entries.as_slice());
+        Ok(Some(PackIndex {
+            entries,
+            ends,
+            checksum,
+        }))
     }
 
     /// The number of objects.
@@ -98,7 +105,10 @@ impl<A: Allocator + Copy> PackIndex<A> {
         ensures { MatchOption result (All (λ e. e.id ≢ id.now) self.now.entries)
             (HoldsAt (λ e. e.id ≡ id.now) self.now.entries) }
     {
-        find(self.entries.as_slice(), id)
+        match find_near(self.entries.as_slice(), &self.ends, id) {
+            Some(place) => Some(place),
+            None => find(self.entries.as_slice(), id),
+        }
     }
 
     /// The id of the line at this place; `None` past the end.
@@ -122,6 +132,38 @@ impl<A: Allocator + Copy> PackIndex<A> {
     {
         self.checksum
     }
+}
+
+// The place of the line with this id, looked for among the ids that begin with the same byte. These
+// are few, so this is quick; but no clause says that they are all.
+fn find_near(entries: &[IndexEntry], ends: &[u32; 256], id: &Oid) -> Option<usize>
+    ensures { IfSome result (HoldsAt (λ e. e.id ≡ id.now) entries.now) }
+{
+    let byte = first_byte(id);
+    let start = match byte.checked_sub(1) {
+        Some(before) => ends[before] as usize,
+        None => 0,
+    };
+    let part = entries.get(start..ends[byte] as usize)?;
+    let near = part.binary_search_by(|entry| entry.id.cmp(id)).ok()?;
+    let place = start.saturating_add(near);
+    match entries.get(place) {
+        Some(entry) if entry.id == *id => Some(place),
+        _ => None,
+    }
+}
+
+// For each byte, how many ids begin with it or a lower one.
+fn ends_of(entries: &[IndexEntry]) -> [u32; 256]
+    requires { length entries.now < 2 ^ 31 }
+{
+    let mut ends = count_by_first(entries);
+    let mut total = 0u32;
+    for end in ends.iter_mut() {
+        total = total.wrapping_add(*end);
+        *end = total;
+    }
+    ends
 }
 
 // The place of the line with this id.

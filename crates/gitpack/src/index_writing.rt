@@ -55,8 +55,8 @@ fn put_fan_out<A: Allocator + Copy>(
     Ok(())
 }
 
-// For each byte, the number of ids that begin with it.
-fn count_by_first(entries: &[IndexEntry]) -> [u32; 256]
+/// For each byte, the number of ids that begin with it.
+pub(crate) fn count_by_first(entries: &[IndexEntry]) -> [u32; 256]
     requires { length entries.now < 2 ^ 31 }
     ensures { (byte : ℕ) → byte < 256
         → slice_index result byte ≡ ids_beginning byte entries.now }
@@ -69,8 +69,8 @@ fn count_by_first(entries: &[IndexEntry]) -> [u32; 256]
     counts
 }
 
-// The first byte of an id.
-fn first_byte(id: &Oid) -> usize
+/// The first byte of an id.
+pub(crate) fn first_byte(id: &Oid) -> usize
     ensures value { result ≡ slice_index id.now 0 }
     ensures small { result < 256 }
 {

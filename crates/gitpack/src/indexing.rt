@@ -6,10 +6,9 @@ ghost use Rattle.gitpack.specs.Indexes.{AreObjects, index_of, index_text, line_o
 ghost use Rattle.gitpack.specs.Packs.{IsFramed};
 
 use crate::fault::PackFileFault;
+use crate::incoming::IncomingPack;
 use crate::index::{IndexEntry, MAX_ENTRIES};
 use crate::index_writing::write_index;
-use crate::resolving::Resolver;
-use crate::scanning::scan;
 use gitobject::ObjectType;
 use gname::Oid;
 use std::alloc::{AllocError, Allocator};
@@ -61,6 +60,17 @@ impl<A: Allocator + Copy> Model for IndexedPack<A> {
 }
 
 impl<A: Allocator + Copy> IndexedPack<A> {
+    /// The index of these objects. It fails with `TooLarge` if they are too many for an index.
+    pub(crate) fn new(
+        objects: Vec<IndexedEntry, A>,
+        checksum: Oid,
+    ) -> Result<IndexedPack<A>, PackFileFault>
+        ensures { IfOk result (λ pack. pack.checksum ≡ checksum) }
+    {
+        let entries = in_order(objects)?;
+        Ok(IndexedPack { entries, checksum })
+    }
+
     /// The objects, in the order of their ids.
     pub fn entries(&self) -> &[IndexedEntry]
         ensures objects { result.now ≡ self.now.entries }
@@ -132,18 +142,10 @@ pub fn index_pack<A: Allocator + Copy, V: ObjectVisitor>(
 ) -> Result<IndexedPack<A>, PackFileFault>
     ensures { IfOk result (λ indexed. (count : ℕ) × IsFramed count indexed.checksum pack.now) }
 {
-    let scanned = scan(alloc, pack, limits, visitor)?;
-    let checksum = scanned.trailer;
-    // What the scan took counts.
-    let limits = IndexLimits {
-        object: limits.object,
-        held: limits.held,
-        total: limits.total.saturating_sub(scanned.total),
-    };
-    let mut resolver = Resolver::new(alloc, pack, limits, scanned.entries)?;
-    resolver.resolve_all(visitor)?;
-    let entries = in_order(resolver.into_entries()?)?;
-    Ok(IndexedPack { entries, checksum })
+    let mut incoming = IncomingPack::new(alloc, limits);
+    incoming.feed(pack, visitor)?;
+    let (_bytes, index) = incoming.finish(visitor)?;
+    Ok(index)
 }
 
 // These objects in the order of their ids. It fails with `TooLarge` if they are too many for an

@@ -17,10 +17,11 @@
 //!   finds an id exactly if it is in the index.
 //! - [`IndexedPack::write_index`] writes the text of version 2, with its own checksum.
 //! - [`PackWriter`] writes the header with the count, then each entry as it is put, and then the
-//!   SHA-1 of all.
-//! - [`index_pack`] accepts only packs of version 2 whose trailer is the SHA-1 of all bytes
-//!   before. Each object that the visitor is shown has the id of its type and bytes, and the
-//!   objects come out sorted by their ids.
+//!   SHA-1 of all. [`put_header`] and [`put_entry`] write one of these alone.
+//! - [`IncomingPack`] accepts only packs of version 2 whose trailer is the SHA-1 of all bytes
+//!   before, and gives the pack back as it came, in whatever pieces. Each object that the visitor is
+//!   shown has the id of its type and bytes, and the objects come out sorted by their ids.
+//! - [`index_pack`] is the same for a pack that is given whole.
 //! - No call panics, overflows or reads out of bounds, and each returns.
 //!
 //! # Differences from Git
@@ -42,14 +43,14 @@
 //!   [`PackIndex::id`], [`PackIndex::crc`] and [`PackIndex::offset`].
 //! - [`DeltaBase::make_delta`] might never find a delta, or find a longer one than need be. The search
 //!   for it is proved safe only: what it finds is applied, and answered if it makes the target.
-//! - [`index_pack`] might refuse a good pack. It might leave out any object, list one that it did not
-//!   show, or list one with another type. It might give an object a wrong offset or a wrong CRC-32,
-//!   or apply a delta to a wrong base. It might accept a pack with bytes after its last entry, a thin
-//!   pack, or one in which the base of a delta comes twice. Its contract says nothing of limits and
-//!   faults.
+//! - [`IncomingPack`] and [`index_pack`] might refuse a good pack. They might leave out any object, list
+//!   one that was not shown, or list one with another type. They might give an object a wrong offset or a
+//!   wrong CRC-32, or apply a delta to a wrong base. They might accept a pack with bytes after its last
+//!   entry, a thin pack, or one in which the base of a delta comes twice. Their contracts say nothing of
+//!   limits and faults, and of when an object is shown.
 //! - [`IndexedPack::find`] answers an object with the id, but no clause says that it is one of
 //!   [`IndexedPack::entries`].
-//! - [`PackWriter`] might refuse an entry. The number of entries is not compared with the count,
+//! - [`PackWriter`] and [`put_entry`] might refuse an entry. The number of entries is not compared with the count,
 //!   and no clause bounds the bytes of the pack.
 //! - The contracts say nothing of time, or of how much memory a call takes.
 //!
@@ -69,6 +70,7 @@ mod entry;
 mod fault;
 mod frame;
 mod heads;
+mod incoming;
 mod index;
 mod index_reading;
 mod index_writing;
@@ -84,6 +86,7 @@ pub use crate::delta::{apply_delta, made_size};
 pub use crate::delta_making::DeltaBase;
 pub use crate::entry::{EntryForm, EntryHead, MAX_HEAD, read_head};
 pub use crate::fault::PackFileFault;
+pub use crate::incoming::IncomingPack;
 pub use crate::index::{IndexEntry, PackIndex};
 pub use crate::indexing::{IndexLimits, IndexedEntry, IndexedPack, ObjectVisitor, index_pack};
-pub use crate::writing::PackWriter;
+pub use crate::writing::{PackWriter, put_entry, put_header};

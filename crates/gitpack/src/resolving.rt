@@ -7,7 +7,7 @@ use crate::entry::EntryForm;
 use crate::fault::PackFileFault;
 use crate::index::IndexEntry;
 use crate::indexing::{IndexLimits, IndexedEntry, ObjectVisitor};
-use crate::scanning::{Object, Scanned};
+use crate::scanning::{Object, Scanned, ScannedPack};
 use crate::streams::inflate;
 use gitobject::{ObjectType, id_of};
 use gzlib::Inflater;
@@ -29,6 +29,8 @@ pub(crate) struct Resolver<'a, A: Allocator + Copy> {
     pack: &'a [u8],
     limits: IndexLimits,
     entries: Vec<Scanned, A>,
+    // The inflated streams that are kept, until they are used.
+    texts: Vec<Option<Vec<u8, A>>, A>,
     children: Children<A>,
     // The chain of objects to which deltas are applied, and the number of their bytes.
     bases: Vec<Base<A>, A>,
@@ -39,24 +41,30 @@ pub(crate) struct Resolver<'a, A: Allocator + Copy> {
 }
 
 impl<'a, A: Allocator + Copy> Resolver<'a, A> {
-    /// Makes ready to apply the deltas of a pack with these entries. It fails only out of memory.
+    /// Makes ready to apply the deltas of a pack that is scanned. It fails only out of memory.
     pub(crate) fn new(
-        alloc: A,
         pack: &'a [u8],
-        limits: IndexLimits,
-        entries: Vec<Scanned, A>,
+        scanned: ScannedPack<A>,
     ) -> Result<Resolver<'a, A>, AllocError> {
+        let ScannedPack {
+            alloc,
+            limits,
+            entries,
+            texts,
+            inflater,
+        } = scanned;
         let children = Children::new(alloc, entries.as_slice())?;
         Ok(Resolver {
             alloc,
             pack,
             limits,
             entries,
+            texts,
             children,
             bases: Vec::new(alloc),
             held: 0,
             total: 0,
-            inflater: Inflater::new(),
+            inflater,
         })
     }
 
@@ -84,16 +92,31 @@ impl<'a, A: Allocator + Copy> Resolver<'a, A> {
         if self.children.peek(&left).is_none() {
             return Ok(());
         }
-        let body = self.inflate(place, &entry)?;
+        let body = self.text_of(place, &entry)?;
         let kind = object.kind;
         self.hold(Base { kind, body, left })
     }
 
-    // The bytes to which the stream of the entry at this place inflates.
+    // The bytes to which the stream of the entry at this place inflates. They are asked for once.
+    fn text_of(&mut self, place: usize, entry: &Scanned) -> Result<Vec<u8, A>, PackFileFault> {
+        match self.take_text(place) {
+            Some(text) => Ok(text),
+            None => self.inflate(place, entry),
+        }
+    }
+
+    // The same, if they were kept.
+    fn take_text(&mut self, place: usize) -> Option<Vec<u8, A>> {
+        self.texts.get_mut(place)?.take()
+    }
+
+    // The same, inflated again.
     fn inflate(&mut self, place: usize, entry: &Scanned) -> Result<Vec<u8, A>, PackFileFault> {
         let stream = self.pack.get(entry.stream..entry.end).unwrap_or(b"");
-        let inflated = inflate(self.alloc, &mut self.inflater, stream, entry.size, place)?;
-        Ok(inflated.body)
+        match inflate(self.alloc, &mut self.inflater, stream, entry.size, place)? {
+            Some(inflated) => Ok(inflated.body),
+            None => Err(PackFileFault::Entry(place)),
+        }
     }
 
     // Holds an object, to apply deltas to it.
@@ -161,7 +184,7 @@ impl<'a, A: Allocator + Copy> Resolver<'a, A> {
         if entry.object.is_some() {
             return Err(PackFileFault::Entry(place));
         }
-        let delta = self.inflate(place, &entry)?;
+        let delta = self.text_of(place, &entry)?;
         self.check_size(delta.as_slice())?;
         let Some((kind, body)) = self.apply(delta.as_slice())? else {
             return Err(PackFileFault::Entry(place));

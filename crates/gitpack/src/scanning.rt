@@ -1,17 +1,21 @@
-//! The entries of a pack, one after the other.
-
-ghost use Rattle.std.specs.Prelude.{IfOk, length};
-ghost use Rattle.gitpack.specs.Packs.{IsFramed};
+//! The entries of a pack, one after the other, as they come.
 
 use crate::entry::{EntryForm, read_head};
 use crate::fault::PackFileFault;
-use crate::frame::{HEADER_BYTES, entry_count, split_trailer};
+use crate::frame::{HEADER_BYTES, entry_count};
 use crate::indexing::{IndexLimits, ObjectVisitor};
 use crate::streams::inflate;
 use gitobject::{ObjectType, id_of};
 use gname::Oid;
 use gzlib::{Inflater, crc32_of};
 use std::alloc::Allocator;
+
+// Entries are looked for once so many bytes came since the last time: what comes of an entry that
+// is not whole is inflated for nothing.
+const BATCH: usize = 131_072;
+
+// The most bytes that inflated texts take which are kept: 64 MiB.
+const MAX_KEPT: usize = 67_108_864;
 
 /// An object: its id and its type.
 #[derive(Clone, Copy, Debug, Drop)]
@@ -41,105 +45,181 @@ pub(crate) struct Scanned {
     pub object: Option<Object>,
 }
 
-/// The entries of a pack and its trailer.
+/// A pack that is scanned to its end.
 #[derive(Drop)]
 pub(crate) struct ScannedPack<A: Allocator + Copy> {
+    /// The allocator.
+    pub alloc: A,
+    /// What is left of the limits.
+    pub limits: IndexLimits,
     /// The entries, in order.
     pub entries: Vec<Scanned, A>,
-    /// The trailer.
-    pub trailer: Oid,
-    /// The bytes to which the streams inflate.
-    pub total: usize,
+    /// The inflated streams of the entries, as far as they are kept.
+    pub texts: Vec<Option<Vec<u8, A>>, A>,
+    /// An inflater.
+    pub inflater: Inflater,
 }
 
-/// Scans a pack to its end. Whole objects are shown to the visitor.
-pub(crate) fn scan<A: Allocator + Copy, V: ObjectVisitor>(
-    alloc: A,
-    pack: &[u8],
-    limits: IndexLimits,
-    visitor: &mut V,
-) -> Result<ScannedPack<A>, PackFileFault>
-    ensures { IfOk result (λ scan. IsFramed (length scan.entries.items) scan.trailer pack.now) }
-{
-    let Some((body, trailer)) = split_trailer(pack) else {
-        return Err(PackFileFault::Frame);
-    };
-    let Some(count) = entry_count(body) else {
-        return Err(PackFileFault::Frame);
-    };
-    let mut scanner = Scanner {
-        alloc,
-        body,
-        limits,
-        total: 0,
-        place: HEADER_BYTES,
-        inflater: Inflater::new(),
-    };
-    let mut entries = Vec::new(alloc);
-    for number in 0..count {
-        let entry = scanner.next(number as usize, visitor)?;
-        entries.push(entry)?;
-    }
-    if scanner.place != body.len() {
-        return Err(PackFileFault::Frame);
-    }
-    let total = scanner.total;
-    Ok(ScannedPack {
-        entries,
-        trailer,
-        total,
-    })
-}
-
-// How far a pack is scanned.
+/// Scans a pack as it comes. An entry is scanned once it is whole, and each object that is whole is
+/// shown to a visitor.
+///
+/// The part of an entry that is not whole is inflated again only once it has doubled. So the work is
+/// linear in the bytes, whatever the pieces are.
 #[derive(Drop)]
-struct Scanner<'a, A: Allocator + Copy> {
+pub(crate) struct Scanner<A: Allocator + Copy> {
     alloc: A,
-    // The pack without its trailer.
-    body: &'a [u8],
     limits: IndexLimits,
-    // The bytes to which the streams so far inflate.
-    total: usize,
-    // The position at which the next entry begins.
+    // The position at which the next entry begins, and the number of bytes that must be there before
+    // it is looked for.
     place: usize,
+    enough: usize,
+    entries: Vec<Scanned, A>,
+    texts: Vec<Option<Vec<u8, A>>, A>,
+    // The bytes that the texts take, and those to which all streams so far inflate.
+    kept: usize,
+    total: usize,
+    // The first fault, for the end.
+    fault: Option<PackFileFault>,
     inflater: Inflater,
 }
 
-impl<'a, A: Allocator + Copy> Scanner<'a, A> {
-    // Scans the next entry, which has this place among all.
-    fn next<V: ObjectVisitor>(
-        &mut self,
-        number: usize,
+impl<A: Allocator + Copy> Scanner<A> {
+    /// A scanner of a pack of which nothing came.
+    pub(crate) fn new(alloc: A, limits: IndexLimits) -> Scanner<A> {
+        Scanner {
+            alloc,
+            limits,
+            place: HEADER_BYTES,
+            enough: 0,
+            entries: Vec::new(alloc),
+            texts: Vec::new(alloc),
+            kept: 0,
+            total: 0,
+            fault: None,
+            inflater: Inflater::new(),
+        }
+    }
+
+    /// Scans what came of a pack so far, without what may be its trailer. A fault is kept for the
+    /// end, as the frame of the pack is tested first.
+    pub(crate) fn scan_more<V: ObjectVisitor>(&mut self, body: &[u8], visitor: &mut V) {
+        if self.fault.is_some() || body.len() < self.enough {
+            return;
+        }
+        if let Err(fault) = self.scan_entries(body, visitor) {
+            self.fault = Some(fault);
+        }
+        let waiting = body.len().saturating_sub(self.place);
+        self.enough = body.len().saturating_add(waiting.max(BATCH));
+    }
+
+    /// Scans the rest of a pack that came whole. It has so many entries, and is given without its
+    /// trailer.
+    pub(crate) fn finish<V: ObjectVisitor>(
+        self,
+        body: &[u8],
+        count: u32,
         visitor: &mut V,
-    ) -> Result<Scanned, PackFileFault> {
-        let start = self.place;
-        let bytes = self.body.get(start..).unwrap_or(b"");
-        let Some(head) = read_head(bytes) else {
+    ) -> Result<ScannedPack<A>, PackFileFault> {
+        let mut scanner = self;
+        if let Some(fault) = scanner.fault {
+            return Err(fault);
+        }
+        scanner.scan_entries(body, visitor)?;
+        let number = scanner.entries.len();
+        if number < count as usize {
             return Err(PackFileFault::Entry(number));
+        }
+        if scanner.place != body.len() {
+            return Err(PackFileFault::Frame);
+        }
+        Ok(scanner.into_pack())
+    }
+
+    fn into_pack(self) -> ScannedPack<A> {
+        ScannedPack {
+            alloc: self.alloc,
+            limits: IndexLimits {
+                object: self.limits.object,
+                held: self.limits.held,
+                total: self.limits.total.saturating_sub(self.total),
+            },
+            entries: self.entries,
+            texts: self.texts,
+            inflater: self.inflater,
+        }
+    }
+
+    // Scans the entries that are whole.
+    fn scan_entries<V: ObjectVisitor>(
+        &mut self,
+        body: &[u8],
+        visitor: &mut V,
+    ) -> Result<(), PackFileFault> {
+        let Some(count) = entry_count(body) else {
+            return Ok(());
         };
-        self.count(head.size)?;
+        for _entry in self.entries.len()..count as usize {
+            if !self.scan_entry(body, visitor)? {
+                return Ok(());
+            }
+        }
+        Ok(())
+    }
+
+    // Scans the next entry, and answers whether it is whole.
+    fn scan_entry<V: ObjectVisitor>(
+        &mut self,
+        body: &[u8],
+        visitor: &mut V,
+    ) -> Result<bool, PackFileFault> {
+        let start = self.place;
+        let bytes = body.get(start..).unwrap_or(b"");
+        let Some(head) = read_head(bytes) else {
+            return Ok(false);
+        };
+        let total = self.total_with(head.size)?;
         let after = bytes.get(head.length..).unwrap_or(b"");
+        let number = self.entries.len();
         let inflated = inflate(self.alloc, &mut self.inflater, after, head.size, number)?;
+        let Some(inflated) = inflated else {
+            return Ok(false);
+        };
         let object = whole_object(head.form, inflated.body.as_slice(), visitor)?;
         let stream = start.saturating_add(head.length);
         let end = stream.saturating_add(inflated.length);
-        self.place = end;
-        Ok(Scanned {
+        self.entries.push(Scanned {
             start,
             stream,
             end,
             size: head.size,
             form: head.form,
-            crc: crc32_of(self.body.get(start..end).unwrap_or(b"")),
+            crc: crc32_of(body.get(start..end).unwrap_or(b"")),
             object,
-        })
+        })?;
+        self.keep(inflated.body)?;
+        self.total = total;
+        self.place = end;
+        Ok(true)
     }
 
-    // Counts so many bytes more.
-    fn count(&mut self, size: usize) -> Result<(), PackFileFault> {
-        self.total = self.total.saturating_add(size);
-        if size > self.limits.object || self.total > self.limits.total {
+    // The number of all inflated bytes, with so many more.
+    fn total_with(&self, size: usize) -> Result<usize, PackFileFault> {
+        let total = self.total.saturating_add(size);
+        if size > self.limits.object || total > self.limits.total {
             return Err(PackFileFault::TooLarge);
+        }
+        Ok(total)
+    }
+
+    // Keeps the text of the last entry, if there is room for it.
+    fn keep(&mut self, text: Vec<u8, A>) -> Result<(), PackFileFault> {
+        let kept = self.kept.saturating_add(text.capacity());
+        if kept > MAX_KEPT {
+            self.texts.push(None)?;
+        } else {
+            self.texts.push(Some(text))?;
+            self.kept = kept;
         }
         Ok(())
     }

@@ -1,6 +1,6 @@
 //! The zlib streams of entries.
 
-ghost use Rattle.std.specs.Prelude.{◌≡◌, IfOk, vec_len};
+ghost use Rattle.std.specs.Prelude.{◌≡◌, IfOk, IfSome, vec_len};
 
 use crate::fault::PackFileFault;
 use gzlib::{InflateFault, Inflater};
@@ -23,15 +23,15 @@ pub(crate) struct Inflated<A: Allocator + Copy> {
 }
 
 /// Inflates the stream with which some bytes begin, that of the entry at this place among all, to
-/// exactly `size` bytes.
+/// exactly `size` bytes. It is `None` if the stream goes on after the bytes.
 pub(crate) fn inflate<A: Allocator + Copy>(
     alloc: A,
     inflater: &mut Inflater,
     bytes: &[u8],
     size: usize,
     number: usize,
-) -> Result<Inflated<A>, PackFileFault>
-    ensures { IfOk result (λ it. vec_len it.body ≡ size) }
+) -> Result<Option<Inflated<A>>, PackFileFault>
+    ensures { IfOk result (λ found. IfSome found (λ it. vec_len it.body ≡ size)) }
 {
     let most = bytes.len().saturating_mul(MAX_RATIO);
     let room = size.min(most).saturating_add(SPARE);
@@ -39,11 +39,12 @@ pub(crate) fn inflate<A: Allocator + Copy>(
     match inflater.inflate(bytes, &mut body, size) {
         Ok(length) => {
             if body.len() == size {
-                Ok(Inflated { body, length })
+                Ok(Some(Inflated { body, length }))
             } else {
                 Err(PackFileFault::Entry(number))
             }
         }
+        Err(InflateFault::Short) => Ok(None),
         Err(InflateFault::Memory) => Err(PackFileFault::Memory),
         Err(_) => Err(PackFileFault::Entry(number)),
     }

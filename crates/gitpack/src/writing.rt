@@ -1,6 +1,6 @@
 //! Writing a pack.
 
-ghost use Rattle.std.specs.Prelude.{◌≡◌, IfOk, OnOk, length};
+ghost use Rattle.std.specs.Prelude.{◌≡◌, ◌++◌, IfOk, OnOk, length};
 ghost use Rattle.gname.specs.Ids.{Id};
 ghost use Rattle.gzlib.specs.Stored.{stored_stream};
 ghost use Rattle.gitpack.specs.Packs.{AddsEntry, pack_header, with_trailer};
@@ -43,8 +43,7 @@ impl<A: Allocator + Copy> PackWriter<A> {
         ensures { IfOk result (λ writer. writer ≡ pack_header count) }
     {
         let mut bytes = Vec::with_capacity(alloc, room)?;
-        bytes.extend_from_slice(SIGNATURE)?;
-        bytes.extend_from_slice(&count.to_be_bytes())?;
+        put_header(&mut bytes, count)?;
         Ok(PackWriter { alloc, bytes, most })
     }
 
@@ -122,12 +121,7 @@ impl<A: Allocator + Copy> PackWriter<A> {
     ) -> Result<(), PackFileFault>
         ensures { OnOk result (AddsEntry form size stream.now self.old self.new) }
     {
-        put_head(&mut self.bytes, form, size)?;
-        if stream.len() > self.most.saturating_sub(self.bytes.len()) {
-            return Err(PackFileFault::TooLarge);
-        }
-        self.bytes.extend_from_slice(stream)?;
-        Ok(())
+        put_entry(&mut self.bytes, form, size, stream, self.most)
     }
 
     /// The pack with its trailer. It fails only out of memory.
@@ -139,4 +133,34 @@ impl<A: Allocator + Copy> PackWriter<A> {
         pack.extend_from_slice(&trailer)?;
         Ok(pack)
     }
+}
+
+/// Adds the header of a pack of `count` entries. It fails only out of memory.
+pub fn put_header<A: Allocator + Copy>(out: &mut Vec<u8, A>, count: u32) -> Result<(), AllocError>
+    ensures { OnOk result (out.new.items ≡ out.old.items ++ pack_header count) }
+{
+    out.extend_from_slice(SIGNATURE)?;
+    out.extend_from_slice(&count.to_be_bytes())
+}
+
+/// Adds an entry of this form. Its zlib stream is given, and inflates to `size` bytes.
+///
+/// It fails with `TooLarge` if the size has more than 60 bits, an offset more than 56, or `out` would
+/// get more than `most` bytes. It fails with `Format` if the id of a base is not a SHA-1 id, and with
+/// `Memory`. Then a part of the entry may have been added.
+pub fn put_entry<A: Allocator + Copy>(
+    out: &mut Vec<u8, A>,
+    form: EntryForm,
+    size: usize,
+    stream: &[u8],
+    most: usize,
+) -> Result<(), PackFileFault>
+    ensures { OnOk result (AddsEntry form size stream.now out.old.items out.new.items) }
+{
+    put_head(out, form, size)?;
+    if stream.len() > most.saturating_sub(out.len()) {
+        return Err(PackFileFault::TooLarge);
+    }
+    out.extend_from_slice(stream)?;
+    Ok(())
 }

@@ -4,6 +4,7 @@ use crate::current::fetched_already;
 use crate::directory::{Directories, find_repository};
 use crate::fault::Fault;
 use crate::opening::{open_client, repository_fault};
+use crate::output::Output;
 use crate::progress::{Progress, Watched};
 use crate::remote::{Remote, tips_of};
 use crate::sentences::Sentence;
@@ -63,17 +64,34 @@ pub(crate) struct Fetch {
     pub(crate) received: Option<Received<Global>>,
 }
 
-/// Fetches refs into a repository, and prints what became of each.
-pub(crate) fn fetch_remote<R, E>(rt: &R, asked: &FetchArgs<'_>, errors: &mut E) -> Result<(), Fault>
+// Whether the report is printed, and whether a terminal shows it.
+#[derive(Clone, Copy)]
+struct Report {
+    is_quiet: bool,
+    is_terminal: bool,
+}
+
+/// Fetches refs into a repository, and prints what became of each. On a terminal their names are
+/// cleaned.
+pub(crate) fn fetch_remote<R, E>(
+    rt: &R,
+    asked: &FetchArgs<'_>,
+    is_terminal: bool,
+    errors: &mut E,
+) -> Result<(), Fault>
 where
     R: Files + Print + AllocGlobal + Net,
     E: Write + IsTerminal,
 {
     let found = find_repository(rt, asked.dir)?;
     let remote = Remote::new(rt.alloc(), &asked.url)?;
+    let report = Report {
+        is_quiet: asked.verbosity.quiet,
+        is_terminal,
+    };
     let listed = list_sources(rt, &remote, asked.specs.as_slice())?;
     if let Some(fetched) = find_current(rt, &found, asked.specs.as_slice(), &listed)? {
-        return report_unless(rt, asked.verbosity, &fetched);
+        return report_unless(rt, report, &fetched);
     }
     let tips = tips_of(rt.alloc(), &listed)?;
     let wanted = Wanted {
@@ -84,7 +102,7 @@ where
     let mut progress = progress_of(rt.alloc(), asked.verbosity, errors);
     let outcome = receive(rt, &found, wanted, &mut progress);
     progress.finish();
-    conclude(rt, &found, asked.verbosity, outcome)
+    conclude(rt, &found, report, outcome)
 }
 
 // The server's refs, among which each ref that refspecs name has to be.
@@ -121,7 +139,7 @@ where
 fn conclude<R>(
     rt: &R,
     found: &Directories,
-    verbosity: Verbosity,
+    report: Report,
     outcome: Result<Fetch, Fault>,
 ) -> Result<(), Fault>
 where
@@ -130,7 +148,7 @@ where
     match outcome {
         Ok(fetch) => {
             keep(rt, found, &fetch)?;
-            report_unless(rt, verbosity, &fetch.fetched)?;
+            report_unless(rt, report, &fetch.fetched)?;
             check_moved(rt.alloc(), &fetch.fetched)
         }
         Err(fault) => Err(fault),
@@ -287,21 +305,25 @@ fn check_moved(alloc: Global, fetched: &Fetched<Global>) -> Result<(), Fault> {
 // Prints what became of each ref, unless it is to be quiet.
 fn report_unless<R: Print + AllocGlobal>(
     rt: &R,
-    verbosity: Verbosity,
+    report: Report,
     fetched: &Fetched<Global>,
 ) -> Result<(), Fault> {
-    if verbosity.quiet {
+    if report.is_quiet {
         return Ok(());
     }
-    report(rt, fetched)
+    print_report(rt, report.is_terminal, fetched)
 }
 
 // Prints what became of each ref.
-fn report<R: Print + AllocGlobal>(rt: &R, fetched: &Fetched<Global>) -> Result<(), Fault> {
+fn print_report<R: Print + AllocGlobal>(
+    rt: &R,
+    is_terminal: bool,
+    fetched: &Fetched<Global>,
+) -> Result<(), Fault> {
     if fetched.settled.updates.len() != fetched.settled.asks.len() {
         return Ok(());
     }
-    let mut stdout = io::writer(rt);
+    let mut stdout = Output::new(io::writer(rt), is_terminal);
     let mut output = ToWrite::new(&mut stdout);
     match send_report(rt.alloc(), fetched, &mut output) {
         Ok(()) => Ok(()),

@@ -42,7 +42,8 @@
 //! - A request has at most 1,024 wants, 4,096 haves and 64 prefixes of ref names. A pack has at most
 //!   64 MiB. So a clone of more than 1,024 distinct tips fails, at both ends.
 //! - Progress counts the objects that the header of the pack announces, and the bytes that came.
-//! - Names of refs are printed as the server sent them. They have no ASCII control bytes.
+//! - `ls` and `fetch` print names of refs as the server sent them, unless standard output is a
+//!   terminal. Then each byte that is no printable ASCII is a question mark.
 //!
 //! # What the contracts do not rule out
 //!

@@ -6,7 +6,7 @@ ghost use Rattle.glsreply.specs.RefTexts as texts;
 ghost use Rattle.gitprogram.specs.Listing.{id_line, is_listed, listed_lines, listing, ref_lines};
 
 use crate::fault::Fault;
-use crate::output::print;
+use crate::output::print_peer;
 use crate::remote::Remote;
 use gitwords::LsArgs;
 use glsreply::{LsReply, RefLine};
@@ -15,8 +15,8 @@ use grequest::MAX_PREFIXES;
 use std::alloc::{AllocError, Global};
 use std::net::Net;
 
-/// Prints the refs of a server as git-ls-remote(1) does.
-pub(crate) fn list_refs<R>(rt: &R, asked: &LsArgs<'_>) -> Result<(), Fault>
+/// Prints the refs of a server as git-ls-remote(1) does. On a terminal their names are cleaned.
+pub(crate) fn list_refs<R>(rt: &R, asked: &LsArgs<'_>, is_terminal: bool) -> Result<(), Fault>
 where
     R: Print + AllocGlobal + Net,
 {
@@ -25,7 +25,7 @@ where
     let prefixes = asked.prefixes.as_slice();
     let reply = remote.list(rt, alloc, prefixes_to_ask(prefixes))?;
     let text = reply_text(alloc, &reply, prefixes)?;
-    print(rt, text.as_slice())
+    print_peer(rt, is_terminal, text.as_slice())
 }
 
 // The prefixes that the server is asked for: none if there are more than a request takes, which asks

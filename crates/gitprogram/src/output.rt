@@ -2,12 +2,60 @@
 
 use crate::fault::Fault;
 use crate::sentences::Sentence;
+use gitwords::{Shown, clean_byte};
 use std::io;
 use std::io::Write;
 
+// So many bytes are cleaned at a time.
+const PIECE: usize = 512;
+
+/// A writer of standard output. If it is a terminal, the bytes of a peer are cleaned.
+#[derive(Drop)]
+pub(crate) struct Output<W> {
+    writer: W,
+    is_terminal: bool,
+}
+
+impl<W: Write> Output<W> {
+    /// The output that this writer is.
+    pub(crate) fn new(writer: W, is_terminal: bool) -> Output<W> {
+        Output {
+            writer,
+            is_terminal,
+        }
+    }
+}
+
+impl<W: Write> Write for Output<W> {
+    fn write(&mut self, buf: &[u8]) -> io::Result<usize> {
+        if !self.is_terminal {
+            return self.writer.write(buf);
+        }
+        let mut piece = [0u8; PIECE];
+        for (clean, byte) in piece.iter_mut().zip(buf) {
+            *clean = clean_byte(*byte, Shown::Lines);
+        }
+        let count = buf.len().min(PIECE);
+        self.writer.write(&piece[..count])
+    }
+
+    fn flush(&mut self) -> io::Result<()> {
+        self.writer.flush()
+    }
+}
+
 /// Writes a text to standard output.
 pub(crate) fn print<R: Print + AllocGlobal>(rt: &R, text: &[u8]) -> Result<(), Fault> {
-    match io::writer(rt).write_all(text) {
+    print_peer(rt, false, text)
+}
+
+/// Writes a text with bytes of a peer to standard output. If that is a terminal, they are cleaned.
+pub(crate) fn print_peer<R: Print + AllocGlobal>(
+    rt: &R,
+    is_terminal: bool,
+    text: &[u8],
+) -> Result<(), Fault> {
+    match Output::new(io::writer(rt), is_terminal).write_all(text) {
         Ok(()) => Ok(()),
         Err(_) => Err(Fault::of(rt.alloc(), Sentence::NoOutput)),
     }

@@ -22,10 +22,11 @@ const FAILED: u8 = 1;
 const WRONG_USAGE: u8 = 2;
 
 /// Runs `gitrepo` with the arguments of the runtime, over its files, standard streams and sockets.
-/// Faults, progress and the lines of connections go to `stderr`.
+/// Faults, progress and the lines of connections go to `stderr`. If standard output is a terminal, the
+/// bytes of a peer are cleaned for it.
 ///
 /// It returns the exit status: 0; 1 if a fault was printed; 2 if the arguments are wrong.
-pub fn run<R, W>(rt: &R, stderr: &mut W) -> u8
+pub fn run<R, W>(rt: &R, is_terminal: bool, stderr: &mut W) -> u8
 where
     R: Env + Files + Input + Print + AllocGlobal + Clock + Net,
     W: Write + IsTerminal,
@@ -35,7 +36,7 @@ where
         Err(kind) => return refuse_arguments(rt, kind, stderr),
     };
     match read_words(rt.alloc(), words.as_slice()) {
-        Ok(command) => finish(run_command(rt, &command, stderr), stderr),
+        Ok(command) => finish(run_command(rt, &command, is_terminal, stderr), stderr),
         Err(answer) => print_answer(rt, &answer, stderr),
     }
 }
@@ -91,7 +92,12 @@ fn finish<W: Write>(outcome: Result<(), Fault>, errors: &mut W) -> u8
     }
 }
 
-fn run_command<R, W>(rt: &R, command: &Command<'_>, errors: &mut W) -> Result<(), Fault>
+fn run_command<R, W>(
+    rt: &R,
+    command: &Command<'_>,
+    is_terminal: bool,
+    errors: &mut W,
+) -> Result<(), Fault>
 where
     R: Env + Files + Input + Print + AllocGlobal + Clock + Net,
     W: Write + IsTerminal,
@@ -99,8 +105,8 @@ where
     match command {
         Command::Check { dir } => check(rt, dir),
         Command::Clone(asked) => clone_remote(rt, asked, errors),
-        Command::Fetch(asked) => fetch_remote(rt, asked, errors),
-        Command::Ls(asked) => list_refs(rt, asked),
+        Command::Fetch(asked) => fetch_remote(rt, asked, is_terminal, errors),
+        Command::Ls(asked) => list_refs(rt, asked, is_terminal),
         Command::Serve(asked) => serve(rt, asked, errors),
         Command::UploadPack { dir } => upload_pack(rt, dir),
     }

@@ -20,9 +20,11 @@
 #![tactic(auto)]
 
 use gitprogram::run;
+use std::io::IsTerminal;
 use std::process::ExitCode;
 
 fn main(rt: HostRuntime) -> ExitCode {
+    let is_terminal = rt.stdout().is_terminal();
     let mut stderr = rt.stderr();
-    ExitCode::from(run(&rt, &mut stderr))
+    ExitCode::from(run(&rt, is_terminal, &mut stderr))
 }

@@ -3,3 +3,4 @@ pub mod CommitLemmas
 pub mod HistoryLemmas
 pub mod PutLemmas
 pub mod RefLemmas
+pub mod PartLemmas

@@ -3,3 +3,4 @@ pub mod Packs
 pub mod Repositories
 pub mod Installing
 pub mod MemoryFolders
+pub mod Parts

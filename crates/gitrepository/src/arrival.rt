@@ -1,4 +1,4 @@
-//! A visitor of the objects of a pack that comes.
+//! The objects of a pack that comes.
 
 ghost use Rattle.std.specs.Prelude.{◌≡◌, ◌++◌, ◌∷◌, [], List, All, IfOk, IfSome, OnOk};
 ghost use Rattle.gdag.specs.Graphs.{Holds};
@@ -12,7 +12,7 @@ use crate::nodes::{entry_of, leaf};
 use crate::tips::Tips;
 use ggraph::{Entry, IdHasher};
 use gitobject::{Link, ObjectType, links_of, tag_link};
-use gitobjects::{ObjectFiles, ObjectReader};
+use gitobjects::{Found, LooseFolders, ObjectFiles, ObjectReader, ObjectStore, StoreFault};
 use gitpack::{IndexedPack, ObjectVisitor, PackFileFault};
 use gname::Oid;
 use indexmap::IndexMap;
@@ -24,19 +24,31 @@ use std::marker::Model;
 // each id is kept: a map of so many takes some hundred MiB.
 const MAX_NEEDS: usize = 4_194_304;
 
-/// A visitor of the objects of a pack that comes. Contracts see the entries of its commits and tags.
+/// All that is known of the objects of a pack that comes. Contracts see the entries of its commits
+/// and tags.
 #[derive(Drop)]
-pub(crate) struct Arrival<'r, 't, 'f, F: ObjectFiles, A: Allocator + Copy> {
+pub(crate) struct Arrival<A: Allocator + Copy> {
     alloc: A,
-    reader: &'r mut ObjectReader<'f, F, A>,
-    tips: &'t Tips<A>,
     entries: Vec<Entry<A>, A>,
     // The types of the objects that are named.
     needs: IndexMap<Oid, ObjectType, IdHasher, A>,
+    folders: LooseFolders,
     fault: Option<RepositoryFault<A>>,
 }
 
-impl<'r, 't, 'f, F: ObjectFiles, A: Allocator + Copy> Model for Arrival<'r, 't, 'f, F, A> {
+/// A visitor of the objects of a pack that comes, with the store to which they come, and the ids at
+/// which refs of the peer are.
+#[derive(Drop)]
+pub(crate) struct Inspector<'a, 'r, 't, 'f, F: ObjectFiles, A: Allocator + Copy> {
+    // All that is known of the objects.
+    arrival: &'a mut Arrival<A>,
+    // A reader of the store.
+    reader: &'r mut ObjectReader<'f, F, A>,
+    // The ids at which refs of the peer are.
+    tips: &'t Tips<A>,
+}
+
+impl<A: Allocator + Copy> Model for Arrival<A> {
     ghost use Rattle.std.specs.Prelude.{All, List};
     ghost use Rattle.gobject.specs.declared.node.Entry.{Entry};
     ghost use Rattle.gitrepository.specs.Entries.{IsRead};
@@ -48,19 +60,14 @@ impl<'r, 't, 'f, F: ObjectFiles, A: Allocator + Copy> Model for Arrival<'r, 't, 
     ghost invariant = { λ a. All (IsRead a.entries.items) a.entries.items };
 }
 
-impl<'r, 't, 'f, F: ObjectFiles, A: Allocator + Copy> Arrival<'r, 't, 'f, F, A> {
+impl<A: Allocator + Copy> Arrival<A> {
     /// No object has come yet.
-    pub(crate) fn new(
-        alloc: A,
-        reader: &'r mut ObjectReader<'f, F, A>,
-        tips: &'t Tips<A>,
-    ) -> Arrival<'r, 't, 'f, F, A> {
+    pub(crate) fn new(alloc: A) -> Arrival<A> {
         Arrival {
             alloc,
-            reader,
-            tips,
             entries: Vec::new(alloc),
             needs: IndexMap::with_hasher(alloc, BuildHasherDefault::new()),
+            folders: LooseFolders::new(),
             fault: None,
         }
     }
@@ -70,20 +77,21 @@ impl<'r, 't, 'f, F: ObjectFiles, A: Allocator + Copy> Arrival<'r, 't, 'f, F, A> 
         self.fault.take()
     }
 
+    // Keeps the fault for which an object is refused.
+    fn keep_fault(&mut self, fault: RepositoryFault<A>) {
+        self.fault = Some(fault);
+    }
+
     /// The entries, once each object that is named is in the pack or in the store, with the type by
     /// which it is named.
-    pub(crate) fn into_entries(
+    pub(crate) fn into_entries<F: ObjectFiles>(
         self,
+        reader: &mut ObjectReader<'_, F, A>,
         pack: &IndexedPack<A>,
     ) -> Result<Vec<Entry<A>, A>, RepositoryFault<A>>
         ensures { IfOk result (λ entries. All (IsRead entries.items) entries.items) }
     {
-        let Arrival {
-            reader,
-            entries,
-            needs,
-            ..
-        } = self;
+        let Arrival { entries, needs, .. } = self;
         for (id, kind) in &needs {
             check_need(
                 reader,
@@ -97,16 +105,33 @@ impl<'r, 't, 'f, F: ObjectFiles, A: Allocator + Copy> Arrival<'r, 't, 'f, F, A> 
         Ok(entries)
     }
 
+    // The place of an object that is here; `None` if it is not.
+    fn find<F: ObjectFiles>(
+        &mut self,
+        store: &ObjectStore<'_, F, A>,
+        id: &Oid,
+    ) -> Result<Option<Found>, StoreFault<A>> {
+        store.find_in(id, &mut self.folders)
+    }
+
     // Learns of an object.
-    fn learn(&mut self, id: &Oid, kind: ObjectType, body: &[u8]) -> Result<(), RepositoryFault<A>>
+    fn learn(
+        &mut self,
+        tips: &Tips<A>,
+        id: &Oid,
+        kind: ObjectType,
+        body: &[u8],
+    ) -> Result<(), RepositoryFault<A>>
         requires { id_of kind body.now ≡ id.now }
     {
-        self.compare(id, kind, body)?;
         self.need_links(id, kind, body)?;
         match kind {
             ObjectType::Commit => self.push_object(id, kind, body),
             ObjectType::Tag => self.learn_tag(id, body),
-            ObjectType::Tree | ObjectType::Blob => self.learn_tip(id, kind, body),
+            ObjectType::Tree | ObjectType::Blob if tips.contains(id) => {
+                self.push_object(id, kind, body)
+            }
+            ObjectType::Tree | ObjectType::Blob => Ok(()),
         }
     }
 
@@ -118,40 +143,6 @@ impl<'r, 't, 'f, F: ObjectFiles, A: Allocator + Copy> Arrival<'r, 't, 'f, F, A> 
         match named_leaf(self.alloc, body) {
             Some(entry) => self.push(entry),
             None => Ok(()),
-        }
-    }
-
-    // Adds the entry of a tree or a blob, if a ref of the peer is at it.
-    fn learn_tip(
-        &mut self,
-        id: &Oid,
-        kind: ObjectType,
-        body: &[u8],
-    ) -> Result<(), RepositoryFault<A>>
-        requires { id_of kind body.now ≡ id.now }
-    {
-        if self.tips.contains(id) {
-            self.push_object(id, kind, body)
-        } else {
-            Ok(())
-        }
-    }
-
-    // Compares an object with the one that is here, if there is one.
-    fn compare(
-        &mut self,
-        id: &Oid,
-        kind: ObjectType,
-        body: &[u8],
-    ) -> Result<(), RepositoryFault<A>> {
-        let Some(found) = self.reader.store().find(id)? else {
-            return Ok(());
-        };
-        match self.reader.read_found(id, found)? {
-            Some(own) if own.kind != kind || own.body.as_slice() != body => {
-                Err(RepositoryFault::refused(id, ObjectCause::Differs))
-            }
-            _ => Ok(()),
         }
     }
 
@@ -252,12 +243,58 @@ fn check_need<F: ObjectFiles, A: Allocator + Copy>(
     }
 }
 
-impl<F: ObjectFiles, A: Allocator + Copy> ObjectVisitor for Arrival<'_, '_, '_, F, A> {
+impl<'a, 'r, 't, 'f, F: ObjectFiles, A: Allocator + Copy> Inspector<'a, 'r, 't, 'f, F, A> {
+    /// A visitor that adds to what is known of the objects.
+    pub(crate) fn new(
+        arrival: &'a mut Arrival<A>,
+        reader: &'r mut ObjectReader<'f, F, A>,
+        tips: &'t Tips<A>,
+    ) -> Inspector<'a, 'r, 't, 'f, F, A> {
+        Inspector {
+            arrival,
+            reader,
+            tips,
+        }
+    }
+
+    /// The fault for which an object was refused, which is given away; `None` if there is none.
+    pub(crate) fn take_fault(&mut self) -> Option<RepositoryFault<A>> {
+        self.arrival.take_fault()
+    }
+
+    // Compares an object with the one that is here, if there is one.
+    fn compare(
+        &mut self,
+        id: &Oid,
+        kind: ObjectType,
+        body: &[u8],
+    ) -> Result<(), RepositoryFault<A>> {
+        let Some(found) = self.arrival.find(self.reader.store(), id)? else {
+            return Ok(());
+        };
+        match self.reader.read_found(id, found)? {
+            Some(own) if own.kind != kind || own.body.as_slice() != body => {
+                Err(RepositoryFault::refused(id, ObjectCause::Differs))
+            }
+            _ => Ok(()),
+        }
+    }
+
+    // Compares an object with the one that is here, and learns of it.
+    fn inspect(&mut self, id: &Oid, kind: ObjectType, body: &[u8]) -> Result<(), RepositoryFault<A>>
+        requires { id_of kind body.now ≡ id.now }
+    {
+        self.compare(id, kind, body)?;
+        self.arrival.learn(self.tips, id, kind, body)
+    }
+}
+
+impl<F: ObjectFiles, A: Allocator + Copy> ObjectVisitor for Inspector<'_, '_, '_, '_, F, A> {
     fn visit(&mut self, id: &Oid, kind: ObjectType, body: &[u8]) -> Result<(), PackFileFault> {
-        match self.learn(id, kind, body) {
+        match self.inspect(id, kind, body) {
             Ok(()) => Ok(()),
             Err(fault) => {
-                self.fault = Some(fault);
+                self.arrival.keep_fault(fault);
                 Err(PackFileFault::Refused)
             }
         }

@@ -1,21 +1,14 @@
-//! Writing a pack: entries of packs are copied as they lie.
-
-ghost use Rattle.std.specs.Prelude.{◌≡◌, ◌≤◌, IfOk, length};
-ghost use Rattle.gname.specs.Limits.{max_pack};
-ghost use Rattle.gitrepository.specs.Packs.{IsWholePack};
+//! The entries of a pack that goes out: those of packs are copied as they lie.
 
 use crate::fates::{Fate, Fates};
-use crate::fault::{ObjectCause, RepositoryFault};
-use crate::gather::gather;
-use crate::outgoing::Outgoing;
+use crate::fault::RepositoryFault;
 use crate::path_hash::PathHash;
 use crate::window::{Delta, Window};
-use ggraph::Entry;
-use gitobjects::{Found, Object, ObjectFiles, ObjectReader, RawEntry, StoreFault};
+use gitobjects::{Found, ObjectFiles, ObjectReader, RawEntry, StoreFault};
 use gitpack::EntryForm;
 use gname::Oid;
 use gzlib::Deflater;
-use std::alloc::Allocator;
+use std::alloc::{AllocError, Allocator};
 
 /// How the objects of a pack went out.
 #[derive(Clone, Copy, Debug, PartialEq, Eq, Drop)]
@@ -52,34 +45,21 @@ impl PackCounts {
     }
 }
 
-/// The pack of some commits and tags and of what goes with them, and how its objects went out.
-pub(crate) fn write_pack<F: ObjectFiles, A: Allocator + Copy>(
-    reader: &mut ObjectReader<'_, F, A>,
-    alloc: A,
-    entries: &[Entry<A>],
-) -> Result<(Vec<u8, A>, PackCounts), RepositoryFault<A>>
-    ensures whole { IfOk result (λ made. IsWholePack made.0.items) }
-    ensures few { IfOk result (λ made. length made.0.items ≤ max_pack) }
-{
-    let fates = gather(reader, entries)?;
-    let outgoing = Outgoing::new(alloc, fates.sent())?;
-    let deflater = Deflater::new(alloc)?;
-    let mut copying = Copying {
-        alloc,
-        reader,
-        fates,
-        outgoing,
-        deflater,
-        counts: PackCounts::NONE,
-        starts: Vec::new(alloc),
-        anew: Vec::new(alloc),
-        window: Window::new(alloc),
-    };
-    copying.copy_packs()?;
-    copying.add_loose()?;
-    copying.put_all_anew()?;
-    let counts = copying.counts;
-    Ok((copying.outgoing.finish()?, counts))
+/// An entry that goes out next: its form, the bytes to which its stream inflates, and bytes that end
+/// with this stream.
+#[derive(Drop)]
+pub(crate) struct NextEntry<A: Allocator + Copy> {
+    pub(crate) form: EntryForm,
+    pub(crate) size: usize,
+    bytes: Vec<u8, A>,
+    from: usize,
+}
+
+impl<A: Allocator + Copy> NextEntry<A> {
+    /// The stream.
+    pub(crate) fn stream(&self) -> &[u8] {
+        self.bytes.as_slice().get(self.from..).unwrap_or(b"")
+    }
 }
 
 // An object that lies in a pack: its id, its place in the index, and its path.
@@ -98,82 +78,132 @@ struct Anew {
     number: usize,
 }
 
-// A pack that is written.
+// How far the objects of packs are: a pack, and how many of its entries were looked at.
+#[derive(Clone, Copy, Drop)]
+struct Progress {
+    pack: usize,
+    number: usize,
+}
+
+/// What goes out, entry after entry. First come entries of packs, in the order in which they lie there,
+/// and then objects that are deflated anew.
 #[derive(Drop)]
-struct Copying<'r, 'f, F: ObjectFiles, A: Allocator + Copy> {
+pub(crate) struct Copying<A: Allocator + Copy> {
     alloc: A,
-    reader: &'r mut ObjectReader<'f, F, A>,
     fates: Fates<A>,
-    outgoing: Outgoing<A>,
     deflater: Deflater<A>,
     counts: PackCounts,
+    progress: Progress,
     // The position of each entry of the pack that is copied now, by its place in the index; 0 if it
     // was not put.
     starts: Vec<usize, A>,
-    // The objects that are to be deflated anew, and the last ones that were.
+    // The objects that are to be deflated anew, how many of them were, and the last ones. They are in
+    // order once all packs were gone through.
     anew: Vec<Anew, A>,
+    renewed: usize,
+    is_sorted: bool,
     window: Window<A>,
 }
 
-impl<F: ObjectFiles, A: Allocator + Copy> Copying<'_, '_, F, A> {
-    // Copies what is sent of all packs.
-    fn copy_packs(&mut self) -> Result<(), RepositoryFault<A>> {
-        for pack in 0..self.reader.store().pack_count() {
-            self.copy_pack(pack)?;
-        }
-        Ok(())
+impl<A: Allocator + Copy> Copying<A> {
+    /// All that is sent, of which nothing went out yet.
+    pub(crate) fn new(alloc: A, fates: Fates<A>) -> Result<Copying<A>, AllocError> {
+        Ok(Copying {
+            alloc,
+            fates,
+            deflater: Deflater::new(alloc)?,
+            counts: PackCounts::NONE,
+            progress: Progress { pack: 0, number: 0 },
+            starts: Vec::new(alloc),
+            anew: Vec::new(alloc),
+            renewed: 0,
+            is_sorted: false,
+            window: Window::new(alloc),
+        })
     }
 
-    // Copies what is sent of a pack, in the order in which it lies.
-    fn copy_pack(&mut self, pack: usize) -> Result<(), RepositoryFault<A>> {
-        let count = self.reader.store().starts(pack).len();
-        self.starts = Vec::new(self.alloc);
-        self.starts.resize(count, 0)?;
-        for number in 0..count {
-            if let Some(object) = self.sent_at(pack, number) {
-                self.copy_entry(pack, object)?;
+    /// How the objects went out so far.
+    pub(crate) fn counts(&self) -> PackCounts {
+        self.counts
+    }
+
+    /// The next entry, which goes to this position; `None` if there is no more.
+    pub(crate) fn next<F: ObjectFiles>(
+        &mut self,
+        reader: &mut ObjectReader<'_, F, A>,
+        position: usize,
+    ) -> Result<Option<NextEntry<A>>, RepositoryFault<A>> {
+        for _ in self.progress.pack..reader.store().pack_count() {
+            if let Some(entry) = self.next_of_pack(reader, position)? {
+                return Ok(Some(entry));
+            }
+            self.progress = Progress {
+                pack: self.progress.pack.saturating_add(1),
+                number: 0,
+            };
+        }
+        self.next_anew(reader)
+    }
+
+    // The next entry of the pack; `None` if it has no more.
+    fn next_of_pack<F: ObjectFiles>(
+        &mut self,
+        reader: &mut ObjectReader<'_, F, A>,
+        position: usize,
+    ) -> Result<Option<NextEntry<A>>, RepositoryFault<A>> {
+        let Progress { pack, number } = self.progress;
+        let count = reader.store().starts(pack).len();
+        if number == 0 {
+            self.starts = Vec::new(self.alloc);
+            self.starts.resize(count, 0)?;
+        }
+        for number in number..count {
+            if let Some(object) = self.sent_at(reader, pack, number) {
+                if let Some(entry) = self.copy_entry(reader, pack, object, position)? {
+                    self.progress.number = number.saturating_add(1);
+                    return Ok(Some(entry));
+                }
             }
         }
-        Ok(())
+        Ok(None)
     }
 
     // The object whose entry lies in a pack as the one with this number, if it is sent.
-    fn sent_at(&self, pack: usize, number: usize) -> Option<Packed> {
-        let place = self.reader.store().starts(pack).get(number)?.place;
-        let id = self.reader.store().index(pack)?.id(place)?;
+    fn sent_at<F: ObjectFiles>(
+        &self,
+        reader: &ObjectReader<'_, F, A>,
+        pack: usize,
+        number: usize,
+    ) -> Option<Packed> {
+        let place = reader.store().starts(pack).get(number)?.place;
+        let id = reader.store().index(pack)?.id(place)?;
         match self.fates.of(&id, Found::Packed { pack, place }) {
             Fate::Sent(path) => Some(Packed { id, place, path }),
             Fate::Open | Fate::Left => None,
         }
     }
 
-    // Copies an entry. If it can't go out as it lies, its object is deflated anew later.
-    fn copy_entry(&mut self, pack: usize, object: Packed) -> Result<(), RepositoryFault<A>> {
-        let position = self.outgoing.position();
-        let Some(entry) = self.whole_entry(pack, object.place)? else {
-            return self.renew(object);
+    // An entry that is copied to this position; `None` if it can't go out as it lies. Then its object is
+    // deflated anew later.
+    fn copy_entry<F: ObjectFiles>(
+        &mut self,
+        reader: &mut ObjectReader<'_, F, A>,
+        pack: usize,
+        object: Packed,
+        position: usize,
+    ) -> Result<Option<NextEntry<A>>, RepositoryFault<A>> {
+        let Some(entry) = whole_entry(reader, pack, object.place)? else {
+            self.renew(object)?;
+            return Ok(None);
         };
-        let Some(form) = self.form_of(pack, &entry, position) else {
-            return self.renew(object);
+        let Some(form) = self.form_of(reader, pack, &entry, position) else {
+            self.renew(object)?;
+            return Ok(None);
         };
-        self.copy(form, &entry)?;
         if let Some(slot) = self.starts.get_mut(object.place) {
             *slot = position;
         }
-        Ok(())
-    }
-
-    // An entry as it lies; `None` if it is broken. Its object may be whole in another place.
-    fn whole_entry(
-        &mut self,
-        pack: usize,
-        place: usize,
-    ) -> Result<Option<RawEntry<A>>, RepositoryFault<A>> {
-        match self.reader.raw_entry(pack, place) {
-            Ok(entry) => Ok(entry),
-            Err(StoreFault::Memory) => Err(RepositoryFault::Memory),
-            Err(_) => Ok(None),
-        }
+        Ok(Some(self.copied(form, entry)))
     }
 
     // Adds an object of a pack to those that are deflated anew.
@@ -191,23 +221,29 @@ impl<F: ObjectFiles, A: Allocator + Copy> Copying<'_, '_, F, A> {
         Ok(())
     }
 
-    // Puts an entry with its own stream.
-    fn copy(&mut self, form: EntryForm, entry: &RawEntry<A>) -> Result<(), RepositoryFault<A>> {
+    // An entry with its own stream.
+    fn copied(&mut self, form: EntryForm, entry: RawEntry<A>) -> NextEntry<A> {
         match form {
             EntryForm::Whole(_) => self.counts.whole = self.counts.whole.saturating_add(1),
             _ => self.counts.deltas = self.counts.deltas.saturating_add(1),
         }
-        let stream = entry
-            .bytes
-            .as_slice()
-            .get(entry.head.length..)
-            .unwrap_or(b"");
-        self.outgoing.put(form, entry.head.size, stream)
+        NextEntry {
+            form,
+            size: entry.head.size,
+            bytes: entry.bytes,
+            from: entry.head.length,
+        }
     }
 
     // The form in which an entry goes out at this position; `None` if its base does not go out. A
     // delta names the place to which its base goes.
-    fn form_of(&self, pack: usize, entry: &RawEntry<A>, position: usize) -> Option<EntryForm> {
+    fn form_of<F: ObjectFiles>(
+        &self,
+        reader: &ObjectReader<'_, F, A>,
+        pack: usize,
+        entry: &RawEntry<A>,
+        position: usize,
+    ) -> Option<EntryForm> {
         let Some(base) = entry.base else {
             return Some(entry.head.form);
         };
@@ -216,8 +252,8 @@ impl<F: ObjectFiles, A: Allocator + Copy> Copying<'_, '_, F, A> {
                 Some(EntryForm::OffsetDelta(position - start))
             }
             _ => {
-                let id = self.reader.store().index(pack)?.id(base)?;
-                if self.is_sent(&id) {
+                let id = reader.store().index(pack)?.id(base)?;
+                if self.is_sent(reader, &id) {
                     Some(EntryForm::RefDelta(id))
                 } else {
                     None
@@ -226,11 +262,27 @@ impl<F: ObjectFiles, A: Allocator + Copy> Copying<'_, '_, F, A> {
         }
     }
 
-    fn is_sent(&self, id: &Oid) -> bool {
-        match self.reader.store().find(id) {
+    fn is_sent<F: ObjectFiles>(&self, reader: &ObjectReader<'_, F, A>, id: &Oid) -> bool {
+        match reader.store().find(id) {
             Ok(Some(found)) => self.fates.of(id, found).is_sent(),
             _ => false,
         }
+    }
+
+    // The next object that is deflated anew; `None` if there is no more.
+    fn next_anew<F: ObjectFiles>(
+        &mut self,
+        reader: &mut ObjectReader<'_, F, A>,
+    ) -> Result<Option<NextEntry<A>>, RepositoryFault<A>> {
+        if !self.is_sorted {
+            self.add_loose()?;
+            self.sort_anew();
+        }
+        let Some(object) = self.anew.get(self.renewed).copied() else {
+            return Ok(None);
+        };
+        self.renewed = self.renewed.saturating_add(1);
+        Ok(Some(self.deflated_anew(reader, &object.id)?))
     }
 
     // Adds the loose objects that are sent to those that are deflated anew.
@@ -247,44 +299,61 @@ impl<F: ObjectFiles, A: Allocator + Copy> Copying<'_, '_, F, A> {
         Ok(())
     }
 
-    // Puts the objects that are deflated anew. Those with paths that end alike come one after the
-    // other, as deltas of them are likely small.
-    fn put_all_anew(&mut self) -> Result<(), RepositoryFault<A>> {
+    // Puts the objects that are deflated anew in order. Those with paths that end alike come one after
+    // the other, as deltas of them are likely small.
+    fn sort_anew(&mut self) {
         self.anew
             .sort_unstable_by_key(|object| (object.path, object.number));
-        for place in 0..self.anew.len() {
-            if let Some(object) = self.anew.get(place).copied() {
-                self.put_anew(&object.id)?;
-            }
-        }
-        Ok(())
+        self.is_sorted = true;
     }
 
-    // Puts an object as a delta, or whole. Its id is computed.
-    fn put_anew(&mut self, id: &Oid) -> Result<(), RepositoryFault<A>> {
-        let object = self.reader.read_checked(id)?;
+    // The entry of an object, as a delta or whole. Its id is computed.
+    fn deflated_anew<F: ObjectFiles>(
+        &mut self,
+        reader: &mut ObjectReader<'_, F, A>,
+        id: &Oid,
+    ) -> Result<NextEntry<A>, RepositoryFault<A>> {
+        let object = reader.read_checked(id)?;
         let delta = self.window.best_delta(&object)?;
-        match &delta {
-            Some(delta) => self.put_delta(delta)?,
-            None => self.put_whole(&object)?,
-        }
+        let entry = match &delta {
+            Some(delta) => self.delta_entry(delta)?,
+            None => self.deflated(EntryForm::Whole(object.kind), object.body.as_slice())?,
+        };
         self.window.push(id, object, &delta)?;
-        Ok(())
+        Ok(entry)
     }
 
-    fn put_delta(&mut self, delta: &Delta<A>) -> Result<(), RepositoryFault<A>> {
+    fn delta_entry(&mut self, delta: &Delta<A>) -> Result<NextEntry<A>, RepositoryFault<A>> {
         self.counts.made = self.counts.made.saturating_add(1);
-        self.put_deflated(EntryForm::RefDelta(delta.base), delta.text.as_slice())
+        self.deflated(EntryForm::RefDelta(delta.base), delta.text.as_slice())
     }
 
-    fn put_whole(&mut self, object: &Object<A>) -> Result<(), RepositoryFault<A>> {
-        self.put_deflated(EntryForm::Whole(object.kind), object.body.as_slice())
-    }
-
-    // Puts an entry whose stream inflates to these bytes.
-    fn put_deflated(&mut self, form: EntryForm, bytes: &[u8]) -> Result<(), RepositoryFault<A>> {
+    // An entry whose stream inflates to these bytes.
+    fn deflated(
+        &mut self,
+        form: EntryForm,
+        bytes: &[u8],
+    ) -> Result<NextEntry<A>, RepositoryFault<A>> {
         let mut stream = Vec::new(self.alloc);
         self.deflater.deflate(bytes, &mut stream)?;
-        self.outgoing.put(form, bytes.len(), stream.as_slice())
+        Ok(NextEntry {
+            form,
+            size: bytes.len(),
+            bytes: stream,
+            from: 0,
+        })
+    }
+}
+
+// An entry as it lies; `None` if it is broken. Its object may be whole in another place.
+fn whole_entry<F: ObjectFiles, A: Allocator + Copy>(
+    reader: &mut ObjectReader<'_, F, A>,
+    pack: usize,
+    place: usize,
+) -> Result<Option<RawEntry<A>>, RepositoryFault<A>> {
+    match reader.raw_entry(pack, place) {
+        Ok(entry) => Ok(entry),
+        Err(StoreFault::Memory) => Err(RepositoryFault::Memory),
+        Err(_) => Ok(None),
     }
 }

@@ -77,6 +77,10 @@ impl<A: Allocator + Copy> Fates<A> {
 
     /// The fate of an object that was found loose. It keeps its fate if Git packs it meanwhile.
     pub(crate) fn of_loose(&self, id: &Oid) -> Fate {
+        // Most repositories have few or none of these, and then no id need be hashed.
+        if self.loose.is_empty() {
+            return Fate::Open;
+        }
         self.loose.get(id).copied().unwrap_or(Fate::Open)
     }
 

@@ -1,36 +1,17 @@
 //! An indexer of packs that come to a Git directory.
 
-ghost use Rattle.std.specs.Prelude.{◌≡◌, ⊤, ℕ, IfOk};
-ghost use Rattle.gitpack.specs.Packs.{IsFramed};
+ghost use Rattle.std.specs.Prelude.{◌≡◌, ◌++◌, ⊤, IfOk, OnOk};
 ghost use Rattle.gitrepository.specs.Packs.{IsIndexed};
 
-use crate::arrival::Arrival;
 use crate::fault::RepositoryFault;
+use crate::feed::{Received, StoreFeed};
 use crate::tips::Tips;
 use ggraph::{Entry, IndexFault, Indexer};
 use gitobject::ObjectType;
 use gitobjects::{ObjectFiles, ObjectReader};
-use gitpack::{IndexLimits, IndexedPack, index_pack};
 use gname::Oid;
 use std::alloc::Allocator;
 use std::cell::RefCell;
-
-// How much a pack may ask for: an object has 256 MiB at most, 512 MiB are held at a time, and all
-// objects have 4 GiB.
-const LIMITS: IndexLimits = IndexLimits {
-    object: 268_435_456,
-    held: 536_870_912,
-    total: 4_294_967_296,
-};
-
-/// A pack that came, and its index.
-#[derive(Drop)]
-pub struct Received<A: Allocator + Copy> {
-    /// The pack as it came.
-    pub bytes: Vec<u8, A>,
-    /// Its index.
-    pub index: IndexedPack<A>,
-}
 
 /// An indexer of packs that come to a Git directory. It keeps the last pack as it came.
 ///
@@ -99,15 +80,25 @@ impl<'t, 'f, F: ObjectFiles, A: Allocator + Copy> StoreIndexer<'t, 'f, F, A> {
         }
     }
 
-    // Indexes a pack, and keeps it.
-    fn receive(&self, bytes: Vec<u8, A>) -> Result<Vec<Entry<A>, A>, RepositoryFault<A>>
-        ensures { IfOk result (λ entries. IsIndexed bytes.items entries.items) }
+    // Takes the next bytes of a pack.
+    fn take(&self, feed: &mut StoreFeed<A>, piece: &[u8]) -> Result<(), RepositoryFault<A>>
+        ensures { OnOk result (feed.new ≡ feed.old ++ piece.now) }
+    {
+        match self.reader.try_borrow_mut() {
+            Ok(mut reader) => Ok(feed.take(&mut *reader, self.tips, piece)?),
+            Err(_) => Err(RepositoryFault::Busy),
+        }
+    }
+
+    // Indexes a pack that came whole, and keeps it.
+    fn receive(&self, feed: StoreFeed<A>) -> Result<Vec<Entry<A>, A>, RepositoryFault<A>>
+        ensures { IfOk result (λ entries. IsIndexed feed entries.items) }
     {
         let Ok(mut reader) = self.reader.try_borrow_mut() else {
             return Err(RepositoryFault::Busy);
         };
-        let (index, entries) = index_bytes(&mut *reader, self.tips, bytes.as_slice())?;
-        match self.received.try_replace(Some(Received { bytes, index })) {
+        let (received, entries) = feed.finish(&mut *reader, self.tips)?;
+        match self.received.try_replace(Some(received)) {
             Ok(_) => Ok(entries),
             Err(_) => Err(RepositoryFault::Busy),
         }
@@ -125,60 +116,27 @@ impl<'t, 'f, F: ObjectFiles, A: Allocator + Copy> StoreIndexer<'t, 'f, F, A> {
     }
 }
 
-// The index of a pack, and the entries of its commits and tags.
-fn index_bytes<'r, 't, 'f, F: ObjectFiles, A: Allocator + Copy>(
-    reader: &'r mut ObjectReader<'f, F, A>,
-    tips: &'t Tips<A>,
-    bytes: &[u8],
-) -> Result<(IndexedPack<A>, Vec<Entry<A>, A>), RepositoryFault<A>>
-    ensures { IfOk result (λ read. IsIndexed bytes.now read.1.items) }
-{
-    let alloc = reader.store().allocator();
-    let mut arrival = Arrival::new(alloc, reader, tips);
-    let index = index_arrival(alloc, bytes, &mut arrival)?;
-    let entries = arrival.into_entries(&index)?;
-    Ok((index, entries))
-}
-
-// Indexes a pack whose objects come to the arrival. The fault is that for which an object was
-// refused, if there is one.
-fn index_arrival<F: ObjectFiles, A: Allocator + Copy>(
-    alloc: A,
-    bytes: &[u8],
-    arrival: &mut Arrival<'_, '_, '_, F, A>,
-) -> Result<IndexedPack<A>, RepositoryFault<A>>
-    ensures { IfOk result (λ index. (count : ℕ) × IsFramed count index.checksum bytes.now) }
-{
-    match index_pack(alloc, bytes, LIMITS, arrival) {
-        Ok(index) => Ok(index),
-        Err(fault) => match arrival.take_fault() {
-            Some(own) => Err(own),
-            None => Err(RepositoryFault::from(fault)),
-        },
-    }
-}
-
 impl<F: ObjectFiles, A: Allocator + Copy> Indexer<A> for StoreIndexer<'_, '_, F, A> {
-    type Feed = Vec<u8, A>;
+    type Feed = StoreFeed<A>;
 
     ghost indexes = { λ _ bytes entries. IsIndexed bytes entries };
 
     ghost index_fails = { λ _ _ _. ⊤ };
 
-    ghost fed = { λ _ feed bytes. feed.items ≡ bytes };
+    ghost fed = { λ _ feed bytes. feed ≡ bytes };
 
-    fn start(&self, alloc: A) -> Result<Vec<u8, A>, IndexFault> {
-        Ok(Vec::new(alloc))
+    fn start(&self, alloc: A) -> Result<StoreFeed<A>, IndexFault> {
+        Ok(StoreFeed::new(alloc))
     }
 
-    fn feed(&self, feed: &mut Vec<u8, A>, piece: &[u8]) -> Result<(), IndexFault> {
-        match feed.extend_from_slice(piece) {
+    fn feed(&self, feed: &mut StoreFeed<A>, piece: &[u8]) -> Result<(), IndexFault> {
+        match self.take(feed, piece) {
             Ok(()) => Ok(()),
-            Err(_) => Err(IndexFault::Memory),
+            Err(fault) => Err(self.keep(fault)),
         }
     }
 
-    fn finish(&self, feed: Vec<u8, A>) -> Result<Vec<Entry<A>, A>, IndexFault> {
+    fn finish(&self, feed: StoreFeed<A>) -> Result<Vec<Entry<A>, A>, IndexFault> {
         match self.receive(feed) {
             Ok(entries) => Ok(entries),
             Err(fault) => Err(self.keep(fault)),

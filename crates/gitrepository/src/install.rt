@@ -5,8 +5,8 @@ ghost use Rattle.gitrepository.specs.Installing.{Installs, WhereKnown, Writes};
 ghost use Rattle.gitrepository.specs.declared.folder.Stage.TheVariants.{Start, Done, Failed, Ready};
 
 use crate::fault::RepositoryFault;
+use crate::feed::Received;
 use crate::folder::PackFolder;
-use crate::indexer::Received;
 use crate::kept::KeptPack;
 use crate::stored_folder::StoredFolder;
 use std::alloc::Allocator;

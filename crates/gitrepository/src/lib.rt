@@ -6,8 +6,9 @@
 //! - [`open_tips`] answers the objects at which refs are, without the history. A request for refs needs no
 //!   more. [`lead_with_newest`] puts refs at the newest objects in front of others.
 //! - A [`StorePacker`] packs commits and tags and what goes with them. Entries of packs go out as
-//!   they lie, and other objects as deltas where these are smaller.
-//! - A [`StoreIndexer`] indexes a pack that comes, and keeps it. [`install_pack`] brings it to the
+//!   they lie, and other objects as deltas where these are smaller. It gives a pack whole, or in
+//!   parts, and then holds one entry at a time.
+//! - A [`StoreIndexer`] indexes a pack while it comes, and keeps it. [`install_pack`] brings it to the
 //!   directory.
 //! - [`open_store`] refuses a repository of a form that is not read. A [`NewRepository`] is one that a
 //!   clone makes. [`check_repository`] checks that all that the refs reach is there.
@@ -20,7 +21,8 @@
 //! - [`open_tips`] and [`lead_with_newest`] answer refs each of which is at an entry of the graph.
 //! - [`check_refs`] counts a graph in which each entry is that of an object.
 //! - A pack that goes out has a header, as many entries as the header says, and the SHA-1 of all
-//!   bytes before. Each entry has a well-formed head. The pack has at most `MAX_PACK` bytes.
+//!   bytes before. Each entry has a well-formed head. The pack has at most `MAX_PACK` bytes. Parts of
+//!   it are such a pack in order, or the beginning of one that ends in a fault.
 //! - A pack is accepted only if its trailer is the SHA-1 of all bytes before. Each entry that the
 //!   indexer answers is that of an object, or is a tree or blob that a tag names. The entry of this
 //!   tag is among the answer.
@@ -72,7 +74,8 @@
 //!   might be opened or refused. The names of peeled refs in a new repository might be wrong.
 //! - The indexer might leave out an entry, or answer one of an object that the pack does not have. It
 //!   looks for the trees and blobs that are named, and compares objects that are here already; no
-//!   clause says so.
+//!   clause says so, nor when it reads an object. A loose object that comes here meanwhile may be left
+//!   uncompared.
 //! - A parent of a commit in the graph may be a tag, a tree or a blob. The types of parents are
 //!   compared, but no clause says so.
 //! - [`PackCounts`] and [`StorePacker::counts`] have no clause: they are for those who measure.
@@ -88,10 +91,10 @@
 //!
 //! # Stands on
 //!
-//! `gitobjects` for objects, `gitcommitgraph` for commit-graphs, `gitrefs` for refs, `gitpack` for
-//! packs, `gitobject` for links, `gzlib` to deflate, `gitconfig` for settings. `ggraph` with `gdag`,
-//! `gobject` and `grefs` for graphs and packers, `gname` for ids, `indexmap` for maps by id. The
-//! specs cite `sha1`.
+//! `gparts` for packers that give parts, `gitobjects` for objects, `gitcommitgraph` for
+//! commit-graphs, `gitrefs` for refs, `gitpack` for packs, `gitobject` for links, `gzlib` to deflate,
+//! `gitconfig` for settings. `ggraph` with `gdag`, `gobject` and `grefs` for graphs and packers,
+//! `gname` for ids, `indexmap` for maps by id, `sha1` for the trailer of a pack.
 #![tactic(auto)]
 
 mod arrival;
@@ -100,6 +103,7 @@ mod commit_graph;
 mod copying;
 mod fates;
 mod fault;
+mod feed;
 mod folder;
 mod form;
 mod gather;
@@ -115,6 +119,7 @@ mod nodes;
 mod opening;
 mod outgoing;
 mod packer;
+mod parts;
 mod path_hash;
 mod ref_tips;
 mod stored_folder;
@@ -125,9 +130,10 @@ pub use crate::checking::{Checked, check_refs, check_repository};
 pub use crate::commit_graph::read_commit_graph;
 pub use crate::copying::PackCounts;
 pub use crate::fault::{CheckFault, FormFault, ObjectCause, RepositoryFault};
+pub use crate::feed::{Received, StoreFeed};
 pub use crate::folder::{PackFolder, Stage};
 pub use crate::form::{check_form, open_store};
-pub use crate::indexer::{Received, StoreIndexer};
+pub use crate::indexer::StoreIndexer;
 pub use crate::install::{install_files, install_pack};
 pub use crate::kept::KeptPack;
 pub use crate::leaves::add_leaves;
@@ -136,5 +142,6 @@ pub use crate::new_repository::NewRepository;
 pub use crate::newest::lead_with_newest;
 pub use crate::opening::{open_refs, open_repository};
 pub use crate::packer::StorePacker;
+pub use crate::parts::StoreParts;
 pub use crate::ref_tips::open_tips;
 pub use crate::tips::Tips;

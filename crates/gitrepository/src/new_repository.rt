@@ -1,7 +1,7 @@
 //! A new repository, as a clone makes it.
 
 use crate::fault::RepositoryFault;
-use crate::indexer::Received;
+use crate::feed::Received;
 use crate::install::install_pack;
 use crate::kept::KeptPack;
 use ggraph::{Graph, Head, Refs, Target};

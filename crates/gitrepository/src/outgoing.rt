@@ -1,114 +1,151 @@
-//! A pack that is written with as many entries as its header says.
+//! A pack that is given in parts, with as many entries as its header says.
 
-ghost use Rattle.std.specs.Prelude.{◌≡◌, ◌≤◌, IfOk, OnOk, length};
+ghost use Rattle.std.specs.Prelude.{◌≡◌, ◌+◌, ◌≤◌, ◌↔◌, [], ◌++◌, List, ℕ, IfOk, IsTrue, OnOk, length, take};
 ghost use Rattle.gname.specs.Limits.{max_pack};
-ghost use Rattle.gitpack.specs.Packs.{AddsEntry};
-ghost use Rattle.gitrepository.specs.Packs.{IsWholePack};
+ghost use Rattle.gitrepository.specs.Parts.{GoesOn, IsGivenWhole, IsGoing};
 
 use crate::fault::RepositoryFault;
-use gitpack::{EntryForm, PackFileFault, PackWriter};
+use gitpack::{EntryForm, PackFileFault, put_entry, put_header};
 use gname::MAX_PACK;
+use sha1::Sha1;
 use std::alloc::{AllocError, Allocator};
-use std::marker::Model;
 
-// The room that is made for a pack at once, and the bytes of its trailer.
-const ROOM: usize = 65_536;
-
+// The bytes of the trailer of a pack.
 const TRAILER: usize = 20;
 
-/// A pack that is written. Contracts see the number of its entries.
+/// A pack that is given away while it is made. It holds what was made last.
 #[derive(Drop)]
 pub(crate) struct Outgoing<A: Allocator + Copy> {
-    writer: PackWriter<A>,
+    // The bytes that were made last, and how many of them were given.
+    bytes: Vec<u8, A>,
+    given: usize,
+    // How many bytes were made in all, and how many may be given yet.
+    made: usize,
+    left: usize,
+    // All that was made, but for the trailer.
+    sum: Sha1,
     // The entries that the header says, and those that were put.
     count: u32,
     put: u32,
-    // Whether the last entry is whole.
+    // Whether the last entry is whole, and whether the trailer was made.
     is_whole: bool,
-}
-
-impl<A: Allocator + Copy> Model for Outgoing<A> {
-    ghost use Rattle.std.specs.Prelude.{ℕ, IsTrue};
-    ghost use Rattle.gitrepository.specs.Packs.{HasPut};
-
-    ghost Value = { ℕ };
-
-    ghost view = { λ o. o.count };
-
-    ghost invariant = { λ o. IsTrue o.is_whole → HasPut o.count o.put o.writer };
+    is_over: bool,
 }
 
 impl<A: Allocator + Copy> Outgoing<A> {
     /// A pack of so many entries, none of which is put yet.
-    #[tactic(auto, using(crate::proofs::PutLemmas::HasPut_none))]
-    pub(crate) fn new(alloc: A, count: u32) -> Result<Outgoing<A>, AllocError> {
-        let writer = PackWriter::new(alloc, count, ROOM, MAX_PACK - TRAILER)?;
+    pub(crate) fn new(alloc: A, count: u32) -> Result<Outgoing<A>, AllocError>
+        ensures going { IfOk result (λ pack. IsGoing pack []) }
+        ensures left { IfOk result (λ pack. pack.left ≡ max_pack) }
+    {
+        let mut bytes = Vec::new(alloc);
+        put_header(&mut bytes, count)?;
+        let mut sum = Sha1::new();
+        sum.update(bytes.as_slice());
         Ok(Outgoing {
-            writer,
+            made: bytes.len(),
+            bytes,
+            given: 0,
+            left: MAX_PACK,
+            sum,
             count,
             put: 0,
             is_whole: true,
+            is_over: false,
         })
     }
 
     /// The position at which the next entry begins.
     pub(crate) fn position(&self) -> usize {
-        self.writer.position()
+        self.made
     }
 
-    /// Puts an entry of this form. Its zlib stream is given, and inflates to `size` bytes.
+    /// Whether all that was made was given.
+    pub(crate) fn is_given(&self) -> bool
+        ensures { IsTrue result ↔ (length self.now.bytes.items ≤ self.now.given) }
+    {
+        self.given >= self.bytes.len()
+    }
+
+    /// Whether all of the pack was given.
+    pub(crate) fn is_given_whole(&self) -> bool
+        ensures { IsTrue result → IsGivenWhole self.now }
+    {
+        self.is_over && self.is_given()
+    }
+
+    /// Puts an entry of this form after all that was given. Its zlib stream is given, and inflates to
+    /// `size` bytes.
     ///
-    /// It fails with `Count` if there are too many entries or one was not put whole, with `Pack` if
-    /// the pack is too large, and with `Memory`. After a fault the pack is of no use.
-    #[tactic(auto, using(crate::proofs::PutLemmas::HasPut_more))]
+    /// It fails with `Count` if there are too many entries, one was not put whole, or not all was
+    /// given. It fails with `Pack` if the pack is too large, and with `Memory`. After a fault the pack
+    /// is of no use.
     pub(crate) fn put(
         &mut self,
         form: EntryForm,
         size: usize,
         stream: &[u8],
-    ) -> Result<(), RepositoryFault<A>> {
-        if !self.is_whole || self.put >= self.count {
+    ) -> Result<(), RepositoryFault<A>>
+        ensures going { OnOk result (GoesOn self.old self.new) }
+        ensures left { self.new.left ≡ self.old.left }
+    {
+        if !self.is_whole || self.is_over || self.put >= self.count || !self.is_given() {
             return Err(RepositoryFault::Count);
         }
         self.is_whole = false;
-        write_entry(&mut self.writer, form, size, stream)?;
+        let most = MAX_PACK.saturating_sub(TRAILER).saturating_sub(self.made);
+        self.bytes.clear();
+        self.given = 0;
+        put_entry(&mut self.bytes, form, size, stream, most)?;
+        self.sum.update(self.bytes.as_slice());
+        self.made = self.made.saturating_add(self.bytes.len());
         self.put += 1;
         self.is_whole = true;
         Ok(())
     }
 
-    /// The pack with its trailer.
+    /// Puts the trailer after all that was given.
     ///
-    /// It fails with `Count` if fewer or more entries were put than the header says, with `Pack` if
-    /// the pack is too large, and with `Memory`.
-    #[tactic(auto, using(crate::proofs::PutLemmas::IsWholePack_of))]
-    pub(crate) fn finish(self) -> Result<Vec<u8, A>, RepositoryFault<A>>
-        ensures whole { IfOk result (λ pack. IsWholePack pack.items) }
-        ensures few { IfOk result (λ pack. length pack.items ≤ max_pack) }
+    /// It fails with `Count` if fewer or more entries were put than the header says, or not all was
+    /// given, and with `Memory`. After a fault the pack is of no use.
+    pub(crate) fn finish(&mut self) -> Result<(), RepositoryFault<A>>
+        ensures going { OnOk result (GoesOn self.old self.new) }
+        ensures left { self.new.left ≡ self.old.left }
     {
-        if !self.is_whole || self.put != self.count {
+        if !self.is_whole || self.is_over || self.put != self.count || !self.is_given() {
             return Err(RepositoryFault::Count);
         }
-        let pack = self.writer.finish()?;
-        if pack.len() > MAX_PACK {
+        self.is_whole = false;
+        let sum = std::mem::replace(&mut self.sum, Sha1::new());
+        self.bytes.clear();
+        self.given = 0;
+        self.bytes.extend_from_slice(&sum.finalize())?;
+        self.made = self.made.saturating_add(TRAILER);
+        self.is_over = true;
+        self.is_whole = true;
+        Ok(())
+    }
+
+    /// Gives the next bytes of those that were made: they go to the front of `out`. It answers how many.
+    ///
+    /// It fails with `Pack` if the pack is too large. Then nothing was given.
+    pub(crate) fn give(&mut self, out: &mut [u8]) -> Result<usize, RepositoryFault<A>>
+        ensures fits { IfOk result (λ count. count ≤ length out.new) }
+        ensures length { length out.new ≡ length out.old }
+        ensures left { IfOk result (λ count. self.new.left + count ≡ self.old.left) }
+        ensures given { IfOk result (λ count. (before : List ℕ) → IsGoing self.old before
+            → IsGoing self.new (before ++ take count out.new)) }
+    {
+        let Some((_before, rest)) = self.bytes.as_slice().split_at_checked(self.given) else {
+            return Err(RepositoryFault::Count);
+        };
+        let count = rest.len().min(out.len());
+        if count > self.left {
             return Err(RepositoryFault::Pack(PackFileFault::TooLarge));
         }
-        Ok(pack)
-    }
-}
-
-// Writes an entry of this form.
-fn write_entry<A: Allocator + Copy>(
-    writer: &mut PackWriter<A>,
-    form: EntryForm,
-    size: usize,
-    stream: &[u8],
-) -> Result<(), PackFileFault>
-    ensures { OnOk result (AddsEntry form size stream.now writer.old writer.new) }
-{
-    match form {
-        EntryForm::Whole(kind) => writer.put_whole(kind, size, stream),
-        EntryForm::OffsetDelta(back) => writer.put_offset_delta(size, back, stream),
-        EntryForm::RefDelta(id) => writer.put_ref_delta(size, &id, stream),
+        out[..count].copy_from_slice(&rest[..count]);
+        self.given += count;
+        self.left -= count;
+        Ok(count)
     }
 }

@@ -1,16 +1,23 @@
 //! A packer of the objects of a Git directory.
 
-ghost use Rattle.std.specs.Prelude.{⊤, IfOk};
+ghost use Rattle.std.specs.Prelude.{◌≡◌, ◌+◌, ◌<◌, ◌≤◌, ⊤, [], ◌++◌, List, ℕ, IfOk, None, length, take};
+ghost use Rattle.gname.specs.Limits.{max_pack};
 ghost use Rattle.gobject.specs.Packs.{MayPack};
 ghost use Rattle.gitrepository.specs.Packs.{IsWholePack};
+ghost use Rattle.gitrepository.specs.Parts.{IsGivenWhole, IsGoing};
 
-use crate::copying::{PackCounts, write_pack};
+use crate::copying::PackCounts;
 use crate::fault::RepositoryFault;
+use crate::parts::StoreParts;
 use ggraph::{Entry, PackFault, Packer};
 use gitobjects::{ObjectFiles, ObjectReader};
 use gitpack::PackFileFault;
+use gparts::PartPacker;
 use std::alloc::Allocator;
 use std::cell::{Cell, RefCell};
+
+// The bytes of a part of a pack that is written whole.
+const PART: usize = 65_536;
 
 /// A packer of the objects of a Git directory.
 ///
@@ -49,16 +56,49 @@ impl<'f, F: ObjectFiles, A: Allocator + Copy> StorePacker<'f, F, A> {
         }
     }
 
-    // The pack of some commits and tags.
+    // The pack of some commits and tags, all of it.
     fn write(&self, alloc: A, entries: &[Entry<A>]) -> Result<Vec<u8, A>, RepositoryFault<A>>
         ensures { IfOk result (λ pack. MayPack (λ list bytes. IsWholePack bytes) entries.now pack.items) }
+    {
+        let mut parts = self.start(alloc, entries)?;
+        let mut pack = Vec::new(alloc);
+        let mut part = [0; PART];
+        for _ in 0..u64::MAX {
+            let count = self.fill(&mut parts, &mut part)?;
+            if count == 0 {
+                return Ok(pack);
+            }
+            pack.extend_from_slice(&part[..count])?;
+        }
+        Err(RepositoryFault::Count)
+    }
+
+    // The pack of some commits and tags, of which nothing is given yet.
+    fn start(&self, alloc: A, entries: &[Entry<A>]) -> Result<StoreParts<A>, RepositoryFault<A>>
+        ensures going { IfOk result (λ parts. IsGoing parts.outgoing []) }
+        ensures left { IfOk result (λ parts. parts.outgoing.left ≡ max_pack) }
     {
         let Ok(mut reader) = self.reader.try_borrow_mut() else {
             return Err(RepositoryFault::Busy);
         };
-        let (pack, counts) = write_pack(&mut *reader, alloc, entries)?;
-        self.counts.set(counts);
-        Ok(pack)
+        StoreParts::begin(&mut *reader, alloc, entries)
+    }
+
+    // Gives the next bytes of a pack, and answers how many: 0 if all were given.
+    fn fill(&self, parts: &mut StoreParts<A>, out: &mut [u8]) -> Result<usize, RepositoryFault<A>>
+        requires { 0 < length out.old }
+        ensures fits { IfOk result (λ count. count ≤ length out.new) }
+        ensures left { IfOk result (λ count. parts.new.outgoing.left + count ≡ parts.old.outgoing.left) }
+        ensures given { IfOk result (λ count. (before : List ℕ) → IsGoing parts.old.outgoing before
+            → IsGoing parts.new.outgoing (before ++ take count out.new)) }
+        ensures whole { IfOk result (λ count. count ≡ 0 → IsGivenWhole parts.new.outgoing) }
+    {
+        let Ok(mut reader) = self.reader.try_borrow_mut() else {
+            return Err(RepositoryFault::Busy);
+        };
+        let count = parts.fill(&mut *reader, out)?;
+        self.counts.set(parts.counts());
+        Ok(count)
     }
 
     // The fault that a caller sees. The cause is kept.
@@ -82,6 +122,33 @@ impl<F: ObjectFiles, A: Allocator + Copy> Packer<A> for StorePacker<'_, F, A> {
     fn pack(&self, alloc: A, entries: &[Entry<A>]) -> Result<Vec<u8, A>, PackFault> {
         match self.write(alloc, entries) {
             Ok(pack) => Ok(pack),
+            Err(fault) => Err(self.keep(fault)),
+        }
+    }
+}
+
+impl<F: ObjectFiles, A: Allocator + Copy> PartPacker<A> for StorePacker<'_, F, A> {
+    type Parts = StoreParts<A>;
+
+    ghost packs = { λ _ _ pack. IsWholePack pack };
+
+    ghost pack_fails = { λ _ _ _. ⊤ };
+
+    ghost gives = { λ _ parts bytes end. end ≡ None → (length bytes ≤ parts.outgoing.left)
+        × ((before : List ℕ) → IsGoing parts.outgoing before → IsWholePack (before ++ bytes)) };
+
+    ghost most = { λ _ parts. parts.outgoing.left };
+
+    fn begin(&self, alloc: A, entries: &[Entry<A>]) -> Result<StoreParts<A>, PackFault> {
+        match self.start(alloc, entries) {
+            Ok(parts) => Ok(parts),
+            Err(fault) => Err(self.keep(fault)),
+        }
+    }
+
+    fn part(&self, parts: &mut StoreParts<A>, out: &mut [u8]) -> Result<usize, PackFault> {
+        match self.fill(parts, out) {
+            Ok(count) => Ok(count),
             Err(fault) => Err(self.keep(fault)),
         }
     }

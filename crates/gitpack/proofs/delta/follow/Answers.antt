@@ -6,7 +6,7 @@ use Rattle.gitpack.proofs.delta.follow.Goals as goal
 pub loop-rest-init : goal.loop-rest-init
 loop-rest-init g c =
     let P : List ℕ → Type 0 = λ l. Follows c.args.base.now c.args.commands.now c.args.commands.now l c.args.size in
-    subst P (sym c.new-body.ensures.items) (begins_following c.args.base.now c.args.commands.now c.args.size)
+    subst P (sym c.in_ok-body.ensures.items) (begins_following c.args.base.now c.args.commands.now c.args.size)
 
 pub returns-in_default : goal.returns-in_default
 returns-in_default g c is made makes long =

@@ -1,0 +1,113 @@
+-- What was given of a pack, and what is left.
+use Rattle.std.proofs.Common.{◌≡◌, ℕ, ◌+◌, ◌≤◌, Bool, true, false, IsTrue, List, [], ◌++◌, length, take, drop, refl, ap, subst, sym, ◌∙◌, arith, rules}
+use Rattle.std.proofs.lemmas.List.{append_assoc, append-nil, drop_all, take-append-drop, take-append-le, take-take, length-take-le, length-append, drop-drop}
+use Rattle.std.proofs.Math.Seq.{take-append-add}
+use Rattle.sha1.specs.Sha1.{Holds, sha1}
+use Rattle.gitpack.specs.Packs.{AddsEntry, pack_header, with_trailer}
+use Rattle.gitpack.specs.declared.entry.EntryForm.{EntryForm}
+use Rattle.gitrepository.specs.Packs.{HasPut, IsWholePack}
+use Rattle.gitrepository.specs.Parts.{GoesOn, IsGoing, IsGivenWhole, rest_of}
+use Rattle.gitrepository.specs.declared.outgoing.Outgoing.{Outgoing}
+use Rattle.gitrepository.proofs.PutLemmas.{HasPut_more, HasPut_none, IsWholePack_of}
+
+none_left : (given : ℕ) (bytes before text : List ℕ) → length bytes ≤ given → before ++ drop given bytes ≡ text → before ≡ text
+none_left given bytes before text h e = sym (append-nil before) ∙ ap (λ l. before ++ l) (sym (drop_all given bytes h)) ∙ e
+
+-- nothing was given of a header
+pub going_new : {A : Type 0} (pack : Outgoing A) → IsTrue pack.is_whole → pack.is_over ≡ false → pack.given ≡ 0 → pack.put ≡ 0
+    → pack.bytes.items ≡ pack_header pack.count → Holds pack.sum pack.bytes.items → IsGoing pack []
+going_new pack whole running none zero header holds =
+    record {
+      whole = whole;
+      text = pack.bytes.items;
+      entries = subst (λ n. HasPut pack.count n pack.bytes.items) (sym zero) (HasPut_none pack.count pack.bytes.items header);
+      going = λ _. (holds, ap (λ n. drop n pack.bytes.items) none);
+      over = λ is. absurd (search (is, running, rules));
+    }
+
+-- an entry was put once all was given
+pub going_put : {A : Type 0} (old new : Outgoing A) (form : EntryForm) (size : ℕ) (stream start hashed : List ℕ) → old.is_over ≡ false
+    → length old.bytes.items ≤ old.given → IsTrue new.is_whole → new.is_over ≡ false → new.given ≡ 0 → new.count ≡ old.count
+    → new.put ≡ old.put + 1 → start ≡ [] → AddsEntry form size stream start new.bytes.items
+    → hashed ≡ new.bytes.items → ((m : List ℕ) → Holds old.sum m → Holds new.sum (m ++ hashed)) → GoesOn old new
+going_put old new form size stream start hashed running none whole still zero count put fresh adds same sums = λ given is.
+    let parts = is.going running in
+    let all = none_left old.given old.bytes.items given is.text none parts.1 in
+    let added : AddsEntry form size stream is.text (is.text ++ new.bytes.items) =
+    record { text = adds.text; entry = adds.entry; after = ap (λ l. is.text ++ l) (adds.after ∙ ap (λ l. l ++ adds.text) fresh) } in
+    record {
+      whole = whole;
+      text = is.text ++ new.bytes.items;
+      entries = rw (count, put) (HasPut_more old.count old.put size form stream is.text (is.text ++ new.bytes.items) is.entries added);
+      going = λ _. (subst (λ l. Holds new.sum (is.text ++ l)) same (sums is.text parts.0), rw (zero, all) refl);
+      over = λ is. absurd (search (is, still, rules));
+    }
+
+-- the trailer was put once all was given
+pub going_finish : {A : Type 0} (old new : Outgoing A) → old.is_over ≡ false → old.put ≡ old.count
+    → length old.bytes.items ≤ old.given → IsTrue new.is_whole → new.is_over ≡ true → new.given ≡ 0 → new.count ≡ old.count
+    → new.put ≡ old.put → ((m : List ℕ) → Holds old.sum m → new.bytes.items ≡ sha1 m) → GoesOn old new
+going_finish old new running many none whole ended zero count put trailer = λ given is.
+    let parts = is.going running in
+    let all = none_left old.given old.bytes.items given is.text none parts.1 in
+    record {
+      whole = whole;
+      text = is.text;
+      entries = rw (count, put) is.entries;
+      going = λ is. absurd (search (is, ended, rules));
+      over = λ _. (rw (count, put) many, rw (zero, all, trailer is.text parts.0) refl);
+    }
+
+given_more : (given count : ℕ) (bytes before out : List ℕ) → out ≡ take count (drop given bytes)
+    → (before ++ out) ++ drop (given + count) bytes ≡ before ++ drop given bytes
+given_more given count bytes before out e =
+    append_assoc before out (drop (given + count) bytes)
+    ∙ ap (λ l. before ++ (l ++ drop (given + count) bytes)) e
+    ∙ ap (λ l. before ++ (take count (drop given bytes) ++ l)) (sym (drop-drop count given bytes))
+    ∙ ap (λ l. before ++ l) (take-append-drop count (drop given bytes))
+
+-- the front of a buffer to which so many bytes were copied
+pub front : (count : ℕ) (copied bytes others : List ℕ) → length copied ≡ count → copied ≡ take count bytes → take count (copied ++ others) ≡ take count bytes
+front count copied bytes others long same =
+    take-append-le count copied others (omega (arith, long)) ∙ ap (take count) same ∙ take-take count count bytes (omega arith)
+
+-- some of the rest was given
+pub going_given : {A : Type 0} (old new : Outgoing A) (count : ℕ) (out : List ℕ) → new.is_whole ≡ old.is_whole → new.is_over ≡ old.is_over
+    → new.count ≡ old.count → new.put ≡ old.put → new.sum ≡ old.sum → new.bytes.items ≡ old.bytes.items
+    → new.given ≡ old.given + count → out ≡ take count (drop old.given old.bytes.items)
+    → (before : List ℕ) → IsGoing old before → IsGoing new (before ++ out)
+going_given old new count out whole over many put sum bytes given e before is =
+    let rest : (before ++ out) ++ drop new.given new.bytes.items ≡ before ++ drop old.given old.bytes.items =
+    rw (bytes, given) (given_more old.given count old.bytes.items before out e) in
+    record {
+      whole = rw whole is.whole;
+      text = is.text;
+      entries = rw (many, put) is.entries;
+      going = λ running. let parts = is.going (sym over ∙ running) in (rw sum parts.0, rest ∙ parts.1);
+      over = λ ended. let parts = is.over (sym over ∙ ended) in (rw (many, put) parts.0, rest ∙ parts.1);
+    }
+
+-- all was given
+pub whole_given : {A : Type 0} (pack : Outgoing A) (before : List ℕ) → IsGivenWhole pack → IsGoing pack before → IsWholePack before
+whole_given pack before none is =
+    let parts = is.over none.0 in
+    IsWholePack_of pack.count pack.put is.text before parts.0 is.entries (none_left pack.given pack.bytes.items before _ none.1 parts.1)
+
+-- more was given, after what was given before
+pub given_step : (filled count : ℕ) (out more post before : List ℕ) → filled ≤ length out → count ≤ length more
+    → (before ++ take filled out) ++ take count more ≡ before ++ take (filled + count) (take filled out ++ (more ++ post))
+given_step filled count out more post before h fits =
+    let long : length (take filled out) ≡ filled = length-take-le filled out h in
+    append_assoc before (take filled out) (take count more)
+    ∙ ap (λ l. before ++ (take filled out ++ l)) (sym (take-append-le count more post fits))
+    ∙ ap (λ l. before ++ l) (sym (take-append-add (take filled out) (more ++ post) count) ∙ ap (λ n. take (n + count) (take filled out ++ (more ++ post))) long)
+
+pub long_enough : (filled count : ℕ) (out more post : List ℕ) → filled ≤ length out → count ≤ length more
+    → filled + count ≤ length (take filled out ++ (more ++ post))
+long_enough filled count out more post h fits =
+    omega (arith, length-append (take filled out) (more ++ post), length-append more post, length-take-le filled out h, fits)
+
+-- nothing more was given, and the pack is whole
+pub ended : {A : Type 0} (pack : Outgoing A) (count : ℕ) (before out : List ℕ) → count ≡ 0 → IsGivenWhole pack → IsGoing pack (before ++ take count out) → IsWholePack before
+ended pack count before out zero none is =
+    subst IsWholePack (ap (λ n. before ++ take n out) zero ∙ append-nil before) (whole_given pack (before ++ take count out) none is)

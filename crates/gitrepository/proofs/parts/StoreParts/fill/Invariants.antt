@@ -1,0 +1,9 @@
+use Rattle.std.proofs.Common.{◌≡◌, ◌+◌, ◌≤◌, ◌++◌, ℕ, List, length, take}
+use Rattle.gitrepository.specs.Parts.{IsGoing}
+use Rattle.gitrepository.proofs.parts.StoreParts.fill.Given as goal
+
+-- so many bytes were given, to the front of the buffer
+abbrev pub invariant-loop : goal.invariant-loop
+invariant-loop g l =
+    (l.filled ≤ length l.out) × (l.self.outgoing.left + l.filled ≡ l.initial.self.outgoing.left)
+    × ((before : List ℕ) → IsGoing l.initial.self.outgoing before → IsGoing l.self.outgoing (before ++ take l.filled l.out))

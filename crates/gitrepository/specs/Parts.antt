@@ -1,0 +1,28 @@
+-- A pack that goes out in parts (gitformat-pack(5)).
+use Rattle.std.specs.Prelude.{◌≡◌, ℕ, ◌+◌, ◌≤◌, Bool, true, false, IsTrue, List, [], ◌++◌, length, drop, take, Option, Some, None}
+use Rattle.gname.specs.Limits.{max_pack}
+use Rattle.sha1.specs.Sha1.{Holds}
+use Rattle.gitpack.specs.Packs.{with_trailer}
+use Rattle.gitrepository.specs.Packs.{HasPut, IsWholePack}
+use Rattle.gitrepository.specs.declared.outgoing.Outgoing.{Outgoing}
+
+-- what was made and not given
+abbrev pub rest_of : {A : Type 0} → Outgoing A → List ℕ
+rest_of pack = drop pack.given pack.bytes.items
+
+-- These bytes were given. With the rest of what was made they are the header and the entries that were put; or, once
+-- it is over, a pack of as many entries as the header says.
+pub record IsGoing {A : Type 0} (pack : Outgoing A) (given : List ℕ) : Type 0 where
+  pub whole : IsTrue pack.is_whole
+  pub text : List ℕ
+  pub entries : HasPut pack.count pack.put text
+  pub going : pack.is_over ≡ false → Holds pack.sum text × (given ++ rest_of pack ≡ text)
+  pub over : pack.is_over ≡ true → (pack.put ≡ pack.count) × (given ++ rest_of pack ≡ with_trailer text)
+
+-- whatever was given before, it stays a beginning
+abbrev pub GoesOn : {A : Type 0} → Outgoing A → Outgoing A → Type 0
+GoesOn old new = (given : List ℕ) → IsGoing old given → IsGoing new given
+
+-- nothing is left to be given
+abbrev pub IsGivenWhole : {A : Type 0} → Outgoing A → Type 0
+IsGivenWhole pack = IsTrue pack.is_over × (length pack.bytes.items ≤ pack.given)

@@ -1,0 +1,123 @@
+//! A pack on its way to a Git directory.
+
+ghost use Rattle.std.specs.Prelude.{◌≡◌, ◌++◌, [], ℕ, IfOk, OnOk};
+ghost use Rattle.gitpack.specs.Packs.{IsFramed};
+ghost use Rattle.gitrepository.specs.Packs.{IsIndexed};
+
+use crate::arrival::{Arrival, Inspector};
+use crate::fault::RepositoryFault;
+use crate::tips::Tips;
+use ggraph::Entry;
+use gitobjects::{ObjectFiles, ObjectReader};
+use gitpack::{IncomingPack, IndexLimits, IndexedPack, PackFileFault};
+use std::alloc::{AllocError, Allocator};
+use std::marker::Model;
+
+// How much a pack may ask for: an object has 256 MiB at most, 512 MiB are held at a time, and all
+// objects have 4 GiB.
+const LIMITS: IndexLimits = IndexLimits {
+    object: 268_435_456,
+    held: 536_870_912,
+    total: 4_294_967_296,
+};
+
+/// A pack that came, and its index.
+#[derive(Drop)]
+pub struct Received<A: Allocator + Copy> {
+    /// The pack as it came.
+    pub bytes: Vec<u8, A>,
+    /// Its index.
+    pub index: IndexedPack<A>,
+}
+
+/// A pack of which a part came, and what is known of its objects. Contracts see the bytes that came.
+#[derive(Drop)]
+pub struct StoreFeed<A: Allocator + Copy> {
+    pack: IncomingPack<A>,
+    arrival: Arrival<A>,
+}
+
+impl<A: Allocator + Copy> Model for StoreFeed<A> {
+    ghost use Rattle.std.specs.Prelude.{ℕ, List};
+
+    ghost Value = { List ℕ };
+
+    ghost view = { λ feed. feed.pack };
+}
+
+impl<A: Allocator + Copy> StoreFeed<A> {
+    /// A pack of which nothing came.
+    pub(crate) fn new(alloc: A) -> StoreFeed<A>
+        ensures { result ≡ [] }
+    {
+        StoreFeed {
+            pack: IncomingPack::new(alloc, LIMITS),
+            arrival: Arrival::new(alloc),
+        }
+    }
+
+    /// Takes the next bytes. It fails only out of memory.
+    pub(crate) fn take<F: ObjectFiles>(
+        &mut self,
+        reader: &mut ObjectReader<'_, F, A>,
+        tips: &Tips<A>,
+        piece: &[u8],
+    ) -> Result<(), AllocError>
+        ensures { OnOk result (self.new ≡ self.old ++ piece.now) }
+    {
+        let mut inspector = Inspector::new(&mut self.arrival, reader, tips);
+        feed_pack(&mut self.pack, piece, &mut inspector)
+    }
+
+    /// The pack, once it came whole, and the entries of its commits and tags.
+    pub(crate) fn finish<F: ObjectFiles>(
+        self,
+        reader: &mut ObjectReader<'_, F, A>,
+        tips: &Tips<A>,
+    ) -> Result<(Received<A>, Vec<Entry<A>, A>), RepositoryFault<A>>
+        ensures { IfOk result (λ it. IsIndexed self it.1.items) }
+    {
+        let StoreFeed { pack, mut arrival } = self;
+        let received = {
+            let mut inspector = Inspector::new(&mut arrival, reader, tips);
+            finish_pack(pack, &mut inspector)?
+        };
+        let entries = arrival.into_entries(reader, &received.index)?;
+        Ok((received, entries))
+    }
+}
+
+// Gives a pack its next bytes. It fails only out of memory.
+fn feed_pack<F: ObjectFiles, A: Allocator + Copy>(
+    pack: &mut IncomingPack<A>,
+    piece: &[u8],
+    inspector: &mut Inspector<'_, '_, '_, '_, F, A>,
+) -> Result<(), AllocError>
+    ensures { OnOk result (pack.new ≡ pack.old ++ piece.now) }
+{
+    pack.feed(piece, inspector)
+}
+
+// Indexes a pack that came whole. The fault is that for which an object was refused, if there is
+// one.
+fn finish_pack<F: ObjectFiles, A: Allocator + Copy>(
+    pack: IncomingPack<A>,
+    inspector: &mut Inspector<'_, '_, '_, '_, F, A>,
+) -> Result<Received<A>, RepositoryFault<A>>
+    ensures { IfOk result (λ received. (count : ℕ)
+        × IsFramed count received.index.checksum pack) }
+{
+    match pack.finish(inspector) {
+        Ok((bytes, index)) => Ok(Received { bytes, index }),
+        Err(PackFileFault::Refused) => Err(refusal(inspector.take_fault())),
+        Err(fault) => Err(RepositoryFault::from(fault)),
+    }
+}
+
+// The fault for which an object was refused.
+fn refusal<A: Allocator + Copy>(fault: Option<RepositoryFault<A>>) -> RepositoryFault<A> {
+    match fault {
+        Some(fault) => fault,
+        None => RepositoryFault::Pack(PackFileFault::Refused),
+    }
+}

@@ -1,0 +1,104 @@
+//! A pack of the objects of a Git directory, given in parts.
+
+ghost use Rattle.std.specs.Prelude.{◌≡◌, ◌+◌, ◌<◌, ◌≤◌, [], ◌++◌, List, ℕ, IfOk, OnOk, length, take};
+ghost use Rattle.gname.specs.Limits.{max_pack};
+ghost use Rattle.gitrepository.specs.Packs.{IsWholePack};
+ghost use Rattle.gitrepository.specs.Parts.{GoesOn, IsGoing, IsGivenWhole};
+
+use crate::copying::{Copying, PackCounts};
+use crate::fault::RepositoryFault;
+use crate::gather::gather;
+use crate::outgoing::Outgoing;
+use ggraph::Entry;
+use gitobjects::{ObjectFiles, ObjectReader};
+use std::alloc::Allocator;
+
+/// A pack of some commits and tags and of what goes with them, which is given in parts. It holds one
+/// entry at a time.
+#[derive(Drop)]
+pub struct StoreParts<A: Allocator + Copy> {
+    pub(crate) outgoing: Outgoing<A>,
+    copying: Copying<A>,
+}
+
+impl<A: Allocator + Copy> StoreParts<A> {
+    /// The pack of these entries, of which nothing is given yet.
+    pub(crate) fn begin<F: ObjectFiles>(
+        reader: &mut ObjectReader<'_, F, A>,
+        alloc: A,
+        entries: &[Entry<A>],
+    ) -> Result<StoreParts<A>, RepositoryFault<A>>
+        ensures going { IfOk result (λ parts. IsGoing parts.outgoing []) }
+        ensures left { IfOk result (λ parts. parts.outgoing.left ≡ max_pack) }
+    {
+        let fates = gather(reader, entries)?;
+        let outgoing = Outgoing::new(alloc, fates.sent())?;
+        let copying = Copying::new(alloc, fates)?;
+        Ok(StoreParts { outgoing, copying })
+    }
+
+    /// How the objects went out so far.
+    pub(crate) fn counts(&self) -> PackCounts {
+        self.copying.counts()
+    }
+
+    /// Gives the next bytes: they go to the front of `out`, and fill it unless the pack ends. It answers
+    /// how many: 0 if all were given.
+    pub(crate) fn fill<F: ObjectFiles>(
+        &mut self,
+        reader: &mut ObjectReader<'_, F, A>,
+        out: &mut [u8],
+    ) -> Result<usize, RepositoryFault<A>>
+        requires { 0 < length out.old }
+        ensures fits { IfOk result (λ count. count ≤ length out.new) }
+        ensures left { IfOk result (λ count. self.new.outgoing.left + count ≡ self.old.outgoing.left) }
+        ensures given { IfOk result (λ count. (before : List ℕ) → IsGoing self.old.outgoing before
+            → IsGoing self.new.outgoing (before ++ take count out.new)) }
+        ensures whole { IfOk result (λ count. count ≡ 0 → IsGivenWhole self.new.outgoing) }
+    {
+        let mut filled = 0;
+        for _ in 0..u64::MAX {
+            if filled >= out.len() || self.outgoing.is_given_whole() {
+                break;
+            }
+            filled += self.give_some(reader, &mut out[filled..])?;
+        }
+        if filled == 0 && !self.outgoing.is_given_whole() {
+            return Err(RepositoryFault::Count);
+        }
+        Ok(filled)
+    }
+
+    // Gives some of the next bytes.
+    fn give_some<F: ObjectFiles>(
+        &mut self,
+        reader: &mut ObjectReader<'_, F, A>,
+        out: &mut [u8],
+    ) -> Result<usize, RepositoryFault<A>>
+        ensures fits { IfOk result (λ count. count ≤ length out.new) }
+        ensures length { length out.new ≡ length out.old }
+        ensures left { IfOk result (λ count. self.new.outgoing.left + count ≡ self.old.outgoing.left) }
+        ensures given { IfOk result (λ count. (before : List ℕ) → IsGoing self.old.outgoing before
+            → IsGoing self.new.outgoing (before ++ take count out.new)) }
+    {
+        if self.outgoing.is_given() {
+            self.advance(reader)?;
+        }
+        self.outgoing.give(out)
+    }
+
+    // Makes the next entry, or the trailer.
+    fn advance<F: ObjectFiles>(
+        &mut self,
+        reader: &mut ObjectReader<'_, F, A>,
+    ) -> Result<(), RepositoryFault<A>>
+        ensures going { OnOk result (GoesOn self.old.outgoing self.new.outgoing) }
+        ensures left { self.new.outgoing.left ≡ self.old.outgoing.left }
+    {
+        let position = self.outgoing.position();
+        match self.copying.next(reader, position)? {
+            Some(entry) => self.outgoing.put(entry.form, entry.size, entry.stream()),
+            None => self.outgoing.finish(),
+        }
+    }
+}
