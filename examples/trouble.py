@@ -61,6 +61,10 @@ class Copies:
         shutil.copytree(self.base, path)
         return path
 
+    def free(self):
+        """A path at which nothing is yet. Steps run at once, so no two clones share one."""
+        return f"{self.folder}/clone-{next(self.numbers)}"
+
 
 def fetch_words(path, url, *more):
     return [PROGRAM, "fetch", *more, path, url, HEADS, TAGS]
@@ -104,7 +108,7 @@ def stops():
 def servers_that_close(copies):
     for place, count in stops():
         what = f"a server that closes after {count} bytes of its {place}"
-        path, clone = copies.new(), f"{copies.folder}/clone"
+        path, clone = copies.new(), copies.free()
         before = files_of(path)
         with Stopping(place, count) as server:
             ran = run(*fetch_words(path, server.url()))
@@ -139,14 +143,14 @@ def silent_servers(copies):
 def lying_servers(copies):
     """Names of refs that climb or are in each other's way, bombs, a long chain, and texts that are no answer."""
     for case in itertools.chain(names(), bombs(300), chains(100)):
-        path, clone = copies.new(), f"{copies.folder}/clone"
+        path, clone = copies.new(), copies.free()
         before = files_of(path)
         with Liar(refs=listing(case.refs), pack=packfile(case.pack)) as server:
             ran = run(*fetch_words(path, server.url()))
             cloned = run(*clone_words(clone, server.url()))
         judge(case.what, ran, cloned, path, clone, before, case)
     for what, server in spoken():
-        path, clone = copies.new(), f"{copies.folder}/clone"
+        path, clone = copies.new(), copies.free()
         before = files_of(path)
         with server:
             ran = run(*fetch_words(path, server.url()))
