@@ -29,9 +29,11 @@
 //!
 //! # Differences from Git
 //!
-//! - `clone` has HEAD, branches and tags alone.
+//! - `clone` has HEAD, branches and tags alone. A HEAD that is detached at a tag becomes one at the
+//!   commit to which the tag leads; Git refuses such a clone.
 //! - `fetch` moves a tag forward without force, as any ref. It does not follow a symbolic ref that it
-//!   would move, and fails. It does not know of branches that other worktrees have checked out.
+//!   would move, and fails. It does not know of branches that other worktrees have checked out. There
+//!   is a work tree if `core.bare` is false in the file `config`; if it is not set, by the name `.git`.
 //! - `serve` serves one connection at a time. A client has 10 seconds for its first line and 60 for
 //!   each request, and may be silent for 60 seconds. It may hold others up as long as it asks.
 //!   `upload-pack` waits for its client without end.

@@ -5,7 +5,7 @@ use ganswer::{BuildFault, ServeFault};
 use gclient::{ClientFault, FetchFault, MAX_SPECS, RepoFault};
 use ggrammar::Why;
 use ggraph::{GraphFault, MAX_NODES, MAX_REFS, PackFault};
-use gitobjects::StoreFault;
+use gitobjects::{Cause, FileFault, StoreFault};
 use gitrefs::RefFault;
 use gitrepository::{FormFault, RepositoryFault};
 use gitwords::{Shown, clean_byte};
@@ -56,6 +56,14 @@ pub(crate) enum Sentence<'a> {
     },
     /// A branch would move to an object that is no commit.
     NoCommit {
+        name: &'a [u8],
+    },
+    /// HEAD of a clone would be at an object that is no commit.
+    NoHeadCommit {
+        url: &'a str,
+    },
+    /// A ref would move whose name is not UTF-8.
+    NoFileName {
         name: &'a [u8],
     },
     /// A repository cannot be served.
@@ -144,6 +152,13 @@ impl fmt::Display for Sentence<'_> {
                 "{} would be at a tag, a tree or a blob, but a branch is at a commit: fetch into refs/tags/",
                 Clean(name)
             ),
+            Sentence::NoHeadCommit { url } => write!(
+                f,
+                "HEAD of {url} is at a tree or a blob: make a repository by 'git init --bare', and fetch into that"
+            ),
+            Sentence::NoFileName { name } => {
+                write!(f, "{} is not UTF-8: fetch into another ref", Clean(name))
+            }
             Sentence::Build { path, fault } => write!(f, "cannot serve {path}: {fault}"),
             Sentence::Client { path, fault } => write_client_repo(path, fault, f),
             Sentence::Address { url } => write!(
@@ -205,9 +220,32 @@ fn write_repository<W: fmt::Write>(
         RepositoryFault::Memory => f.write_str(OUT_OF_MEMORY_TEXT),
         RepositoryFault::Refs(fault) => write_refs(fault, f),
         RepositoryFault::File { path, error } => write_refused("write ", path.as_str(), error, f),
-        RepositoryFault::Store(StoreFault::File(fault)) => fmt::Display::fmt(fault, f),
+        RepositoryFault::Store(StoreFault::File(fault)) => write_store_file(fault, f),
         RepositoryFault::Form { fault, .. } => write!(f, "{path} {}", form_text(*fault)),
+        RepositoryFault::Objects => write!(
+            f,
+            "{path} has more than {} commits and tags: use git",
+            Thousands(MAX_NODES)
+        ),
         _ => write!(f, "{path}: {fault}: 'git fsck' says more"),
+    }
+}
+
+// A file of the objects of a repository.
+fn write_store_file<W: fmt::Write>(
+    fault: &FileFault<Global>,
+    f: &mut fmt::Formatter<W>,
+) -> fmt::Result {
+    match fault.cause {
+        Cause::Open(ErrorKind::NotFound) | Cause::List(ErrorKind::NotFound) => {
+            write!(f, "cannot open {}: there is none", fault.path)
+        }
+        Cause::Open(ErrorKind::Other | ErrorKind::Uncategorized) => write!(
+            f,
+            "cannot open {}: if too many files are open, 'git gc' makes one pack of all",
+            fault.path
+        ),
+        _ => fmt::Display::fmt(fault, f),
     }
 }
 
@@ -241,6 +279,14 @@ fn write_refs<W: fmt::Write>(fault: &RefFault<Global>, f: &mut fmt::Formatter<W>
             f,
             "{path} has moved meanwhile, or its object is missing: fetch again, or see 'git fsck'"
         ),
+        gitrefs::Cause::Refs => write!(
+            f,
+            "{path}: there are more than {} refs: use git",
+            Thousands(MAX_REFS)
+        ),
+        gitrefs::Cause::Conflict | gitrefs::Cause::Symbolic | gitrefs::Cause::Utf8 => {
+            write!(f, "{path}: {cause}: fetch into another ref")
+        }
         cause => write!(f, "{path}: {cause}"),
     }
 }
