@@ -34,7 +34,6 @@ impl fmt::Display for Fault {
 }
 
 // Writes a text as a terminal may show it on one line, with a question mark for each control character.
-// A path has names of refs in it, and peers choose these.
 fn write_shown<W: fmt::Write>(text: &str, f: &mut fmt::Formatter<W>) -> fmt::Result {
     for letter in text.chars() {
         f.write_char(if letter.is_control() { '?' } else { letter })?;

@@ -136,9 +136,7 @@ impl fmt::Display for Sentence<'_> {
             }
             Sentence::Open { path, error } => write_refused("open ", path, error, f),
             Sentence::Repository { path, fault } => write_repository(path, fault, f),
-            Sentence::BrokenRef { path, name, fault } => {
-                write!(f, "{path}: {}: {fault}: 'git fsck' says more", Clean(name))
-            }
+            Sentence::BrokenRef { path, name, fault } => write_broken_ref(path, name, fault, f),
             Sentence::CheckedOut { name } => {
                 write!(f, "{} is checked out: fetch into another ref", Clean(name))
             }
@@ -218,7 +216,7 @@ fn write_repository<W: fmt::Write>(
 ) -> fmt::Result {
     match fault {
         RepositoryFault::Memory => f.write_str(OUT_OF_MEMORY_TEXT),
-        RepositoryFault::Refs(fault) => write_refs(fault, f),
+        RepositoryFault::Refs(fault) => write_refs(path, fault, f),
         RepositoryFault::File { path, error } => write_refused("write ", path.as_str(), error, f),
         RepositoryFault::Store(StoreFault::File(fault)) => write_store_file(fault, f),
         RepositoryFault::Form { fault, .. } => write!(f, "{path} {}", form_text(*fault)),
@@ -265,29 +263,72 @@ pub(crate) fn form_text(fault: FormFault) -> &'static str {
     }
 }
 
-fn write_refs<W: fmt::Write>(fault: &RefFault<Global>, f: &mut fmt::Formatter<W>) -> fmt::Result {
+// A ref whose file is malformed, or that leads to an object which is missing or refused.
+fn write_broken_ref<W: fmt::Write>(
+    path: &str,
+    name: &[u8],
+    fault: &RepositoryFault<Global>,
+    f: &mut fmt::Formatter<W>,
+) -> fmt::Result {
+    write!(f, "{path}: {}: ", Clean(name))?;
+    match fault {
+        RepositoryFault::Refs(RefFault::File { cause, .. }) => write!(f, "{cause}")?,
+        _ => write!(f, "{fault}")?,
+    }
+    f.write_str(": 'git fsck' says more")
+}
+
+fn write_refs<W: fmt::Write>(
+    repository: &str,
+    fault: &RefFault<Global>,
+    f: &mut fmt::Formatter<W>,
+) -> fmt::Result {
     let RefFault::File { path, cause } = fault else {
         return f.write_str(OUT_OF_MEMORY_TEXT);
     };
+    let file = RefFile {
+        repository,
+        path: path.as_str(),
+    };
     match cause {
-        gitrefs::Cause::System(error) => write_refused("read or write ", path.as_str(), error, f),
+        gitrefs::Cause::System(error) => {
+            write!(f, "cannot read or write {file}: ")?;
+            write_reason(error, f)
+        }
         gitrefs::Cause::Locked => write!(
             f,
-            "{path} is locked: wait for the other process, or remove {path}.lock if there is none"
+            "{file} is locked: wait for the other process, or remove {file}.lock if there is none"
         ),
         gitrefs::Cause::Moved => write!(
             f,
-            "{path} has moved meanwhile, or its object is missing: fetch again, or see 'git fsck'"
+            "{file} has moved meanwhile, or its object is missing: fetch again, or see 'git fsck'"
         ),
         gitrefs::Cause::Refs => write!(
             f,
-            "{path}: there are more than {} refs: use git",
+            "{file}: there are more than {} refs: use git",
             Thousands(MAX_REFS)
         ),
         gitrefs::Cause::Conflict | gitrefs::Cause::Symbolic | gitrefs::Cause::Utf8 => {
-            write!(f, "{path}: {cause}: fetch into another ref")
+            write!(f, "{file}: {cause}: fetch into another ref")
         }
-        cause => write!(f, "{path}: {cause}"),
+        cause => write!(f, "{file}: {cause}"),
+    }
+}
+
+// The file of a ref. Peers choose the names of refs, so the part of its path below the repository is
+// shown cleaned.
+#[derive(Clone, Copy)]
+struct RefFile<'a> {
+    repository: &'a str,
+    path: &'a str,
+}
+
+impl fmt::Display for RefFile<'_> {
+    fn fmt<W: fmt::Write>(&self, f: &mut fmt::Formatter<W>) -> fmt::Result {
+        match self.path.strip_prefix(self.repository) {
+            Some(name) => write!(f, "{}{}", self.repository, Clean(name.as_bytes())),
+            None => f.write_str(self.path),
+        }
     }
 }
 

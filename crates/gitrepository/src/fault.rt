@@ -255,7 +255,7 @@ fn write_pack<W: fmt::Write>(fault: PackFileFault, f: &mut fmt::Formatter<W>) ->
         ),
         PackFileFault::Thin => f.write_str("the base of a delta is not in the pack"),
         PackFileFault::TooLarge => f.write_str(
-            "its objects are too large: one has at most 256 MiB, all have 4 GiB, and they name 4,194,304 others",
+            "the pack is too large to index: an object may have 256 MiB, all of them 4 GiB, and name 4,194,304 ids",
         ),
         PackFileFault::Format => f.write_str("the base of a delta has no SHA-1 id"),
         PackFileFault::Refused => f.write_str("an object of the pack is refused"),
