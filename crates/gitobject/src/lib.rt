@@ -24,12 +24,15 @@
 //!   as git-fsck(1) does.
 //! - Git refuses a tag of fewer than 64 bytes, and reads the type of a tag only up to the first NUL.
 //!
+//! # Only tested
+//!
+//! The definitions in `specs/` are Git's: the program `gitcases` has objects that are right and wrong, and
+//! `examples/with-git.sh` has repositories that Git made.
+//!
 //! # What the contracts do not rule out
 //!
 //! Any call that allocates may fail with out of memory; the contracts do not say when. They say nothing of time, or of
 //! how much memory a call takes.
-//!
-//! There are no tests here.
 //!
 //! # Stands on
 //!
