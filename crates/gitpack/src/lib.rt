@@ -26,6 +26,12 @@
 //! - [`index_pack`] is the same for a pack that is given whole.
 //! - No call panics, overflows or reads out of bounds, and each returns.
 //!
+//! # Only tested
+//!
+//! The program `gitcases` indexes packs that are right, wrong and hostile, cut and changed ones too,
+//! and looks for their objects in the index. `examples/with-git.sh` indexes packs that Git made, and
+//! Git reads those that are written.
+//!
 //! # Differences from Git
 //!
 //! - A size in a delta and an offset of a base have eight bytes at most.
@@ -55,12 +61,6 @@
 //! - [`PackWriter`] and [`put_entry`] might refuse an entry. The number of entries is not compared with the count,
 //!   and no clause bounds the bytes of the pack.
 //! - The contracts say nothing of time, or of how much memory a call takes.
-//!
-//! # Only tested
-//!
-//! The program `gitcases` indexes packs that are right, wrong and hostile, cut and changed ones too,
-//! and looks for their objects in the index. `examples/with-git.sh` indexes packs that Git made, and
-//! Git reads those that are written.
 //!
 //! # Stands on
 //!

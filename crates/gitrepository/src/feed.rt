@@ -13,9 +13,9 @@ use gitpack::{IncomingPack, IndexLimits, IndexedPack, PackFileFault};
 use std::alloc::{AllocError, Allocator};
 use std::marker::Model;
 
-// How much a pack may ask for, so that it takes less than 600 MB of memory: there are at most
-// 1,048,576 objects, each of at most 256 MiB. A delta, its bases that are held and what it makes have
-// 256 MiB together, and all objects have 4 GiB.
+// How much a pack may ask for. There are at most 1,048,576 objects, which take 160 MiB of memory, and
+// each has at most 256 MiB. A delta, its bases that are held and what it makes have 256 MiB together,
+// and all objects have 4 GiB.
 const LIMITS: IndexLimits = IndexLimits {
     objects: 1_048_576,
     object: 268_435_456,
