@@ -1,6 +1,6 @@
 use Rattle.std.proofs.Common.{rules}
 use Rattle.gserver.proofs.SayLemmas.{has_more, said_all, said_more}
-use Rattle.gserver.proofs.speech.SpeechPartsReply.say.Goals as goal
+use Rattle.gserver.proofs.cursor.say_some.Goals as goal
 
 pub returns-then-not-has_room-clause-says : goal.returns-then-not-has_room-clause-says
 returns-then-not-has_room-clause-says g c =
