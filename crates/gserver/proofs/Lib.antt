@@ -5,3 +5,4 @@ pub mod StepLemmas
 pub mod SayLemmas
 pub mod RefLemmas
 pub mod FetchLemmas
+pub mod SideLemmas
