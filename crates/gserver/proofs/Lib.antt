@@ -5,3 +5,5 @@ pub mod StepLemmas
 pub mod SayLemmas
 pub mod RefLemmas
 pub mod FetchLemmas
+pub mod GreetingLemmas
+pub mod ListingLemmas
