@@ -1,5 +1,5 @@
 -- An advertisement, packet by packet.
-use Rattle.std.proofs.Common.{◌≡◌, ◌<◌, ◌≤◌, ◌+◌, ◌-◌, ℕ, true, inl, inr, List, [], ◌∷◌, ◌++◌, length, map, drop, All, Option, Some, None, codes, refl, sym, ap, ap₂, ◌∙◌, subst, append-nil, add-one, drop-cons, get_or, arith, length-drop}
+use Rattle.std.proofs.Common.{◌≡◌, ◌<◌, ◌≤◌, ◌+◌, ◌-◌, ℕ, true, ◌⊎◌, inl, inr, List, [], ◌∷◌, ◌++◌, length, map, drop, All, Option, Some, None, codes, refl, sym, ap, ap₂, ◌∙◌, subst, append-nil, add-one, drop-cons, get_or, arith, length-drop}
 use Rattle.std.specs.List.{slice_get}
 use Rattle.std.proofs.lemmas.List.{nil_from_length}
 use Rattle.std.proofs.lemmas.List.Elements.{All-get_or}
@@ -22,11 +22,15 @@ module _ (capabilities : List Capability) (at : ℕ) where
       drop-cons capabilities at capability (slice_get_within capabilities at capability (sym found))
       ∙ ap₂ (λ x l. x ∷ l) (get_or_from_slice_get capabilities at capability capability (sym found)) (ap (λ n. drop n capabilities) (sym (add-one at)))
 
+  none_in : None ≡ slice_get capabilities at
+      → ((x : Capability) × (at < length capabilities) × (slice_get capabilities at ≡ Some x) × (get_or capabilities at x ≡ x))
+      ⊎ ((length capabilities ≤ at) × (slice_get capabilities at ≡ None))
+      → drop at capabilities ≡ []
+  none_in missing (inl found) = absurd (none-some found.0 (missing ∙ found.2.1))
+  none_in missing (inr past) = nil_from_length (drop at capabilities) (omega (arith, length-drop at capabilities, past.0))
+
   pub none_there : None ≡ slice_get capabilities at → drop at capabilities ≡ []
-  none_there missing = match (slice_get_cases capabilities at).1 {
-    inl found => absurd (none-some found.0 (missing ∙ found.2.1));
-    inr past => nil_from_length (drop at capabilities) (omega (arith, length-drop at capabilities, past.0));
-  }
+  none_there missing = none_in missing (slice_get_cases capabilities at).1
 
   pub form_there : (capability : Capability) → Some capability ≡ slice_get capabilities at → AreCapabilities capabilities
       → IsWellFormed capability

@@ -10,7 +10,7 @@ pub returns-in-Unborn : goal.returns-in-Unborn
 returns-in-Unborn g c =
     let server = g.R.Served.server c.args.self.now.repo in
     rw c.in-Unborn.is (unborn_line_said server c.args.self.now.asked c.args.self.now.ends c.args.self.now.goes_on c.args.out.now c.say_unborn.new.out
-    (c.say_unborn.ensures ∙ ap (λ s. c.args.out.now ++ canonical_all (unborn_packets (unborn_of s c.args.self.now.asked))) c.server.ensures))
+    (◌∙◌ {b = c.args.out.now ++ canonical_all (unborn_packets (unborn_of c.server.result.now c.args.self.now.asked))} c.say_unborn.ensures (ap (λ s. c.args.out.now ++ canonical_all (unborn_packets (unborn_of s c.args.self.now.asked))) c.server.ensures)))
 
 pub returns-in-Head : goal.returns-in-Head
 returns-in-Head g c =
