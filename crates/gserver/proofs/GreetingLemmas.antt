@@ -26,7 +26,7 @@ module _ (capabilities : List Capability) (at : ℕ) where
       → ((x : Capability) × (at < length capabilities) × (slice_get capabilities at ≡ Some x) × (get_or capabilities at x ≡ x))
       ⊎ ((length capabilities ≤ at) × (slice_get capabilities at ≡ None))
       → drop at capabilities ≡ []
-  none_in missing (inl found) = absurd (none-some found.0 (missing ∙ found.2.1))
+  none_in missing (inl found) = absurd (none-some found.0 (missing ∙ found.2))
   none_in missing (inr past) = nil_from_length (drop at capabilities) (omega (arith, length-drop at capabilities, past.0))
 
   pub none_there : None ≡ slice_get capabilities at → drop at capabilities ≡ []
