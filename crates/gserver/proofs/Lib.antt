@@ -6,3 +6,5 @@ pub mod SayLemmas
 pub mod RefLemmas
 pub mod FetchLemmas
 pub mod SideLemmas
+pub mod GreetingLemmas
+pub mod ListingLemmas

@@ -13,7 +13,7 @@ returns-in-Some-clause-fewer g c = λ reply same.
     let w = went_on g.R.Served.server g.R.PartPacker.gives (IsSome c.greet.new.self.repo) c.greet.result true c.answer_of.result reply
         c.greet.ensures.served c.answer_of.ensures same in
     fewer_first c.args.self.now.repo c.greet.new.self.repo c.args.self.now.requests c.greet.new.self.requests
-    (is_none_so c.args.self.now.repo (sym c.is_none.ensures ∙ c.if-is_none.true)) w.1
+    (is_none_so c.args.self.now.repo c.is_none.ensures) w.1
 
 pub returns-in_default-clause-answers : goal.returns-in_default-clause-answers
 returns-in_default-clause-answers g c = λ none said goes may. inr (c.refusing.ensures.refuses said goes may)
