@@ -1,5 +1,5 @@
 -- The refs that a request asks for, line by line.
-use Rattle.std.proofs.Common.{◌≡◌, ◌<◌, ◌≤◌, ◌+◌, ◌-◌, ℕ, Bool, true, false, List, [], ◌∷◌, ◌++◌, length, map, drop, refl, sym, ap, ◌∙◌, subst, arith, length-drop}
+use Rattle.std.proofs.Common.{◌≡◌, ◌<◌, ◌≤◌, ◌+◌, ℕ, Bool, true, false, List, [], ◌∷◌, ◌++◌, length, map, drop, refl, sym, ap, ◌∙◌, subst, arith, length-drop}
 use Rattle.std.proofs.lemmas.List.{nil_from_length}
 use Rattle.gpkt.specs.Packets.{Bytes, Packet, Flush, ResponseEnd, canonical, canonical_all}
 use Rattle.ggrammar.specs.Endings.{ends_with}
@@ -8,11 +8,11 @@ use Rattle.ggrammar.specs.declared.ends.Ends.TheVariants.{Plain, Response}
 use Rattle.grefs.specs.RefLists.{RefList}
 use Rattle.grequest.specs.Asked.{LsRefsAsked}
 use Rattle.glsreply.specs.LsReplies.{LsReply, ref_packet, unborn_packets}
-use Rattle.ganswer.specs.LsAnswers.{ShowsLines, all_refs, unborn_of}
+use Rattle.ganswer.specs.LsAnswers.{ShowsLines, unborn_of}
 use Rattle.ganswer.specs.Servers.{Server}
 use Rattle.ganswer.proofs.LsLemmas.{answer_parts, shows_join, shows_none, two_parts}
 use Rattle.gserver.specs.PackSaying.{May}
-use Rattle.gserver.specs.Listings.{SaysListing, SaysLsAnswer, SaysRefs, said_at_end, steps_of_listing}
+use Rattle.gserver.specs.Listings.{SaysListing, SaysRefs, said_at_end, steps_of_listing}
 use Rattle.gserver.specs.declared.listing.NextLine.TheVariants as next
 use Rattle.gserver.specs.steps.RefLines.{SaysLines, SaysRefAt}
 use Rattle.gserver.specs.steps.Stepping.{Advances, PutsSome}
@@ -65,7 +65,7 @@ module _ {A : Type 0} (server : Server A) (asked : LsRefsAsked) (ends : Ends) (g
   ref_said at before out says =
       let less : at < length server.refs = says.0 in
       let some = lines_said (says.1.0 ∷ []) (drop (at + 1) server.refs) (steps_of_listing server (next.Ref at)) (steps_of_listing server (next.Ref (at + 1)))
-          before out says.1.2 (omega (arith, less)) in
+      before out says.1.2 (omega (arith, less)) in
       subst (λ (refs : RefList). PutsSome (SaysRefs server asked ends goes_on refs) (SaysRefs server asked ends goes_on (drop (at + 1) server.refs))
       (steps_of_listing server (next.Ref at)) (steps_of_listing server (next.Ref (at + 1))) before out) (sym says.1.1) some
 

@@ -1,4 +1,4 @@
-use Rattle.std.proofs.Common.{◌≡◌, ◌<◌, ◌+◌, ℕ, true, false, length, subst, arith}
+use Rattle.std.proofs.Common.{true, false, subst, arith}
 use Rattle.gserver.specs.steps.RefLines.{SaysRefAt}
 use Rattle.gserver.proofs.ListingLemmas.{flush_at_end, flush_before_end, ref_said}
 use Rattle.gserver.proofs.listing.Listing.step_ref.Goals as goal

@@ -1,4 +1,4 @@
-use Rattle.std.proofs.Common.{◌≡◌, ◌+◌, ◌++◌, ℕ, [], List, length, ap, ◌∙◌, subst, arith}
+use Rattle.std.proofs.Common.{◌++◌, ap, ◌∙◌, subst, arith}
 use Rattle.gpkt.specs.Packets.{canonical_all}
 use Rattle.glsreply.specs.LsReplies.{unborn_packets}
 use Rattle.ganswer.specs.LsAnswers.{head_id, head_ref, unborn_of}
