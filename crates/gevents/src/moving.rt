@@ -158,7 +158,7 @@ impl<C: Conversation, A: Allocator + Copy> Peer<C, A> {
                 Move::Moved
             }
             Err(error) if is_passing(error.kind()) => {
-                self.connection.give_back();
+                self.rest();
                 failed(error.kind())
             }
             Err(_) => {
@@ -173,6 +173,11 @@ impl<C: Conversation, A: Allocator + Copy> Peer<C, A> {
         ensures { OnErr result (self.new.connection ≡ self.old.connection) }
     {
         read_some(&mut self.connection, &mut self.stream)
+    }
+
+    // Keeps no room for what is said while the peer is silent.
+    fn rest(&mut self) {
+        self.connection.give_back();
     }
 
     // Has the conversation hear that nothing more comes.
