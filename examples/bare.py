@@ -116,8 +116,8 @@ def refs_of(path):
     """The ids of all refs below `refs/`; a loose one goes before a packed one."""
     found = {}
     if os.path.exists(f"{path}/packed-refs"):
-        for line in read(f"{path}/packed-refs").decode().splitlines():
-            if not line.startswith(("#", "^")):
+        for line in read(f"{path}/packed-refs").decode(errors="surrogateescape").split("\n"):
+            if line and not line.startswith(("#", "^")):
                 found[line[41:]] = bytes.fromhex(line[:40])
     for folder, _, names in os.walk(f"{path}/refs"):
         for name in names:

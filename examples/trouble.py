@@ -295,8 +295,22 @@ def silent_client(folder):
         check("a silent client: for ten seconds", FIRST_LINE - 1 < seconds < FIRST_LINE + SOON, seconds)
         ended = waiting.end()
         check("a silent client: the next is served", ended.status == 0 and OLD.encode() in ended.out, ended)
-        logged = any(" - 0 requests " in line and " its time" in line for line in server.log())
-        check("a silent client: the log", logged, server.log())
+        check("a silent client: the log", comes_true(lambda: is_logged(server)), server.log())
+
+
+def is_logged(server):
+    """Whether a server has written that a client said nothing in its time."""
+    return any(" - 0 requests " in line and " its time" in line for line in server.log())
+
+
+def comes_true(is_so):
+    """Whether something comes true soon: a server may end a connection before it writes why."""
+    until = time.monotonic() + SOON
+    while not is_so():
+        if time.monotonic() > until:
+            return False
+        time.sleep(0.02)
+    return True
 
 
 def wrong_urls(folder):
