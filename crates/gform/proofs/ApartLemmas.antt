@@ -16,8 +16,8 @@ use Rattle.gname.specs.declared.formats.Format.{Format}
 use Rattle.gform.specs.Kept.{Kept, Nothing, Marked, Ids, Prefixes, Number, Word}
 use Rattle.gform.specs.Reading.{Given}
 use Rattle.gform.specs.Writing.{values_in, kept_at, AllValues, IsFull, IsRowKept, AreKept}
-use Rattle.gform.specs.Rows.{Row, Found, find_row, found_or, value_text, is_alone, place_after}
-use Rattle.gform.specs.Apart.{differ, is_clear, is_clear_of, are_apart, is_bad, is_field_of_one, have_fields, stays, stay}
+use Rattle.gform.specs.Rows.{is_bad, stays, Row, Found, find_row, found_or, value_text, is_alone, place_after}
+use Rattle.gform.specs.Apart.{differ, is_clear, is_clear_of, are_apart, is_field_of_one, have_fields, stay}
 use Rattle.gform.proofs.WrittenLemmas.{IsPrinted, ArePrinted, IsApart, AreApart}
 
 -- ---- bytes

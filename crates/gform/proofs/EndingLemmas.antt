@@ -32,19 +32,19 @@ whole_end end.Whole state h = refl
 whole_end (end.Goes to) state h = cc
 
 -- in a section all is as in it
-in_it : (sections : List Section) (given : Given) (state : State) (packet : Packet) (section : Section)
+pub in_it : (sections : List Section) (given : Given) (state : State) (packet : Packet) (section : Section)
     → slice_get sections state.place ≡ Some section → outcome_at sections given state packet ≡ in_section given state packet section
 unfolding outcome_at
 in_it sections given state packet section is = ap (in_section_if_any given state packet) is
 
 -- ---- the text that names the format
 
-record Names (field : ℕ) (rows : Option Found) : Type 0 where
+pub record Names (field : ℕ) (rows : Option Found) : Type 0 where
   found : Found
   is_found : rows ≡ Some found
   form_is : (found.0).1 ≡ form.FormatName
   field_is : (found.0).2 ≡ field
-  within : field < 24
+  pub within : field < 24
   named : bytes_eq found.1 (codes "sha256") ≡ true
 
 names_by : (field : ℕ) (found : Found) (f : Form) → (found.0).1 ≡ f → (rows : Option Found) → rows ≡ Some found
@@ -61,7 +61,7 @@ names_by field found form.FormatName is rows is_found h =
     }
 names_by field found _ is rows is_found h = cc
 
-names_parts : (field : ℕ) (rows : Option Found) → names_format field rows ≡ true → Names field rows
+pub names_parts : (field : ℕ) (rows : Option Found) → names_format field rows ≡ true → Names field rows
 names_parts field None h = cc
 names_parts field (Some found) h = names_by field found (found.0).1 refl (Some found) refl h
 

@@ -10,7 +10,8 @@ pub mod CommandLemmas
 pub mod RequestLemmas
 pub mod FitLemmas
 pub mod ComingLemmas
-pub mod TreeLemmas
 pub mod FieldLemmas
 pub mod NumberLemmas
 pub mod SameLemmas
+pub mod ItemLemmas
+pub mod GrammarLemmas

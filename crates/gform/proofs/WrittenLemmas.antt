@@ -75,7 +75,7 @@ few_prefixes : (kept : Kept) → length (prefixes_in kept) ≤ count_in kept
 few_prefixes (Prefixes prefixes) = omega arith
 few_prefixes _ = omega arith
 
-one_more : (value : Value) (kept : Kept) → count_in (with_value value kept) ≤ count_in kept + 1
+pub one_more : (value : Value) (kept : Kept) → count_in (with_value value kept) ≤ count_in kept + 1
 one_more (AnId id) kept = omega (arith, few_ids kept, length-append (ids_in kept) (id ∷ []))
 one_more (APrefix bytes) kept = omega (arith, few_prefixes kept, length-append (prefixes_in kept) (bytes ∷ []))
 one_more _ kept = omega arith
@@ -221,7 +221,7 @@ set_set [] i a b = refl
 set_set (x ∷ xs) zero a b = refl
 set_set (x ∷ xs) (suc i) a b = ap (λ ys. x ∷ ys) (set_set xs i a b)
 
-get_set : {X : Type 0} (xs : List X) (i : ℕ) (a b : X) → slice_get xs i ≡ Some a → slice_get (slice_set xs i b) i ≡ Some b
+pub get_set : {X : Type 0} (xs : List X) (i : ℕ) (a b : X) → slice_get xs i ≡ Some a → slice_get (slice_set xs i b) i ≡ Some b
 get_set [] i a b is = cc
 get_set (x ∷ xs) zero a b is = refl
 get_set (x ∷ xs) (suc i) a b is = get_set xs i a b is
@@ -231,7 +231,7 @@ set_got [] i a is = refl
 set_got (x ∷ xs) zero a is = let same : x ≡ a = cc in ap (λ y. y ∷ xs) (sym same)
 set_got (x ∷ xs) (suc i) a is = ap (λ ys. x ∷ ys) (set_got xs i a is)
 
-get_set_other : {X : Type 0} (xs : List X) (i j : ℕ) (b : X) → (i ≡ j → ⊥) → slice_get (slice_set xs i b) j ≡ slice_get xs j
+pub get_set_other : {X : Type 0} (xs : List X) (i j : ℕ) (b : X) → (i ≡ j → ⊥) → slice_get (slice_set xs i b) j ≡ slice_get xs j
 get_set_other [] i j b other = refl
 get_set_other (x ∷ xs) zero zero b other = absurd (other refl)
 get_set_other (x ∷ xs) zero (suc j) b other = refl
@@ -251,7 +251,7 @@ pub record HasRoom (given : Given) (row : Row) (state : State) (kept : Kept) (n 
   pub listed : is_listed row.1 ≡ true → count_in kept + n ≤ limit_in given.limits row.1
   pub once : is_once row.1 ≡ true → one_if (is_kept kept) + n ≤ 1
 
-first_once : (once kept : Bool) (n : ℕ) → (once ≡ true → one_if kept + suc n ≤ 1) → (once && kept) ≡ false
+pub first_once : (once kept : Bool) (n : ℕ) → (once ≡ true → one_if kept + suc n ≤ 1) → (once && kept) ≡ false
 first_once true true n h = absurd (omega (arith, h refl))
 first_once true false n h = refl
 first_once false kept n h = refl

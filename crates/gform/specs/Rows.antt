@@ -85,6 +85,16 @@ value_of format FormatName rest =
 value_of format (Goes place) rest = Ok Mark
 value_of format Bad rest = Err why.BadText
 
+-- a text of this form is refused
+abbrev pub is_bad : Form → Bool
+is_bad Bad = true
+is_bad _ = false
+
+-- the message stays in the section after it
+abbrev pub stays : Form → Bool
+stays (Goes next) = false
+stays _ = true
+
 -- ---- how often, and what is counted
 
 -- such a text comes once

@@ -1,14 +1,11 @@
 //! The laws of every table: functions without effect, whose contracts they are.
 
 ghost use Rattle.ggrammar.specs.Grammar.{HasEndings, IsPrefixFree, RefusesFirstMisfits};
-ghost use Rattle.ggrammar.specs.Kinds.{CanonicalSays, OneMeaning, ReadsBackIfAny, ReadsExactlyIfAny, SaysWhole};
+ghost use Rattle.ggrammar.specs.Kinds.{AsInManual, CanonicalSays, OneMeaning, ReadsBackIfAny, ReadsExactlyIfAny, SaysWhole};
 ghost use Rattle.ggrammar.specs.MessageBytes.{BeginsOrIsRefused, RefusesPackets, SpellingsPrefixFree};
 ghost use Rattle.gform.specs.Request.{request};
 ghost use Rattle.gform.specs.RequestWriting.{IsCanonical, IsValue};
-ghost use Rattle.std.specs.Prelude.{List};
-ghost use Rattle.gpkt.specs.Packets.{Packet};
-ghost use Rattle.gform.specs.Kept.{Kept};
-ghost use Rattle.gform.specs.Grammar.{IsTreeOf};
+ghost use Rattle.gform.specs.Grammar.{IsMessage};
 ghost use Rattle.gform.specs.Reading.{Given, Says, brings, judge};
 
 use crate::request::RequestField;
@@ -25,10 +22,10 @@ pub fn one_meaning<T: Table>()
     ensures whole { (given : Given) → SaysWhole (judge T.sections given) (Says T.sections given) }
 {}
 
-/// Each message is a tree of its table, and says what the items of the tree come to.
-pub fn messages_are_trees<T: Table>()
-    ensures { (given : Given) (lines : List Packet) (said : List Kept)
-        → Says T.sections given lines said → IsTreeOf T.sections given lines said }
+/// The messages that are read are those of the manual's words, and say the same (`specs/Grammar.antt`).
+pub fn manual<T: Table>()
+    ensures { (given : Given) → AsInManual (Says T.sections given)
+        (IsMessage T.sections given) }
 {}
 
 /// No message begins another, neither its packets nor its bytes.
