@@ -1,5 +1,5 @@
 -- What is written of a row fits its packets.
-use Rattle.std.proofs.Common.{◌≡◌, ℕ, ◌+◌, ◌≤◌, ◌<◌, Bool, true, false, cond, ◌&&◌, List, [], ◌∷◌, ◌++◌, length, map, Option, Some, None, refl, sym, ap, subst, ◌∙◌, arith}
+use Rattle.std.proofs.Common.{◌≡◌, ℕ, zero, suc, get_or, Bor, ◌+◌, ◌≤◌, ◌<◌, Bool, true, false, cond, ◌&&◌, List, [], ◌∷◌, ◌++◌, length, map, Option, Some, None, refl, sym, ap, subst, ◌∙◌, arith}
 use Rattle.std.specs.Prelude.{All, nat_le, nat_lt}
 use Rattle.std.specs.Fmt.{decimal}
 use Rattle.std.specs.List.{list_all}
@@ -23,6 +23,7 @@ use Rattle.gform.specs.Kept.{Kept}
 use Rattle.gform.specs.Reading.{Given}
 use Rattle.gform.specs.Writing.{value_print, values_in, kept_at, value_packet, row_packets, rows_packets, IsValueOf, AllValues, IsRowKept, AreKept}
 use Rattle.gform.specs.Apart.{are_short}
+use Rattle.gform.specs.Views.{rows_in}
 use Rattle.gform.proofs.NumberLemmas.{number_is_read}
 
 abbrev pub FitAll : List Packet → Type 0
@@ -86,3 +87,12 @@ module _ (one : IdsHaveOneFormat) (texts : IdsHaveTexts) (clean : PrefixesAreCle
       let a = and_parts (nat_lt (length row.0) 1000) (are_short rows) short in
       fit_append (row_packets given.format row (kept_at said row.2)) (rows_packets given.format rows said)
       (values_fit given.format row (values_in (kept_at said row.2)) a.0 h.0.values) (rows_fit given rows said a.1 h.1)
+
+-- the word of a row is short
+pub short_at : {F : Type 0} (number : F → ℕ) (rows : List (Bor (List ℕ) × Form × F)) (i : ℕ) (row : Bor (List ℕ) × Form × F)
+    → are_short (rows_in number rows) ≡ true → i < length rows → length (get_or rows i row).0.now ≤ 1000
+short_at number [] i row h within = absurd (omega (arith, within))
+short_at number (first ∷ rows) zero row h within =
+    let a = ltb-true (length first.0.now) 1000 (and_parts (nat_lt (length first.0.now) 1000) (are_short (rows_in number rows)) h).0 in omega (arith, a)
+short_at number (first ∷ rows) (suc i) row h within =
+    short_at number rows i row (and_parts (nat_lt (length first.0.now) 1000) (are_short (rows_in number rows)) h).1 (omega (arith, within))

@@ -21,7 +21,7 @@ pub use crate::form::Form;
 pub use crate::limits::{Limit, Limits};
 pub use crate::read::read_table;
 pub use crate::reader::TableReader;
-pub use crate::request::{REQUEST_LIMITS, RequestField};
+pub use crate::request::{REQUEST_LIMITS, RequestField, RequestKind, kind_of, write_fields};
 pub use crate::section::{End, Other, Row, Section};
 pub use crate::table::{MAX_FIELDS, Table};
 pub use crate::value::Value;

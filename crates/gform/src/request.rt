@@ -1,9 +1,20 @@
 //! The table of requests (gitprotocol-v2(5), "Command Request", "ls-refs" and "fetch").
 
+ghost use Rattle.std.specs.Prelude.{◌≡◌, ℕ};
+ghost use Rattle.ggrammar.specs.Writing.{WritesLines};
+ghost use Rattle.gform.specs.RequestWriting.{kind_of, request_packets};
+ghost use Rattle.gform.specs.Writing.{IsShort, kept_at};
+
+use crate::fields::Fields;
 use crate::form::Form;
 use crate::limits::{Limit, Limits};
 use crate::section::{End, Other, Row, Section};
 use crate::table::Table;
+use crate::write::{Command, write_command};
+use ggrammar::laws::writes_lines;
+use gname::Format;
+use gpkt::{LineWriter, Sink, WriteFault};
+use std::alloc::Allocator;
 
 /// The fields of a request.
 #[derive(Clone, Copy, Debug, PartialEq, Eq)]
@@ -23,6 +34,17 @@ pub enum RequestField {
     Want,
     Have,
     Done,
+}
+
+/// What a request is.
+#[derive(Clone, Copy, Debug, PartialEq, Eq)]
+pub enum RequestKind {
+    /// No command: a lone flush, which ends the conversation.
+    Empty,
+    /// Asks for refs.
+    LsRefs,
+    /// Asks for objects.
+    Fetch,
 }
 
 /// How much of a request is taken where a program chooses nothing else.
@@ -68,6 +90,18 @@ const FETCH_ARGUMENTS: &[Row<RequestField>] = &[
     ("have ", Form::Ids(Limit::Haves), RequestField::Have),
     ("done", Form::Flag, RequestField::Done),
 ];
+
+const LS_REFS: &Command<RequestField> = &Command {
+    row: ("command=ls-refs", Form::Goes(1), RequestField::LsRefs),
+    capabilities: CAPABILITIES,
+    arguments: LS_REFS_ARGUMENTS,
+};
+
+const FETCH: &Command<RequestField> = &Command {
+    row: ("command=fetch", Form::Goes(3), RequestField::Fetch),
+    capabilities: CAPABILITIES,
+    arguments: FETCH_ARGUMENTS,
+};
 
 const REQUEST: &[Section<RequestField>] = &[
     Section {
@@ -123,5 +157,40 @@ impl Table for RequestField {
 
     fn sections() -> &'static [Section<RequestField>] {
         REQUEST
+    }
+}
+
+/// What a request with these fields is.
+pub fn kind_of<A: Allocator + Copy>(fields: &Fields<A>) -> RequestKind
+    ensures { result ≡ kind_of fields.now }
+{
+    if fields.is_kept(RequestField::LsRefs.number()) {
+        RequestKind::LsRefs
+    } else if fields.is_kept(RequestField::Fetch.number()) {
+        RequestKind::Fetch
+    } else {
+        RequestKind::Empty
+    }
+}
+
+/// Writes a request with these fields: its command, a capability and an argument for each value, in the order of
+/// the table, and the flush that ends it.
+///
+/// Where it fails a beginning of the request may stand written.
+pub fn write_fields<A: Allocator + Copy, W: Sink>(
+    format: Format,
+    fields: &Fields<A>,
+    writer: &mut LineWriter<W>,
+) -> Result<(), WriteFault>
+    requires { (field : ℕ) → IsShort (kept_at fields.now field) }
+    ensures { WritesLines W.contents W.passed_on W.is_down W.loans writer.old writer.new result
+        (request_packets format fields.now) }
+{
+    // Laws.
+    writes_lines::<W>();
+    match kind_of(fields) {
+        RequestKind::Empty => writer.flush_pkt(),
+        RequestKind::LsRefs => write_command(LS_REFS, format, fields, writer),
+        RequestKind::Fetch => write_command(FETCH, format, fields, writer),
     }
 }

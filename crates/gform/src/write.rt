@@ -1,6 +1,7 @@
 //! Writing the rows of a section.
 
-ghost use Rattle.std.specs.Prelude.{◌≡◌, ◌≤◌, ◌++◌, ◌∷◌, [], All, length, map, ℕ};
+ghost use Rattle.std.specs.Prelude.{◌≡◌, ◌≤◌, ◌++◌, ◌∷◌, [], IsTrue, length, map, ℕ};
+ghost use Rattle.gform.specs.Apart.{are_short};
 ghost use Rattle.ggrammar.specs.Capabilities.{max_capability};
 ghost use Rattle.ggrammar.specs.Texts.{text_packet};
 ghost use Rattle.ggrammar.specs.Writing.{WritesLines, WritesPart};
@@ -104,7 +105,7 @@ pub fn write_rows<T: Table, A: Allocator + Copy, W: Sink>(
     fields: &Fields<A>,
     writer: &mut LineWriter<W>,
 ) -> Result<(), WriteFault>
-    requires words { All (λ row. length row.0.now ≤ 1000) rows.now }
+    requires words { IsTrue (are_short (rows_in T.number rows.now)) }
     requires short { (field : ℕ) → IsShort (kept_at fields.now field) }
     ensures { WritesPart W.contents W.passed_on W.is_down W.loans writer.old writer.new result
         (rows_packets format (rows_in T.number rows.now) fields.now) }
@@ -125,8 +126,8 @@ pub fn write_command<T: Table, A: Allocator + Copy, W: Sink>(
     writer: &mut LineWriter<W>,
 ) -> Result<(), WriteFault>
     requires command { length command.now.row.0.now ≤ 1000 }
-    requires capabilities { All (λ row. length row.0.now ≤ 1000) command.now.capabilities.now }
-    requires arguments { All (λ row. length row.0.now ≤ 1000) command.now.arguments.now }
+    requires capabilities { IsTrue (are_short (rows_in T.number command.now.capabilities.now)) }
+    requires arguments { IsTrue (are_short (rows_in T.number command.now.arguments.now)) }
     requires short { (field : ℕ) → IsShort (kept_at fields.now field) }
     ensures { WritesLines W.contents W.passed_on W.is_down W.loans writer.old writer.new result
         (command_packets format (row_in T.number command.now.row)
