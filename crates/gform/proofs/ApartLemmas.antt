@@ -1,11 +1,10 @@
 -- Rows that are apart: what is written of a row is found as that row, and is no error of the peer.
-use Rattle.std.proofs.Common.{◌≡◌, ℕ, zero, suc, ◌+◌, ◌<◌, Bool, true, false, cond, not, ◌&&◌, ◌||◌, List, [], ◌∷◌, ◌++◌, length, drop, Option, Some, None, refl, sym, ap, subst, ◌∙◌, arith, append_assoc, append-nil, ◌⊎◌, inl, inr, codes}
+use Rattle.std.proofs.Common.{◌≡◌, ℕ, Bool, true, false, cond, not, ◌&&◌, ◌||◌, List, [], ◌∷◌, ◌++◌, length, drop, Option, Some, None, refl, sym, ap, subst, ◌∙◌, arith, append_assoc, append-nil, ◌⊎◌, inl, inr, codes}
 use Rattle.std.specs.Prelude.{nat_eq, nat_lt}
 use Rattle.std.specs.List.{starts_with}
 use Rattle.std.specs.Str.{bytes_eq}
 use Rattle.std.proofs.lemmas.Bool.{and_parts, ltb-true, eq-eqb}
 use Rattle.std.proofs.Math.Seq.{drop-append_seam}
-use Rattle.std.proofs.lemmas.Grind.{common_steps}
 use Rattle.std.proofs.lemmas.List.{length-append}
 use Rattle.std.proofs.lemmas.Slice.Eq.{bytes_eq-Decides}
 use Rattle.gpkt.specs.Packets.{Bytes}
@@ -16,7 +15,7 @@ use Rattle.gname.specs.declared.formats.Format.{Format}
 use Rattle.gform.specs.Kept.{Kept, Nothing, Marked, Ids, Prefixes, Number, Word}
 use Rattle.gform.specs.Reading.{Given}
 use Rattle.gform.specs.Writing.{values_in, kept_at, AllValues, IsFull, IsRowKept, AreKept}
-use Rattle.gform.specs.Rows.{is_bad, stays, Row, Found, find_row, found_or, value_text, is_alone, place_after}
+use Rattle.gform.specs.Rows.{is_bad, stays, Row, find_row, found_or, value_text, is_alone, place_after}
 use Rattle.gform.specs.Apart.{differ, is_clear, is_clear_of, are_apart, is_field_of_one, have_fields, stay}
 use Rattle.gform.proofs.WrittenLemmas.{IsPrinted, ArePrinted, IsApart, AreApart}
 

@@ -1,16 +1,15 @@
 -- Each open list of packets has an ending: a flush, before which the object format is named where it must be.
-use Rattle.std.proofs.Common.{◌≡◌, ℕ, ◌+◌, ◌<◌, Bool, true, false, cond, ◌&&◌, List, [], ◌∷◌, ◌++◌, length, Option, Some, None, Result, Ok, Err, refl, sym, ap, subst, ◌∙◌, arith, codes, append_assoc, eqb-true}
+use Rattle.std.proofs.Common.{◌≡◌, ℕ, ◌<◌, Bool, true, false, cond, ◌&&◌, List, [], ◌∷◌, ◌++◌, length, Option, Some, None, Result, Ok, Err, refl, sym, ap, subst, ◌∙◌, arith, codes, append_assoc, eqb-true}
 use Rattle.std.specs.Prelude.{slice_get, slice_set, nat_lt, nat_eq, slice_index_or}
 use Rattle.std.specs.Str.{bytes_eq}
 use Rattle.std.proofs.lemmas.Bool.{and_parts, ltb-true}
 use Rattle.std.proofs.lemmas.Option.{slice_get-get_or}
 use Rattle.std.proofs.lemmas.List.{length-set, get_or-set_same}
 use Rattle.std.proofs.lemmas.Slice.Eq.{bytes_eq-Decides}
-use Rattle.ggrammar.specs.declared.fault.Why.{Why}
 use Rattle.gpkt.specs.Packets.{Bytes, Packet, Data, Flush, text}
 use Rattle.gname.specs.declared.formats.Format.{Format}
 use Rattle.gname.specs.declared.formats.Format.TheVariants.{Sha1, Sha256}
-use Rattle.ggrammar.specs.Grammar.{Judge, Verdict, Open, Whole, IsOpen, IsWhole, Begins, HasEndings, LawsOf}
+use Rattle.ggrammar.specs.Grammar.{Judge, Open, Whole, IsOpen, Begins, HasEndings, LawsOf}
 use Rattle.ggrammar.specs.PeerErrors.{peer_error, after_word}
 use Rattle.ggrammar.specs.Capabilities.{is_value}
 use Rattle.ggrammar.specs.declared.fault.Why.TheVariants as why
@@ -19,12 +18,12 @@ use Rattle.gform.specs.declared.form.Form.TheVariants as form
 use Rattle.gform.specs.declared.section.End.{End}
 use Rattle.gform.specs.declared.section.End.TheVariants as end
 use Rattle.gform.specs.Rows.{Found, find_row, Value, Mark, value_of, is_once}
-use Rattle.gform.specs.Kept.{Kept, Nothing, Marked, is_kept, count_in}
+use Rattle.gform.specs.Kept.{Kept, Nothing, Marked}
 use Rattle.gform.specs.Sections.{Section, is_whole_end, is_format_row, names_format, naming, can_need, max_fields}
-use Rattle.gform.specs.Reading.{Given, State, Outcome, Goes, Ends, Stops, with_row, at_row, at_found, at_text, at_named, at_kept, at_value, is_named, is_kept_at, in_section, in_section_if_any, unless_peer, start, outcome_at, verdict_of, after, next, run, judge}
+use Rattle.gform.specs.Reading.{Given, State, Outcome, Goes, Ends, Stops, with_row, at_found, at_text, at_named, at_kept, at_value, is_named, is_kept_at, in_section, in_section_if_any, unless_peer, start, outcome_at, verdict_of, after, run, judge}
 use Rattle.gform.proofs.ReadingLemmas.{run-push}
-use Rattle.gform.proofs.TableLemmas.{IsSoundTable, IsSoundSection, section_there}
-use Rattle.gform.proofs.OpenLemmas.{IsReached, open_is_reached}
+use Rattle.gform.proofs.TableLemmas.{IsSoundTable, section_there}
+use Rattle.gform.proofs.OpenLemmas.{open_is_reached}
 
 whole_end : (e : End) (state : State) → is_whole_end e ≡ true → at_named state true e ≡ Ends
 whole_end end.Never state h = cc

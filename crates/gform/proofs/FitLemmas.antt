@@ -1,15 +1,13 @@
 -- What is written of a row fits its packets.
-use Rattle.std.proofs.Common.{◌≡◌, ℕ, zero, suc, get_or, Bor, ◌+◌, ◌≤◌, ◌<◌, Bool, true, false, cond, ◌&&◌, List, [], ◌∷◌, ◌++◌, length, map, Option, Some, None, refl, sym, ap, subst, ◌∙◌, arith}
+use Rattle.std.proofs.Common.{◌≡◌, ℕ, zero, suc, get_or, Bor, ◌≤◌, ◌<◌, Bool, true, false, cond, ◌&&◌, List, [], ◌∷◌, ◌++◌, length, map, Some, None, refl, arith}
 use Rattle.std.specs.Prelude.{All, nat_le, nat_lt}
 use Rattle.std.specs.Fmt.{decimal}
 use Rattle.std.specs.List.{list_all}
 use Rattle.std.proofs.lemmas.Bool.{and_parts, leb-true, ltb-true}
 use Rattle.std.proofs.lemmas.List.{length-append}
 use Rattle.std.proofs.lemmas.List.Elements.{All-cons}
-use Rattle.gpkt.specs.Packets.{Bytes, Packet, Data}
+use Rattle.gpkt.specs.Packets.{Bytes, Packet}
 use Rattle.gpkt.specs.Laws.{Fits}
-use Rattle.gname.specs.Ids.{id_text, IsIdOf}
-use Rattle.gname.specs.Names.{IsPrefix}
 use Rattle.gname.specs.Laws.{IdsHaveOneFormat, IdsHaveTexts, PrefixesAreClean}
 use Rattle.gname.specs.Formats.{format_name}
 use Rattle.gname.specs.declared.formats.Format.{Format}
@@ -21,7 +19,7 @@ use Rattle.gform.specs.declared.form.Form.TheVariants as form
 use Rattle.gform.specs.Rows.{Row, Value, Mark, AnId, APrefix, ANumber, AWord, number_of, number_from}
 use Rattle.gform.specs.Kept.{Kept}
 use Rattle.gform.specs.Reading.{Given}
-use Rattle.gform.specs.Writing.{value_print, values_in, kept_at, value_packet, row_packets, rows_packets, IsValueOf, AllValues, IsRowKept, AreKept}
+use Rattle.gform.specs.Writing.{value_print, values_in, kept_at, value_packet, row_packets, rows_packets, IsValueOf, AllValues, AreKept}
 use Rattle.gform.specs.Apart.{are_short}
 use Rattle.gform.specs.Views.{rows_in}
 use Rattle.gform.proofs.NumberLemmas.{number_is_read}

@@ -1,31 +1,30 @@
 -- The whole lists of packets are those of the grammar, and say what it says.
 use Rattle.std.proofs.Common.{◌≡◌, ℕ, zero, suc, ◌+◌, ◌<◌, ◌≤◌, Bool, true, false, cond, ◌&&◌, List, [], ◌∷◌, ◌++◌, length, map, Option, Some, None, Result, Ok, Err, refl, sym, ap, subst, ◌∙◌, arith, append_assoc, append-nil, eqb-true, ◌⊎◌, inl, inr}
-use Rattle.std.specs.Prelude.{nat_eq, slice_get, slice_index_or, slice_set}
-use Rattle.std.proofs.lemmas.Bool.{eq-eqb}
+use Rattle.std.specs.Prelude.{nat_eq, slice_get, slice_index_or}
 use Rattle.std.proofs.lemmas.List.{length-append}
 use Rattle.std.proofs.lemmas.Option.{slice_get-get_or}
 use Rattle.gpkt.specs.Packets.{Bytes, Packet, Data, Flush, Delim, ResponseEnd, text}
 use Rattle.gname.specs.declared.formats.Format.{Format}
 use Rattle.gname.specs.declared.formats.Format.TheVariants.{Sha1, Sha256}
 use Rattle.ggrammar.specs.PeerErrors.{peer_error}
-use Rattle.ggrammar.specs.Grammar.{Open, Whole, IsOpen, IsWhole}
+use Rattle.ggrammar.specs.Grammar.{IsOpen}
 use Rattle.ggrammar.specs.declared.fault.Why.{Why}
 use Rattle.ggrammar.specs.declared.fault.Why.TheVariants as why
 use Rattle.gform.specs.declared.form.Form.{Form}
 use Rattle.gform.specs.declared.form.Form.TheVariants as form
 use Rattle.gform.specs.declared.section.End.{End}
 use Rattle.gform.specs.declared.section.End.TheVariants as end
-use Rattle.gform.specs.Kept.{Kept, Nothing, with_value, count_in, is_kept}
-use Rattle.gform.specs.Rows.{Row, Value, Found, find_row, value_of, is_once, is_listed, is_counted, limit_in, max_texts, one_if, place_after, stays}
-use Rattle.gform.specs.Sections.{Section, can_need, naming, names_format, form_at, is_whole_end, is_sound_delim, max_fields, rows_of}
-use Rattle.gform.specs.Reading.{Given, State, Outcome, Goes, Ends, Stops, at_named, at_text, at_found, at_value, at_kept, has_room, with_row, is_kept_at, is_named, in_section, in_section_if_any, no_fields, unless_peer, start, outcome_at, verdict_of, after, next, run, judge_from, judge, Says}
-use Rattle.gform.specs.Grammar.{Item, IsText, AreTexts, IsSection, IsNamedIn, IsFrom, ends, goes_by_delim, goes_by_text, IsAllowed, AreFew, IsMessage, collected, count_of, values_at}
-use Rattle.gform.proofs.TableLemmas.{IsSoundTable, IsSoundSection}
+use Rattle.gform.specs.Kept.{Kept, Nothing, count_in, is_kept}
+use Rattle.gform.specs.Rows.{Row, Value, Found, find_row, value_of, is_once, is_counted, limit_in, max_texts, one_if, place_after, stays}
+use Rattle.gform.specs.Sections.{Section, can_need, naming, form_at, is_whole_end, is_sound_delim, rows_of}
+use Rattle.gform.specs.Reading.{Given, State, Outcome, Goes, Ends, Stops, at_named, at_text, at_found, at_value, at_kept, has_room, with_row, is_kept_at, is_named, in_section, in_section_if_any, no_fields, unless_peer, start, outcome_at, verdict_of, after, next, run, judge_from, Says}
+use Rattle.gform.specs.Grammar.{Item, IsText, AreTexts, IsSection, IsNamedIn, IsFrom, ends, goes_by_delim, goes_by_text, IsAllowed, AreFew, IsMessage, collected, values_at}
+use Rattle.gform.proofs.TableLemmas.{IsSoundTable}
 use Rattle.gform.proofs.ReadingLemmas.{run-push}
 use Rattle.gform.proofs.EndingLemmas.{in_it, names_parts}
-use Rattle.gform.proofs.OpenLemmas.{GoesBy, GoesTo, goes_text, goes_on, open_first, open_more, peer_none, end_goes, whole_ends}
+use Rattle.gform.proofs.OpenLemmas.{GoesTo, goes_text, goes_on, open_first, open_more, peer_none, end_goes, whole_ends}
 use Rattle.gform.proofs.WrittenLemmas.{keep_all, Follows, follows_nil, follows_cons, follows_append}
-use Rattle.gform.proofs.ItemLemmas.{AreFormed, Comes, HasRoomFor, Lists, allowed_more, comes_more, count_append, keep_count, kept_some, listed_count, none_kept, not_kept, other_values, own_value, room_for, row_form, some_kept, texts_more, one_value_more, value_lists, values_append, values_list}
+use Rattle.gform.proofs.ItemLemmas.{Comes, HasRoomFor, allowed_more, comes_more, count_append, keep_count, kept_some, listed_count, none_kept, not_kept, other_values, own_value, room_for, row_form, some_kept, texts_more, one_value_more, value_lists, values_append, values_list}
 
 -- ---- forms
 

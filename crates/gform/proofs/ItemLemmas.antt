@@ -1,5 +1,5 @@
 -- Items: which forms their rows have, how many values they bring to a field, and what the field keeps of these.
-use Rattle.std.proofs.Common.{◌≡◌, ℕ, suc, ◌+◌, ◌<◌, ◌≤◌, Bool, true, false, cond, not, ◌&&◌, ◌||◌, List, [], ◌∷◌, ◌++◌, length, Option, Some, None, Result, Ok, Err, refl, sym, ap, subst, ◌∙◌, arith, append-nil, eqb-true}
+use Rattle.std.proofs.Common.{◌≡◌, ℕ, ◌+◌, ◌<◌, ◌≤◌, Bool, true, false, cond, ◌&&◌, ◌||◌, List, [], ◌∷◌, ◌++◌, length, Option, Some, None, Ok, Err, refl, sym, ap, subst, ◌∙◌, arith, append-nil, eqb-true}
 use Rattle.std.specs.Prelude.{nat_eq, nat_lt, is_none, slice_get, slice_set}
 use Rattle.std.proofs.lemmas.Bool.{and_parts, ltb-true, lt-ltb, eq-eqb}
 use Rattle.std.proofs.lemmas.List.{length-append, length-set}
@@ -9,7 +9,6 @@ use Rattle.gname.specs.Ids.{Id}
 use Rattle.gname.specs.Names.{prefix_fault}
 use Rattle.gname.specs.declared.formats.Format.{Format}
 use Rattle.ggrammar.specs.Ids.{id_of_text}
-use Rattle.ggrammar.specs.declared.fault.Why.{Why}
 use Rattle.ggrammar.specs.declared.fault.Why.TheVariants as why
 use Rattle.gform.specs.Limits.{limit_of}
 use Rattle.gform.specs.declared.form.Form.{Form}
@@ -17,9 +16,9 @@ use Rattle.gform.specs.declared.form.Form.TheVariants as form
 use Rattle.gform.specs.declared.limits.Limit.{Limit}
 use Rattle.gform.specs.declared.limits.Limit.TheVariants as limit
 use Rattle.gform.specs.declared.limits.Limits.{Limits}
-use Rattle.gform.specs.Rows.{Row, Found, Value, Mark, AnId, APrefix, ANumber, AWord, find_row, found_or, id_or_bad, is_bad, is_counted, is_listed, is_once, limit_in, max_texts, one_if, place_after, value_of, value_text}
-use Rattle.gform.specs.Kept.{Kept, Nothing, Marked, Ids, Prefixes, Number, Word, count_in, is_kept, with_value}
-use Rattle.gform.specs.Sections.{Section, form_at, have_forms, is_form, max_fields, same_form, same_limit}
+use Rattle.gform.specs.Rows.{Row, Found, Value, Mark, AnId, APrefix, ANumber, AWord, find_row, found_or, id_or_bad, is_bad, is_counted, is_listed, is_once, limit_in, max_texts, one_if, value_of, value_text}
+use Rattle.gform.specs.Kept.{Kept, Nothing, Ids, Prefixes, count_in, is_kept, with_value}
+use Rattle.gform.specs.Sections.{form_at, have_forms, is_form, max_fields, same_form, same_limit}
 use Rattle.gform.specs.Reading.{State, has_room, no_fields, with_row}
 use Rattle.gform.specs.Writing.{kept_at}
 use Rattle.gform.specs.Grammar.{Item, IsAllowed, collected, count_of, values_at}
@@ -248,40 +247,40 @@ pub record Comes (all : List Row) (state : State) (before : List Item) : Type 0 
 module _ (all : List Row) (state : State) (before : List Item) (row : Row) (value : Value) (kept : Kept) (there : slice_get state.fields row.2 ≡ Some kept)
     (h : Comes all state before) (formed : (form_at all row.2 ≡ Some row.1) × Lists row.1 value)
   where
-  abbrev item : Item
-  item = (row, value)
+    abbrev item : Item
+    item = (row, value)
 
-  abbrev new_fields : List Kept
-  new_fields = slice_set state.fields row.2 (with_value value kept)
+    abbrev new_fields : List Kept
+    new_fields = slice_set state.fields row.2 (with_value value kept)
 
-  kept_more : (field : ℕ) (k : Kept) → slice_get new_fields field ≡ Some k → k ≡ keep_all Nothing (values_at field (before ++ item ∷ []))
-  kept_more field k is = by (nat_eq row.2 field) refl
-    where
-      by : (b : Bool) → nat_eq row.2 field ≡ b → k ≡ keep_all Nothing (values_at field (before ++ item ∷ []))
-      by true e =
-          let at : row.2 ≡ field = eqb-true row.2 field e in
-          let got : slice_get new_fields field ≡ Some (with_value value kept) =
-          subst (λ (f : ℕ). slice_get new_fields f ≡ Some (with_value value kept)) at (get_set state.fields row.2 kept (with_value value kept) there) in
-          let same : k ≡ with_value value kept = (let twice : Some k ≡ Some (with_value value kept) = sym is ∙ got in cc) in
-          let values : values_at field (before ++ item ∷ []) ≡ values_at field before ++ value ∷ [] =
-          values_append field before (item ∷ []) ∙ ap (λ (vs : List Value). values_at field before ++ vs) (own_value item field at) in
-          same
-          ∙ (ap (with_value value) (h.kept row.2 kept there ∙ ap (λ (f : ℕ). keep_all Nothing (values_at f before)) at)
-          ∙ (sym (keep_snoc Nothing (values_at field before) value) ∙ ap (keep_all Nothing) (sym values)))
-      by false e =
-          let differ : (row.2 ≡ field → ⊥) = (λ same. let yes = eq-eqb row.2 field same in let no : true ≡ false = sym yes ∙ e in cc) in
-          let old : slice_get state.fields field ≡ Some k = sym (get_set_other state.fields row.2 field (with_value value kept) differ) ∙ is in
-          h.kept field k old ∙ ap (keep_all Nothing) (sym (other_values field before item e))
+    kept_more : (field : ℕ) (k : Kept) → slice_get new_fields field ≡ Some k → k ≡ keep_all Nothing (values_at field (before ++ item ∷ []))
+    kept_more field k is = by (nat_eq row.2 field) refl
+      where
+        by : (b : Bool) → nat_eq row.2 field ≡ b → k ≡ keep_all Nothing (values_at field (before ++ item ∷ []))
+        by true e =
+            let at : row.2 ≡ field = eqb-true row.2 field e in
+            let got : slice_get new_fields field ≡ Some (with_value value kept) =
+            subst (λ (f : ℕ). slice_get new_fields f ≡ Some (with_value value kept)) at (get_set state.fields row.2 kept (with_value value kept) there) in
+            let same : k ≡ with_value value kept = (let twice : Some k ≡ Some (with_value value kept) = sym is ∙ got in cc) in
+            let values : values_at field (before ++ item ∷ []) ≡ values_at field before ++ value ∷ [] =
+            values_append field before (item ∷ []) ∙ ap (λ (vs : List Value). values_at field before ++ vs) (own_value item field at) in
+            same
+            ∙ (ap (with_value value) (h.kept row.2 kept there ∙ ap (λ (f : ℕ). keep_all Nothing (values_at f before)) at)
+            ∙ (sym (keep_snoc Nothing (values_at field before) value) ∙ ap (keep_all Nothing) (sym values)))
+        by false e =
+            let differ : (row.2 ≡ field → ⊥) = (λ same. let yes = eq-eqb row.2 field same in let no : true ≡ false = sym yes ∙ e in cc) in
+            let old : slice_get state.fields field ≡ Some k = sym (get_set_other state.fields row.2 field (with_value value kept) differ) ∙ is in
+            h.kept field k old ∙ ap (keep_all Nothing) (sym (other_values field before item e))
 
-  pub comes_more : Comes all (with_row state row.1 row.2 kept value) (before ++ item ∷ [])
-  comes_more = record {
-    fields = ap (λ (k : Kept). slice_set state.fields row.2 (with_value value k)) (sym (get_or_from_slice_get state.fields row.2 kept Nothing there))
-        ∙ (ap (λ (fs : List Kept). slice_set fs row.2 (with_value value (kept_at fs row.2))) h.fields ∙ sym (collected_append no_fields before (item ∷ [])));
-    count = (let e = h.count in let a = count_append before (item ∷ []) in omega (arith, e, a));
-    kept = kept_more;
-    long = length-set state.fields row.2 (with_value value kept) ∙ h.long;
-    formed = formed_append all before (item ∷ []) h.formed (formed, tt);
-  }
+    pub comes_more : Comes all (with_row state row.1 row.2 kept value) (before ++ item ∷ [])
+    comes_more = record {
+      fields = ap (λ (k : Kept). slice_set state.fields row.2 (with_value value k)) (sym (get_or_from_slice_get state.fields row.2 kept Nothing there))
+          ∙ (ap (λ (fs : List Kept). slice_set fs row.2 (with_value value (kept_at fs row.2))) h.fields ∙ sym (collected_append no_fields before (item ∷ [])));
+      count = (let e = h.count in let a = count_append before (item ∷ []) in omega (arith, e, a));
+      kept = kept_more;
+      long = length-set state.fields row.2 (with_value value kept) ∙ h.long;
+      formed = formed_append all before (item ∷ []) h.formed (formed, tt);
+    }
 
 -- ---- how many values are allowed
 

@@ -1,26 +1,23 @@
 -- Open lists of packets: what holds of the state that they come to, so that each can be ended and none is too long.
-use Rattle.std.proofs.Common.{◌≡◌, ℕ, suc, ◌+◌, ◌<◌, ◌≤◌, ◌^◌, Bool, true, false, cond, not, ◌&&◌, ◌||◌, List, [], ◌∷◌, ◌++◌, length, Option, Some, None, Result, Ok, Err, refl, sym, ap, subst, ◌∙◌, arith, codes, append_assoc, append-nil}
-use Rattle.std.specs.Prelude.{slice_get, slice_set, nat_lt, nat_eq}
-use Rattle.std.specs.Str.{bytes_eq}
+use Rattle.std.proofs.Common.{◌≡◌, ℕ, suc, ◌+◌, ◌<◌, ◌≤◌, ◌^◌, Bool, true, false, cond, ◌&&◌, List, [], ◌∷◌, length, Option, Some, None, Result, Ok, Err, refl, sym, ap, subst, ◌∙◌, arith}
+use Rattle.std.specs.Prelude.{slice_get, slice_set, nat_lt}
 use Rattle.std.proofs.lemmas.Bool.{and_parts, ltb-true}
 use Rattle.std.proofs.lemmas.List.{length-set}
 use Rattle.gpkt.specs.Packets.{Bytes, Packet, Data, Flush, Delim, ResponseEnd, text}
 use Rattle.gname.specs.declared.formats.Format.{Format}
-use Rattle.gname.specs.declared.formats.Format.TheVariants.{Sha1, Sha256}
-use Rattle.ggrammar.specs.Grammar.{Judge, Verdict, Open, Whole, Refused, IsOpen, IsWhole, Begins, HasEndings, LawsOf}
-use Rattle.ggrammar.specs.PeerErrors.{peer_error, after_word}
-use Rattle.ggrammar.specs.Capabilities.{is_value}
+use Rattle.ggrammar.specs.Grammar.{Open, Whole, IsOpen}
+use Rattle.ggrammar.specs.PeerErrors.{peer_error}
 use Rattle.ggrammar.specs.declared.fault.Why.{Why}
 use Rattle.ggrammar.specs.declared.fault.Why.TheVariants as why
 use Rattle.gform.specs.declared.form.Form.{Form}
 use Rattle.gform.specs.declared.form.Form.TheVariants as form
 use Rattle.gform.specs.declared.section.End.{End}
 use Rattle.gform.specs.declared.section.End.TheVariants as end
-use Rattle.gform.specs.Rows.{limit_in, Row, Found, find_row, Value, Mark, AnId, APrefix, ANumber, AWord, value_of, is_once, is_listed, is_counted, one_if, place_after, max_texts}
-use Rattle.gform.specs.Kept.{Kept, Nothing, Marked, is_kept, count_in, with_value}
-use Rattle.gform.specs.Sections.{Section, is_sound_form, is_sound_delim, is_whole_end, names_format, naming, can_need}
-use Rattle.gform.specs.Reading.{Given, State, Outcome, Goes, Ends, Stops, has_room, with_row, at_kept, at_value, at_row, at_found, at_text, at_end, at_named, is_named, is_kept_at, in_section, in_section_if_any, unless_peer, start, outcome_at, verdict_of, after, next, run, judge_from, judge}
-use Rattle.gform.proofs.TableLemmas.{IsSoundTable, IsSoundSection, section_there, sound_found, goes_forward, filled, one_if_few, filled_few, filled-set}
+use Rattle.gform.specs.Rows.{limit_in, Found, find_row, Value, Mark, AnId, APrefix, ANumber, AWord, value_of, is_once, one_if, max_texts}
+use Rattle.gform.specs.Kept.{Kept, is_kept, count_in, with_value}
+use Rattle.gform.specs.Sections.{Section, is_sound_form, is_sound_delim, is_whole_end}
+use Rattle.gform.specs.Reading.{Given, State, Outcome, Goes, Ends, Stops, has_room, with_row, at_kept, at_value, at_found, at_text, at_named, is_kept_at, in_section, in_section_if_any, unless_peer, start, outcome_at, verdict_of, after, next, run, judge_from, judge}
+use Rattle.gform.proofs.TableLemmas.{IsSoundTable, sound_found, goes_forward, filled, one_if_few, filled_few, filled-set}
 
 -- ---- a text that goes on
 

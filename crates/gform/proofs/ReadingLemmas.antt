@@ -1,6 +1,6 @@
 -- Reading a table: the reasons are of packets, and a packet that is taken is taken after those before it.
 use Rattle.std.proofs.Common.{◌≡◌, ℕ, Bool, true, false, cond, List, [], ◌∷◌, ◌++◌, Option, Some, None, Result, Ok, Err, refl, sym, ap, subst, ◌∙◌}
-use Rattle.std.specs.Prelude.{IfErr, is_none, is_some, slice_get, slice_index_or, option_map, get_or, length, ◌<◌, ◌+◌, slice_set, OnOk, is_err}
+use Rattle.std.specs.Prelude.{IfErr, is_none, slice_get, slice_index_or, option_map, get_or, length, ◌<◌, ◌+◌, slice_set, OnOk, is_err}
 use Rattle.std.proofs.lemmas.Option.{slice_get_within, get_or_from_slice_get}
 use Rattle.gform.specs.Kept.{Kept, Nothing, count_in, with_value}
 use Rattle.std.specs.Str.{bytes_eq}
@@ -9,10 +9,9 @@ use Rattle.gname.specs.Ids.{Id}
 use Rattle.gname.specs.Names.{prefix_fault}
 use Rattle.gname.specs.Formats.{format_name}
 use Rattle.gname.specs.declared.formats.Format.{Format}
-use Rattle.ggrammar.specs.Capabilities.{is_value, is_word_value, capability_of, is_key}
+use Rattle.ggrammar.specs.Capabilities.{is_value, is_word_value}
 use Rattle.ggrammar.specs.Ids.{id_of_text}
-use Rattle.ggrammar.specs.PeerErrors.{after_word}
-use Rattle.ggrammar.specs.Grammar.{Judge, Verdict, Open, Whole, Refused}
+use Rattle.ggrammar.specs.Grammar.{Open, Refused}
 use Rattle.ggrammar.specs.MessageBytes.{IsOfPacket}
 use Rattle.ggrammar.specs.MessageReading.{IsReason, TakesAs, TakesPacket}
 use Rattle.ggrammar.specs.declared.fault.Why.{Why}

@@ -1,21 +1,20 @@
 -- A table refuses packets for their own sake.
-use Rattle.std.proofs.Common.{◌≡◌, ℕ, Bool, true, false, cond, List, Option, Some, None, Result, Ok, Err, refl, subst, ◌&&◌}
-use Rattle.std.specs.Prelude.{IfErr, slice_get, is_some}
+use Rattle.std.proofs.Common.{ℕ, Bool, true, false, cond, List, Option, Some, None, Result, Ok, Err, ◌&&◌}
+use Rattle.std.specs.Prelude.{slice_get, is_some}
 use Rattle.gpkt.specs.Packets.{Bytes, Packet, Data, Flush, Delim, ResponseEnd, text}
 use Rattle.ggrammar.specs.Capabilities.{capability_of, is_key}
 use Rattle.ggrammar.specs.PeerErrors.{after_word, peer_error}
 use Rattle.ggrammar.specs.MessageBytes.{IsOfPacket, IsForPacket, RefusesPackets}
 use Rattle.ggrammar.specs.declared.fault.Why.{Why}
-use Rattle.ggrammar.specs.declared.fault.Why.TheVariants as why
 use Rattle.gform.specs.declared.form.Form.{Form}
 use Rattle.gform.specs.declared.section.End.{End}
 use Rattle.gform.specs.declared.section.End.TheVariants as end
 use Rattle.gform.specs.declared.section.Other.{Other}
 use Rattle.gform.specs.declared.section.Other.TheVariants as other
-use Rattle.gform.specs.Rows.{limit_in, Row, Found, find_row, Value, value_of, is_once}
+use Rattle.gform.specs.Rows.{limit_in, Found, find_row, Value, value_of, is_once}
 use Rattle.gform.specs.Kept.{Kept, count_in}
 use Rattle.gform.specs.Sections.{Section, other_why, if_key}
-use Rattle.gform.specs.Reading.{Given, State, Outcome, Goes, Ends, Stops, has_room, with_row, at_kept, at_value, at_row, at_found, at_text, at_named, is_named, is_kept_at, in_section, in_section_if_any, unless_peer, start, outcome_at, verdict_of, run, judge}
+use Rattle.gform.specs.Reading.{Given, State, Outcome, has_room, at_kept, at_value, at_found, at_named, is_named, is_kept_at, in_section, in_section_if_any, unless_peer, start, outcome_at, verdict_of, run, judge}
 use Rattle.gform.proofs.ReadingLemmas.{AreOfPacket, value_of-packet}
 
 abbrev IsFor : Outcome → Type 0

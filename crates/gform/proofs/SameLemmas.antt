@@ -8,9 +8,9 @@ use Rattle.gname.specs.Names.{prefix_fault}
 use Rattle.gname.specs.Formats.{format_name}
 use Rattle.gname.specs.declared.formats.Format.{Format}
 use Rattle.ggrammar.proofs.IdLemmas.{spelt_by}
-use Rattle.ggrammar.specs.Capabilities.{is_value, is_word_value}
+use Rattle.ggrammar.specs.Capabilities.{is_value}
 use Rattle.gpkt.specs.Change.{Change}
-use Rattle.ggrammar.specs.Grammar.{Judge, Open, Whole, IsOpen, IsWhole}
+use Rattle.ggrammar.specs.Grammar.{Judge, Whole, IsOpen, IsWhole}
 use Rattle.ggrammar.specs.Kinds.{ReadsMessage}
 use Rattle.ggrammar.specs.MessageReading.{HasTaken}
 use Rattle.ggrammar.specs.Ids.{id_of_text}
@@ -20,11 +20,11 @@ use Rattle.ggrammar.specs.declared.fault.Why.TheVariants as why
 use Rattle.gform.specs.declared.form.Form.{Form}
 use Rattle.gform.specs.declared.form.Form.TheVariants as form
 use Rattle.gform.specs.declared.section.End.{End}
-use Rattle.gform.specs.Rows.{Row, Found, Value, Mark, AnId, APrefix, ANumber, AWord, find_row, id_or_bad, number_of, number_or_bad, value_of}
+use Rattle.gform.specs.Rows.{Found, Value, Mark, AnId, APrefix, id_or_bad, value_of}
 use Rattle.gform.specs.Kept.{Kept}
 use Rattle.gform.specs.Sections.{Section}
 use Rattle.gform.specs.declared.section.End.TheVariants as end
-use Rattle.gform.specs.Reading.{Given, State, Outcome, Goes, Ends, Reading, HoldsPackets, LeavesNothing, Says, after, at_named, at_text, brings, in_section, in_section_if_any, judge, judge_from, next, outcome_at, run, start, verdict_of, with_row}
+use Rattle.gform.specs.Reading.{Given, State, Outcome, Reading, HoldsPackets, LeavesNothing, Says, after, at_named, brings, in_section, in_section_if_any, judge, judge_from, next, outcome_at, run, start, with_row}
 use Rattle.gform.proofs.OpenLemmas.{GoesBy, GoesTo, goes_text, goes_on, peer_none, end_goes, open_first, open_more, whole_ends}
 use Rattle.gform.proofs.ReadingLemmas.{run-push}
 

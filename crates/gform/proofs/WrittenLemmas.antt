@@ -1,34 +1,31 @@
 -- What is written of a row is read as what its field keeps.
 use Rattle.std.proofs.Common.{◌≡◌, ℕ, zero, suc, ◌+◌, ◌<◌, ◌≤◌, Bool, true, false, cond, not, ◌&&◌, ◌||◌, List, [], ◌∷◌, ◌++◌, length, map, Option, Some, None, Result, Ok, Err, refl, sym, ap, subst, ◌∙◌, arith, append_assoc, append-nil, ◌⊎◌, inl, inr}
-use Rattle.std.specs.Prelude.{slice_get, slice_set, slice_index_or, nat_lt, is_none, IsTrue}
+use Rattle.std.specs.Prelude.{slice_get, slice_set, nat_lt, is_none}
 use Rattle.std.specs.Str.{bytes_eq}
-use Rattle.std.specs.Fmt.{decimal}
 use Rattle.std.proofs.lemmas.Bool.{lt-ltb, and_parts}
-use Rattle.std.proofs.lemmas.Option.{slice_get-get_or, slice_get_within}
-use Rattle.std.proofs.lemmas.List.{length-set, get_or-set_same, length-append}
-use Rattle.gpkt.specs.Packets.{Bytes, Packet, Data, text}
+use Rattle.std.proofs.lemmas.List.{length-append}
+use Rattle.gpkt.specs.Packets.{Bytes, Packet, text}
 use Rattle.gpkt.specs.Laws.{TextOfLine}
-use Rattle.gname.specs.Ids.{id_text, IsIdOf}
-use Rattle.gname.specs.Names.{IsPrefix, prefix_fault}
+use Rattle.gname.specs.Ids.{id_text}
+use Rattle.gname.specs.Names.{prefix_fault}
 use Rattle.gname.specs.Laws.{IdsHaveOneFormat, IdsHaveTexts}
 use Rattle.gname.specs.Formats.{format_name}
 use Rattle.gname.specs.declared.formats.Format.{Format}
 use Rattle.gname.specs.declared.formats.Format.TheVariants.{Sha1, Sha256}
-use Rattle.ggrammar.specs.Capabilities.{is_value, is_word_value}
-use Rattle.ggrammar.specs.Ids.{id_of_text}
+use Rattle.ggrammar.specs.Capabilities.{is_value}
 use Rattle.ggrammar.specs.Texts.{text_packet}
 use Rattle.ggrammar.specs.PeerErrors.{peer_error}
-use Rattle.ggrammar.specs.Grammar.{Judge, Verdict, Open, IsOpen}
+use Rattle.ggrammar.specs.Grammar.{Open, IsOpen}
 use Rattle.ggrammar.specs.declared.fault.Why.{Why}
 use Rattle.ggrammar.specs.declared.fault.Why.TheVariants as why
 use Rattle.ggrammar.proofs.IdLemmas.{is_spelt, id_spells}
 use Rattle.gform.specs.declared.form.Form.{Form}
 use Rattle.gform.specs.declared.form.Form.TheVariants as form
-use Rattle.gform.specs.Rows.{limit_in, Row, Found, find_row, Value, Mark, AnId, APrefix, ANumber, AWord, value_of, id_or_bad, number_or_bad, number_of, is_once, is_listed, is_counted, is_alone, one_if, place_after, max_texts}
+use Rattle.gform.specs.Rows.{limit_in, Row, find_row, Value, Mark, AnId, APrefix, ANumber, AWord, value_of, id_or_bad, number_or_bad, is_once, is_listed, is_counted, is_alone, one_if, place_after, max_texts}
 use Rattle.gform.specs.Kept.{Kept, Nothing, Marked, Ids, Prefixes, Number, Word, is_kept, ids_in, prefixes_in, count_in, with_value}
 use Rattle.gform.specs.Sections.{Section}
-use Rattle.gform.specs.Reading.{Given, State, Outcome, Goes, Ends, Stops, has_room, with_row, at_kept, at_value, at_row, at_found, at_text, is_kept_at, in_section, in_section_if_any, unless_peer, outcome_at, verdict_of, after, next, run, judge_from}
-use Rattle.gform.specs.Writing.{value_print, values_in, kept_at, value_packet, row_packets, rows_packets, IsValueOf, AllValues, most_of, most, IsFull, IsRowKept, AreKept, counted_in, times, fill}
+use Rattle.gform.specs.Reading.{Given, State, Outcome, Goes, Ends, Stops, has_room, with_row, at_kept, at_value, at_found, at_text, is_kept_at, in_section_if_any, unless_peer, outcome_at, verdict_of, after, next, run, judge_from}
+use Rattle.gform.specs.Writing.{value_print, values_in, kept_at, value_packet, row_packets, rows_packets, IsValueOf, AllValues, most_of, IsFull, AreKept, counted_in, times, fill}
 use Rattle.gform.proofs.NumberLemmas.{number_is_read}
 
 -- ---- a value reads back

@@ -1,9 +1,10 @@
 -- What reading a table comes to: each packet takes the state on, ends the message, or is refused for a reason.
-use Rattle.std.specs.Prelude.{◌≡◌, ℕ, ◌+◌, Bool, true, false, ◌&&◌, ◌||◌, not, List, [], ◌∷◌, if◌then◌else◌, Option, Some, None, Result, Ok, Err}
-use Rattle.std.specs.Prelude.{nat_lt, slice_get, slice_index_or, slice_set}
+use Rattle.std.specs.Prelude.{◌≡◌, ℕ, ◌+◌, Bool, true, false, ◌&&◌, ◌||◌, not, List, [], ◌∷◌, if◌then◌else◌}
+use Rattle.std.specs.Prelude.{Option, Some, None, Result, Ok, Err}
+use Rattle.std.specs.Prelude.{nat_lt, slice_get, slice_set}
 use Rattle.gpkt.specs.Packets.{Bytes, Packet, Data, Flush, Delim, ResponseEnd, text}
 use Rattle.gname.specs.declared.formats.Format.{Format}
-use Rattle.gname.specs.declared.formats.Format.TheVariants.{Sha1, Sha256}
+use Rattle.gname.specs.declared.formats.Format.TheVariants.{Sha256}
 use Rattle.ggrammar.specs.Faults.{kept_text}
 use Rattle.ggrammar.specs.Grammar.{Verdict, Open, Whole, Refused, IsWhole}
 use Rattle.ggrammar.specs.PeerErrors.{peer_error}
@@ -13,7 +14,8 @@ use Rattle.gform.specs.declared.form.Form.{Form}
 use Rattle.gform.specs.declared.limits.Limits.{Limits}
 use Rattle.gform.specs.declared.section.End.{End}
 use Rattle.gform.specs.declared.section.End.TheVariants as end
-use Rattle.gform.specs.Rows.{Row, Value, Found, find_row, value_of, is_once, is_listed, is_counted, value_brings, place_after, limit_in, max_texts, one_if}
+use Rattle.gform.specs.Rows.{Row, Value, Found, find_row, value_of, is_once, is_listed, is_counted}
+use Rattle.gform.specs.Rows.{value_brings, place_after, limit_in, max_texts, one_if}
 use Rattle.gform.specs.Kept.{Kept, Nothing, is_kept, count_in, with_value}
 use Rattle.gform.specs.Sections.{Section, other_why}
 

@@ -6,7 +6,10 @@ use Rattle.gform.specs.declared.limits.Limit.TheVariants as limit
 use Rattle.gform.specs.declared.section.End.TheVariants as end
 use Rattle.gform.specs.declared.section.Other.TheVariants as other
 use Rattle.gform.specs.declared.request.RequestField.{RequestField}
-use Rattle.gform.specs.declared.request.RequestField.TheVariants.{LsRefs, Fetch, Agent, ObjectFormat, Peel, Symrefs, Unborn, RefPrefix, ThinPack, NoProgress, IncludeTag, OfsDelta, Want, Have, Done}
+use Rattle.gform.specs.declared.request.RequestField.TheVariants.{LsRefs, Fetch, Agent, ObjectFormat, Peel}
+use Rattle.gform.specs.declared.request.RequestField.TheVariants.{Symrefs, Unborn, RefPrefix, ThinPack}
+use Rattle.gform.specs.declared.request.RequestField.TheVariants.{NoProgress, IncludeTag, OfsDelta, Want, Have}
+use Rattle.gform.specs.declared.request.RequestField.TheVariants.{Done}
 use Rattle.gform.specs.contracts.request.RequestField.{the_type as the_fields}
 use Rattle.gform.specs.Rows.{Row}
 use Rattle.gform.specs.Sections.{Section}

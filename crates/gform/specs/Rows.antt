@@ -1,5 +1,6 @@
 -- A row is a text of a message: its word, the form of what follows, and the field that keeps it.
-use Rattle.std.specs.Prelude.{◌≡◌, ℕ, Bool, true, false, List, [], ◌∷◌, if◌then◌else◌, Option, Some, None, Result, Ok, Err, is_none, nat_le, ◌&&◌, ◌*◌, ◌+◌, ◌-◌, length}
+use Rattle.std.specs.Prelude.{ℕ, Bool, true, false, List, [], ◌∷◌, if◌then◌else◌, Option, Some, None, Result}
+use Rattle.std.specs.Prelude.{Ok, Err, is_none, nat_le, ◌&&◌, ◌*◌, ◌+◌, ◌-◌, length}
 use Rattle.std.specs.Str.{bytes_eq}
 use Rattle.gpkt.specs.Packets.{Bytes}
 use Rattle.gname.specs.Ids.{Id}

@@ -1,5 +1,6 @@
 -- What is written of the fields of a message: each section's rows in their order, a text for each value.
-use Rattle.std.specs.Prelude.{◌≡◌, ◌≤◌, ◌<◌, ◌+◌, ◌^◌, ℕ, Bool, true, false, not, ◌&&◌, ◌||◌, List, [], ◌∷◌, ◌++◌, map, length, IsTrue, Option, Some, None, slice_index_or, slice_set, nat_eq}
+use Rattle.std.specs.Prelude.{◌≤◌, ◌<◌, ◌+◌, ◌^◌, ℕ, Bool, true, false, List, [], ◌∷◌, ◌++◌, map, length}
+use Rattle.std.specs.Prelude.{IsTrue, slice_index_or, slice_set}
 use Rattle.std.specs.Fmt.{decimal}
 use Rattle.gpkt.specs.Packets.{Bytes, Packet, Delim, Flush}
 use Rattle.gname.specs.Ids.{id_text, IsIdOf}
@@ -11,7 +12,7 @@ use Rattle.ggrammar.specs.Texts.{text_packet}
 use Rattle.gform.specs.declared.form.Form.{Form}
 use Rattle.gform.specs.declared.form.Form.TheVariants as form
 use Rattle.gform.specs.Rows.{Row, Value, Mark, AnId, APrefix, ANumber, AWord, is_listed, is_counted, limit_in}
-use Rattle.gform.specs.Kept.{Kept, Nothing, Marked, Ids, Prefixes, Number, Word, with_value}
+use Rattle.gform.specs.Kept.{Kept, Nothing, Marked, Ids, Prefixes, Number, Word}
 use Rattle.gform.specs.Reading.{Given}
 
 -- ---- the printer

@@ -1,4 +1,4 @@
-//! What a field keeps in memory.
+//! Values that a field keeps in memory.
 
 ghost use Rattle.std.specs.Prelude.{◌≡◌, ◌≤◌, ℕ, length, OnOk, true};
 ghost use Rattle.gname.specs.declared.formats.Format.{Format};
@@ -18,7 +18,7 @@ use gpkt::{LineWriter, Sink, WriteFault};
 use std::alloc::{AllocError, Allocator};
 use std::marker::Model;
 
-/// What a field keeps in memory.
+/// The values of a field that take memory.
 #[derive(Drop)]
 pub(crate) enum KeptIn<A: Allocator + Copy> {
     Nothing,

@@ -23,7 +23,7 @@ use itoa::Buffer;
 use std::alloc::{AllocError, Allocator, Global};
 use std::marker::Model;
 
-/// What a field keeps that takes no memory.
+/// A value that a field keeps without memory.
 #[derive(Clone, Copy, Debug, PartialEq, Eq)]
 pub(crate) enum Plain {
     Nothing,
@@ -240,7 +240,7 @@ fn word_of<A: Allocator + Copy>(columns: &[Column<A>], field: usize) -> Option<&
     }
 }
 
-// Makes columns up to that of a field. They keep nothing, so nothing else changes.
+// Makes columns up to that of a field. They keep nothing, so the fields keep what they kept.
 fn make_room<A: Allocator + Copy>(
     columns: &mut Vec<Column<A>, A>,
     field: usize,

@@ -66,7 +66,7 @@ pub fn reads_exactly<T: Table>()
     kinds_are_read::<Tables<T>>();
 }
 
-/// What is written of a request says it, and each payload fits a packet.
+/// The packets that are written of a request say it, and each payload fits a packet.
 pub fn canonical_says()
     ensures { (given : Given) → CanonicalSays (Says request given) (IsValue given)
         (IsCanonical given) }
@@ -77,7 +77,7 @@ pub fn canonical_says()
     text_reads_back();
 }
 
-/// What is written of a request reads back, whatever follows.
+/// A request that is written reads back, whatever follows.
 pub fn reads_back()
     ensures { (given : Given) → ReadsBackIfAny (judge request given) (brings request given)
         (Says request given) (IsValue given) (IsCanonical given) }

@@ -18,10 +18,10 @@ use std::alloc::Allocator;
 /// Reads a message of a table to its end, and nothing after it. `None` where the input ends before the first
 /// packet. After a message the line reader has not failed, and the next one can be read.
 ///
-/// The fault has the position of the first packet that does not fit, counted from 0, and why. What the line reader
-/// refuses comes first ([`Why::Line`]), then the end of the input ([`Why::Ended`], after the first packet alone),
-/// then what the table refuses. [`Why::Memory`] comes only at an id, a prefix or a word. What was read, a refused
-/// packet too, is taken from the source. The line reader has then failed exactly where it refused the packet itself;
+/// The fault has the position of the first packet that does not fit, counted from 0, and why. A fault of the line
+/// reader comes first ([`Why::Line`]). Then comes the end of the input ([`Why::Ended`], after the first packet
+/// alone), and then a refusal of the table. [`Why::Memory`] comes only at an id, a prefix or a word. All that was
+/// read, a refused packet too, is taken from the source. The line reader has then failed exactly where it refused the packet itself;
 /// one that had failed before is refused at once, at packet 0.
 pub fn read_table<T: Table, S: Source, A: Allocator + Copy, B: Allocator + Copy>(
     reader: &mut LineReader<S, A>,

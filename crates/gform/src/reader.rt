@@ -67,7 +67,7 @@ impl<T: Table, A: Allocator + Copy> TableReader<T, A> {
         }
     }
 
-    /// What its fields keep, once the last packet is taken.
+    /// Its fields, once the last packet is taken.
     pub fn finish(self) -> Fields<A>
         ensures { result ≡ self.state.fields }
     {

@@ -160,7 +160,7 @@ impl Table for RequestField {
     }
 }
 
-/// What a request with these fields is.
+/// The kind of request that has these fields.
 pub fn kind_of<A: Allocator + Copy>(fields: &Fields<A>) -> RequestKind
     ensures { result ≡ kind_of fields.now }
 {
@@ -176,7 +176,7 @@ pub fn kind_of<A: Allocator + Copy>(fields: &Fields<A>) -> RequestKind
 /// Writes a request with these fields: its command, a capability and an argument for each value, in the order of
 /// the table, and the flush that ends it.
 ///
-/// Where it fails a beginning of the request may stand written.
+/// A beginning of the request may be written if the call fails.
 pub fn write_fields<A: Allocator + Copy, W: Sink>(
     format: Format,
     fields: &Fields<A>,

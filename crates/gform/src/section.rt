@@ -2,7 +2,7 @@
 
 use crate::form::Form;
 
-/// What a packet without a text does in a section.
+/// The effect of a packet without a text in a section.
 #[derive(Clone, Copy, Debug, PartialEq, Eq)]
 pub enum End {
     /// It ends the message.
@@ -33,9 +33,9 @@ pub struct Section<F: 'static> {
     pub rows: &'static [Row<F>],
     /// Why another text is refused.
     pub other: Other,
-    /// What a flush does.
+    /// The effect of a flush.
     pub flush: End,
-    /// What a delimiter does.
+    /// The effect of a delimiter.
     pub delim: End,
     /// The field that must be kept before the section ends, where the format is not SHA-1.
     pub needs: Option<F>,

@@ -1,4 +1,4 @@
-use Rattle.std.proofs.Common.{List, [], ◌∷◌, ◌++◌, ap, ◌∙◌}
+use Rattle.std.proofs.Common.{[], ◌∷◌, ◌++◌, ap, ◌∙◌}
 use Rattle.gform.specs.Kept.{Kept}
 use Rattle.gform.specs.Views.{kept_by}
 use Rattle.gform.proofs.FieldLemmas.{push_nothing}

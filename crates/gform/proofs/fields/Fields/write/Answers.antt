@@ -1,12 +1,12 @@
-use Rattle.std.proofs.Common.{◌≡◌, Bool, true, false, List, Option, Some, None, subst, sym, ap, ◌∙◌}
+use Rattle.std.proofs.Common.{◌≡◌, false, List, subst, sym, ap, ◌∙◌}
 use Rattle.std.specs.Option.{option_copied}
 use Rattle.std.specs.Prelude.{slice_get}
-use Rattle.gpkt.specs.Packets.{Bytes, Packet}
+use Rattle.gpkt.specs.Packets.{Packet}
 use Rattle.ggrammar.specs.Writing.{WritesPart}
 use Rattle.gform.specs.Kept.{Kept}
 use Rattle.gform.specs.Reading.{is_kept_at}
 use Rattle.gform.specs.Views.{row_in}
-use Rattle.gform.specs.Writing.{IsShort, kept_at, row_packets}
+use Rattle.gform.specs.Writing.{IsShort}
 use Rattle.gform.proofs.FieldLemmas.{kept_column, kept_plain, field_kept, row_of}
 use Rattle.gform.proofs.fields.Fields.write.Goals as goal
 use Rattle.gform.proofs.fields.Fields.write.Goals.{in_default-column_at-via-in-Some-column_at+else-is_kept, in_default-column_at-via-in_default-column_at}
