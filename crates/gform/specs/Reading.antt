@@ -24,7 +24,7 @@ pub record Given : Type 0 where
   pub format : Format
   pub limits : Limits
 
--- where a message stands, how many texts were counted, and what its fields keep
+-- the section that a message has come to, how many texts were counted, and what its fields keep
 pub record State : Type 0 where
   pub place : ℕ
   pub count : ℕ

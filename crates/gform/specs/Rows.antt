@@ -70,7 +70,7 @@ abbrev pub number_from : ℕ → Bytes → Option ℕ
 number_from number [] = Some number
 number_from number (byte ∷ bytes) = if is_digit byte then number_from (number * 10 + (byte - 48)) bytes else None
 
--- the number that 1 to 18 decimal digits stand for
+-- the number that 1 to 18 decimal digits spell
 unfoldable pub number_of : Bytes → Option ℕ
 number_of text = if nat_le 1 (length text) && nat_le (length text) 18 then number_from 0 text else None
 

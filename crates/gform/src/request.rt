@@ -47,7 +47,7 @@ pub enum RequestKind {
     Fetch,
 }
 
-/// How much of a request is taken where a program chooses nothing else.
+/// How much of a request is taken unless a program chooses other limits.
 pub const REQUEST_LIMITS: Limits = Limits {
     prefixes: 64,
     wants: 1_024,

@@ -67,7 +67,7 @@ fn is_bad_byte(byte: u8) -> bool
     byte < 32 || byte == 127 || b" ~^:?*[\\".contains(&byte)
 }
 
-/// The number that 1 to 18 decimal digits stand for.
+/// The number that 1 to 18 decimal digits spell.
 #[tactic(auto, unfolding(crate::specs::Rows::number_of))]
 fn number_of(text: &[u8]) -> Option<u64>
     ensures { result ≡ number_of text.now }
