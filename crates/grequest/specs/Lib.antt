@@ -12,3 +12,4 @@ pub mod RequestValues
 pub mod steps
 pub use Rattle.ggrammar.specs.Grammar
 pub use Rattle.ggrammar.specs.MessageReading
+pub mod Table

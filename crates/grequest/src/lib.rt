@@ -55,6 +55,7 @@ mod read;
 mod reading;
 mod request;
 mod section;
+pub mod table;
 mod write;
 
 pub use crate::fetch::{FetchRequest, MAX_HAVES, MAX_WANTS};

@@ -1,0 +1,8 @@
+use Rattle.grequest.proofs.TableArguments.{ls_alike, fetch_alike}
+use Rattle.grequest.proofs.table.arguments_are_judged_alike.Goals as goal
+
+pub returns : goal.returns
+returns c = record {
+  ls_refs = λ format formats arguments asked line. ls_alike format arguments formats asked.agent asked.flags line asked.prefixes;
+  fetch = λ format formats arguments asked line. fetch_alike format arguments formats asked.agent asked.flags line asked.wants asked.haves;
+}
