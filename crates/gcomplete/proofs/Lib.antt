@@ -1,0 +1,6 @@
+pub mod Parts
+pub mod Names
+pub mod Closing
+pub mod Batching
+pub mod Keeping
+pub mod Sending

@@ -1,0 +1,66 @@
+-- What is kept of objects that come together, and of a closed store: ids, types and links, and no bytes.
+use Rattle.std.specs.Prelude.{◌≡◌, List, [], All, Option, Some}
+use Rattle.std.specs.Map.{lookup}
+use Rattle.std.specs.Str.{bytes_eq}
+use Rattle.gname.specs.Ids.{Id}
+use Rattle.gitobject.specs.Trees.{link_of}
+use Rattle.gitobject.specs.declared.links.Link.{Link}
+use Rattle.gitobject.specs.declared.types.ObjectType.{ObjectType}
+use Rattle.gcomplete.specs.Stores.{AreTypesOf, GitObject, Store, Types, kind_at}
+use Rattle.gcomplete.specs.Closed.{HasLink, HasLinks, IsClosed}
+use Rattle.gcomplete.specs.Naming.{IsNamed}
+use Rattle.gcomplete.specs.declared.needs.Need.{Need}
+
+-- ids to which objects link, each with the type of the link and an object that has it
+abbrev pub Needs : Type 0
+Needs = List (Id × Need)
+
+abbrev pub need_at : Needs → Id → Option Need
+need_at needs a = lookup (bytes_eq a) needs
+
+-- the link is noted
+pub record IsNoted (needs : Needs) (link : Link) : Type 0 where
+  pub need : Need
+  pub noted : need_at needs link.id ≡ Some need
+  pub typed : need.kind ≡ link.kind
+
+-- what is kept of objects that come together
+pub record Noted : Type 0 where
+  pub types : Types
+  pub needs : Needs
+
+-- each link of an object is noted
+pub record AreLinksNoted (needs : Needs) (o : GitObject) : Type 0 where
+  pub links : List Link
+  pub reads : HasLinks o links
+  pub each : All (IsNoted needs) links
+
+-- What is kept of the objects of a batch: their ids and types, and their links. Nothing else is kept, and each object
+-- has its own id.
+pub record IsBatchOf (noted : Noted) (objects : Store) : Type 0 where
+  pub types : AreTypesOf noted.types objects
+  pub named : IsNamed objects
+  pub each : (a : Id) (o : GitObject) → objects a ≡ Some o → AreLinksNoted noted.needs o
+  pub only : (a : Id) (need : Need) → need_at noted.needs a ≡ Some need → HasLink objects need.by (link_of need.kind a)
+
+-- there are such objects
+abbrev pub HasObjects : Noted → Type 0
+HasObjects noted = (objects : Store) × IsBatchOf noted objects
+
+-- what is kept of no objects
+abbrev pub nothing : Noted
+nothing = record { types = []; needs = [] }
+
+-- What is kept of objects that were judged: their ids and types. Their store is closed, and each has its own id.
+pub record AreJudged (kept : Types) (objects : Store) : Type 0 where
+  pub types : AreTypesOf kept objects
+  pub named : IsNamed objects
+  pub closed : IsClosed objects
+
+-- there are such objects
+abbrev pub HasJudged : Types → Type 0
+HasJudged kept = (objects : Store) × AreJudged kept objects
+
+-- what was kept is kept still
+abbrev pub KeepsTypes : Types → Types → Type 0
+KeepsTypes old new = (a : Id) (kind : ObjectType) → kind_at old a ≡ Some kind → kind_at new a ≡ Some kind

@@ -1,0 +1,9 @@
+pub mod Stores
+pub mod Closed
+pub mod Naming
+pub mod Batches
+pub mod Adding
+pub mod Rereading
+pub mod Sending
+pub mod Laws
+pub mod steps

@@ -1,0 +1,40 @@
+-- The two tests of a batch that is to come to a store.
+use Rattle.std.specs.Prelude.{◌≡◌, Some}
+use Rattle.gname.specs.Ids.{Id}
+use Rattle.gitobject.specs.Trees.{link_of}
+use Rattle.gitobject.specs.declared.links.Link.{Link}
+use Rattle.gitobject.specs.declared.types.ObjectType.{ObjectType}
+use Rattle.gcomplete.specs.Stores.{Types, kind_at}
+use Rattle.gcomplete.specs.Batches.{Needs, need_at}
+use Rattle.gcomplete.specs.Adding.{HasOtherType, Leads}
+use Rattle.gcomplete.specs.declared.fault.BatchFault.{BatchFault}
+use Rattle.gcomplete.specs.declared.fault.BatchFault.TheVariants.{Malformed, Collision, Clash, Missing, Memory}
+use Rattle.gcomplete.specs.declared.needs.Need.{Need}
+
+-- what is needed by the link of an object
+abbrev pub need_of : Id → Link → Need
+need_of id link = record { kind = link.kind; by = id }
+
+-- no id of the batch is kept with another type
+abbrev pub AreFree : Types → Types → Type 0
+AreFree store batch = (a : Id) (kind other : ObjectType) → kind_at batch a ≡ Some kind → kind_at store a ≡ Some other → other ≡ kind
+
+-- an id of the batch is kept with another type
+abbrev pub IsTaken : Types → Types → BatchFault → Type 0
+IsTaken store batch (Collision a) = (kind : ObjectType) × (kind_at batch a ≡ Some kind) × HasOtherType store a kind
+IsTaken store batch (Malformed a) = ⊥
+IsTaken store batch (Clash a link) = ⊥
+IsTaken store batch (Missing a link) = ⊥
+IsTaken store batch Memory = ⊥
+
+-- each link that is noted leads to an object
+abbrev pub AllLead : Types → Types → Needs → Type 0
+AllLead store batch needs = (a : Id) (need : Need) → need_at needs a ≡ Some need → Leads store batch (link_of need.kind a)
+
+-- a link that is noted leads to no object
+abbrev pub IsUnmet : Types → Types → Needs → BatchFault → Type 0
+IsUnmet store batch needs (Missing a link) = (need_at needs link.id ≡ Some (need_of a link)) × ¬ (Leads store batch link)
+IsUnmet store batch needs (Malformed a) = ⊥
+IsUnmet store batch needs (Collision a) = ⊥
+IsUnmet store batch needs (Clash a link) = ⊥
+IsUnmet store batch needs Memory = ⊥

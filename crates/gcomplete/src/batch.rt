@@ -1,0 +1,152 @@
+//! Objects that come together.
+
+ghost use Rattle.std.specs.Prelude.{◌≡◌, ◌↔◌, None, IsTrue, MatchResult, Some};
+ghost use Rattle.gitobject.specs.Naming.{id_of};
+ghost use Rattle.gcomplete.specs.Adding.{AddsObject, IsAddFault, IsFit, IsRefused};
+ghost use Rattle.gcomplete.specs.Batches.{HasObjects, nothing};
+ghost use Rattle.gcomplete.specs.Closed.{HasLinks};
+ghost use Rattle.gcomplete.specs.Stores.{kind_at, object_of};
+
+use crate::checking::{check_needs, check_types};
+use crate::fault::BatchFault;
+use crate::needs::NeedMap;
+use crate::types::TypeMap;
+use gitobject::{Link, ObjectFault, ObjectType, links_of};
+use gname::Oid;
+use std::alloc::{Allocator, Global};
+use std::marker::Model;
+
+/// Objects that come together, such as those of a pack. Of each object its id, its type and its links are kept, and none
+/// of its bytes. Contracts see what is kept.
+#[derive(Drop)]
+pub struct Batch<A: Allocator + Copy = Global> {
+    alloc: A,
+    types: TypeMap<A>,
+    needs: NeedMap<A>,
+}
+
+impl<A: Allocator + Copy> Model for Batch<A> {
+    ghost use Rattle.gcomplete.specs.Batches.{HasObjects, Noted};
+
+    ghost Value = { Noted };
+
+    ghost view = { λ it. record { types = it.types; needs = it.needs } };
+
+    ghost invariant = { λ it. HasObjects (record { types = it.types; needs = it.needs }) };
+}
+
+impl<A: Allocator + Copy> Batch<A> {
+    /// No objects. It takes no memory.
+    pub fn new(alloc: A) -> Batch<A>
+        ensures { result ≡ nothing }
+    {
+        Batch {
+            alloc,
+            types: TypeMap::new(alloc),
+            needs: NeedMap::new(alloc),
+        }
+    }
+
+    /// A law: what is kept is that of some objects.
+    pub fn laws(&self)
+        ensures { HasObjects self.now }
+    {
+        let _alloc = &self.alloc;
+    }
+
+    /// The type of the object with this id; `None` if it is not in the batch.
+    pub fn kind_of(&self, id: &Oid) -> Option<ObjectType>
+        ensures { result ≡ kind_at self.now.types id.now }
+    {
+        self.types.get(id)
+    }
+
+    /// Adds an object, whose id the caller has computed. An object that came before is not read again.
+    ///
+    /// It fails with `Collision` if an object of another type has the id, with `Malformed`, with `Clash` at the first link
+    /// to an id to which another link leads with another type, and with `Memory`. Then the batch is empty, since a pack is
+    /// refused for each of its objects.
+    pub fn add(&mut self, id: &Oid, kind: ObjectType, body: &[u8]) -> Result<(), BatchFault>
+        requires { id.now ≡ id_of kind body.now }
+        ensures { MatchResult result
+            (λ _. AddsObject self.old id.now (object_of kind body.now) self.new)
+            (λ fault. (self.new ≡ nothing) × IsAddFault self.old id.now (object_of kind body.now) fault) }
+    {
+        match self.types.get(id) {
+            Some(kept) if kept == kind => Ok(()),
+            Some(_) => self.refuse(BatchFault::Collision { id: *id }),
+            None => self.add_new(id, kind, body),
+        }
+    }
+
+    // Adds an object whose id is new.
+    fn add_new(&mut self, id: &Oid, kind: ObjectType, body: &[u8]) -> Result<(), BatchFault>
+        requires name { id.now ≡ id_of kind body.now }
+        requires new { kind_at self.old.types id.now ≡ None }
+        ensures { MatchResult result
+            (λ _. AddsObject self.old id.now (object_of kind body.now) self.new)
+            (λ fault. (self.new ≡ nothing) × IsAddFault self.old id.now (object_of kind body.now) fault) }
+    {
+        match links_of(self.alloc, kind, body) {
+            Ok(links) => self.note(id, kind, body, links.as_slice()),
+            Err(ObjectFault::Malformed) => self.refuse(BatchFault::Malformed { id: *id }),
+            Err(ObjectFault::Memory) => self.refuse(BatchFault::Memory),
+        }
+    }
+
+    // Notes an object with these links.
+    fn note(
+        &mut self,
+        id: &Oid,
+        kind: ObjectType,
+        body: &[u8],
+        links: &[Link],
+    ) -> Result<(), BatchFault>
+        requires name { id.now ≡ id_of kind body.now }
+        requires new { kind_at self.old.types id.now ≡ None }
+        requires reads { HasLinks (object_of kind body.now) links.now }
+        ensures { MatchResult result
+            (λ _. AddsObject self.old id.now (object_of kind body.now) self.new)
+            (λ fault. (self.new ≡ nothing) × IsAddFault self.old id.now (object_of kind body.now) fault) }
+    {
+        let _size = body.len();
+        if let Err(fault) = self.needs.note_all(id, links) {
+            self.types.clear();
+            self.needs.clear();
+            return Err(fault);
+        }
+        if let Err(_) = self.types.put(id, kind) {
+            self.types.clear();
+            self.needs.clear();
+            return Err(BatchFault::Memory);
+        }
+        Ok(())
+    }
+
+    // Fails with this fault, and leaves no objects.
+    fn refuse(&mut self, fault: BatchFault) -> Result<(), BatchFault>
+        ensures { MatchResult result (λ _. ⊥) (λ why. (self.new ≡ nothing) × (why ≡ fault)) }
+    {
+        self.types.clear();
+        self.needs.clear();
+        Err(fault)
+    }
+
+    /// Tests that the batch may come to a store with these ids and types.
+    pub(crate) fn check(&self, store: &TypeMap<A>) -> Result<(), BatchFault>
+        ensures { MatchResult result (λ _. IsFit store.now self.now) (IsRefused store.now self.now) }
+    {
+        if let Err(fault) = check_types(store, &self.types) {
+            return Err(fault);
+        }
+        check_needs(store, &self.types, &self.needs)
+    }
+
+    /// The ids and the types.
+    pub(crate) fn into_types(self) -> TypeMap<A>
+        ensures { result ≡ self.types }
+    {
+        let Batch { types, .. } = self;
+        types
+    }
+}

@@ -1,0 +1,124 @@
+//! The ids to which objects link.
+
+ghost use Rattle.std.specs.Prelude.{◌≡◌, ◌<◌, [], ◌∷◌, MatchResult, None, Some, length, slice_get};
+ghost use Rattle.gcomplete.specs.Batches.{need_at};
+ghost use Rattle.gcomplete.specs.steps.Keeping.{IsNeedFault, IsOneFault, Notes};
+ghost use Rattle.gcomplete.specs.steps.Checking.{need_of};
+
+use crate::fault::BatchFault;
+use crate::types::IdHasher;
+use gitobject::{Link, ObjectType};
+use gname::Oid;
+use indexmap::IndexMap;
+use std::alloc::Allocator;
+use std::hash::BuildHasherDefault;
+use std::marker::Model;
+
+/// What is needed under an id.
+#[derive(Clone, Copy, Debug, Drop)]
+pub struct Need {
+    /// The type of the object.
+    pub kind: ObjectType,
+    /// The first object that links to it.
+    pub by: Oid,
+}
+
+/// Ids to which objects link, each with what is needed. Contracts see the list of them.
+#[derive(Drop)]
+pub(crate) struct NeedMap<A: Allocator + Copy> {
+    map: IndexMap<Oid, Need, IdHasher, A>,
+}
+
+impl<A: Allocator + Copy> Model for NeedMap<A> {
+    ghost use Rattle.gcomplete.specs.Batches.{Needs};
+
+    ghost Value = { Needs };
+
+    ghost view = { λ it. it.map.entries };
+}
+
+impl<A: Allocator + Copy> NeedMap<A> {
+    /// No needs. It takes no memory.
+    pub(crate) fn new(alloc: A) -> NeedMap<A>
+        ensures { result ≡ [] }
+    {
+        NeedMap {
+            map: IndexMap::with_hasher(alloc, BuildHasherDefault::new()),
+        }
+    }
+
+    /// How many ids there are.
+    pub(crate) fn len(&self) -> usize
+        ensures { result ≡ length self.now }
+    {
+        self.map.len()
+    }
+
+    /// The link at a position, and the first object that has it.
+    pub(crate) fn at(&self, place: usize) -> (Oid, Link)
+        requires { place < length self.now }
+        ensures at { slice_get self.now place ≡ Some (result.1.id, need_of result.0 result.1) }
+        ensures noted { need_at self.now result.1.id ≡ Some (need_of result.0 result.1) }
+    {
+        let (id, need) = self.map.get_index(place).unwrap();
+        let link = Link {
+            id: *id,
+            kind: need.kind,
+        };
+        (need.by, link)
+    }
+
+    /// Notes the links of an object. Links to one id must have one type.
+    ///
+    /// It fails with `Clash` at the first link that has another type than a link before, and with `Memory`. Some links may
+    /// be noted then.
+    pub(crate) fn note_all(&mut self, id: &Oid, links: &[Link]) -> Result<(), BatchFault>
+        ensures { MatchResult result (λ _. Notes self.old id.now links.now self.new)
+            (IsNeedFault self.old id.now links.now) }
+    {
+        for link in links {
+            if let Err(fault) = self.note(id, link) {
+                return Err(fault);
+            }
+        }
+        Ok(())
+    }
+
+    // Notes a link of an object.
+    fn note(&mut self, id: &Oid, link: &Link) -> Result<(), BatchFault>
+        ensures { MatchResult result (λ _. Notes self.old id.now (link.now ∷ []) self.new)
+            (IsOneFault self.old id.now link.now) }
+    {
+        match self.map.get(&link.id).copied() {
+            Some(need) if need.kind == link.kind => Ok(()),
+            Some(_) => Err(BatchFault::Clash {
+                id: *id,
+                link: *link,
+            }),
+            None => self.note_new(id, link),
+        }
+    }
+
+    // Notes a link of an object, to an id to which no link led.
+    fn note_new(&mut self, id: &Oid, link: &Link) -> Result<(), BatchFault>
+        requires { need_at self.old link.now.id ≡ None }
+        ensures { MatchResult result (λ _. Notes self.old id.now (link.now ∷ []) self.new)
+            (IsOneFault self.old id.now link.now) }
+    {
+        let need = Need {
+            kind: link.kind,
+            by: *id,
+        };
+        match self.map.insert(link.id, need) {
+            Ok(_) => Ok(()),
+            Err(_) => Err(BatchFault::Memory),
+        }
+    }
+
+    /// Leaves no needs.
+    pub(crate) fn clear(&mut self)
+        ensures { self.new ≡ [] }
+    {
+        self.map.clear();
+    }
+}
