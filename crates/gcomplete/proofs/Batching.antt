@@ -1,23 +1,22 @@
 -- Objects that come to a batch.
-use Rattle.std.proofs.Common.{◌≡◌, ◌⊎◌, inl, inr, Bool, true, false, cond, List, [], All, Contains, Option, None, Some, refl, sym, ap, subst, ◌∙◌}
+use Rattle.std.proofs.Common.{◌≡◌, inl, inr, Bool, true, false, cond, List, [], Option, None, Some, refl, sym, ap, subst, ◌∙◌}
 use Rattle.std.specs.Option.{option_map, option_or}
 use Rattle.std.specs.Str.{bytes_eq}
-use Rattle.std.proofs.lemmas.Bool.{cases_Bool, false≢true}
+use Rattle.std.proofs.lemmas.Bool.{cases_Bool}
 use Rattle.std.proofs.lemmas.List.Elements.{All-weaker}
 use Rattle.std.proofs.lemmas.Option.{none-some, same_Some}
 use Rattle.std.proofs.lemmas.Slice.Eq.{bytes_eq-Decides}
 use Rattle.gname.specs.Ids.{Id}
 use Rattle.gitobject.specs.Trees.{link_of}
 use Rattle.gitobject.specs.declared.links.Link.{Link}
-use Rattle.gitobject.specs.declared.types.ObjectType.{ObjectType}
 use Rattle.gcomplete.specs.Stores.{AreTypesOf, GitObject, Store, Types, kind_at, kind_in, kind_of, no_objects, with_object}
 use Rattle.gcomplete.specs.Closed.{HasLink, HasLinks}
-use Rattle.gcomplete.specs.Naming.{IsNameOf, IsNamed}
+use Rattle.gcomplete.specs.Naming.{IsNameOf}
 use Rattle.gcomplete.specs.Batches.{AreLinksNoted, HasObjects, IsBatchOf, IsNoted, Needs, Noted, need_at, nothing}
 use Rattle.gcomplete.specs.Adding.{AddsObject}
 use Rattle.gcomplete.specs.steps.Keeping.{Notes, Puts}
 use Rattle.gcomplete.specs.declared.needs.Need.{Need}
-use Rattle.gcomplete.proofs.Parts.{absent_kind, held_kind, joined_first, joined_second, kind_absent, kind_held}
+use Rattle.gcomplete.proofs.Parts.{absent_kind, held_kind, kind_absent, kind_held}
 
 -- ---- no objects
 
@@ -31,6 +30,9 @@ batch_of_none = record {
 
 pub has_none : HasObjects nothing
 has_none = (no_objects, batch_of_none)
+
+pub emptied : (types : Types) (needs : Needs) → types ≡ [] → needs ≡ [] → HasObjects (record { types = types; needs = needs })
+emptied types needs t n = rw (t, n) has_none
 
 -- ---- stores that are the same under each id
 
@@ -48,7 +50,7 @@ batch_same noted s t same is = record {
 -- ---- one more object
 
 -- what stands under an id in a store with one more object
-one_more : (id : Id) (o : GitObject) → Store
+abbrev one_more : (id : Id) (o : GitObject) → Store
 one_more id o a = cond (bytes_eq id a) (Some o) None
 
 own_stays : (s : Store) (id : Id) (o : GitObject) (a : Id) (q : GitObject) → s a ≡ Some q → with_object s id o a ≡ Some q

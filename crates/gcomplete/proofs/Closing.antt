@@ -1,21 +1,27 @@
 -- Stores that are closed, and how they stay so.
-use Rattle.std.proofs.Common.{◌≡◌, ◌⊎◌, inl, inr, List, All, Contains, Option, None, Some, IsSome, refl, sym, ap, subst, ◌∙◌}
+use Rattle.std.proofs.Common.{◌≡◌, ◌⊎◌, inl, inr, List, [], Contains, Option, None, Some, IsSome, refl, sym, ap, subst, ◌∙◌}
 use Rattle.std.specs.Option.{option_map, option_or}
+use Rattle.std.specs.List.{IsDistinct}
+use Rattle.std.specs.Map.{keys_of, update_all}
+use Rattle.std.specs.Str.{bytes_eq}
+use Rattle.std.proofs.lemmas.Cmp.{nat_list_eq_equiv}
 use Rattle.std.proofs.lemmas.List.Elements.{All-contains, All-weaker}
+use Rattle.std.proofs.lemmas.Map.Made.{update_all_distinct}
 use Rattle.std.proofs.lemmas.Option.{none-some, same_Some}
 use Rattle.gname.specs.Ids.{Id}
 use Rattle.gitobject.specs.Trees.{link_of}
 use Rattle.gitobject.specs.declared.links.Link.{Link}
 use Rattle.gitobject.specs.declared.types.ObjectType.{ObjectType}
 use Rattle.gitobject.proofs.Readings.{links_once}
-use Rattle.gcomplete.specs.Stores.{AreTypesOf, GitObject, Holds, Store, Types, joined, kind_at, kind_in, kind_of}
-use Rattle.gcomplete.specs.Closed.{HasAllLinks, HasLink, HasLinks, IsClosed, IsComplete, LeadsIn, Reaches, here, onward}
+use Rattle.gcomplete.specs.Stores.{AreTypesOf, GitObject, Holds, Store, Types, joined, kind_at, kind_in, kind_of, no_objects}
+use Rattle.gcomplete.specs.Closed.{HasAllLinks, HasLink, IsClosed, IsComplete, LeadsIn, here, onward}
 use Rattle.gcomplete.specs.Naming.{Collide, IsNameOf, IsNamed}
 use Rattle.gcomplete.specs.Batches.{AreJudged, HasJudged, HasObjects, IsBatchOf, IsNoted, KeepsTypes, Noted}
 use Rattle.gcomplete.specs.Adding.{IsFit, IsJoined, Leads}
+use Rattle.gcomplete.specs.Rereading.{IsReadAgain}
 use Rattle.gcomplete.specs.Laws.{ClosedIsComplete, ReadIsComplete}
-use Rattle.gcomplete.proofs.Names.{same_here}
-use Rattle.gcomplete.proofs.Parts.{absent_kind, each_key_or, held_kind, held_object, is_something, joined_first, joined_second, kind_absent, kind_held, object_held, or_nothing, something}
+use Rattle.gcomplete.proofs.Names.{same_here, same_or}
+use Rattle.gcomplete.proofs.Parts.{each_key_or, held_kind, held_object, is_something, joined_first, joined_second, kind_absent, kind_held, object_held, or_nothing, something}
 
 -- ---- closed stores are complete
 
@@ -70,6 +76,12 @@ read_complete types judged read are named there =
       | inl same ↦ inl (read_all types judged read are named there same)
       | inr collide ↦ inr collide
     ]
+
+-- one object that is read again
+pub reread : (types : Types) (a : Id) (o : GitObject) → kind_at types a ≡ Some o.kind → IsNameOf a o → IsReadAgain types a o
+reread types a o kept name objects are =
+    let found = held_kind objects a o.kind (sym (are.types a) ∙ kept) in
+    record { judged = found.0; held = found.1; same = same_or a found.0 o (are.named a found.0 found.1) name }
 
 -- ---- a batch comes to a closed store
 
@@ -161,3 +173,28 @@ keeps_joined types batch new fit joins a kind kept = joins a ∙ by (kind_at bat
     by : (g : Option ObjectType) → kind_at batch.types a ≡ g → option_or (kind_at batch.types a) (kind_at types a) ≡ Some kind
     by None none = ap (λ g. option_or g (kind_at types a)) none ∙ kept
     by (Some other) have = ap (λ g. option_or g (kind_at types a)) have ∙ ap (λ k. Some k) (sym (fit.free a other kind have kept))
+
+-- ---- types in maps
+
+-- what one map has once another was put into it
+pub is_joined : (old batch new inside others : Types) → inside ≡ old → others ≡ batch → IsDistinct bytes_eq (keys_of others)
+    → ((q : Id) → kind_at new q ≡ update_all bytes_eq (kind_at inside) others q) → IsJoined old batch new
+is_joined old batch new inside others e f differ is a =
+    is a
+    ∙ ap (λ s. update_all bytes_eq (kind_at s) others a) e
+    ∙ update_all_distinct nat_list_eq_equiv bytes_eq (λ x y. refl) (kind_at old) others a differ
+    ∙ ap (λ s. option_or (kind_at s a) (kind_at old a)) f
+
+-- no objects were judged
+pub none_judged : HasJudged []
+none_judged = (
+  no_objects,
+  record {
+    types = λ a. refl;
+    named = λ a o is. absurd (none-some o is);
+    closed = λ a o is. absurd (none-some o is);
+  },
+)
+
+pub emptied_judged : (types : Types) → types ≡ [] → HasJudged types
+emptied_judged types is = rw is none_judged

@@ -1,7 +1,8 @@
 -- Links that are noted, one after the other.
-use Rattle.std.proofs.Common.{◌≡◌, ◌⊎◌, inl, inr, Bool, true, false, cond, List, [], ◌∷◌, ◌++◌, All, Contains, Option, None, Some, refl, sym, ap, subst, ◌∙◌}
+use Rattle.std.proofs.Common.{◌≡◌, ◌⊎◌, inl, inr, cond, ℕ, take, drop, List, [], ◌∷◌, ◌++◌, Contains, None, Some, refl, sym, ap, subst, ◌∙◌}
 use Rattle.std.specs.Str.{bytes_eq}
-use Rattle.std.proofs.lemmas.Bool.{cases_Bool, false≢true}
+use Rattle.std.proofs.lemmas.List.{take-append-drop}
+use Rattle.std.proofs.lemmas.Bool.{cases_Bool}
 use Rattle.std.proofs.lemmas.List.Elements.{All-append, All-cons, All-nil, All-weaker, Contains-append_left, Contains-append_right, Contains-push}
 use Rattle.std.proofs.lemmas.Option.{none-some, same_Some}
 use Rattle.std.proofs.lemmas.Slice.Eq.{bytes_eq-Decides}
@@ -9,9 +10,11 @@ use Rattle.gname.specs.Ids.{Id}
 use Rattle.gitobject.specs.Trees.{link_of}
 use Rattle.gitobject.specs.declared.links.Link.{Link}
 use Rattle.gcomplete.specs.Batches.{IsNoted, Needs, need_at}
-use Rattle.gcomplete.specs.Adding.{HasOtherLink, IsClash}
+use Rattle.gcomplete.specs.Adding.{IsClash}
 use Rattle.gcomplete.specs.steps.Checking.{need_of}
-use Rattle.gcomplete.specs.steps.Keeping.{HasOtherNeed, Notes}
+use Rattle.gcomplete.specs.steps.Keeping.{HasOtherNeed, IsNeedFault, IsOneFault, Notes}
+use Rattle.gcomplete.specs.declared.fault.BatchFault.{BatchFault}
+use Rattle.gcomplete.specs.declared.fault.BatchFault.TheVariants.{Malformed, Collision, Clash, Missing, Memory}
 use Rattle.gcomplete.specs.declared.needs.Need.{Need}
 
 -- no links
@@ -103,3 +106,17 @@ clash_more old mid id front links link notes within among other = record {
           | inl before ↦ inl (record { need = other.need; noted = before; typed = refl })
           | inr now ↦ inr (within (link_of other.need.kind link.id) now.1)
         ]
+
+taken : {X : Type 0} (k : ℕ) (xs : List X) (x : X) → Contains (take k xs) x → Contains xs x
+taken k xs x has = subst (λ ys. Contains ys x) (take-append-drop k xs) (Contains-append_left (take k xs) (drop k xs) x has)
+
+-- a link of a list that could not be noted
+pub need_fault : (old mid : Needs) (id : Id) (k : ℕ) (links : List Link) (link : Link) (fault : BatchFault) → Notes old id (take k links) mid
+    → Contains links link → IsOneFault mid id link fault → IsNeedFault old id links fault
+need_fault old mid id k links link (Clash a l) notes among why =
+    let clash = clash_more old mid id (take k links) links link notes (taken k links) among why.2 in
+    (why.0, subst (IsClash old links) (sym why.1) clash)
+need_fault old mid id k links link (Malformed a) notes among why = absurd why
+need_fault old mid id k links link (Collision a) notes among why = absurd why
+need_fault old mid id k links link (Missing a l) notes among why = absurd why
+need_fault old mid id k links link Memory notes among why = tt

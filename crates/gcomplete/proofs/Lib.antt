@@ -4,3 +4,4 @@ pub mod Closing
 pub mod Batching
 pub mod Keeping
 pub mod Sending
+pub mod Tests

@@ -1,14 +1,11 @@
 -- Ids that are hashes: what two stores have in common.
-use Rattle.std.proofs.Common.{◌≡◌, ◌≢◌, ◌⊎◌, inl, inr, ℕ, List, Some, refl, sym, ap, subst, ◌∙◌}
+use Rattle.std.proofs.Common.{◌≡◌, ◌⊎◌, inl, inr, Some, sym, ap, ◌∙◌}
 use Rattle.std.specs.Str.{bytes_eq}
 use Rattle.std.proofs.lemmas.Bool.{cases_Bool, false≢true}
-use Rattle.std.proofs.lemmas.Option.{same_Some}
 use Rattle.std.proofs.lemmas.Slice.Eq.{bytes_eq-Decides}
 use Rattle.gname.specs.Ids.{Id}
-use Rattle.gitobject.specs.declared.links.Link.{Link}
-use Rattle.gitobject.specs.declared.types.ObjectType.{ObjectType}
 use Rattle.gitobject.proofs.Words.{text_once}
-use Rattle.gcomplete.specs.Stores.{GitObject, Holds, Store, Types, object_of}
+use Rattle.gcomplete.specs.Stores.{GitObject, Holds, Store, object_of}
 use Rattle.gcomplete.specs.Closed.{HasLink, IsComplete, Reaches, here, onward}
 use Rattle.gcomplete.specs.Naming.{Collide, IsCollision, IsNameOf, IsNamed, text_of}
 use Rattle.gcomplete.specs.Laws.{CompleteIsTheSame, NamesAreShared}

@@ -82,7 +82,7 @@ each_key_or {X} P C (pair ∷ xs) each = both (each pair.0 first) (each_key_or P
     both (inr c) rest = inr c
     both (inl here) (inr c) = inr c
     both (inl here) (inl rest) = inl (λ a some.
-      elim (cases_Bool (bytes_eq a pair.0)) [
-        | inl same ↦ subst P (sym ((bytes_eq-Decides a pair.0).0 same)) here
-        | inr other ↦ rest a (sym (ap (λ b. is_some (cond b (Some pair.1) (lookup (bytes_eq a) xs))) other) ∙ some)
-      ])
+        elim (cases_Bool (bytes_eq a pair.0)) [
+          | inl same ↦ subst P (sym ((bytes_eq-Decides a pair.0).0 same)) here
+          | inr other ↦ rest a (sym (ap (λ b. is_some (cond b (Some pair.1) (lookup (bytes_eq a) xs))) other) ∙ some)
+        ])

@@ -6,12 +6,11 @@ use Rattle.gname.specs.Ids.{Id}
 use Rattle.gitobject.specs.Trees.{link_of}
 use Rattle.gitobject.specs.declared.links.Link.{Link}
 use Rattle.gitobject.specs.declared.types.ObjectType.{ObjectType}
-use Rattle.gitobject.proofs.Readings.{links_once}
 use Rattle.gcomplete.specs.Stores.{GitObject, Holds, Store, Types, kind_at, kind_in}
-use Rattle.gcomplete.specs.Closed.{HasAllLinks, HasLink, HasLinks, IsClosed, LeadsIn, Reaches}
+use Rattle.gcomplete.specs.Closed.{HasAllLinks, HasLink, HasLinks, IsClosed, LeadsIn}
 use Rattle.gcomplete.specs.Naming.{Collide, IsNamed}
-use Rattle.gcomplete.specs.Batches.{AreJudged, IsBatchOf, IsNoted, Noted, need_at}
-use Rattle.gcomplete.specs.Adding.{HasOtherLink, HasOtherType, IsAddFault, IsClash, IsFit, Leads}
+use Rattle.gcomplete.specs.Batches.{AreJudged, IsBatchOf, Noted, need_at}
+use Rattle.gcomplete.specs.Adding.{HasOtherType, IsAddFault, IsClash, IsFit, Leads}
 use Rattle.gcomplete.specs.Sending.{IsPartOf, IsSent, LeadsOnward}
 use Rattle.gcomplete.specs.Laws.{SentIsFit, SentIsNoted}
 use Rattle.gcomplete.specs.declared.fault.BatchFault.{BatchFault}
@@ -84,8 +83,8 @@ module _ (types : Types) (s t pack : Store) (batch : Noted) (known : List Id) (a
           elim (same_here s t are.named named a q found.0 mine (sent.own a found.0 found.1)) [
             | inr collide ↦ inr collide
             | inl same ↦ inl (λ one other comes kept.
-              same_Some other q.kind (sym kept ∙ are.types a ∙ kind_held s a q mine)
-              ∙ ap (λ x. x.kind) same ∙ found.2 ∙ same_Some kind.0 one (sym kind.1 ∙ comes))
+                same_Some other q.kind (sym kept ∙ are.types a ∙ kind_held s a q mine)
+                ∙ ap (λ x. x.kind) same ∙ found.2 ∙ same_Some kind.0 one (sym kind.1 ∙ comes))
           ]
 
   -- each link of the batch leads to an object of the batch or of the client

@@ -109,7 +109,6 @@ impl<A: Allocator + Copy> Batch<A> {
             (λ _. AddsObject self.old id.now (object_of kind body.now) self.new)
             (λ fault. (self.new ≡ nothing) × IsAddFault self.old id.now (object_of kind body.now) fault) }
     {
-        let _size = body.len();
         if let Err(fault) = self.needs.note_all(id, links) {
             self.types.clear();
             self.needs.clear();

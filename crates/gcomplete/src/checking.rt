@@ -1,6 +1,7 @@
 //! Whether a batch may come to a store.
 
-ghost use Rattle.std.specs.Prelude.{◌↔◌, ◌⊎◌, IsTrue, MatchResult};
+ghost use Rattle.std.specs.Prelude.{◌≡◌, ◌≢◌, ◌↔◌, false, IsTrue, MatchResult, Some};
+ghost use Rattle.gitobject.specs.declared.types.ObjectType.{ObjectType};
 ghost use Rattle.gcomplete.specs.Adding.{Leads};
 ghost use Rattle.gcomplete.specs.steps.Checking.{AllLead, AreFree, IsTaken, IsUnmet};
 
@@ -30,7 +31,10 @@ pub(crate) fn check_types<A: Allocator + Copy>(
 }
 
 // Whether there is a type, and it is another one.
-fn is_other(kept: Option<ObjectType>, kind: ObjectType) -> bool {
+fn is_other(kept: Option<ObjectType>, kind: ObjectType) -> bool
+    ensures other { IsTrue result → (other : ObjectType) × (kept ≡ Some other) × (other ≢ kind) }
+    ensures same { result ≡ false → (other : ObjectType) → kept ≡ Some other → other ≡ kind }
+{
     match kept {
         Some(kept) => kept != kind,
         None => false,

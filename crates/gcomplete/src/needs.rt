@@ -109,10 +109,10 @@ impl<A: Allocator + Copy> NeedMap<A> {
             kind: link.kind,
             by: *id,
         };
-        match self.map.insert(link.id, need) {
-            Ok(_) => Ok(()),
-            Err(_) => Err(BatchFault::Memory),
+        if let Err(_) = self.map.insert(link.id, need) {
+            return Err(BatchFault::Memory);
         }
+        Ok(())
     }
 
     /// Leaves no needs.

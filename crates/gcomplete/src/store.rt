@@ -76,6 +76,14 @@ impl<A: Allocator + Copy> ClosedStore<A> {
             ↔ ((kind_at self.now id.now ≡ Some kind) × (id.now ≡ id_of kind body.now)) }
         ensures same { IsTrue result → IsReadAgain self.now id.now (object_of kind body.now) }
     {
+        self.has(id, kind, body)
+    }
+
+    // Whether an object has this id, and the type that is kept.
+    fn has(&self, id: &Oid, kind: ObjectType, body: &[u8]) -> bool
+        ensures { IsTrue result
+            ↔ ((kind_at self.now id.now ≡ Some kind) × (id.now ≡ id_of kind body.now)) }
+    {
         self.types.get(id) == Some(kind) && id_of(kind, body) == *id
     }
 
@@ -94,9 +102,9 @@ impl<A: Allocator + Copy> ClosedStore<A> {
         if let Err(fault) = batch.check(&self.types) {
             return Err(fault);
         }
-        match self.types.join(batch.into_types()) {
-            Ok(()) => Ok(()),
-            Err(_) => Err(BatchFault::Memory),
+        if let Err(_) = self.types.join(batch.into_types()) {
+            return Err(BatchFault::Memory);
         }
+        Ok(())
     }
 }

@@ -86,7 +86,10 @@ impl<A: Allocator + Copy> TypeMap<A> {
         ensures { MatchResult result (λ _. IsJoined self.old others self.new) (λ _. self.new ≡ self.old) }
     {
         let _count = others.map.len();
-        self.map.append(&mut others.map)
+        match self.map.append(&mut others.map) {
+            Ok(()) => Ok(()),
+            Err(refused) => Err(refused),
+        }
     }
 
     /// Leaves no ids.

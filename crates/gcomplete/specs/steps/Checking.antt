@@ -15,6 +15,10 @@ use Rattle.gcomplete.specs.declared.needs.Need.{Need}
 abbrev pub need_of : Id → Link → Need
 need_of id link = record { kind = link.kind; by = id }
 
+-- the id is kept with no other type
+abbrev pub IsFreeAt : Types → Id × ObjectType → Type 0
+IsFreeAt store pair = (other : ObjectType) → kind_at store pair.0 ≡ Some other → other ≡ pair.1
+
 -- no id of the batch is kept with another type
 abbrev pub AreFree : Types → Types → Type 0
 AreFree store batch = (a : Id) (kind other : ObjectType) → kind_at batch a ≡ Some kind → kind_at store a ≡ Some other → other ≡ kind
@@ -26,6 +30,10 @@ IsTaken store batch (Malformed a) = ⊥
 IsTaken store batch (Clash a link) = ⊥
 IsTaken store batch (Missing a link) = ⊥
 IsTaken store batch Memory = ⊥
+
+-- the link that is noted leads to an object
+abbrev pub LeadsAt : Types → Types → Id × Need → Type 0
+LeadsAt store batch pair = Leads store batch (link_of pair.1.kind pair.0)
 
 -- each link that is noted leads to an object
 abbrev pub AllLead : Types → Types → Needs → Type 0
