@@ -9,9 +9,8 @@ use Rattle.std.proofs.lemmas.Slice.Eq.{bytes_eq-Decides}
 use Rattle.gname.specs.Ids.{Id}
 use Rattle.gitobject.specs.Trees.{link_of}
 use Rattle.gitobject.specs.declared.links.Link.{Link}
-use Rattle.gcomplete.specs.Batches.{IsNoted, Needs, need_at}
+use Rattle.gcomplete.specs.Batches.{IsNoted, Needs, need_at, need_of}
 use Rattle.gcomplete.specs.Adding.{IsClash}
-use Rattle.gcomplete.specs.steps.Checking.{need_of}
 use Rattle.gcomplete.specs.steps.Keeping.{HasOtherNeed, IsNeedFault, IsOneFault, Notes}
 use Rattle.gcomplete.specs.declared.fault.BatchFault.{BatchFault}
 use Rattle.gcomplete.specs.declared.fault.BatchFault.TheVariants.{Malformed, Collision, Clash, Missing, Memory}

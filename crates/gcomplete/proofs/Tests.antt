@@ -7,9 +7,9 @@ use Rattle.std.proofs.lemmas.Option.{get_or_from_slice_get, slice_get_within}
 use Rattle.std.proofs.lemmas.Slice.Eq.{bytes_eq-Decides}
 use Rattle.gname.specs.Ids.{Id}
 use Rattle.gcomplete.specs.Stores.{Types}
-use Rattle.gcomplete.specs.Batches.{Needs, Noted}
+use Rattle.gcomplete.specs.Batches.{Needs, Noted, need_of}
 use Rattle.gcomplete.specs.Adding.{IsFit, IsRefused}
-use Rattle.gcomplete.specs.steps.Checking.{AllLead, AreFree, IsFreeAt, IsTaken, IsUnmet, LeadsAt, need_of}
+use Rattle.gcomplete.specs.steps.Checking.{AllLead, AreFree, IsFreeAt, IsTaken, IsUnmet, LeadsAt}
 use Rattle.gcomplete.specs.declared.fault.BatchFault.{BatchFault}
 use Rattle.gcomplete.specs.declared.fault.BatchFault.TheVariants.{Malformed, Collision, Clash, Missing, Memory}
 

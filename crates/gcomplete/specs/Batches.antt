@@ -18,6 +18,10 @@ Needs = List (Id × Need)
 abbrev pub need_at : Needs → Id → Option Need
 need_at needs a = lookup (bytes_eq a) needs
 
+-- what is needed for the link of an object
+abbrev pub need_of : Id → Link → Need
+need_of id link = record { kind = link.kind; by = id }
+
 -- the link is noted
 pub record IsNoted (needs : Needs) (link : Link) : Type 0 where
   pub need : Need

@@ -1,9 +1,9 @@
 //! Objects that come together.
 
-ghost use Rattle.std.specs.Prelude.{◌≡◌, ◌↔◌, None, IsTrue, MatchResult, Some};
+ghost use Rattle.std.specs.Prelude.{◌≡◌, ◌<◌, ◌↔◌, None, IsTrue, MatchResult, Some, length, slice_get};
 ghost use Rattle.gitobject.specs.Naming.{id_of};
-ghost use Rattle.gcomplete.specs.Adding.{AddsObject, IsAddFault, IsFit, IsRefused};
-ghost use Rattle.gcomplete.specs.Batches.{HasObjects, nothing};
+ghost use Rattle.gcomplete.specs.Adding.{AddsObject, HasBatchLink, IsAddFault, IsFit, IsRefused};
+ghost use Rattle.gcomplete.specs.Batches.{HasObjects, need_of, nothing};
 ghost use Rattle.gcomplete.specs.Closed.{HasLinks};
 ghost use Rattle.gcomplete.specs.Stores.{kind_at, object_of};
 
@@ -59,6 +59,29 @@ impl<A: Allocator + Copy> Batch<A> {
         ensures { result ≡ kind_at self.now.types id.now }
     {
         self.types.get(id)
+    }
+
+    /// Whether a link leads to an object of the batch, which has the type of the link.
+    pub fn leads(&self, link: &Link) -> bool
+        ensures { IsTrue result ↔ (kind_at self.now.types link.now.id ≡ Some link.now.kind) }
+    {
+        self.types.leads(link)
+    }
+
+    /// To how many ids the links lead.
+    pub fn need_count(&self) -> usize
+        ensures { result ≡ length self.now.needs }
+    {
+        self.needs.len()
+    }
+
+    /// The first object that links to an id, and its link. Ids stand in the order in which links to them came first.
+    pub fn need(&self, place: usize) -> (Oid, Link)
+        requires { place < length self.now.needs }
+        ensures at { slice_get self.now.needs place ≡ Some (result.1.id, need_of result.0 result.1) }
+        ensures link { HasBatchLink self.now result.0 result.1 }
+    {
+        self.needs.at(place)
     }
 
     /// Adds an object, whose id the caller has computed. An object that came before is not read again.

@@ -1,9 +1,8 @@
 //! The ids to which objects link.
 
 ghost use Rattle.std.specs.Prelude.{◌≡◌, ◌<◌, [], ◌∷◌, MatchResult, None, Some, length, slice_get};
-ghost use Rattle.gcomplete.specs.Batches.{need_at};
+ghost use Rattle.gcomplete.specs.Batches.{need_at, need_of};
 ghost use Rattle.gcomplete.specs.steps.Keeping.{IsNeedFault, IsOneFault, Notes};
-ghost use Rattle.gcomplete.specs.steps.Checking.{need_of};
 
 use crate::fault::BatchFault;
 use crate::types::IdHasher;

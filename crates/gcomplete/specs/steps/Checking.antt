@@ -5,15 +5,11 @@ use Rattle.gitobject.specs.Trees.{link_of}
 use Rattle.gitobject.specs.declared.links.Link.{Link}
 use Rattle.gitobject.specs.declared.types.ObjectType.{ObjectType}
 use Rattle.gcomplete.specs.Stores.{Types, kind_at}
-use Rattle.gcomplete.specs.Batches.{Needs, need_at}
+use Rattle.gcomplete.specs.Batches.{Needs, need_at, need_of}
 use Rattle.gcomplete.specs.Adding.{HasOtherType, Leads}
 use Rattle.gcomplete.specs.declared.fault.BatchFault.{BatchFault}
 use Rattle.gcomplete.specs.declared.fault.BatchFault.TheVariants.{Malformed, Collision, Clash, Missing, Memory}
 use Rattle.gcomplete.specs.declared.needs.Need.{Need}
-
--- what is needed by the link of an object
-abbrev pub need_of : Id → Link → Need
-need_of id link = record { kind = link.kind; by = id }
 
 -- the id is kept with no other type
 abbrev pub IsFreeAt : Types → Id × ObjectType → Type 0

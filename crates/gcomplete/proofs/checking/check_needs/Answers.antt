@@ -3,7 +3,8 @@ use Rattle.std.proofs.lemmas.List.{take_all}
 use Rattle.std.proofs.lemmas.List.Elements.{All-more}
 use Rattle.std.proofs.lemmas.Option.{get_or_from_slice_get, slice_get_within}
 use Rattle.gname.specs.Ids.{Id}
-use Rattle.gcomplete.specs.steps.Checking.{LeadsAt, need_of}
+use Rattle.gcomplete.specs.Batches.{need_of}
+use Rattle.gcomplete.specs.steps.Checking.{LeadsAt}
 use Rattle.gcomplete.specs.declared.needs.Need.{Need}
 use Rattle.gcomplete.proofs.Tests.{all_lead}
 use Rattle.gcomplete.proofs.checking.check_needs.Goals as goal

@@ -19,9 +19,8 @@ returns g c =
     let o = object_of c.args.kind c.args.body.now in
     let A : Noted → Type 0 = λ n. kind_at n.types c.args.id.now ≡ None in
     let P : Noted → Type 0 = λ n. AddsObject n c.args.id.now o new in
-    let long = c.type_inv.body in
     subst P c.self.view_is
-    (adds_object old new c.args.id.now o c.args.links.now (subst A (sym c.self.view_is) c.requires.new) (record { name = c.requires.name; sized = omega (arith, long) })
+    (adds_object old new c.args.id.now o c.args.links.now (subst A (sym c.self.view_is) c.requires.new) (record { name = c.requires.name; sized = omega arith })
     c.requires.reads c.in_default-put.ensures c.in_default.ensures)
 
 pub invariant_of-self-in_default-put : goal.invariant_of-self-in_default-put
