@@ -10,18 +10,17 @@ ghost use Rattle.gobject.specs.declared.node.Entry.{Entry};
 use crate::fault::{ObjectCause, RepositoryFault};
 use crate::nodes::{entry_of, leaf};
 use crate::tips::Tips;
-use ggraph::{Entry, IdHasher};
-use gitobject::{Link, ObjectType, links_of, tag_link};
+use gcomplete::Batch;
+use ggraph::Entry;
+use gitobject::{Link, ObjectType, tag_link};
 use gitobjects::{Found, LooseFolders, ObjectFiles, ObjectReader, ObjectStore, StoreFault};
-use gitpack::{IndexedPack, ObjectVisitor, PackFileFault};
+use gitpack::{ObjectVisitor, PackFileFault};
 use gname::Oid;
-use indexmap::IndexMap;
 use std::alloc::Allocator;
-use std::hash::BuildHasherDefault;
 use std::marker::Model;
 
 // The most ids that the objects of a pack may name. Deltas make many objects from few bytes, and
-// each id is kept: a map of so many takes some hundred MiB.
+// each id is kept: so many take some hundred MiB.
 const MAX_NEEDS: usize = 4_194_304;
 
 /// All that is known of the objects of a pack that comes. Contracts see the entries of its commits
@@ -30,8 +29,8 @@ const MAX_NEEDS: usize = 4_194_304;
 pub(crate) struct Arrival<A: Allocator + Copy> {
     alloc: A,
     entries: Vec<Entry<A>, A>,
-    // The types of the objects that are named.
-    needs: IndexMap<Oid, ObjectType, IdHasher, A>,
+    // The ids, the types and the links of the objects.
+    batch: Batch<A>,
     folders: LooseFolders,
     fault: Option<RepositoryFault<A>>,
 }
@@ -66,7 +65,7 @@ impl<A: Allocator + Copy> Arrival<A> {
         Arrival {
             alloc,
             entries: Vec::new(alloc),
-            needs: IndexMap::with_hasher(alloc, BuildHasherDefault::new()),
+            batch: Batch::new(alloc),
             folders: LooseFolders::new(),
             fault: None,
         }
@@ -87,21 +86,11 @@ impl<A: Allocator + Copy> Arrival<A> {
     pub(crate) fn into_entries<F: ObjectFiles>(
         self,
         reader: &mut ObjectReader<'_, F, A>,
-        pack: &IndexedPack<A>,
     ) -> Result<Vec<Entry<A>, A>, RepositoryFault<A>>
         ensures { IfOk result (λ entries. All (IsRead entries.items) entries.items) }
     {
-        let Arrival { entries, needs, .. } = self;
-        for (id, kind) in &needs {
-            check_need(
-                reader,
-                pack,
-                Link {
-                    id: *id,
-                    kind: *kind,
-                },
-            )?;
-        }
+        let Arrival { entries, batch, .. } = self;
+        check_links(reader, &batch)?;
         Ok(entries)
     }
 
@@ -124,7 +113,7 @@ impl<A: Allocator + Copy> Arrival<A> {
     ) -> Result<(), RepositoryFault<A>>
         requires { id_of kind body.now ≡ id.now }
     {
-        self.need_links(id, kind, body)?;
+        self.note(id, kind, body)?;
         match kind {
             ObjectType::Commit => self.push_object(id, kind, body),
             ObjectType::Tag => self.learn_tag(id, body),
@@ -146,36 +135,17 @@ impl<A: Allocator + Copy> Arrival<A> {
         }
     }
 
-    // Notes the objects to which an object links.
-    fn need_links(
-        &mut self,
-        id: &Oid,
-        kind: ObjectType,
-        body: &[u8],
-    ) -> Result<(), RepositoryFault<A>> {
-        let links = match links_of(self.alloc, kind, body) {
-            Ok(links) => links,
-            Err(fault) => return Err(RepositoryFault::of_object(id, fault)),
-        };
-        for link in &links {
-            self.need(*link)?;
+    // Notes an object and its links. It fails with `TooLarge` if too many ids are named.
+    fn note(&mut self, id: &Oid, kind: ObjectType, body: &[u8]) -> Result<(), RepositoryFault<A>>
+        requires { id_of kind body.now ≡ id.now }
+    {
+        if let Err(fault) = self.batch.add(id, kind, body) {
+            return Err(RepositoryFault::of_batch(fault));
+        }
+        if self.batch.need_count() > MAX_NEEDS {
+            return Err(RepositoryFault::Pack(PackFileFault::TooLarge));
         }
         Ok(())
-    }
-
-    // Notes that an object is named. It fails with `TooLarge` if too many are.
-    fn need(&mut self, link: Link) -> Result<(), RepositoryFault<A>> {
-        match self.needs.get(&link.id).copied() {
-            Some(kind) if kind == link.kind => Ok(()),
-            Some(_) => Err(RepositoryFault::refused(&link.id, ObjectCause::Type)),
-            None if self.needs.len() >= MAX_NEEDS => {
-                Err(RepositoryFault::Pack(PackFileFault::TooLarge))
-            }
-            None => {
-                self.needs.insert(link.id, link.kind)?;
-                Ok(())
-            }
-        }
     }
 
     // Adds the entry of an object.
@@ -225,21 +195,33 @@ fn named_leaf<A: Allocator + Copy>(alloc: A, tag: &[u8]) -> Option<Entry<A>>
     }
 }
 
-// Whether an object that is named is in the pack or in the store, with the type by which it is
+// Tests that each object that is named is in the pack or in the store, with the type by which it is
 // named.
-fn check_need<F: ObjectFiles, A: Allocator + Copy>(
+fn check_links<F: ObjectFiles, A: Allocator + Copy>(
     reader: &mut ObjectReader<'_, F, A>,
-    pack: &IndexedPack<A>,
-    need: Link,
+    batch: &Batch<A>,
 ) -> Result<(), RepositoryFault<A>> {
-    let kind = match pack.find(&need.id) {
-        Some(entry) => entry.kind,
-        None => reader.kind_of(&need.id)?,
+    for place in 0..batch.need_count() {
+        let (_, link) = batch.need(place);
+        check_link(reader, batch, &link)?;
+    }
+    Ok(())
+}
+
+// Tests the same of the object at which a link is.
+fn check_link<F: ObjectFiles, A: Allocator + Copy>(
+    reader: &mut ObjectReader<'_, F, A>,
+    batch: &Batch<A>,
+    link: &Link,
+) -> Result<(), RepositoryFault<A>> {
+    let kind = match batch.kind_of(&link.id) {
+        Some(kind) => kind,
+        None => reader.kind_of(&link.id)?,
     };
-    if kind == need.kind {
+    if kind == link.kind {
         Ok(())
     } else {
-        Err(RepositoryFault::refused(&need.id, ObjectCause::Type))
+        Err(RepositoryFault::refused(&link.id, ObjectCause::Type))
     }
 }
 

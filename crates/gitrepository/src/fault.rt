@@ -1,5 +1,6 @@
 //! Why a repository is not read, packed or added to.
 
+use gcomplete::BatchFault;
 use ggraph::{GraphFault, MAX_NODES, MAX_PARENTS, RefsFault};
 use gitobject::ObjectFault;
 use gitobjects::{Cause, FileFault, StoreFault};
@@ -121,6 +122,18 @@ impl<A: Allocator + Copy> RepositoryFault<A> {
         match fault {
             ObjectFault::Malformed => RepositoryFault::refused(id, ObjectCause::Malformed),
             ObjectFault::Memory => RepositoryFault::Memory,
+        }
+    }
+
+    /// The fault of a pack whose objects are refused. It names the object that is malformed, or the
+    /// one that has two types.
+    pub(crate) fn of_batch(fault: BatchFault) -> RepositoryFault<A> {
+        match fault {
+            BatchFault::Malformed { id } => RepositoryFault::refused(&id, ObjectCause::Malformed),
+            BatchFault::Collision { id } => RepositoryFault::refused(&id, ObjectCause::Differs),
+            BatchFault::Clash { link, .. } => RepositoryFault::refused(&link.id, ObjectCause::Type),
+            BatchFault::Missing { link, .. } => RepositoryFault::Store(StoreFault::Missing(link.id)),
+            BatchFault::Memory => RepositoryFault::Memory,
         }
     }
 

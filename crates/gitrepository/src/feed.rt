@@ -82,7 +82,7 @@ impl<A: Allocator + Copy> StoreFeed<A> {
             let mut inspector = Inspector::new(&mut arrival, reader, tips);
             finish_pack(pack, &mut inspector)?
         };
-        let entries = arrival.into_entries(reader, &received.index)?;
+        let entries = arrival.into_entries(reader)?;
         Ok((received, entries))
     }
 }
