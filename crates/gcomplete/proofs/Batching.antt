@@ -9,10 +9,11 @@ use Rattle.std.proofs.lemmas.Slice.Eq.{bytes_eq-Decides}
 use Rattle.gname.specs.Ids.{Id}
 use Rattle.gitobject.specs.Trees.{link_of}
 use Rattle.gitobject.specs.declared.links.Link.{Link}
+use Rattle.gitobject.specs.declared.types.ObjectType.{ObjectType}
 use Rattle.gcomplete.specs.Stores.{AreTypesOf, GitObject, Store, Types, kind_at, kind_in, kind_of, no_objects, with_object}
 use Rattle.gcomplete.specs.Closed.{HasLink, HasLinks}
 use Rattle.gcomplete.specs.Naming.{IsNameOf}
-use Rattle.gcomplete.specs.Batches.{AreLinksNoted, HasObjects, IsBatchOf, IsNoted, Needs, Noted, need_at, nothing}
+use Rattle.gcomplete.specs.Batches.{AreLinksNoted, HasObjects, IsBatchOf, IsNoted, KeepsTypes, Needs, Noted, need_at, nothing}
 use Rattle.gcomplete.specs.Adding.{AddsObject}
 use Rattle.gcomplete.specs.steps.Keeping.{Notes, Puts}
 use Rattle.gcomplete.specs.declared.needs.Need.{Need}
@@ -161,6 +162,20 @@ module _ (old new : Noted) (id : Id) (o : GitObject) (links : List Link) (absent
 
   pub adds_object : AddsObject old id o new
   adds_object objects is = batch_more objects is
+
+-- ---- a type that is put
+
+pub put_here : (old : Types) (a : Id) (kind : ObjectType) (new : Types) → Puts old a kind new → kind_at new a ≡ Some kind
+put_here old a kind new puts = puts a ∙ ap (λ b. cond b (Some kind) (kind_at old a)) ((bytes_eq-Decides a a).1 refl)
+
+pub put_keeps : (old : Types) (a : Id) (kind : ObjectType) (new : Types) → kind_at old a ≡ None → Puts old a kind new → KeepsTypes old new
+put_keeps old a kind new absent puts b other kept =
+    elim (cases_Bool (bytes_eq a b)) [
+      | inl here ↦
+          (let P : Id → Type 0 = λ k. kind_at old k ≡ None in
+          absurd (none-some other (sym (subst P ((bytes_eq-Decides a b).0 here) absent) ∙ kept)))
+      | inr away ↦ puts b ∙ ap (λ t. cond t (Some kind) (kind_at old b)) away ∙ kept
+    ]
 
 -- some batch and one more object
 pub has_more : (old new : Noted) (id : Id) (o : GitObject) → HasObjects old → AddsObject old id o new → HasObjects new

@@ -166,6 +166,10 @@ pub has_joined : (types : Types) (batch : Noted) (new : Types) → HasJudged typ
 has_joined types batch new kept came fit joins =
     (joined kept.0 came.0, judged_joined types batch kept.0 came.0 kept.1 came.1 fit new joins)
 
+-- the types of the batch are kept
+pub holds_joined : (types batch new : Types) → IsJoined types batch new → KeepsTypes batch new
+holds_joined types batch new joins a kind comes = joins a ∙ ap (λ g. option_or g (kind_at types a)) comes
+
 -- what was kept is kept
 pub keeps_joined : (types : Types) (batch : Noted) (new : Types) → IsFit types batch → IsJoined types batch.types new → KeepsTypes types new
 keeps_joined types batch new fit joins a kind kept = joins a ∙ by (kind_at batch.types a) refl

@@ -20,7 +20,7 @@ pub record HasOtherType (types : Types) (a : Id) (kind : ObjectType) : Type 0 wh
 
 -- ---- an object
 
--- an object comes to a batch: whatever objects the batch was of, it is of these and of this one
+-- an object comes to a batch: the batch is of the same objects as before, and of this one
 abbrev pub AddsObject : Noted → Id → GitObject → Noted → Type 0
 AddsObject old id o new = (objects : Store) → IsBatchOf old objects → IsBatchOf new (with_object objects id o)
 
@@ -30,7 +30,7 @@ pub record HasOtherLink (needs : Needs) (links : List Link) (link : Link) : Type
   pub differ : other ≢ link.kind
   pub linked : IsNoted needs (link_of other link.id) ⊎ Contains links (link_of other link.id)
 
--- of these links one clashes with another link
+-- one of these links clashes with another link
 pub record IsClash (needs : Needs) (links : List Link) (link : Link) : Type 0 where
   pub among : Contains links link
   pub other : HasOtherLink needs links link
@@ -49,11 +49,13 @@ IsAddFault old id o Memory = ⊤
 abbrev pub Leads : Types → Types → Link → Type 0
 Leads store batch link = (kind_at batch link.id ≡ Some link.kind) ⊎ (kind_at store link.id ≡ Some link.kind)
 
--- A batch may come to a store: no object of the batch has an id that the store keeps with another type, and each link of
--- the batch leads to an object of the batch or of the store.
+-- A batch may come to a store: no object of the batch has an id that the store keeps with another type. Each link of the
+-- batch leads to an object of the batch or of the store.
 pub record IsFit (store : Types) (batch : Noted) : Type 0 where
-  pub free : (a : Id) (kind other : ObjectType) → kind_at batch.types a ≡ Some kind → kind_at store a ≡ Some other → other ≡ kind
-  pub leads : (a : Id) (need : Need) → need_at batch.needs a ≡ Some need → Leads store batch.types (link_of need.kind a)
+  pub free : (a : Id) (kind other : ObjectType) → kind_at batch.types a ≡ Some kind → kind_at store a ≡ Some other
+      → other ≡ kind
+  pub leads : (a : Id) (need : Need) → need_at batch.needs a ≡ Some need
+      → Leads store batch.types (link_of need.kind a)
 
 -- the store keeps the types of the batch, and what it kept before
 abbrev pub IsJoined : Types → Types → Types → Type 0

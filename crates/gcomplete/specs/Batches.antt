@@ -18,7 +18,7 @@ Needs = List (Id × Need)
 abbrev pub need_at : Needs → Id → Option Need
 need_at needs a = lookup (bytes_eq a) needs
 
--- what is needed for the link of an object
+-- the object that is needed for a link
 abbrev pub need_of : Id → Link → Need
 need_of id link = record { kind = link.kind; by = id }
 
@@ -39,13 +39,13 @@ pub record AreLinksNoted (needs : Needs) (o : GitObject) : Type 0 where
   pub reads : HasLinks o links
   pub each : All (IsNoted needs) links
 
--- What is kept of the objects of a batch: their ids and types, and their links. Nothing else is kept, and each object
--- has its own id.
+-- A batch of these objects: it has their ids and types, and their links, and no others. Each object has its own id.
 pub record IsBatchOf (noted : Noted) (objects : Store) : Type 0 where
   pub types : AreTypesOf noted.types objects
   pub named : IsNamed objects
   pub each : (a : Id) (o : GitObject) → objects a ≡ Some o → AreLinksNoted noted.needs o
-  pub only : (a : Id) (need : Need) → need_at noted.needs a ≡ Some need → HasLink objects need.by (link_of need.kind a)
+  pub only : (a : Id) (need : Need) → need_at noted.needs a ≡ Some need
+      → HasLink objects need.by (link_of need.kind a)
 
 -- there are such objects
 abbrev pub HasObjects : Noted → Type 0

@@ -1,5 +1,4 @@
--- What follows from the definitions of stores. Where a law speaks of a collision, it names two texts that differ and have
--- one SHA-1.
+-- What follows from the definitions of stores. A collision is two texts that differ and have one SHA-1.
 use Rattle.std.specs.Prelude.{◌≡◌, ◌⊎◌, List, All, Some}
 use Rattle.gname.specs.Ids.{Id}
 use Rattle.gcomplete.specs.Stores.{GitObject, Holds, Store, Types}
@@ -21,8 +20,8 @@ NamesAreShared =
     (s t : Store) → IsNamed s → IsNamed t → (a : Id) (o p : GitObject) → s a ≡ Some o → t a ≡ Some p
     → (o ≡ p) ⊎ IsCollision (text_of o) (text_of p)
 
--- An id is complete in one store. All that it reaches in another store stands in the first with the same bytes, or the two
--- collide.
+-- An id is complete in one store. Then that store has all that the id reaches in another store, with the same bytes, or
+-- the two collide.
 abbrev pub CompleteIsTheSame : Type 0
 CompleteIsTheSame =
     (s t : Store) → IsNamed s → IsNamed t → (a : Id) → IsComplete s a
@@ -36,7 +35,7 @@ ReadIsComplete =
     → ((a : Id) → Holds judged a → Holds read a)
     → ((a : Id) → Holds judged a → IsComplete read a) ⊎ Collide judged read
 
--- each object of a server may come to a batch of the server's objects: no fault but want of memory
+-- each object of a server may come to a batch of the server's objects, except out of memory
 abbrev pub SentIsNoted : Type 0
 SentIsNoted =
     (server objects : Store) (noted : Noted) (a : Id) (o : GitObject) (fault : BatchFault)

@@ -14,7 +14,7 @@ pub record IsNameOf (a : Id) (o : GitObject) : Type 0 where
   pub name : a ≡ id_of o.kind o.body
   pub sized : length o.body < 2 ^ 64
 
--- each object of a store has the id under which it stands
+-- each object of a store has the id under which it is held
 abbrev pub IsNamed : Store → Type 0
 IsNamed s = (a : Id) (o : GitObject) → s a ≡ Some o → IsNameOf a o
 

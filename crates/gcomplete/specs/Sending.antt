@@ -1,11 +1,11 @@
--- What an honest server sends (gitprotocol-v2(5), "fetch"; gitformat-pack(5), "thin packs" aside).
+-- What an honest server sends (gitprotocol-v2(5), "fetch").
 use Rattle.std.specs.Prelude.{◌≡◌, ◌⊎◌, List, All, Contains, Some}
 use Rattle.gname.specs.Ids.{Id}
 use Rattle.gitobject.specs.declared.links.Link.{Link}
 use Rattle.gcomplete.specs.Stores.{GitObject, Holds, Store}
 use Rattle.gcomplete.specs.Closed.{HasLinks, Reaches}
 
--- each object of one store stands in the other under the same id
+-- each object of one store is in the other under the same id
 abbrev pub IsPartOf : Store → Store → Type 0
 IsPartOf s t = (a : Id) (o : GitObject) → s a ≡ Some o → t a ≡ Some o
 

@@ -1,9 +1,9 @@
 //! Objects that come together.
 
-ghost use Rattle.std.specs.Prelude.{◌≡◌, ◌<◌, ◌↔◌, None, IsTrue, MatchResult, Some, length, slice_get};
+ghost use Rattle.std.specs.Prelude.{◌≡◌, ◌<◌, ◌↔◌, None, IsTrue, MatchResult, OnOk, Some, length, slice_get};
 ghost use Rattle.gitobject.specs.Naming.{id_of};
 ghost use Rattle.gcomplete.specs.Adding.{AddsObject, HasBatchLink, IsAddFault, IsFit, IsRefused};
-ghost use Rattle.gcomplete.specs.Batches.{HasObjects, need_of, nothing};
+ghost use Rattle.gcomplete.specs.Batches.{HasObjects, KeepsTypes, need_of, nothing};
 ghost use Rattle.gcomplete.specs.Closed.{HasLinks};
 ghost use Rattle.gcomplete.specs.Stores.{kind_at, object_of};
 
@@ -16,8 +16,8 @@ use gname::Oid;
 use std::alloc::{Allocator, Global};
 use std::marker::Model;
 
-/// Objects that come together, such as those of a pack. Of each object its id, its type and its links are kept, and none
-/// of its bytes. Contracts see what is kept.
+/// Objects that come together, such as those of a pack. A batch keeps the id, the type and the links of each object, and
+/// none of its bytes. Contracts see what is kept.
 #[derive(Drop)]
 pub struct Batch<A: Allocator + Copy = Global> {
     alloc: A,
@@ -68,14 +68,14 @@ impl<A: Allocator + Copy> Batch<A> {
         self.types.leads(link)
     }
 
-    /// To how many ids the links lead.
+    /// How many ids there are to which the links lead.
     pub fn need_count(&self) -> usize
         ensures { result ≡ length self.now.needs }
     {
         self.needs.len()
     }
 
-    /// The first object that links to an id, and its link. Ids stand in the order in which links to them came first.
+    /// The first object that links to an id, and its link. The ids are in the order in which links to them came.
     pub fn need(&self, place: usize) -> (Oid, Link)
         requires { place < length self.now.needs }
         ensures at { slice_get self.now.needs place ≡ Some (result.1.id, need_of result.0 result.1) }
@@ -84,16 +84,18 @@ impl<A: Allocator + Copy> Batch<A> {
         self.needs.at(place)
     }
 
-    /// Adds an object, whose id the caller has computed. An object that came before is not read again.
+    /// Adds an object, whose id the caller has computed. Its links are read, unless it came before.
     ///
-    /// It fails with `Collision` if an object of another type has the id, with `Malformed`, with `Clash` at the first link
-    /// to an id to which another link leads with another type, and with `Memory`. Then the batch is empty, since a pack is
-    /// refused for each of its objects.
+    /// It fails with `Collision` if an object of another type has the id. It fails with `Malformed`, and with `Memory`.
+    /// It fails with `Clash` at the first link with another type than a link that leads to the same id. After each fault
+    /// the batch is empty.
     pub fn add(&mut self, id: &Oid, kind: ObjectType, body: &[u8]) -> Result<(), BatchFault>
         requires { id.now ≡ id_of kind body.now }
-        ensures { MatchResult result
+        ensures adds { MatchResult result
             (λ _. AddsObject self.old id.now (object_of kind body.now) self.new)
             (λ fault. (self.new ≡ nothing) × IsAddFault self.old id.now (object_of kind body.now) fault) }
+        ensures holds { OnOk result (kind_at self.new.types id.now ≡ Some kind) }
+        ensures keeps { OnOk result (KeepsTypes self.old.types self.new.types) }
     {
         match self.types.get(id) {
             Some(kept) if kept == kind => Ok(()),
@@ -106,9 +108,11 @@ impl<A: Allocator + Copy> Batch<A> {
     fn add_new(&mut self, id: &Oid, kind: ObjectType, body: &[u8]) -> Result<(), BatchFault>
         requires name { id.now ≡ id_of kind body.now }
         requires new { kind_at self.old.types id.now ≡ None }
-        ensures { MatchResult result
+        ensures adds { MatchResult result
             (λ _. AddsObject self.old id.now (object_of kind body.now) self.new)
             (λ fault. (self.new ≡ nothing) × IsAddFault self.old id.now (object_of kind body.now) fault) }
+        ensures holds { OnOk result (kind_at self.new.types id.now ≡ Some kind) }
+        ensures keeps { OnOk result (KeepsTypes self.old.types self.new.types) }
     {
         match links_of(self.alloc, kind, body) {
             Ok(links) => self.note(id, kind, body, links.as_slice()),
@@ -128,9 +132,11 @@ impl<A: Allocator + Copy> Batch<A> {
         requires name { id.now ≡ id_of kind body.now }
         requires new { kind_at self.old.types id.now ≡ None }
         requires reads { HasLinks (object_of kind body.now) links.now }
-        ensures { MatchResult result
+        ensures adds { MatchResult result
             (λ _. AddsObject self.old id.now (object_of kind body.now) self.new)
             (λ fault. (self.new ≡ nothing) × IsAddFault self.old id.now (object_of kind body.now) fault) }
+        ensures holds { OnOk result (kind_at self.new.types id.now ≡ Some kind) }
+        ensures keeps { OnOk result (KeepsTypes self.old.types self.new.types) }
     {
         if let Err(fault) = self.needs.note_all(id, links) {
             self.types.clear();

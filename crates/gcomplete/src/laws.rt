@@ -1,7 +1,8 @@
 //! Laws of stores. Each function does nothing, and its contract is the law: a caller that calls it may rely on the law
 //! from there on.
 
-ghost use Rattle.gcomplete.specs.Laws.{ClosedIsComplete, CompleteIsTheSame, NamesAreShared, ReadIsComplete, SentIsFit, SentIsNoted};
+ghost use Rattle.gcomplete.specs.Laws.{ClosedIsComplete, CompleteIsTheSame, NamesAreShared, ReadIsComplete};
+ghost use Rattle.gcomplete.specs.Laws.{SentIsFit, SentIsNoted};
 
 /// In a closed store each id that it holds is complete.
 pub fn closed_is_complete()
@@ -13,14 +14,14 @@ pub fn names_are_shared()
     ensures { NamesAreShared }
 {}
 
-/// If an id is complete in one store, all that it reaches in another store stands in the first with the same bytes, or
+/// An id is complete in one store. Then the store has all that the id reaches in another store, with the same bytes, or
 /// here are two texts with one SHA-1.
 pub fn complete_is_the_same()
     ensures { CompleteIsTheSame }
 {}
 
-/// What was judged is complete again when it is read from where it was kept, or here are two texts with one SHA-1. This
-/// relies on two facts: the id of each object is checked when it is read, and each object is still there.
+/// Objects that were judged are complete when they are read again, or here are two texts with one SHA-1. This relies on
+/// two facts: the id of each object is checked when it is read, and each object is still there.
 pub fn read_is_complete()
     ensures { ReadIsComplete }
 {}

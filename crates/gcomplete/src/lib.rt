@@ -3,34 +3,34 @@
 //! no pack.
 //!
 //! - A [`Batch`] takes the objects of a pack as they come. It reads the links of each object once.
-//! - A [`ClosedStore`] takes a batch as a whole, if each link of each object leads to an object of the batch or of the
-//!   store. Otherwise it takes none of it, and names the object, its link and the cause.
+//! - A [`ClosedStore`] takes a batch as a whole, if each link leads to an object of the batch or of the store. Otherwise
+//!   it takes none of it, and names the object, its link and the cause.
 //!
 //! # Proved
 //!
-//! - Each object of a store has the id under which it is kept. Each of its links leads to an object of the store, which has
-//!   the type of the link. So the store has all that its objects reach: [`ClosedStore::laws`].
-//! - [`ClosedStore::add_all`] keeps this. It refuses a batch exactly if an id of the batch is kept with another type or a
-//!   link leads nowhere, except out of memory. Then the store is as it was.
-//! - [`Batch::add`] keeps exactly the links of the objects that came. It refuses an object without the form of its type, an
-//!   id with two types, and two links to one id with different types.
-//! - Two stores have the same bytes under an id that both hold, or here are two texts with one SHA-1. So all that a client's
-//!   ref reaches at a server is at the client, too, with the same bytes, whoever sent it: [`laws`].
-//! - What was judged is complete again when it is read from where it is kept, or here are two texts with one SHA-1. This
-//!   relies on two facts. The id of each object is checked when it is read, as by [`ClosedStore::is_judged`], and each
-//!   object is still there.
-//! - What an honest server sends is refused only out of memory, or here are two texts with one SHA-1.
+//! - Each object of a store has the id under which it is kept. Each of its links leads to an object of the store, which
+//!   has the type of the link. So the store has all that its objects reach: [`ClosedStore::laws`].
+//! - [`ClosedStore::add_all`] keeps this. It refuses a batch only if an id of the batch is kept with another type, if a
+//!   link leads nowhere, or out of memory. Then the store is as it was.
+//! - [`Batch::add`] keeps exactly the links of the objects that came. It refuses only an object without the form of its
+//!   type, an id with two types, and two links to one id with different types, except out of memory.
+//! - Two stores have the same bytes under an id that both hold, or here are two texts with one SHA-1. So a client has all
+//!   that its ref reaches at a server, with the same bytes, whoever sent it: [`laws`].
+//! - Objects that were judged are complete when they are read again, or here are two texts with one SHA-1. This relies on
+//!   two facts. The id of each object is checked when it is read, as by [`ClosedStore::is_judged`], and each object is
+//!   still there.
+//! - Objects from an honest server are refused only out of memory, or here are two texts with one SHA-1.
 //! - No call panics, overflows or reads out of bounds, and each returns.
 //!
-//! The links of an object are those of `gitobject`. A gitlink of a tree is none, since its commit is in another repository
-//! (gitsubmodules(7)).
+//! The links of an object are those of `gitobject`. A gitlink of a tree is none, since its commit is in another
+//! repository (gitsubmodules(7)).
 //!
 //! # Differences from Git
 //!
 //! - Git tests that a new pack is complete by a walk from its tips to what its refs reach. It takes packs with other
 //!   objects that are not complete. Here each object of a pack must be complete.
-//! - Git compares an object that comes with the one that it has under the same id. Here only the types are compared, since
-//!   no bytes are kept. An object that comes again is not read again.
+//! - Git compares an object that comes with the one that it has under the same id. Here only the types are compared,
+//!   since no bytes are kept. An object that comes again is not read again.
 //!
 //! # What the contracts do not rule out
 //!

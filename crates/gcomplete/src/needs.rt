@@ -13,16 +13,16 @@ use std::alloc::Allocator;
 use std::hash::BuildHasherDefault;
 use std::marker::Model;
 
-/// What is needed under an id.
+/// The object that is needed under an id.
 #[derive(Clone, Copy, Debug, Drop)]
 pub struct Need {
-    /// The type of the object.
+    /// Its type.
     pub kind: ObjectType,
     /// The first object that links to it.
     pub by: Oid,
 }
 
-/// Ids to which objects link, each with what is needed. Contracts see the list of them.
+/// Ids to which objects link, each with the object that is needed. Contracts see the list of them.
 #[derive(Drop)]
 pub(crate) struct NeedMap<A: Allocator + Copy> {
     map: IndexMap<Oid, Need, IdHasher, A>,
@@ -69,8 +69,8 @@ impl<A: Allocator + Copy> NeedMap<A> {
 
     /// Notes the links of an object. Links to one id must have one type.
     ///
-    /// It fails with `Clash` at the first link that has another type than a link before, and with `Memory`. Some links may
-    /// be noted then.
+    /// It fails with `Clash` at the first link that has another type than a link before, and with `Memory`. Then some of
+    /// the links may be noted.
     pub(crate) fn note_all(&mut self, id: &Oid, links: &[Link]) -> Result<(), BatchFault>
         ensures { MatchResult result (λ _. Notes self.old id.now links.now self.new)
             (IsNeedFault self.old id.now links.now) }

@@ -17,8 +17,8 @@ use gname::Oid;
 use std::alloc::{Allocator, Global};
 use std::marker::Model;
 
-/// Objects that were judged: each has the id under which it is kept, and each of its links leads to an object that is
-/// kept, too, and has the type of the link. So the store has all that its objects reach. It keeps ids and types, and
+/// Objects that were judged. Each has the id under which it is kept. Each of its links leads to another object of the
+/// store, which has the type of the link. So the store has all that its objects reach. It keeps ids and types, and
 /// contracts see the list of them. The bytes are kept elsewhere, such as in a pack on disk.
 #[derive(Drop)]
 pub struct ClosedStore<A: Allocator + Copy = Global> {
@@ -69,8 +69,8 @@ impl<A: Allocator + Copy> ClosedStore<A> {
         self.types.get(id)
     }
 
-    /// Whether an object that was read from where it is kept has this id and the type that is kept. Its SHA-1 is computed.
-    /// If so, it is the object that was judged, or here are two texts with one SHA-1.
+    /// Whether an object that was read again has this id, and the type that is kept. Its SHA-1 is computed. If so, it is
+    /// the object that was judged, or here are two texts with one SHA-1.
     pub fn is_judged(&self, id: &Oid, kind: ObjectType, body: &[u8]) -> bool
         ensures judged { IsTrue result
             ↔ ((kind_at self.now id.now ≡ Some kind) × (id.now ≡ id_of kind body.now)) }
@@ -89,14 +89,16 @@ impl<A: Allocator + Copy> ClosedStore<A> {
 
     /// Adds all objects of a batch, or none.
     ///
-    /// It fails with `Collision` at the first object whose id is kept with another type; otherwise with `Missing` at the
-    /// first link that leads to no object of the batch or of the store; and with `Memory`. The store is then as it was.
+    /// It fails with `Collision` at the first object whose id is kept with another type. Otherwise it fails with
+    /// `Missing` at the first link that leads to no object of the batch or of the store. It fails with `Memory`, too. The
+    /// store is then as it was.
     pub fn add_all(&mut self, batch: Batch<A>) -> Result<(), BatchFault>
         ensures adds { AddsAll self.old batch self.new result }
         ensures closed { HasJudged self.new }
         ensures joins { (held objects : Store) → AreJudged self.old held → IsBatchOf batch objects
             → OnOk result (AreJudged self.new (joined held objects)) }
         ensures keeps { KeepsTypes self.old self.new }
+        ensures holds { OnOk result (KeepsTypes batch.types self.new) }
     {
         batch.laws();
         if let Err(fault) = batch.check(&self.types) {

@@ -2,7 +2,6 @@
 use Rattle.std.specs.Prelude.{◌≡◌, Some}
 use Rattle.gname.specs.Ids.{Id}
 use Rattle.gitobject.specs.Trees.{link_of}
-use Rattle.gitobject.specs.declared.links.Link.{Link}
 use Rattle.gitobject.specs.declared.types.ObjectType.{ObjectType}
 use Rattle.gcomplete.specs.Stores.{Types, kind_at}
 use Rattle.gcomplete.specs.Batches.{Needs, need_at, need_of}
@@ -17,7 +16,8 @@ IsFreeAt store pair = (other : ObjectType) → kind_at store pair.0 ≡ Some oth
 
 -- no id of the batch is kept with another type
 abbrev pub AreFree : Types → Types → Type 0
-AreFree store batch = (a : Id) (kind other : ObjectType) → kind_at batch a ≡ Some kind → kind_at store a ≡ Some other → other ≡ kind
+AreFree store batch =
+    (a : Id) (kind other : ObjectType) → kind_at batch a ≡ Some kind → kind_at store a ≡ Some other → other ≡ kind
 
 -- an id of the batch is kept with another type
 abbrev pub IsTaken : Types → Types → BatchFault → Type 0
@@ -33,11 +33,13 @@ LeadsAt store batch pair = Leads store batch (link_of pair.1.kind pair.0)
 
 -- each link that is noted leads to an object
 abbrev pub AllLead : Types → Types → Needs → Type 0
-AllLead store batch needs = (a : Id) (need : Need) → need_at needs a ≡ Some need → Leads store batch (link_of need.kind a)
+AllLead store batch needs =
+    (a : Id) (need : Need) → need_at needs a ≡ Some need → Leads store batch (link_of need.kind a)
 
 -- a link that is noted leads to no object
 abbrev pub IsUnmet : Types → Types → Needs → BatchFault → Type 0
-IsUnmet store batch needs (Missing a link) = (need_at needs link.id ≡ Some (need_of a link)) × ¬ (Leads store batch link)
+IsUnmet store batch needs (Missing a link) =
+    (need_at needs link.id ≡ Some (need_of a link)) × ¬ (Leads store batch link)
 IsUnmet store batch needs (Malformed a) = ⊥
 IsUnmet store batch needs (Collision a) = ⊥
 IsUnmet store batch needs (Clash a link) = ⊥

@@ -12,18 +12,18 @@ use Rattle.gcomplete.specs.declared.fault.BatchFault.{BatchFault}
 use Rattle.gcomplete.specs.declared.fault.BatchFault.TheVariants.{Malformed, Collision, Clash, Missing, Memory}
 use Rattle.gcomplete.specs.declared.needs.Need.{Need}
 
--- a type is put under an id, and all else is as it was
+-- a type is put under an id, and each other id has the type that it had
 abbrev pub Puts : Types → Id → ObjectType → Types → Type 0
 Puts old a kind new = (b : Id) → kind_at new b ≡ (if bytes_eq a b then Some kind else kind_at old b)
 
--- Links of an object are noted. What was noted before is noted still, and nothing else is.
+-- Links of an object are noted. The earlier links are noted still, and no others.
 pub record Notes (old : Needs) (id : Id) (links : List Link) (new : Needs) : Type 0 where
   pub keeps : (a : Id) (need : Need) → need_at old a ≡ Some need → need_at new a ≡ Some need
   pub each : All (IsNoted new) links
   pub only : (a : Id) (need : Need) → need_at new a ≡ Some need
       → (need_at old a ≡ Some need) ⊎ ((need.by ≡ id) × Contains links (link_of need.kind a))
 
--- what is noted under the id of a link has another type
+-- the object that is needed under the id of a link has another type
 pub record HasOtherNeed (needs : Needs) (link : Link) : Type 0 where
   pub need : Need
   pub noted : need_at needs link.id ≡ Some need

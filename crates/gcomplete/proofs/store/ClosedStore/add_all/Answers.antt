@@ -2,7 +2,7 @@ use Rattle.std.proofs.Common.{subst}
 use Rattle.gcomplete.specs.Adding.{IsFit, IsJoined}
 use Rattle.gcomplete.specs.Batches.{HasJudged}
 use Rattle.gcomplete.specs.Stores.{Types}
-use Rattle.gcomplete.proofs.Closing.{has_joined, judged_joined, keeps_joined}
+use Rattle.gcomplete.proofs.Closing.{has_joined, holds_joined, judged_joined, keeps_joined}
 use Rattle.gcomplete.proofs.store.ClosedStore.add_all.Goals as goal
 
 pub returns-clause-adds : goal.returns-clause-adds
@@ -31,3 +31,6 @@ pub returns-clause-keeps : goal.returns-clause-keeps
 returns-clause-keeps g c =
     let adds = returns-clause-adds g c in
     keeps_joined c.args.self.now c.args.batch c.join.new.self adds.0 adds.1
+
+pub returns-clause-holds : goal.returns-clause-holds
+returns-clause-holds g c = holds_joined c.args.self.now c.args.batch.types c.join.new.self (returns-clause-adds g c).1
