@@ -132,7 +132,9 @@ impl<A: Allocator + Copy> RepositoryFault<A> {
             BatchFault::Malformed { id } => RepositoryFault::refused(&id, ObjectCause::Malformed),
             BatchFault::Collision { id } => RepositoryFault::refused(&id, ObjectCause::Differs),
             BatchFault::Clash { link, .. } => RepositoryFault::refused(&link.id, ObjectCause::Type),
-            BatchFault::Missing { link, .. } => RepositoryFault::Store(StoreFault::Missing(link.id)),
+            BatchFault::Missing { link, .. } => RepositoryFault::Store(StoreFault::Missing(
+                link.id,
+            )),
             BatchFault::Memory => RepositoryFault::Memory,
         }
     }
