@@ -93,8 +93,9 @@
 //!
 //! `gparts` for packers that give parts, `gitobjects` for objects, `gitcommitgraph` for
 //! commit-graphs, `gitrefs` for refs, `gitpack` for packs, `gcomplete` for the links of a pack that
-//! comes, `gitobject` for those of an object, `gzlib` to deflate, `gitconfig` for settings. `ggraph` with `gdag`, `gobject` and `grefs` for graphs and packers,
-//! `gname` for ids, `indexmap` for maps by id, `sha1` for the trailer of a pack.
+//! comes, `gitobject` for those of an object, `gzlib` to deflate, `gitconfig` for settings. `ggraph`
+//! with `gdag`, `gobject` and `grefs` for graphs and packers, `gname` for ids, `indexmap` for maps by
+//! id, `sha1` for the trailer of a pack.
 #![tactic(auto)]
 
 mod arrival;
