@@ -5,3 +5,4 @@ pub mod Batching
 pub mod Keeping
 pub mod Sending
 pub mod Tests
+pub mod Kept

@@ -5,5 +5,6 @@ pub mod Batches
 pub mod Adding
 pub mod Rereading
 pub mod Sending
+pub mod Judging
 pub mod Laws
 pub mod steps

@@ -5,6 +5,7 @@
 //! - A [`Batch`] takes the objects of a pack as they come. It reads the links of each object once.
 //! - A [`ClosedStore`] takes a batch as a whole, if each link leads to an object of the batch or of the store. Otherwise
 //!   it takes none of it, and names the object, its link and the cause.
+//! - [`judge`] reads all that some tips reach from an [`ObjectSource`], such as a Git directory, and answers the store.
 //!
 //! # Proved
 //!
@@ -19,6 +20,8 @@
 //! - Objects that were judged are complete when they are read again, or here are two texts with one SHA-1. This relies on
 //!   two facts. The id of each object is checked when it is read, as by [`ClosedStore::is_judged`], and each object is
 //!   still there.
+//! - [`judge`] answers a store that has each of the tips, and so all that they reach. It relies on the source, which
+//!   computes the id of each object that it reads.
 //! - Objects from an honest server are refused only out of memory, or here are two texts with one SHA-1.
 //! - No call panics, overflows or reads out of bounds, and each returns.
 //!
@@ -35,6 +38,8 @@
 //! # What the contracts do not rule out
 //!
 //! - Two objects of one type may have one id. Then the first is judged, and the other is taken for it.
+//! - [`judge`] may read an object twice, or objects that the tips do not reach. It may fail with `TooMany` at any limit,
+//!   and name another object than the one that was not read.
 //! - Any call that allocates may fail with out of memory; the contracts do not say when. They say nothing of time, or of
 //!   how much memory a call takes. A batch keeps each id to which its objects link, which may be many.
 //!
@@ -48,6 +53,7 @@
 mod batch;
 mod checking;
 mod fault;
+mod judging;
 pub mod laws;
 mod needs;
 mod store;
@@ -55,5 +61,6 @@ mod types;
 
 pub use crate::batch::Batch;
 pub use crate::fault::BatchFault;
+pub use crate::judging::{JudgeFault, ObjectSource, judge};
 pub use crate::needs::Need;
 pub use crate::store::ClosedStore;

@@ -1,0 +1,12 @@
+-- A repository that is judged from its tips.
+use Rattle.std.specs.Prelude.{List, All, IsSome}
+use Rattle.gname.specs.Ids.{Id}
+use Rattle.gcomplete.specs.Stores.{Types, kind_at}
+
+-- an object is kept under the id
+abbrev pub IsKept : Types → Id → Type 0
+IsKept types a = IsSome (kind_at types a)
+
+-- an object is kept under each of these ids
+abbrev pub AreKept : Types → List Id → Type 0
+AreKept types ids = All (IsKept types) ids
