@@ -5,7 +5,8 @@
 //!   (git-daemon(1)). It reads the refs at each connection, so it shows what Git has changed meanwhile. It
 //!   keeps what it read of a repository while the refs and HEAD stay the same: the graphs of at most 64
 //!   repositories, with at most 1,048,576 commits and tags. Connections share that, and the packs as long
-//!   as their directory does not change. It prints a line about each connection.
+//!   as their directory does not change. A pack goes out in parts: one of its entries is in memory at a
+//!   time. It prints a line about each connection.
 //! - `upload-pack` serves one connection on standard input and output (git-upload-pack(1)).
 //! - Both answer requests for refs from the objects at which refs are. The history is read at the first
 //!   request that may ask for objects. One of which a part is missing is refused then, as by Git.
@@ -24,9 +25,9 @@
 //!
 //! # Only tested
 //!
-//! All else, against Git at the other end (`examples/with-git.sh`): which repository a path leads to,
-//! what goes out and what is kept, the deadlines of clients, progress, the lines of connections, and
-//! each sentence.
+//! All else, against Git at the other end (`examples/with-git.sh`). So are the repository to which a path
+//! leads, what goes out and what is kept, progress, the lines of connections, and each sentence. Many
+//! clients at once, and their deadlines, are tried by `examples/many-clients.py`.
 //!
 //! # Differences from Git
 //!
@@ -36,7 +37,8 @@
 //! - `serve` has at most 1,024 connections at once, and 64 of one address, unless options say more. A
 //!   client has 10 seconds for its first line, 60 for the first byte of a request and 60 for the rest. It
 //!   may take nothing for 60 seconds, and has 10 minutes in all, and a second more for each 8,192 bytes
-//!   that it took. No client waits for another one. All wait while a history is read.
+//!   that it took. No client waits for what another one sends or takes. All wait while a history is read,
+//!   or the objects for a client are looked for.
 //!   `upload-pack` waits for its client without end.
 //! - `core.sharedRepository` and `core.logAllRefUpdates` are not read: files get the permissions of
 //!   the process, and reflogs are left alone.

@@ -17,10 +17,10 @@ use std::rc::Rc;
 use std::rt::Files;
 use std::time::SystemTime;
 
-/// What a repository shows: its refs, HEAD, and as much of its history as was read.
+/// The refs, HEAD and as much of the history of a repository as was read.
 #[derive(Drop)]
 pub(crate) struct Shown {
-    /// Where it is.
+    /// Its directories.
     pub(crate) found: Directories,
     /// Its server.
     pub(crate) extent: Extent,

@@ -21,7 +21,7 @@ use std::{fmt, time};
 type Hosted<'h, 'f, 'r, R> =
     ServerSide<'h, Global, Repositories<'f, 'r, R>, Shared<'f, 'r, R>>;
 
-// What a server says.
+// All that a server says.
 type Reply<'f, 'r, R> = ServerReply<Global, Shared<'f, 'r, R>, StoreParts<Global>>;
 
 /// A connection, as the server holds it.
