@@ -5,3 +5,6 @@ pub mod StepLemmas
 pub mod SayLemmas
 pub mod RefLemmas
 pub mod FetchLemmas
+pub mod SideLemmas
+pub mod GreetingLemmas
+pub mod ListingLemmas

@@ -2,7 +2,7 @@
 
 ghost use Rattle.std.specs.Prelude.{◌≡◌, ◌≤◌, IfSome, length};
 ghost use Rattle.ggrammar.specs.Capabilities.{capability_text, max_capability};
-ghost use Rattle.ggrammar.specs.CapabilityViews.{capability_view};
+ghost use Rattle.ggrammar.specs.CapabilityView.{capability_view};
 ghost use Rattle.gserver.specs.Greetings.{SaysGreeting, steps_of_greeting};
 
 use crate::cursor::Cursor;

@@ -97,7 +97,10 @@ impl<A: Allocator + Copy, R: Served<A>> Listing<A, R> {
             (steps_of_listing (R.server self.old.repo) self.old.next)
             (steps_of_listing (R.server self.new.repo) self.new.next) out.old out.new result }
     {
-        if say_ref(self.repo.server(), &self.asked, at, out) {
+        let server = self.repo.server();
+        // Laws.
+        server.laws();
+        if say_ref(server, &self.asked, at, out) {
             self.next = NextLine::Ref(at + 1);
             return Said::More;
         }

@@ -6,7 +6,7 @@ ghost use Rattle.grequest.specs.RequestValues.{asked_by_request};
 ghost use Rattle.gdialogue.specs.Sides.{MayAnswer};
 ghost use Rattle.gserver.specs.Listings.{SaysLsAnswer};
 ghost use Rattle.gserver.specs.Replying.{may_of};
-ghost use Rattle.gserver.specs.Serving.{AnswersAsked, AnswersHello, Refuses, SendsFrom, goes_on_after, messages_of};
+ghost use Rattle.gserver.specs.Serving.{AnswersAsked, AnswersHello, Greets, Refuses, SendsFrom, goes_on_after, messages_of};
 ghost use Rattle.gserver.specs.steps.Answering.{AnswersOf, IsRefusal};
 
 use crate::err_text::ErrText;
