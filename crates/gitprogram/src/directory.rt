@@ -37,6 +37,20 @@ impl Directories {
         })
     }
 
+    /// The same directories.
+    pub(crate) fn copy_in(&self, alloc: Global) -> Result<Directories, AllocError> {
+        Ok(Directories {
+            own: String::from_str(alloc, self.own.as_str())?,
+            common: String::from_str(alloc, self.common.as_str())?,
+            has_work_tree: self.has_work_tree,
+        })
+    }
+
+    /// The directory of packs.
+    pub(crate) fn packs(&self, alloc: Global) -> Result<String, AllocError> {
+        below(alloc, self.common.as_str(), "objects/pack")
+    }
+
     /// The refs of the repository.
     pub(crate) fn refs<'r, R: Files>(&'r self, alloc: Global, rt: &'r R) -> GitDirectory<'r, R> {
         GitDirectory::linked(alloc, rt, self.common.as_str(), self.own.as_str())
