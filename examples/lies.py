@@ -64,12 +64,12 @@ NEW = [(TIP, b"refs/heads/new")]
 class Case:
     """A pack, the refs that its server has, and whether it is taken; `None` where its objects may stay, but no ref may move.
 
-    A clone takes what a fetch takes, unless it is said to take more.
+    A clone takes what a fetch takes, unless it is said whether it does.
     """
 
-    def __init__(self, what, pack, refs=NEW, is_taken=False, is_cloned=False):
+    def __init__(self, what, pack, refs=NEW, is_taken=False, is_cloned=None):
         self.what, self.pack, self.refs, self.is_taken = what, pack, refs, is_taken
-        self.is_cloned = is_taken or is_cloned
+        self.is_cloned = bool(is_taken) if is_cloned is None else is_cloned
 
 
 def zip_bomb(megabytes):
@@ -143,6 +143,11 @@ def names():
     ):
         yield Case(f"a ref named {name[:40]!r}", GOOD, [(TIP, name)])
     yield Case("a ref below a ref", GOOD, [(TIP, b"refs/heads/d"), (TIP, b"refs/heads/d/e")], None)
+    escape = b"refs/heads/\xc2\x9b31m"
+    yield Case("a ref below a ref, with control bytes", GOOD, [(TIP, escape), (TIP, escape + b"/e")], None)
+    yield Case("a name that is not UTF-8", GOOD, [(TIP, b"refs/heads/\x9b31m")], is_cloned=True)
+    for what, kind, body in (("tree", "tree", TREE), ("blob", "blob", BLOB)):
+        yield Case(f"HEAD at a {what}", GOOD, [(id_of(kind, body), b"HEAD"), *NEW], is_taken=True, is_cloned=False)
     yield Case("a ref below one that is here", GOOD, [(TIP, b"refs/heads/old/e")], None, is_cloned=True)
     # Its first line counts.
     yield Case("a ref twice", GOOD, [(TIP, b"refs/heads/d"), (id_of("tree", TREE), b"refs/heads/d")], is_taken=True)

@@ -31,9 +31,11 @@
 //!
 //! # Differences from Git
 //!
-//! - `clone` has HEAD, branches and tags alone.
+//! - `clone` has HEAD, branches and tags alone. A HEAD that is detached at a tag becomes one at the
+//!   commit to which the tag leads; Git refuses such a clone.
 //! - `fetch` moves a tag forward without force, as any ref. It does not follow a symbolic ref that it
-//!   would move, and fails. It does not know of branches that other worktrees have checked out.
+//!   would move, and fails. It does not know of branches that other worktrees have checked out. There
+//!   is a work tree if `core.bare` is false in the file `config`; if it is not set, by the name `.git`.
 //! - `serve` has at most 1,024 connections at once, and 64 of one address, unless options say more. A
 //!   client has 10 seconds for its first line, 60 for the first byte of a request and 60 for the rest. It
 //!   may take nothing for 60 seconds, and has 10 minutes in all, and a second more for each 8,192 bytes

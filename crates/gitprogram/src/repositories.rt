@@ -6,7 +6,7 @@ use crate::kept::KeptRepositories;
 use crate::opening::{
     Extent, NotOpened, has_refs, open_history, open_objects, open_shown, read_listed,
 };
-use crate::refusals::{BAD_FIRST_LINE, LIMITS, NOT_OPENED, NOT_SERVED};
+use crate::refusals::{BAD_FIRST_LINE, LIMITS, NOT_OPENED, NOT_SERVED, PACK_FAILED};
 use crate::sentences::{Sentence, form_text};
 use crate::shared::{Objects, Shared, Shown, share};
 use ganswer::ServeFault;
@@ -220,6 +220,7 @@ impl<'f, 'r, R: Files + AllocGlobal> Host<Global, Shared<'f, 'r, R>> for Reposit
                     ..
                 },
             ) => words.add(LIMITS),
+            ServeFault::Pack(_) => words.add(PACK_FAILED),
             ServeFault::Request(
                 MessageFault {
                     why: Why::BadText,

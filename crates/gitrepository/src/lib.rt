@@ -10,8 +10,8 @@
 //!   parts, and then holds one entry at a time.
 //! - A [`StoreIndexer`] indexes a pack while it comes, and keeps it. [`install_pack`] brings it to the
 //!   directory.
-//! - [`open_store`] refuses a repository of a form that is not read. A [`NewRepository`] is one that a
-//!   clone makes. [`check_repository`] checks that all that the refs reach is there.
+//! - [`open_store`] refuses a repository of a form that is not read, and [`is_bare`] tells whether one has
+//!   no work tree. A [`NewRepository`] is one that a clone makes. [`check_repository`] checks that all that the refs reach is there.
 //!
 //! # Proved
 //!
@@ -71,7 +71,8 @@
 //! - [`check_refs`] might look at other objects than those that the refs reach. The graph whose nodes
 //!   it counts may be another one, and its count of objects has no clause.
 //! - [`Tips`] might forget an id, [`add_leaves`] might add other nodes, and a repository of any form
-//!   might be opened or refused. The names of peeled refs in a new repository might be wrong.
+//!   might be opened or refused. [`is_bare`] might answer anything. The names of peeled refs in a new
+//!   repository might be wrong.
 //! - The indexer might leave out an entry, or answer one of an object that the pack does not have. It
 //!   looks for the trees and blobs that are named, and compares objects that are here already; no
 //!   clause says so, nor when it reads an object. A loose object that comes here meanwhile may be left
@@ -132,7 +133,7 @@ pub use crate::copying::PackCounts;
 pub use crate::fault::{CheckFault, FormFault, ObjectCause, RepositoryFault};
 pub use crate::feed::{Received, StoreFeed};
 pub use crate::folder::{PackFolder, Stage};
-pub use crate::form::{check_form, open_store};
+pub use crate::form::{check_form, is_bare, open_store};
 pub use crate::indexer::StoreIndexer;
 pub use crate::install::{install_files, install_pack};
 pub use crate::kept::KeptPack;

@@ -250,7 +250,7 @@ impl fmt::Display for WordFault<'_> {
             WordFault::Spec(text) => {
                 write!(
                     f,
-                    "'{text}' is no refspec: write [+]SOURCE:DESTINATION, both as full names"
+                    "'{text}' is no refspec: write [+]SOURCE:DESTINATION, both full names, or both ending in /*"
                 )
             }
             WordFault::Prefix(text) => {
