@@ -101,6 +101,7 @@ def broken_packs():
     yield Case("a size of one more", pack([*ALL[:2], whole("blob", BLOB, len(BLOB) + 1)]))
     yield Case("a tree where a blob is named", pack([*ALL[:2], whole("tree", BLOB)]))
     yield Case("a base that is not there", pack(ALL + [by_id(b"\x11" * 20, size_of(5) + size_of(5) + b"\x05abcde")]))
+    yield Case("a delta of two bytes", pack(ALL + [whole("blob", b"base"), by_id(id_of("blob", b"base"), size_of(4) + size_of(0))]))
 
 
 def bombs(megabytes):
@@ -123,6 +124,48 @@ def many_bombs():
     delta = size_of(65_536) + size_of(65_535 * 4_000) + copies
     deltas = [by_id(id_of("blob", base), delta + b"\x01" * 0) for _ in range(40)]
     yield Case("forty deltas of 262 MB", pack(ALL + [whole("blob", base), *deltas]))
+
+
+def compressed(*parts):
+    """A zlib stream of these parts, which may have a GB together."""
+    deflate = zlib.compressobj(9)
+    return b"".join(deflate.compress(part) for part in parts) + deflate.flush()
+
+
+def large(kind, first, line, count, last=b""):
+    """An entry of a kind whose body has a line so many times."""
+    size = len(first) + len(line) * count + len(last)
+    return head(KINDS[kind], size) + compressed(first, line * count, last)
+
+
+def by_copies(size, last):
+    """A delta of a base of zeros that has four other bytes at its end."""
+    delta, at = size_of(size) + size_of(size), 0
+    while at < size - 4:
+        count = min(size - 4 - at, 0xFFFFFF)
+        delta += b"\xff" + struct.pack("<I", at) + struct.pack("<I", count)[:3]
+        at += count
+    return delta + b"\x04" + last
+
+
+def hogs():
+    """Small packs that take much memory, if they are not refused in time."""
+    empty = whole("blob", b"")
+    yield Case("as many empty objects as 64 MiB have", with_trailer(b"PACK" + struct.pack(">II", 2, 7_456_000) + empty * 7_456_000))
+    yield Case("a tree of 8,000,000 entries", pack(ALL + [large("tree", b"", TREE, 8_000_000)]))
+    tree, parent = COMMIT[:46], b"parent %s\n" % TIP.hex().encode()
+    yield Case("a commit of 5,000,000 parents", pack(ALL + [large("commit", tree, parent, 5_000_000, WHO + b"\nm\n")]))
+    size = 254 * MEGABYTE
+    zeros = bytes(size)
+    of_zeros = hashlib.sha1(b"blob %d\0" % size)
+    first, made = of_zeros.copy(), of_zeros.copy()
+    first.update(zeros)
+    made.update(zeros[4:] + b"one\n")
+    inserts = size_of(size) + size_of(size // 128 * 127) + (b"\x7f" + bytes(127)) * (size // 128)
+    entries = [head(3, size) + compressed(zeros)]
+    entries += [by_id(first.digest(), by_copies(size, last)) for last in (b"one\n", b"two\n")]
+    entries += [by_id(made.digest(), inserts[:-1] + last) for last in (b"a", b"b")]
+    yield Case("bases and deltas of 254 MB", pack(ALL + entries))
 
 
 def chains(count):
@@ -160,6 +203,7 @@ def cases():
     yield from broken_packs()
     yield from bombs(1024)
     yield from many_bombs()
+    yield from hogs()
     yield from chains(3_000)
     yield from names()
 

@@ -22,7 +22,7 @@
 //! - [`check_refs`] counts a graph in which each entry is that of an object.
 //! - A pack that goes out has a header, as many entries as the header says, and the SHA-1 of all
 //!   bytes before. Each entry has a well-formed head. The pack has at most `MAX_PACK` bytes. Parts of
-//!   it are such a pack in order, or the beginning of one that ends in a fault.
+//!   it are such a pack in order. If they end in a fault, no clause says what they are.
 //! - A pack is accepted only if its trailer is the SHA-1 of all bytes before. Each entry that the
 //!   indexer answers is that of an object, or is a tree or blob that a tag names. The entry of this
 //!   tag is among the answer.
