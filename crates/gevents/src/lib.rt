@@ -43,6 +43,7 @@
 #![tactic(auto)]
 
 mod accepting;
+mod addresses;
 mod event;
 mod event_loop;
 mod leaver;
