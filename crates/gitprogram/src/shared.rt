@@ -1,6 +1,6 @@
 //! A repository that several connections share.
 
-ghost use Rattle.std.specs.Prelude.{◌≡◌, ◌≤◌, ◌×◌, ◌++◌, List, ℕ, None, length, ⊤};
+ghost use Rattle.std.specs.Prelude.{◌≡◌, ◌≤◌, ◌++◌, List, ℕ, None, length, ⊤};
 
 use crate::directory::Directories;
 use crate::fault::Fault;
