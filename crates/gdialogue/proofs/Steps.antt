@@ -1,14 +1,14 @@
 -- The steps of a dialogue: a packet that is heard, and packets that are said.
-use Rattle.std.proofs.Common.{◌≡◌, ℕ, ◌+◌, ◌<◌, ◌≤◌, ◌^◌, Bool, true, false, List, [], ◌∷◌, ◌++◌, length, Option, Some, None, Result, Ok, Err, refl, sym, ap, ◌∙◌, subst, arith, length-append, append-nil, append_assoc}
+use Rattle.std.proofs.Common.{◌≡◌, ℕ, ◌+◌, ◌<◌, ◌^◌, Bool, true, false, List, [], ◌∷◌, ◌++◌, length, Option, Some, None, Result, Ok, Err, refl, sym, ap, ◌∙◌, subst, append-nil, append_assoc}
 use Rattle.std.proofs.lemmas.List.{length_push}
 use Rattle.gpkt.specs.Packets.{Bytes, Packet}
-use Rattle.ggrammar.specs.Grammar.{Judge, LawsOf, Open, Whole, IsOpen, IsWhole}
+use Rattle.ggrammar.specs.Grammar.{Judge, LawsOf, Whole, IsOpen, IsWhole}
 use Rattle.ggrammar.specs.MessageReading.{IsReason, TakesPacket}
 use Rattle.ggrammar.specs.declared.message.Step.{Step}
 use Rattle.ggrammar.specs.declared.message.Step.TheVariants as step
 use Rattle.ggrammar.specs.declared.fault.Why.{Why}
 use Rattle.ggrammar.specs.declared.fault.MessageFault.{MessageFault}
-use Rattle.gtalk.specs.Talks.{Talk, Says, hearing, no_talk, saying, stopping}
+use Rattle.gtalk.specs.Talks.{Talk, Says, hearing, no_talk, stopping}
 use Rattle.gtalk.specs.declared.conversation.Stop.{Stop}
 use Rattle.gdialogue.specs.Sides.{LeadsTo, MayAnswer, SaysSome}
 use Rattle.gdialogue.specs.declared.side.Said.{Said}

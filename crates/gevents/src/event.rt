@@ -1,4 +1,4 @@
-//! What happens at a loop.
+//! Events of a loop.
 
 ghost use Rattle.gevents.specs.Peers.{IsCounted};
 
@@ -50,7 +50,7 @@ pub struct Ended<C: Conversation, A: Allocator + Copy> {
     ghost held: { ∥ IsCounted C.holds connection sent ∥₁ },
 }
 
-/// What happened at a loop.
+/// An event of a loop.
 #[derive(Drop)]
 pub enum Event<C: Conversation, A: Allocator + Copy> {
     /// A peer has connected. [`EventLoop::begin`](crate::EventLoop) begins the conversation with it. If there is

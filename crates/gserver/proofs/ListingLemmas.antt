@@ -1,5 +1,5 @@
 -- The refs that a request asks for, line by line.
-use Rattle.std.proofs.Common.{◌≡◌, ◌<◌, ◌≤◌, ◌+◌, ◌-◌, ℕ, Bool, true, false, List, [], ◌∷◌, ◌++◌, length, map, drop, refl, sym, ap, ◌∙◌, subst, arith, length-drop}
+use Rattle.std.proofs.Common.{◌≡◌, ◌<◌, ◌≤◌, ◌+◌, ℕ, Bool, true, false, List, [], ◌∷◌, ◌++◌, length, map, drop, refl, sym, ap, ◌∙◌, subst, arith, length-drop}
 use Rattle.std.proofs.lemmas.List.{nil_from_length}
 use Rattle.gpkt.specs.Packets.{Bytes, Packet, Flush, ResponseEnd, canonical, canonical_all}
 use Rattle.ggrammar.specs.Endings.{ends_with}
@@ -8,11 +8,11 @@ use Rattle.ggrammar.specs.declared.ends.Ends.TheVariants.{Plain, Response}
 use Rattle.grefs.specs.RefLists.{RefList}
 use Rattle.grequest.specs.Asked.{LsRefsAsked}
 use Rattle.glsreply.specs.LsReplies.{LsReply, ref_packet, unborn_packets}
-use Rattle.ganswer.specs.LsAnswers.{ShowsLines, all_refs, unborn_of}
+use Rattle.ganswer.specs.LsAnswers.{ShowsLines, head_id, head_ref, unborn_of}
 use Rattle.ganswer.specs.Servers.{Server}
 use Rattle.ganswer.proofs.LsLemmas.{answer_parts, shows_join, shows_none, two_parts}
 use Rattle.gserver.specs.PackSaying.{May}
-use Rattle.gserver.specs.Listings.{SaysListing, SaysLsAnswer, SaysRefs, said_at_end, steps_of_listing}
+use Rattle.gserver.specs.Listings.{SaysListing, SaysRefs, said_at_end, steps_of_listing}
 use Rattle.gserver.specs.declared.listing.NextLine.TheVariants as next
 use Rattle.gserver.specs.steps.RefLines.{SaysLines, SaysRefAt}
 use Rattle.gserver.specs.steps.Stepping.{Advances, PutsSome}
@@ -27,7 +27,7 @@ ended false packet old new steps_old steps_new before out is all = last_one pack
 
 module _ {A : Type 0} (server : Server A) (asked : LsRefsAsked) (ends : Ends) (goes_on : Bool) where
   -- the lines of some refs, and then those of more
-  pub lines_said : (refs more : RefList) (steps_old steps_new : ℕ) (before out : Bytes) → SaysLines server asked refs before out
+  lines_said : (refs more : RefList) (steps_old steps_new : ℕ) (before out : Bytes) → SaysLines server asked refs before out
       → steps_new < steps_old
       → PutsSome (SaysRefs server asked ends goes_on (refs ++ more)) (SaysRefs server asked ends goes_on more) steps_old steps_new before out
   lines_said refs more steps_old steps_new before out says less = record {
@@ -59,13 +59,20 @@ module _ {A : Type 0} (server : Server A) (asked : LsRefsAsked) (ends : Ends) (g
     nearer = omega arith;
   }
 
+  pub head_line_said : (before out : Bytes) → SaysLines server asked (head_ref (head_id server.head server.refs)) before out
+      → PutsSome (SaysListing server asked ends goes_on next.Head) (SaysListing server asked ends goes_on (next.Ref 0))
+      (steps_of_listing server next.Head) (steps_of_listing server (next.Ref 0)) before out
+  head_line_said before out says =
+      lines_said (head_ref (head_id server.head server.refs)) server.refs (steps_of_listing server next.Head) (steps_of_listing server (next.Ref 0))
+      before out says (omega arith)
+
   pub ref_said : (at : ℕ) (before out : Bytes) → SaysRefAt server asked at before out true
       → PutsSome (SaysListing server asked ends goes_on (next.Ref at)) (SaysListing server asked ends goes_on (next.Ref (at + 1)))
       (steps_of_listing server (next.Ref at)) (steps_of_listing server (next.Ref (at + 1))) before out
   ref_said at before out says =
       let less : at < length server.refs = says.0 in
       let some = lines_said (says.1.0 ∷ []) (drop (at + 1) server.refs) (steps_of_listing server (next.Ref at)) (steps_of_listing server (next.Ref (at + 1)))
-          before out says.1.2 (omega (arith, less)) in
+      before out says.1.2 (omega (arith, less)) in
       subst (λ (refs : RefList). PutsSome (SaysRefs server asked ends goes_on refs) (SaysRefs server asked ends goes_on (drop (at + 1) server.refs))
       (steps_of_listing server (next.Ref at)) (steps_of_listing server (next.Ref (at + 1))) before out) (sym says.1.1) some
 
@@ -93,13 +100,17 @@ module _ {A : Type 0} (server : Server A) (asked : LsRefsAsked) (ends : Ends) (g
       (omega arith)
 
   pub flush_at_end : (at : ℕ) (before out put : Bytes) → SaysRefAt server asked at before out false → ends ≡ Plain
-      → put ≡ out ++ canonical Flush → (new : May) (steps_old steps_new : ℕ)
-      → Advances (SaysListing server asked ends goes_on (next.Ref at)) new steps_old steps_new before put (said_at_end goes_on)
-  flush_at_end at before out put says plain is new steps_old steps_new =
-      ended goes_on Flush (SaysListing server asked ends goes_on (next.Ref at)) new steps_old steps_new before put
+      → put ≡ out ++ canonical Flush
+      → Advances (SaysListing server asked ends goes_on (next.Ref at)) (SaysListing server asked ends goes_on (next.Ref at))
+      (steps_of_listing server (next.Ref at)) (steps_of_listing server (next.Ref at)) before put (said_at_end goes_on)
+  flush_at_end at before out put says plain is =
+      ended goes_on Flush (SaysListing server asked ends goes_on (next.Ref at)) (SaysListing server asked ends goes_on (next.Ref at))
+      (steps_of_listing server (next.Ref at)) (steps_of_listing server (next.Ref at)) before put
       (is ∙ ap (λ o. o ++ canonical Flush) says.1) (over at [] goes_on says.0 (ap ends_with (sym plain)) refl)
 
-  pub response_over : (before out : Bytes) → out ≡ before ++ canonical ResponseEnd → (new : May) (steps_old steps_new : ℕ)
-      → Advances (SaysListing server asked ends goes_on next.ResponseEnd) new steps_old steps_new before out (said_at_end goes_on)
-  response_over before out is new steps_old steps_new =
-      ended goes_on ResponseEnd (SaysListing server asked ends goes_on next.ResponseEnd) new steps_old steps_new before out is (refl, refl)
+  pub response_over : (before out : Bytes) → out ≡ before ++ canonical ResponseEnd
+      → Advances (SaysListing server asked ends goes_on next.ResponseEnd) (SaysListing server asked ends goes_on next.ResponseEnd)
+      0 0 before out (said_at_end goes_on)
+  response_over before out is =
+      ended goes_on ResponseEnd (SaysListing server asked ends goes_on next.ResponseEnd) (SaysListing server asked ends goes_on next.ResponseEnd)
+      0 0 before out is (refl, refl)

@@ -1,11 +1,21 @@
 -- A server's answers to messages.
-use Rattle.std.proofs.Common.{◌≡◌, is_none, ◌<◌, ◌+◌, ◌⊎◌, inl, inr, ℕ, Bool, true, false, List, Option, Some, None, Result, Ok, Err, IfOk, IsSome, refl, sym, ◌∙◌, subst, arith}
+use Rattle.std.proofs.Common.{◌≡◌, [], ◌∷◌, codes, is_some, not, ◌<◌, ◌+◌, ◌⊎◌, inl, inr, ℕ, Bool, true, false, List, Option, Some, None, Result, Ok, Err, IfOk, IsSome, refl, sym, ap, ◌∙◌, subst, arith}
 use Rattle.std.proofs.lemmas.Bool.{ltb-true}
 use Rattle.gobject.specs.Packs.{PackFails, Packs}
 use Rattle.gparts.specs.Parts.{Gives}
 use Rattle.gpkt.specs.Packets.{Packet}
 use Rattle.ggrammar.specs.declared.ends.Ends.{Ends}
-use Rattle.grequest.specs.Asked.{FetchAsked, LsRefsAsked}
+use Rattle.gpkt.specs.Packets.{Data, Flush}
+use Rattle.gname.specs.declared.formats.Format.{Format}
+use Rattle.gname.specs.declared.formats.Format.TheVariants.{Sha1, Sha256}
+use Rattle.ggrammar.specs.Grammar.{IsWhole, Judge, Refused, Whole}
+use Rattle.ggrammar.specs.declared.fault.Why.TheVariants as why
+use Rattle.grequest.specs.Asked.{Asked, FetchAsked, LsRefsAsked}
+use Rattle.grequest.specs.Arguments.{command_form}
+use Rattle.ggrammar.specs.PeerErrors.{after_word}
+use Rattle.grequest.specs.RequestLines.{asked_by_lines, capability_texts}
+use Rattle.grequest.specs.Requests.{judge_at}
+use Rattle.grequest.specs.Requests as request
 use Rattle.ganswer.specs.Servers.{Server}
 use Rattle.gdialogue.specs.Sides.{MayAnswer}
 use Rattle.gdialogue.specs.declared.side.Answer.{Answer}
@@ -13,9 +23,9 @@ use Rattle.gdialogue.specs.declared.side.Answer.TheVariants as answer
 use Rattle.gserver.specs.Fetching.{SaysFetch}
 use Rattle.gserver.specs.Listings.{SaysLsAnswer}
 use Rattle.gserver.specs.Replying.{may_of}
-use Rattle.gserver.specs.Serving.{Greets, Refuses, SendsFrom, goes_on_after, max_requests, messages_of}
+use Rattle.gserver.specs.Serving.{AnswersAsked, AnswersHello, AnswersMessage, AnswersRequest, Greets, Refuses, SendsFrom, goes_on_after, side_judge, max_requests, messages_of}
 use Rattle.gserver.specs.declared.reply.ServerReply.{ServerReply}
-use Rattle.gserver.specs.steps.Answering.{AnswersOf, IsRefusal}
+use Rattle.gserver.specs.steps.Answering.{AnswersOf}
 
 -- ---- how many messages are left
 
@@ -35,9 +45,9 @@ fewer_first None (Some other) before after none has_new = omega arith
 pub has_some : {R : Type 0} (old : Option R) (repo : R) → old ≡ Some repo → IsSome old
 has_some old repo is = subst IsSome (sym is) refl
 
-pub is_none_so : {R : Type 0} (old : Option R) → is_none old ≡ true → old ≡ None
-is_none_so None h = refl
-is_none_so (Some one) h = absurd (cc h)
+pub is_none_so : {R : Type 0} (old : Option R) (result : Bool) → is_some old ≡ not result → result ≡ true → old ≡ None
+is_none_so None result is h = refl
+is_none_so (Some one) result is h = absurd (cc (is ∙ ap not h))
 
 pub not_some : {R : Type 0} (old : Option R) → old ≡ None → ¬ (IsSome old)
 not_some None none h = absurd (cc h)
@@ -112,3 +122,46 @@ module _ {A R P : Type 0} (server_of : R → Server A) (gives : R → P → Give
       says = subst (λ g. SaysFetch (server_of says.found) (packs_of says.packer) (fails_of says.packer) asked ends goes_on said g)
           (fetch_is_last (server_of says.found) (packs_of says.packer) (fails_of says.packer) asked ends goes_on said goes off says.says) says.says;
     }
+
+-- ---- the answers to messages
+
+-- requests of one format are not judged as those of another
+whole_is_not_refused : ¬ (Whole ≡ Refused why.Format)
+whole_is_not_refused h = absurd (cc h)
+
+formats_differ : ¬ (request.judge Sha1 ≡ request.judge Sha256)
+unfolding judge_at capability_texts command_form after_word
+formats_differ h = whole_is_not_refused (ap (λ (judge : Judge). judge (Data (codes "command=fetch") ∷ []) Flush) h)
+
+judged_format : (one other : Format) → request.judge one ≡ request.judge other → one ≡ other
+judged_format Sha1 Sha1 h = refl
+judged_format Sha256 Sha256 h = refl
+judged_format Sha1 Sha256 h = absurd (formats_differ h)
+judged_format Sha256 Sha1 h = absurd (formats_differ (sym h))
+
+module _ {A R : Type 0} (server_of : R → Server A) (packs_of : R → Packs A) (fails_of : R → PackFails A) (ends : Ends) where
+  pub hello_answered : (old new : Option R) (requests : ℕ) (lines said : List Packet) (goes : Bool)
+      → (old ≡ None → AnswersHello server_of new said goes) → (IsSome old → Refuses said goes)
+      → AnswersMessage server_of packs_of fails_of ends old requests new lines said goes
+  hello_answered None new requests lines said goes first other = first refl
+  hello_answered (Some repo) new requests lines said goes first other = inr (other refl)
+
+  asked_so : (repo : R) (requests : ℕ) (new : Option R) (lines said : List Packet) (goes : Bool) (asked : Asked)
+      → request.Says (server_of repo).graph.format lines asked
+      → AnswersAsked server_of packs_of fails_of ends repo asked (goes_on_after requests) new said goes ⊎ Refuses said goes
+      → AnswersRequest server_of packs_of fails_of ends repo requests new lines said goes ⊎ Refuses said goes
+  asked_so repo requests new lines said goes asked says (inl answers) = inl (record { asked = asked; says = says; answers = answers })
+  asked_so repo requests new lines said goes asked says (inr refuses) = inr refuses
+
+  pub request_answered : (old new : Option R) (requests : ℕ) (lines said : List Packet) (goes : Bool) (format : Format) (asked : Asked)
+      → request.judge format ≡ side_judge server_of old → IsWhole (side_judge server_of old) lines
+      → asked ≡ asked_by_lines format lines
+      → ((repo : R) → old ≡ Some repo
+      → AnswersAsked server_of packs_of fails_of ends repo asked (goes_on_after requests) new said goes ⊎ Refuses said goes)
+      → (old ≡ None → Refuses said goes)
+      → AnswersMessage server_of packs_of fails_of ends old requests new lines said goes
+  request_answered None new requests lines said goes format asked judged whole asks answers other = inr (other refl)
+  request_answered (Some repo) new requests lines said goes format asked judged whole asks answers other =
+      asked_so repo requests new lines said goes asked
+      (record { whole = whole; asks = asks ∙ ap (λ f. asked_by_lines f lines) (judged_format format (server_of repo).graph.format judged) })
+      (answers repo refl)

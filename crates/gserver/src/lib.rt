@@ -1,25 +1,40 @@
-//! The server's end of a dialogue (gitprotocol-v2(5)), as far as it is here: what a server hears, and what it
-//! says, one packet after the other.
+//! The server's end of Git's fetch service, protocol version 2, as a value that knows no device (gitprotocol-v2(5)).
+//!
+//! A [`ServerSide`] hears the first line of a connection and then one request after the other. A [`Host`] has the
+//! repositories, and each is [`Served`] to as many connections as ask for it. What the side says is a [`ServerReply`],
+//! packet by packet: a pack comes from its packer in parts and is never there whole.
 //!
 //! # Proved
 //!
-//! - A [`Heard`] is the first line of a connection or a request, as its reader takes it.
-//! - The reply of [`speak_fetch`] is said as the one list of packets of an answer that `ganswer` has to the
-//!   request. The pack comes from a packer that gives it in parts, and is cut into packets of the largest size.
+//! - To the first line the side says the advertisement of the repository that its host found, and serves that one from
+//!   then on (`Greets` in `specs/Serving.antt`).
+//! - To a request for refs it says an answer that `ganswer` has to it, in its one list of packets (`SaysLsAnswer` in
+//!   `specs/Listings.antt`).
+//! - To a request for objects it says an answer of the repository as it is then (`SaysFetch` in `specs/Fetching.antt`).
+//!   The pack is one of its packer, cut into packets of the largest size.
 //! - A packer that fails in the middle of a pack has one packet of band 3 said for it, with the fault's words.
 //!   The fault is one that it may answer for the objects to send. Nothing is said after that, and nothing more
 //!   is heard.
-//! - [`speak_fetch`] refuses a request as `ganswer::Server::answer_fetch` does.
-//! - Each call of [`Reply::say`](gdialogue::Reply) says something or nears the end, so a reply ends.
+//! - To an empty request nothing is said, and nothing more is heard.
+//! - Instead of an answer the packet of an error may be said. Nothing more is heard then (`Refuses`). A message that is
+//!   refused by its grammar is answered so.
+//! - Each call of [`Reply::say`](gdialogue::Reply) says something or nears the end, so a reply ends. A connection ends
+//!   after 4,294,967,295 requests at most.
 //! - An [`ErrText`] keeps as many bytes as there is room for.
 //! - No call panics, overflows or reads out of bounds, and each returns.
 //!
 //! # What the contracts do not rule out
 //!
-//! A call may say as few packets as it likes. It may take as long as its packer takes. Before the packet of band 3
-//! any packets may stand.
+//! - Any repository that the host finds, whatever path the first line has. A repository may be another one after a
+//!   request for objects: its host opens it.
+//! - The packet of an error instead of any answer, with any words of the host.
+//! - A call that says few packets, and one that takes as long as its packer or its host takes.
+//! - Any packets before the packet of band 3.
+//! - Any count of requests and any fault in what [`ServerSide::requests`] and [`ServerSide::fault`] tell.
 //!
-//! There are no tests here.
+//! # Only tested
+//!
+//! That it answers where it can: `examples/many-clients.py`, and the scripts that try `gitrepo` with git.
 //!
 //! # Stands on
 //!

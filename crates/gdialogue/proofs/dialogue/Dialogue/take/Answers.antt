@@ -1,4 +1,4 @@
-use Rattle.std.proofs.Common.{Ok, Err, ap, ◌∙◌, arith}
+use Rattle.std.proofs.Common.{Ok, ap, ◌∙◌, arith}
 use Rattle.gdialogue.proofs.Steps.{answers_last, answers_message, goes_on_hearing, refuses_packet}
 use Rattle.gdialogue.proofs.dialogue.Dialogue.take.Goals as goal
 

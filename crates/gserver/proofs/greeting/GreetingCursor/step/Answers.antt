@@ -1,4 +1,4 @@
-use Rattle.std.proofs.Common.{◌≡◌, ◌+◌, ◌∙◌, arith, refl}
+use Rattle.std.proofs.Common.{◌∙◌, arith, refl}
 use Rattle.ggrammar.specs.CapabilityView.{capability_view}
 use Rattle.ghello.proofs.AdvertLemmas.{lent_key_within, lent_value_within}
 use Rattle.gserver.proofs.GreetingLemmas.{capability_said, few_there, form_there, greeting_over, version_said}

@@ -1,4 +1,4 @@
-use Rattle.std.proofs.Common.{◌≡◌, ◌<◌, ◌+◌, ℕ, true, false, length, subst, arith}
+use Rattle.std.proofs.Common.{true, false, subst, arith}
 use Rattle.gserver.specs.steps.RefLines.{SaysRefAt}
 use Rattle.gserver.proofs.ListingLemmas.{flush_at_end, flush_before_end, ref_said}
 use Rattle.gserver.proofs.listing.Listing.step_ref.Goals as goal
@@ -21,7 +21,7 @@ returns-in-Plain g c =
     rw c.requires.next (rw c.said_at_end.ensures (flush_at_end server c.args.self.now.asked c.args.self.now.ends c.args.self.now.goes_on c.args.at
     c.args.out.now c.say_ref.new.out c.put_flush.new.self
     (subst (λ s. SaysRefAt s c.args.self.now.asked c.args.at c.args.out.now c.say_ref.new.out false) c.server-server.ensures c.if-say_ref.ensures)
-    c.in-Plain.is c.put_flush.ensures _ _ _))
+    c.in-Plain.is c.put_flush.ensures))
 
 pub returns-in-Response : goal.returns-in-Response
 returns-in-Response g c =
