@@ -12,23 +12,23 @@ const MAX_REPOSITORIES: usize = 64;
 
 // A repository, and the path of its Git directory.
 #[derive(Drop)]
-struct Kept<'f, 'r, R: Files> {
+struct Kept<'r, R: Files> {
     path: String,
     shown: Rc<Shown, Global>,
     // Its objects stay open as long as a connection uses them.
-    objects: Weak<Objects<'f, 'r, R>, Global>,
+    objects: Weak<Objects<'r, R>, Global>,
 }
 
 /// The repositories that were served last, the oldest first. They have at most 1,048,576 commits and
 /// tags together. A connection may still use one that is no longer kept.
 #[derive(Drop)]
-pub(crate) struct KeptRepositories<'f, 'r, R: Files> {
-    kept: Vec<Kept<'f, 'r, R>>,
+pub(crate) struct KeptRepositories<'r, R: Files> {
+    kept: Vec<Kept<'r, R>>,
 }
 
-impl<'f, 'r, R: Files> KeptRepositories<'f, 'r, R> {
+impl<'r, R: Files> KeptRepositories<'r, R> {
     /// No repository.
-    pub(crate) fn new(alloc: Global) -> KeptRepositories<'f, 'r, R> {
+    pub(crate) fn new(alloc: Global) -> KeptRepositories<'r, R> {
         KeptRepositories {
             kept: Vec::new(alloc),
         }
@@ -40,7 +40,7 @@ impl<'f, 'r, R: Files> KeptRepositories<'f, 'r, R> {
         &self,
         alloc: Global,
         path: &str,
-    ) -> Result<Option<Shared<'f, 'r, R>>, AllocError> {
+    ) -> Result<Option<Shared<'r, R>>, AllocError> {
         match self.kept.iter().find(|kept| kept.path.as_str() == path) {
             Some(kept) => {
                 let shown = kept.shown.clone()?;
@@ -52,25 +52,18 @@ impl<'f, 'r, R: Files> KeptRepositories<'f, 'r, R> {
 
     /// Keeps a repository in place of the one with the same Git directory. The oldest go if there are too
     /// many. It fails out of memory, and keeps no repository of this Git directory then.
-    pub(crate) fn put(
-        &mut self,
-        alloc: Global,
-        shared: &Shared<'f, 'r, R>,
-    ) -> Result<(), AllocError> {
+    pub(crate) fn put(&mut self, alloc: Global, shared: &Shared<'r, R>) -> Result<(), AllocError> {
         let path = shared.shown.found.own.as_str();
         if let Some(place) = self.kept.iter().position(|kept| kept.path.as_str() == path) {
             let _old = self.kept.remove(place);
         }
         self.make_room(shared.server().graph().len());
-        let objects = match &shared.objects {
-            Some(objects) => Rc::downgrade(objects)?,
-            None => Weak::new(),
-        };
-        self.kept.push(Kept {
+        let kept = Kept {
             path: String::from_str(alloc, path)?,
             shown: shared.shown.clone()?,
-            objects,
-        })?;
+            objects: shared.weak_objects()?,
+        };
+        self.kept.push(kept)?;
         Ok(())
     }
 

@@ -22,11 +22,11 @@ use std::time::SystemTime;
 
 /// The repositories below a directory, which all connections of a server share.
 #[derive(Drop)]
-pub(crate) struct Repositories<'f, 'r, R: Files> {
+pub(crate) struct Repositories<'r, R: Files> {
     rt: &'r R,
-    files: &'f StoredFiles<'r, R>,
-    exports: Exports<'f>,
-    kept: RefCell<KeptRepositories<'f, 'r, R>>,
+    files: &'r StoredFiles<'r, R>,
+    exports: Exports<'r>,
+    kept: RefCell<KeptRepositories<'r, R>>,
     // The path of the last first line, and the fault of the last call that failed.
     path: RefCell<Vec<u8>>,
     fault: RefCell<Option<Fault>>,
@@ -34,13 +34,13 @@ pub(crate) struct Repositories<'f, 'r, R: Files> {
     is_first: Cell<bool>,
 }
 
-impl<'f, 'r, R: Files + AllocGlobal> Repositories<'f, 'r, R> {
+impl<'r, R: Files + AllocGlobal> Repositories<'r, R> {
     /// Those that `exports` names, of which none is read yet.
     pub(crate) fn new(
         rt: &'r R,
-        files: &'f StoredFiles<'r, R>,
-        exports: Exports<'f>,
-    ) -> Repositories<'f, 'r, R> {
+        files: &'r StoredFiles<'r, R>,
+        exports: Exports<'r>,
+    ) -> Repositories<'r, R> {
         Repositories {
             rt,
             files,
@@ -99,7 +99,7 @@ impl<'f, 'r, R: Files + AllocGlobal> Repositories<'f, 'r, R> {
     }
 
     // The repository in these directories, with the refs that are there now.
-    fn find_shown(&self, found: Directories) -> Result<Shared<'f, 'r, R>, NotOpened> {
+    fn find_shown(&self, found: Directories) -> Result<Shared<'r, R>, NotOpened> {
         let alloc = self.rt.alloc();
         let listed = read_listed(alloc, self.rt, self.files, &found)?;
         if let Some(shared) = self.find_kept(&found)? {
@@ -115,14 +115,25 @@ impl<'f, 'r, R: Files + AllocGlobal> Repositories<'f, 'r, R> {
     }
 
     // The repository that is kept, for another connection.
-    fn find_kept(&self, found: &Directories) -> Result<Option<Shared<'f, 'r, R>>, AllocError> {
+    fn find_kept(&self, found: &Directories) -> Result<Option<Shared<'r, R>>, AllocError> {
         match self.kept.try_borrow() {
             Ok(kept) => kept.get(self.rt.alloc(), found.own.as_str()),
             Err(_) => Ok(None),
         }
     }
 
-    fn keep(&self, shared: &Shared<'f, 'r, R>) -> Result<(), AllocError> {
+    // The repository that is kept, if it has the same refs; otherwise the same one.
+    fn find_same(&self, repo: &Shared<'r, R>) -> Result<Shared<'r, R>, AllocError> {
+        let server = repo.server();
+        if let Some(kept) = self.find_kept(&repo.shown.found)? {
+            if has_refs(kept.server(), server.refs(), server.head()) {
+                return Ok(kept);
+            }
+        }
+        repo.handle()
+    }
+
+    fn keep(&self, shared: &Shared<'r, R>) -> Result<(), AllocError> {
         match self.kept.try_borrow_mut() {
             Ok(mut kept) => kept.put(self.rt.alloc(), shared),
             Err(_) => Ok(()),
@@ -131,17 +142,13 @@ impl<'f, 'r, R: Files + AllocGlobal> Repositories<'f, 'r, R> {
 
     // The repository with its history and its objects. Connections with the same refs share them while the
     // directory of packs stays as it is.
-    fn open_shared(&self, repo: &Shared<'f, 'r, R>) -> Result<Shared<'f, 'r, R>, NotOpened> {
+    fn open_shared(&self, repo: &Shared<'r, R>) -> Result<Shared<'r, R>, NotOpened> {
         let found = &repo.shown.found;
         let changed = self.changed(found);
         if repo.is_open_since(changed) {
             return Ok(repo.handle()?);
         }
-        let server = repo.server();
-        let known = match self.find_kept(found)? {
-            Some(kept) if has_refs(kept.server(), server.refs(), server.head()) => kept,
-            _ => repo.handle()?,
-        };
+        let known = self.find_same(repo)?;
         if known.is_open_since(changed) {
             return Ok(known);
         }
@@ -153,9 +160,9 @@ impl<'f, 'r, R: Files + AllocGlobal> Repositories<'f, 'r, R> {
     // Opens the objects of a repository, and reads its history unless it is known.
     fn open_now(
         &self,
-        repo: &Shared<'f, 'r, R>,
+        repo: &Shared<'r, R>,
         changed: Option<SystemTime>,
-    ) -> Result<Shared<'f, 'r, R>, NotOpened> {
+    ) -> Result<Shared<'r, R>, NotOpened> {
         let alloc = self.rt.alloc();
         let found = &repo.shown.found;
         let (shown, packer) = match &repo.shown.extent {
@@ -193,8 +200,8 @@ impl<'f, 'r, R: Files + AllocGlobal> Repositories<'f, 'r, R> {
     }
 }
 
-impl<'f, 'r, R: Files + AllocGlobal> Host<Global, Shared<'f, 'r, R>> for Repositories<'f, 'r, R> {
-    fn find(&self, hello: &Hello<Global>) -> Result<Shared<'f, 'r, R>, ErrText> {
+impl<'r, R: Files + AllocGlobal> Host<Global, Shared<'r, R>> for Repositories<'r, R> {
+    fn find(&self, hello: &Hello<Global>) -> Result<Shared<'r, R>, ErrText> {
         if self.note_path(hello.path()).is_err() {
             self.note_fault(Fault::Memory);
         }
@@ -204,7 +211,7 @@ impl<'f, 'r, R: Files + AllocGlobal> Host<Global, Shared<'f, 'r, R>> for Reposit
         }
     }
 
-    fn open(&self, repo: &Shared<'f, 'r, R>) -> Result<Shared<'f, 'r, R>, ErrText> {
+    fn open(&self, repo: &Shared<'r, R>) -> Result<Shared<'r, R>, ErrText> {
         match self.open_shared(repo) {
             Ok(shared) => Ok(shared),
             Err(cause) => Err(self.refuse(cause)),

@@ -6,11 +6,12 @@ use crate::output::print;
 use crate::refusals::{FULL, FULL_OF_ADDRESS};
 use crate::repositories::Repositories;
 use crate::sentences::Sentence;
-use crate::visits::{begin, log_ended};
+use crate::visits::{Held, begin, log_ended};
 use gevents::{Event, EventLoop, Limits, Refusal};
 use gitobjects::StoredFiles;
 use gitwords::ServeArgs;
 use mio::net::TcpListener;
+use std::alloc::Global;
 use std::io;
 use std::io::{ErrorKind, Write};
 use std::net::{Net, ToSocketAddrs};
@@ -50,7 +51,7 @@ where
 // Serves those who connect, and writes a line about each.
 fn serve_clients<R, E>(
     rt: &R,
-    repositories: &Repositories<'_, '_, R>,
+    repositories: &Repositories<'_, R>,
     listener: TcpListener,
     limits: &Limits,
     errors: &mut E,
@@ -61,17 +62,32 @@ where
 {
     let alloc = rt.alloc();
     let mut clients = EventLoop::new(rt, alloc, listener, limits)?;
-    while let Some(event) = clients.next(rt)? {
-        match event {
-            Event::Connected(_) => clients.begin(begin(alloc, repositories)),
-            Event::Refused(address, why) => {
-                clients.refuse(packet_of(why));
-                let _ = writeln!(errors, "{address} refused: {}", words_of(why));
-            }
-            Event::Ended(ended) => log_ended(alloc, ended, errors),
+    for _ in 0..u64::MAX {
+        match clients.next(rt)? {
+            Some(event) => answer(alloc, repositories, &mut clients, event, errors),
+            None => break,
         }
     }
     Ok(())
+}
+
+// Does what is to be done at an event.
+fn answer<'h, 'r, R: Files + AllocGlobal, E: Write>(
+    alloc: Global,
+    repositories: &'h Repositories<'r, R>,
+    clients: &mut EventLoop<'_, Held<'h, 'r, R>, Global>,
+    event: Event<Held<'h, 'r, R>, Global>,
+    errors: &mut E,
+) {
+    match event {
+        Event::Connected(_) => clients.begin(begin(alloc, repositories)),
+        Event::Refused(address, why) => {
+            clients.refuse(packet_of(why));
+            let words = words_of(why);
+            let _ = writeln!(errors, "{address} refused: {words}");
+        }
+        Event::Ended(ended) => log_ended(alloc, ended, errors),
+    }
 }
 
 // The packet for a client that is one too many.

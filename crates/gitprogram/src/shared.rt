@@ -13,7 +13,7 @@ use gparts::PartPacker;
 use gserver::Served;
 use std::alloc::{AllocError, Global};
 use std::cell::RefCell;
-use std::rc::Rc;
+use std::rc::{Rc, Weak};
 use std::rt::Files;
 use std::time::SystemTime;
 
@@ -28,31 +28,31 @@ pub(crate) struct Shown {
 
 /// The objects of a repository.
 #[derive(Drop)]
-pub(crate) struct Objects<'f, 'r, R: Files> {
+pub(crate) struct Objects<'r, R: Files> {
     /// The packer of them.
-    pub(crate) packer: ObjectPacker<'f, 'r, R>,
+    pub(crate) packer: ObjectPacker<'r, 'r, R>,
     /// When the directory of packs was changed last, before they were opened; `None` if nobody knows.
     pub(crate) changed: Option<SystemTime>,
 }
 
 /// A repository that several connections share. Each connection has handles of its own.
 #[derive(Drop)]
-pub(crate) struct Shared<'f, 'r, R: Files> {
+pub(crate) struct Shared<'r, R: Files> {
     alloc: Global,
     pub(crate) shown: Rc<Shown, Global>,
     /// The objects, once a connection asked for some.
-    pub(crate) objects: Option<Rc<Objects<'f, 'r, R>, Global>>,
+    pub(crate) objects: Option<Rc<Objects<'r, R>, Global>>,
     // Why the packer failed, for all handles of one connection.
     fault: Rc<RefCell<Option<Fault>>, Global>,
 }
 
-impl<'f, 'r, R: Files> Shared<'f, 'r, R> {
+impl<'r, R: Files> Shared<'r, R> {
     /// The first handle of a connection. It fails only out of memory.
     pub(crate) fn new(
         alloc: Global,
         shown: Rc<Shown, Global>,
-        objects: Option<Rc<Objects<'f, 'r, R>, Global>>,
-    ) -> Result<Shared<'f, 'r, R>, AllocError> {
+        objects: Option<Rc<Objects<'r, R>, Global>>,
+    ) -> Result<Shared<'r, R>, AllocError> {
         Ok(Shared {
             alloc,
             shown,
@@ -69,6 +69,14 @@ impl<'f, 'r, R: Files> Shared<'f, 'r, R> {
         }
     }
 
+    /// Its objects, as long as a connection uses them. It fails only out of memory.
+    pub(crate) fn weak_objects(&self) -> Result<Weak<Objects<'r, R>, Global>, AllocError> {
+        match &self.objects {
+            Some(objects) => Rc::downgrade(objects),
+            None => Ok(Weak::new()),
+        }
+    }
+
     /// Why the packer failed for this connection, which is given away.
     pub(crate) fn take_fault(&self) -> Option<Fault> {
         match self.fault.try_replace(None) {
@@ -78,7 +86,7 @@ impl<'f, 'r, R: Files> Shared<'f, 'r, R> {
     }
 
     // Notes why the packer failed. It knows more of its own faults.
-    fn note(&self, objects: &Objects<'f, 'r, R>, fault: PackFault) -> PackFault {
+    fn note(&self, objects: &Objects<'r, R>, fault: PackFault) -> PackFault {
         let cause = match fault {
             PackFault::Other => objects.packer.take_fault(),
             _ => None,
@@ -103,7 +111,7 @@ pub(crate) fn share<T: Drop>(alloc: Global, value: T) -> Result<Rc<T, Global>, A
     }
 }
 
-impl<R: Files> PartPacker<Global> for Shared<'_, '_, R> {
+impl<R: Files> PartPacker<Global> for Shared<'_, R> {
     ghost use Rattle.gitrepository.specs.Packs.{IsWholePack};
     ghost use Rattle.gitrepository.specs.Parts.{IsGoing};
 
@@ -143,7 +151,7 @@ impl<R: Files> PartPacker<Global> for Shared<'_, '_, R> {
     }
 }
 
-impl<R: Files> Served<Global> for Shared<'_, '_, R> {
+impl<R: Files> Served<Global> for Shared<'_, R> {
     ghost use Rattle.gitprogram.specs.Sharing.{server_in};
 
     ghost server = { λ shared. server_in shared.shown.value.extent };
