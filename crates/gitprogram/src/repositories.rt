@@ -8,7 +8,7 @@ use crate::opening::{
 };
 use crate::refusals::{BAD_FIRST_LINE, LIMITS, NOT_OPENED, NOT_SERVED};
 use crate::sentences::{Sentence, form_text};
-use crate::shared::{Objects, Shared, Shown, share};
+use crate::shared::{Shared, Shown, share};
 use ganswer::ServeFault;
 use ggrammar::{MessageFault, Why};
 use ghello::Hello;
@@ -22,11 +22,11 @@ use std::time::SystemTime;
 
 /// The repositories below a directory, which all connections of a server share.
 #[derive(Drop)]
-pub(crate) struct Repositories<'r, R: Files> {
+pub(crate) struct Repositories<'f, 'r, R: Files> {
     rt: &'r R,
-    files: &'r StoredFiles<'r, R>,
-    exports: Exports<'r>,
-    kept: RefCell<KeptRepositories<'r, R>>,
+    files: &'f StoredFiles<'r, R>,
+    exports: Exports<'f>,
+    kept: RefCell<KeptRepositories<'f, 'r, R>>,
     // The path of the last first line, and the fault of the last call that failed.
     path: RefCell<Vec<u8>>,
     fault: RefCell<Option<Fault>>,
@@ -34,13 +34,13 @@ pub(crate) struct Repositories<'r, R: Files> {
     is_first: Cell<bool>,
 }
 
-impl<'r, R: Files + AllocGlobal> Repositories<'r, R> {
+impl<'f, 'r, R: Files + AllocGlobal> Repositories<'f, 'r, R> {
     /// Those that `exports` names, of which none is read yet.
     pub(crate) fn new(
         rt: &'r R,
-        files: &'r StoredFiles<'r, R>,
-        exports: Exports<'r>,
-    ) -> Repositories<'r, R> {
+        files: &'f StoredFiles<'r, R>,
+        exports: Exports<'f>,
+    ) -> Repositories<'f, 'r, R> {
         Repositories {
             rt,
             files,
@@ -73,6 +73,13 @@ impl<'r, R: Files + AllocGlobal> Repositories<'r, R> {
         }
     }
 
+    /// Closes the objects that no connection has open.
+    pub(crate) fn close_unused(&self) {
+        if let Ok(mut kept) = self.kept.try_borrow_mut() {
+            kept.close_unused();
+        }
+    }
+
     fn note_path(&self, path: &[u8]) -> Result<(), AllocError> {
         let mut copy = Vec::new(self.rt.alloc());
         copy.extend_from_slice(path)?;
@@ -99,7 +106,7 @@ impl<'r, R: Files + AllocGlobal> Repositories<'r, R> {
     }
 
     // The repository in these directories, with the refs that are there now.
-    fn find_shown(&self, found: Directories) -> Result<Shared<'r, R>, NotOpened> {
+    fn find_shown(&self, found: Directories) -> Result<Shared<'f, 'r, R>, NotOpened> {
         let alloc = self.rt.alloc();
         let listed = read_listed(alloc, self.rt, self.files, &found)?;
         if let Some(shared) = self.find_kept(&found)? {
@@ -109,21 +116,21 @@ impl<'r, R: Files + AllocGlobal> Repositories<'r, R> {
         }
         let extent = open_shown(alloc, self.rt, self.files, &found, listed)?;
         let shown = share(alloc, Shown { found, extent })?;
-        let shared = Shared::new(alloc, shown, None)?;
+        let shared = Shared::new(alloc, shown, None, None)?;
         self.keep(&shared)?;
         Ok(shared)
     }
 
     // The repository that is kept, for another connection.
-    fn find_kept(&self, found: &Directories) -> Result<Option<Shared<'r, R>>, AllocError> {
+    fn find_kept(&self, found: &Directories) -> Result<Option<Shared<'f, 'r, R>>, AllocError> {
         match self.kept.try_borrow() {
-            Ok(kept) => kept.get(self.rt.alloc(), found.own.as_str()),
+            Ok(kept) => kept.get(found.own.as_str()),
             Err(_) => Ok(None),
         }
     }
 
     // The repository that is kept, if it has the same refs; otherwise the same one.
-    fn find_same(&self, repo: &Shared<'r, R>) -> Result<Shared<'r, R>, AllocError> {
+    fn find_same(&self, repo: &Shared<'f, 'r, R>) -> Result<Shared<'f, 'r, R>, AllocError> {
         let server = repo.server();
         if let Some(kept) = self.find_kept(&repo.shown.found)? {
             if has_refs(kept.server(), server.refs(), server.head()) {
@@ -133,7 +140,7 @@ impl<'r, R: Files + AllocGlobal> Repositories<'r, R> {
         repo.handle()
     }
 
-    fn keep(&self, shared: &Shared<'r, R>) -> Result<(), AllocError> {
+    fn keep(&self, shared: &Shared<'f, 'r, R>) -> Result<(), AllocError> {
         match self.kept.try_borrow_mut() {
             Ok(mut kept) => kept.put(self.rt.alloc(), shared),
             Err(_) => Ok(()),
@@ -142,7 +149,7 @@ impl<'r, R: Files + AllocGlobal> Repositories<'r, R> {
 
     // The repository with its history and its objects. Connections with the same refs share them while the
     // directory of packs stays as it is.
-    fn open_shared(&self, repo: &Shared<'r, R>) -> Result<Shared<'r, R>, NotOpened> {
+    fn open_shared(&self, repo: &Shared<'f, 'r, R>) -> Result<Shared<'f, 'r, R>, NotOpened> {
         let found = &repo.shown.found;
         let changed = self.changed(found);
         if repo.is_open_since(changed) {
@@ -160,9 +167,9 @@ impl<'r, R: Files + AllocGlobal> Repositories<'r, R> {
     // Opens the objects of a repository, and reads its history unless it is known.
     fn open_now(
         &self,
-        repo: &Shared<'r, R>,
+        repo: &Shared<'f, 'r, R>,
         changed: Option<SystemTime>,
-    ) -> Result<Shared<'r, R>, NotOpened> {
+    ) -> Result<Shared<'f, 'r, R>, NotOpened> {
         let alloc = self.rt.alloc();
         let found = &repo.shown.found;
         let (shown, packer) = match &repo.shown.extent {
@@ -174,8 +181,8 @@ impl<'r, R: Files + AllocGlobal> Repositories<'r, R> {
                 (share(alloc, Shown { found, extent })?, packer)
             }
         };
-        let objects = share(alloc, Objects { packer, changed })?;
-        Ok(Shared::new(alloc, shown, Some(objects))?)
+        let objects = share(alloc, packer)?;
+        Ok(Shared::new(alloc, shown, Some(objects), changed)?)
     }
 
     // When the directory of packs was changed last.
@@ -200,8 +207,8 @@ impl<'r, R: Files + AllocGlobal> Repositories<'r, R> {
     }
 }
 
-impl<'r, R: Files + AllocGlobal> Host<Global, Shared<'r, R>> for Repositories<'r, R> {
-    fn find(&self, hello: &Hello<Global>) -> Result<Shared<'r, R>, ErrText> {
+impl<'f, 'r, R: Files + AllocGlobal> Host<Global, Shared<'f, 'r, R>> for Repositories<'f, 'r, R> {
+    fn find(&self, hello: &Hello<Global>) -> Result<Shared<'f, 'r, R>, ErrText> {
         if self.note_path(hello.path()).is_err() {
             self.note_fault(Fault::Memory);
         }
@@ -211,7 +218,7 @@ impl<'r, R: Files + AllocGlobal> Host<Global, Shared<'r, R>> for Repositories<'r
         }
     }
 
-    fn open(&self, repo: &Shared<'r, R>) -> Result<Shared<'r, R>, ErrText> {
+    fn open(&self, repo: &Shared<'f, 'r, R>) -> Result<Shared<'f, 'r, R>, ErrText> {
         match self.open_shared(repo) {
             Ok(shared) => Ok(shared),
             Err(cause) => Err(self.refuse(cause)),

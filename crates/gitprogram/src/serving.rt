@@ -51,7 +51,7 @@ where
 // Serves those who connect, and writes a line about each.
 fn serve_clients<R, E>(
     rt: &R,
-    repositories: &Repositories<'_, R>,
+    repositories: &Repositories<'_, '_, R>,
     listener: TcpListener,
     limits: &Limits,
     errors: &mut E,
@@ -60,34 +60,56 @@ where
     R: Files + AllocGlobal + Clock + Net,
     E: Write,
 {
-    let alloc = rt.alloc();
-    let mut clients = EventLoop::new(rt, alloc, listener, limits)?;
+    match EventLoop::new(rt, rt.alloc(), listener, limits) {
+        Ok(clients) => serve_each(rt, repositories, clients, errors),
+        Err(error) => Err(error),
+    }
+}
+
+// Serves them until no more are accepted, and all have gone.
+fn serve_each<'h, 'f, 'r, R, E>(
+    rt: &R,
+    repositories: &'h Repositories<'f, 'r, R>,
+    mut clients: EventLoop<'_, Held<'h, 'f, 'r, R>, Global>,
+    errors: &mut E,
+) -> io::Result<()>
+where
+    R: Files + AllocGlobal + Clock,
+    E: Write,
+{
     for _ in 0..u64::MAX {
-        match clients.next(rt)? {
-            Some(event) => answer(alloc, repositories, &mut clients, event, errors),
-            None => break,
+        if !serve_next(rt, repositories, &mut clients, errors)? {
+            break;
         }
     }
     Ok(())
 }
 
-// Does what is to be done at an event.
-fn answer<'h, 'r, R: Files + AllocGlobal, E: Write>(
-    alloc: Global,
-    repositories: &'h Repositories<'r, R>,
-    clients: &mut EventLoop<'_, Held<'h, 'r, R>, Global>,
-    event: Event<Held<'h, 'r, R>, Global>,
+// Does what is to be done at the next event. If there is none, it answers `false`.
+fn serve_next<'h, 'f, 'r, R, E>(
+    rt: &R,
+    repositories: &'h Repositories<'f, 'r, R>,
+    clients: &mut EventLoop<'_, Held<'h, 'f, 'r, R>, Global>,
     errors: &mut E,
-) {
-    match event {
-        Event::Connected(_) => clients.begin(begin(alloc, repositories)),
-        Event::Refused(address, why) => {
+) -> io::Result<bool>
+where
+    R: Files + AllocGlobal + Clock,
+    E: Write,
+{
+    match clients.next(rt)? {
+        Some(Event::Connected(_)) => clients.begin(begin(rt.alloc(), repositories)),
+        Some(Event::Refused(address, why)) => {
             clients.refuse(packet_of(why));
             let words = words_of(why);
             let _ = writeln!(errors, "{address} refused: {words}");
         }
-        Event::Ended(ended) => log_ended(alloc, ended, errors),
+        Some(Event::Ended(ended)) => {
+            log_ended(rt.alloc(), ended, errors);
+            repositories.close_unused();
+        }
+        None => return Ok(false),
     }
+    Ok(true)
 }
 
 // The packet for a client that is one too many.

@@ -13,18 +13,21 @@ use std::rt::Files;
 
 /// A server's side, and what is said of its connection in the log.
 #[derive(Drop)]
-pub(crate) struct Visitor<'h, 'r, R: Files, S> {
+pub(crate) struct Visitor<'h, 'f, 'r, R: Files, S> {
     side: S,
-    repositories: &'h Repositories<'r, R>,
+    repositories: &'h Repositories<'f, 'r, R>,
     // Whether a first line was heard.
     has_path: bool,
     path: Vec<u8>,
     fault: Option<Fault>,
 }
 
-impl<'h, 'r, R: Files + AllocGlobal, S> Visitor<'h, 'r, R, S> {
+impl<'h, 'f, 'r, R: Files + AllocGlobal, S> Visitor<'h, 'f, 'r, R, S> {
     /// A side that has heard nothing.
-    pub(crate) fn new(side: S, repositories: &'h Repositories<'r, R>) -> Visitor<'h, 'r, R, S>
+    pub(crate) fn new(
+        side: S,
+        repositories: &'h Repositories<'f, 'r, R>,
+    ) -> Visitor<'h, 'f, 'r, R, S>
         ensures { result.side ≡ side }
     {
         Visitor {
@@ -65,7 +68,7 @@ impl<'h, 'r, R: Files + AllocGlobal, S> Visitor<'h, 'r, R, S> {
     }
 }
 
-impl<R, S, M, K> Side<M, ServerReply<Global, K, K::Parts>> for Visitor<'_, '_, R, S>
+impl<R, S, M, K> Side<M, ServerReply<Global, K, K::Parts>> for Visitor<'_, '_, '_, R, S>
 where
     R: Files + AllocGlobal,
     S: Side<M, ServerReply<Global, K, K::Parts>>,

@@ -20,24 +20,24 @@ use std::rt::Files;
 use std::{fmt, time};
 
 // The server's side of a connection.
-type Hosted<'h, 'r, R> = ServerSide<'h, Global, Repositories<'r, R>, Shared<'r, R>>;
+type Hosted<'h, 'f, 'r, R> = ServerSide<'h, Global, Repositories<'f, 'r, R>, Shared<'f, 'r, R>>;
 
 // All that a server says.
-type Reply<'r, R> = ServerReply<Global, Shared<'r, R>, StoreParts<Global>>;
+type Reply<'f, 'r, R> = ServerReply<Global, Shared<'f, 'r, R>, StoreParts<Global>>;
 
 /// A connection, as the server holds it.
-pub(crate) type Held<'h, 'r, R> = Dialogue<
-    Visitor<'h, 'r, R, Hosted<'h, 'r, R>>,
+pub(crate) type Held<'h, 'f, 'r, R> = Dialogue<
+    Visitor<'h, 'f, 'r, R, Hosted<'h, 'f, 'r, R>>,
     Heard<Global>,
-    Reply<'r, R>,
+    Reply<'f, 'r, R>,
 >;
 
 /// Begins a connection.
-pub(crate) fn begin<'h, 'r, R: Files + AllocGlobal>(
+pub(crate) fn begin<'h, 'f, 'r, R: Files + AllocGlobal>(
     alloc: Global,
-    repositories: &'h Repositories<'r, R>,
-) -> Held<'h, 'r, R>
-    ensures { ⟦<Held<'h, 'r, R> as Conversation>⟧.holds result no_talk }
+    repositories: &'h Repositories<'f, 'r, R>,
+) -> Held<'h, 'f, 'r, R>
+    ensures { ⟦<Held<'h, 'f, 'r, R> as Conversation>⟧.holds result no_talk }
 {
     let side = ServerSide::new(repositories, alloc, Ends::Plain);
     Dialogue::new(Visitor::new(side, repositories))
@@ -46,7 +46,7 @@ pub(crate) fn begin<'h, 'r, R: Files + AllocGlobal>(
 /// Writes the line about a connection that has ended.
 pub(crate) fn log_ended<R: Files + AllocGlobal, E: Write>(
     alloc: Global,
-    ended: Ended<Held<'_, '_, R>, Global>,
+    ended: Ended<Held<'_, '_, '_, R>, Global>,
     errors: &mut E,
 ) {
     let Ended {
@@ -74,7 +74,7 @@ pub(crate) fn log_ended<R: Files + AllocGlobal, E: Write>(
 // Why a connection was not served to its end, if so.
 fn fault_of<R: Files + AllocGlobal>(
     alloc: Global,
-    side: &Hosted<'_, '_, R>,
+    side: &Hosted<'_, '_, '_, R>,
     refused: Option<Fault>,
     end: End,
 ) -> Option<Fault> {
@@ -93,7 +93,10 @@ fn fault_of<R: Files + AllocGlobal>(
 }
 
 // Why a request was refused, if one was.
-fn fault_of_side<R: Files + AllocGlobal>(alloc: Global, side: &Hosted<'_, '_, R>) -> Option<Fault> {
+fn fault_of_side<R: Files + AllocGlobal>(
+    alloc: Global,
+    side: &Hosted<'_, '_, '_, R>,
+) -> Option<Fault> {
     if let Some(repo) = side.repo() {
         if let Some(fault) = repo.take_fault() {
             return Some(fault);
