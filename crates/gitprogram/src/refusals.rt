@@ -32,7 +32,8 @@ pub(crate) const LIMITS: &[u8] =
     b"upload-pack: a request has at most 1,024 wants, 4,096 haves and 64 prefixes of ref names";
 
 /// The packet for a client that connects while there are too many connections.
-pub(crate) const FULL: &[u8] = b"004aERR upload-pack: the server has too many connections: try again later\n";
+pub(crate) const FULL: &[u8] =
+    b"004aERR upload-pack: the server has too many connections: try again later\n";
 
 /// The packet for a client that connects while there are too many connections from its address.
 pub(crate) const FULL_OF_ADDRESS: &[u8] =
