@@ -37,8 +37,7 @@
 //! - No contract says which bytes a socket gives or takes. So none says that the bytes of a connection
 //!   are those of its socket, as one says of each read and write over any reader and writer.
 //! - A peer might never have its turn, or be given up at once. A connection might never come back.
-//! - The loop might refuse every peer, fail, or end at once. What is to be sent to a peer that is refused
-//!   might not be sent.
+//! - The loop might refuse every peer, fail, or end at once. It might send nothing to a peer that is refused.
 //! - The address of a peer, how a connection ended and how long it took have no clause.
 //!
 //! # Stands on
