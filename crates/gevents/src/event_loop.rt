@@ -144,6 +144,11 @@ impl<'l, C: Conversation + Drop, A: Allocator + Copy> EventLoop<'l, C, A> {
         Ok(None)
     }
 
+    /// Closes the listener, and all connections that have not ended.
+    pub fn close(self) {
+        drop(self);
+    }
+
     // Whether no more connections are accepted, and all have ended.
     fn is_over(&self) -> bool {
         self.is_full() && self.slots.is_empty()

@@ -75,7 +75,9 @@ where
     R: Files + AllocGlobal + Clock,
     E: Write,
 {
-    serve_each(rt, repositories, &mut clients, errors)
+    let served = serve_each(rt, repositories, &mut clients, errors);
+    clients.close();
+    served
 }
 
 // Serves them until no more are accepted, and all have gone.
