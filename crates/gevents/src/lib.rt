@@ -38,6 +38,8 @@
 //!   are those of its socket, as one says of each read and write over any reader and writer.
 //! - A peer might never have its turn, or be given up at once. A connection might never come back.
 //! - The loop might refuse every peer, fail, or end at once. It might send nothing to a peer that is refused.
+//! - A loop might spin, wait for a peer to which bytes are still to be sent, or end such a connection as if it
+//!   were over. It might never tell a conversation that its peer was given up.
 //! - The address of a peer, how a connection ended and how long it took have no clause.
 //!
 //! # Stands on

@@ -62,7 +62,7 @@ Limits:
   A clone or a fetch asks for at most 1,024 distinct objects: a repository whose branches
   and tags point at more cannot be cloned. A pack has at most 64 MiB. A repository has at
   most 65,536 refs, and 1,048,576 commits and tags. A client names at most 4,096 commits
-  that it has. A server serves one connection at a time.
+  that it has. A server has at most 1,024 connections at once, if no option says more.
   Version 2 of the protocol and SHA-1 only. No shallow, partial or reftable repository.
 
 'gitrepo COMMAND --help' describes a command.";

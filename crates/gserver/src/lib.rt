@@ -27,6 +27,9 @@
 //!
 //! - Any repository that the host finds, whatever path the first line has. A repository may be another one after a
 //!   request for objects: its host opens it.
+//! - A side that does not ask its host, or asks it for another path. No clause ties the answers of a [`Host`] to what is
+//!   served.
+//! - An end after the first request, and replies that end otherwise than [`ServerSide::new`] was told.
 //! - The packet of an error instead of any answer, with any words of the host.
 //! - A call that says few packets, and one that takes as long as its packer or its host takes.
 //! - Any packets before the packet of band 3.
