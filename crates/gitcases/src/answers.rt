@@ -1,7 +1,9 @@
 //! The answers of the crates under test, as texts.
 
 use crate::arrivals::of_arrival;
+use crate::asked::{of_served, of_url};
 use crate::changing::Changing;
+use crate::moving::{of_cloning, of_moving, of_refs};
 use crate::row::{Aim, Row, Subject};
 use crate::stores::{File, GIT_DIR, in_memory};
 use crate::trouble::Trouble;
@@ -10,6 +12,7 @@ use gitobjects::{Found, ObjectFiles, ObjectReader, ObjectStore, StoreFault};
 use gitpack::{IndexedPack, ObjectVisitor, PackFileFault, index_pack};
 use gname::Oid;
 use std::alloc::{Allocator, Global};
+use std::rt::Files;
 
 /// The answer where nothing is wrong.
 pub(crate) const OK: &str = "ok";
@@ -40,14 +43,20 @@ impl ObjectVisitor for Anything {
 }
 
 /// The answer, in this memory.
-pub(crate) fn answer_of<A: Allocator + Copy>(
-    alloc: Global,
+pub(crate) fn answer_of<R: Files + AllocGlobal, A: Allocator + Copy>(
+    rt: &R,
     memory: A,
     trial: Trial<'_, '_>,
 ) -> Result<String, Trouble> {
+    let alloc = rt.alloc();
     match trial.aim.subject {
         Subject::Index => of_index(alloc, memory, trial.row, trial.pack),
         Subject::Arrival => of_arrival(alloc, memory, trial),
+        Subject::Refs => of_refs(rt, memory, trial.files),
+        Subject::Moving => of_moving(rt, memory, trial),
+        Subject::Cloning => of_cloning(rt, trial.row),
+        Subject::Url => of_url(alloc, trial.aim.text.as_slice()),
+        Subject::Served => of_served(alloc, memory, trial.aim.text.as_slice()),
         _ => of_reading(alloc, memory, trial),
     }
 }

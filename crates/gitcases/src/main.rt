@@ -1,9 +1,11 @@
-//! Cases of Git's packs and Git directories, from files, tried on the crates that read them.
+//! Cases of Git's packs, Git directories, refs, URLs and paths of clients, from files, tried on the
+//! crates that read them.
 //!
-//! The arguments name files of cases; FORMAT.md has their lines. A row says which answer a pack
-//! or a store gets. It is tried as it is, cut after each byte, with each bit changed, while its files
-//! change, and with each allocation refused in turn. An answer that is wrong is a line on standard
-//! output. The last lines count the tries.
+//! The arguments name files of cases; FORMAT.md has their lines. A row says which answer a pack,
+//! a store or a text gets. It is tried as it is, cut after each byte, with each bit changed, while its
+//! files change, and with each allocation refused in turn. Packs and stores are in memory. Refs are
+//! files in a folder, which each try makes anew. An answer that is wrong is a line on standard output.
+//! The last lines count the tries.
 //!
 //! # Proved
 //!
@@ -15,15 +17,18 @@
 //!
 //! # Stands on
 //!
-//! `gitpack`, `gitobjects` and `gitrepository`, which it tries. `gitobject`, `gname`, `gzlib` and
-//! `sha1` make packs and stores; `ggraph` has graphs and indexers; `scarce` is memory that ends.
+//! `gitpack`, `gitobjects`, `gitrefs`, `gitrepository` and `gitwords`, which it tries. `gitobject`,
+//! `gname`, `gzlib` and `sha1` make packs and stores; `ggraph` has graphs, refs and indexers; `scarce`
+//! is memory that ends.
 #![tactic(auto)]
 
 mod answers;
 mod arrivals;
+mod asked;
 mod changing;
 mod deltas;
 mod indexes;
+mod moving;
 mod names;
 mod packs;
 mod row;
@@ -72,7 +77,7 @@ fn run<R: AllocGlobal + Env + Files + Print>(rt: &R) -> io::Result<bool> {
 
 // Tries the cases of some files, which have these names. At a fault it answers the file, the line and
 // the cause.
-fn try_files<'a, R: AllocGlobal + Print>(
+fn try_files<'a, R: Files + Print + AllocGlobal>(
     rt: &R,
     names: &'a [String],
     files: &'a [String],

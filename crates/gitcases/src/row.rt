@@ -18,13 +18,32 @@ pub(crate) enum Subject {
     Checked,
     /// An object is read as its entry lies in a pack.
     Raw,
+    /// The refs of the store are read.
+    Refs,
+    /// Refs of the store are moved.
+    Moving,
+    /// A clone gets the refs.
+    Cloning,
+    /// A text is read as a URL.
+    Url,
+    /// A text is read as the path of a client.
+    Served,
 }
 
-/// What is tried, of an object if it has an id, and the answer that has to come.
+/// A ref that is to move: its name, its ids before and after.
+#[derive(Drop)]
+pub(crate) struct Update {
+    pub(crate) name: Vec<u8>,
+    pub(crate) old: Option<Oid>,
+    pub(crate) new: Oid,
+}
+
+/// What is tried, of an object if it has an id, of a text, and the answer that has to come.
 #[derive(Drop)]
 pub(crate) struct Aim {
     pub(crate) subject: Subject,
     pub(crate) id: Option<Oid>,
+    pub(crate) text: Vec<u8>,
     pub(crate) due: Vec<u8>,
 }
 
@@ -44,6 +63,10 @@ pub(crate) struct Row<'a> {
     pub(crate) has: Vec<Oid>,
     /// The ids at which refs of the peer are.
     pub(crate) tips: Vec<Oid>,
+    /// The refs that are to move.
+    pub(crate) updates: Vec<Update>,
+    /// The text that is read next.
+    pub(crate) asked: Vec<u8>,
     pub(crate) aims: Vec<Aim>,
     /// More answers that may come where an allocation is refused, a bit or the store is changed.
     pub(crate) others: Vec<Vec<u8>>,
@@ -73,6 +96,8 @@ impl<'a> Row<'a> {
             limits: LIMITS,
             has: Vec::new(alloc),
             tips: Vec::new(alloc),
+            updates: Vec::new(alloc),
+            asked: Vec::new(alloc),
             aims: Vec::new(alloc),
             others: Vec::new(alloc),
             is_large: false,
@@ -87,7 +112,13 @@ impl<'a> Row<'a> {
         id: Option<Oid>,
         due: Vec<u8>,
     ) -> Result<(), Trouble> {
-        self.aims.push(Aim { subject, id, due })?;
+        let text = self.asked.as_slice().to_vec(*self.asked.allocator())?;
+        self.aims.push(Aim {
+            subject,
+            id,
+            text,
+            due,
+        })?;
         Ok(())
     }
 }

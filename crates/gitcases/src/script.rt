@@ -4,7 +4,7 @@ use crate::deltas::{copy_of, insertions_of, put_size};
 use crate::indexes::Lines;
 use crate::names::Names;
 use crate::packs::{Pack, number_of_kind};
-use crate::row::{Row, Subject};
+use crate::row::{Row, Subject, Update};
 use crate::spell::{first_of, number_of, spelled};
 use crate::stores::{File, Store, loose_text};
 use crate::trouble::Trouble;
@@ -324,6 +324,7 @@ impl<'a> Script<'a> {
             "read" | "raw" => return self.add_read(word, rest),
             "has" | "tips" => return self.add_ids(word, rest),
             "limits" => return self.set_limits(rest),
+            "update" => return self.add_update(rest),
             _ => {}
         }
         let due = self.spelled(rest)?;
@@ -337,6 +338,12 @@ impl<'a> Script<'a> {
             "index" => row.add_aim(Subject::Index, None, due)?,
             "kept" => row.add_aim(Subject::Arrival, None, due)?,
             "open" => row.add_aim(Subject::Opening, None, due)?,
+            "refs" => row.add_aim(Subject::Refs, None, due)?,
+            "move" => row.add_aim(Subject::Moving, None, due)?,
+            "clone" => row.add_aim(Subject::Cloning, None, due)?,
+            "url" => row.add_aim(Subject::Url, None, due)?,
+            "served" => row.add_aim(Subject::Served, None, due)?,
+            "asked" => row.asked = due,
             "or" => row.others.push(due)?,
             "sweep" => row.is_swept = true,
             _ => row.is_large = true,
@@ -355,6 +362,23 @@ impl<'a> Script<'a> {
         };
         match self.rows.last_mut() {
             Some(row) => row.add_aim(subject, Some(id), due),
+            None => Err(Trouble::NotBegun),
+        }
+    }
+
+    // Adds a ref that is to move: its old id, if it has one, its new one, and its name.
+    fn add_update(&mut self, rest: &str) -> Result<(), Trouble> {
+        let (old, more) = first_of(rest);
+        let (new, line) = first_of(more);
+        let old = if old == "-" {
+            None
+        } else {
+            Some(self.names.object(old)?.id)
+        };
+        let new = self.names.object(new)?.id;
+        let name = self.spelled(line)?;
+        match self.rows.last_mut() {
+            Some(row) => Ok(row.updates.push(Update { name, old, new })?),
             None => Err(Trouble::NotBegun),
         }
     }
@@ -413,6 +437,13 @@ fn is_of_row(word: &str) -> bool {
             | "kept"
             | "tips"
             | "open"
+            | "refs"
+            | "update"
+            | "move"
+            | "clone"
+            | "asked"
+            | "url"
+            | "served"
             | "read"
             | "raw"
             | "or"

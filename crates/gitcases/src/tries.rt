@@ -8,6 +8,7 @@ use crate::stores::{File, copies};
 use crate::tally::{Tally, Way};
 use crate::trouble::Trouble;
 use scarce::Scarce;
+use std::rt::Files;
 
 // The bits of a byte.
 const BITS: [u8; 8] = [1, 2, 4, 8, 16, 32, 64, 128];
@@ -19,7 +20,7 @@ const MAX_REFUSED: u64 = 100_000;
 const MAX_CALLS: u64 = 60;
 
 /// Tries a row.
-pub(crate) fn try_row<R: Print + AllocGlobal>(
+pub(crate) fn try_row<R: Files + Print + AllocGlobal>(
     rt: &R,
     script: &Script<'_>,
     row: &Row<'_>,
@@ -44,7 +45,7 @@ pub(crate) fn try_row<R: Print + AllocGlobal>(
 }
 
 // Tries it in all ways.
-fn try_all<R: Print + AllocGlobal>(
+fn try_all<R: Files + Print + AllocGlobal>(
     rt: &R,
     trial: Trial<'_, '_>,
     tally: &mut Tally,
@@ -65,14 +66,13 @@ fn try_all<R: Print + AllocGlobal>(
 }
 
 // Tries it once.
-fn try_one<R: Print + AllocGlobal>(
+fn try_one<R: Files + Print + AllocGlobal>(
     rt: &R,
     trial: Trial<'_, '_>,
     (way, place): (Way, usize),
     tally: &mut Tally,
 ) -> Result<(), Trouble> {
-    let alloc = rt.alloc();
-    let answer = answer_of(alloc, alloc, trial)?;
+    let answer = answer_of(rt, rt.alloc(), trial)?;
     judge(rt, trial, (way, place), answer.as_str(), tally)
 }
 
@@ -116,7 +116,7 @@ fn may_come(trial: Trial<'_, '_>, answer: &str) -> bool {
 }
 
 // Tries it with each allocation refused in turn.
-fn try_scarce<R: Print + AllocGlobal>(
+fn try_scarce<R: Files + Print + AllocGlobal>(
     rt: &R,
     trial: Trial<'_, '_>,
     tally: &mut Tally,
@@ -124,7 +124,7 @@ fn try_scarce<R: Print + AllocGlobal>(
     for number in 1..MAX_REFUSED {
         let memory = Scarce::new(rt.alloc());
         memory.refuse(number);
-        let answer = answer_of(rt.alloc(), &memory, trial)?;
+        let answer = answer_of(rt, &memory, trial)?;
         if memory.is_due() {
             break;
         }
@@ -134,7 +134,7 @@ fn try_scarce<R: Print + AllocGlobal>(
 }
 
 // Tries it while its files become others, after so many calls in turn.
-fn try_turns<R: Print + AllocGlobal>(
+fn try_turns<R: Files + Print + AllocGlobal>(
     rt: &R,
     trial: Trial<'_, '_>,
     tally: &mut Tally,
@@ -148,7 +148,7 @@ fn try_turns<R: Print + AllocGlobal>(
 }
 
 // Tries a pack cut after each byte, and with each bit changed.
-fn sweep_pack<R: Print + AllocGlobal>(
+fn sweep_pack<R: Files + Print + AllocGlobal>(
     rt: &R,
     trial: Trial<'_, '_>,
     tally: &mut Tally,
@@ -161,7 +161,7 @@ fn sweep_pack<R: Print + AllocGlobal>(
 }
 
 // Tries a pack that is cut, with the trailer that is there then, and with the right one.
-fn try_cut<R: Print + AllocGlobal>(
+fn try_cut<R: Files + Print + AllocGlobal>(
     rt: &R,
     trial: Trial<'_, '_>,
     place: usize,
@@ -175,7 +175,7 @@ fn try_cut<R: Print + AllocGlobal>(
 }
 
 // Tries a pack with each bit of a byte changed, with its own trailer, and with the right one.
-fn try_bits<R: Print + AllocGlobal>(
+fn try_bits<R: Files + Print + AllocGlobal>(
     rt: &R,
     trial: Trial<'_, '_>,
     place: usize,
@@ -191,7 +191,7 @@ fn try_bits<R: Print + AllocGlobal>(
     Ok(())
 }
 
-fn try_pack<R: Print + AllocGlobal>(
+fn try_pack<R: Files + Print + AllocGlobal>(
     rt: &R,
     trial: Trial<'_, '_>,
     pack: &[u8],
@@ -216,7 +216,7 @@ fn change(bytes: &mut Vec<u8>, place: usize, bit: u8) {
 }
 
 // Tries the store with each file changed in each bit.
-fn sweep_files<R: Print + AllocGlobal>(
+fn sweep_files<R: Files + Print + AllocGlobal>(
     rt: &R,
     trial: Trial<'_, '_>,
     tally: &mut Tally,
@@ -230,7 +230,7 @@ fn sweep_files<R: Print + AllocGlobal>(
 }
 
 // Tries the store with each bit of a byte of a file changed. The answer is the same, or a fault.
-fn try_file_bits<R: Print + AllocGlobal>(
+fn try_file_bits<R: Files + Print + AllocGlobal>(
     rt: &R,
     trial: Trial<'_, '_>,
     (number, place): (usize, usize),
@@ -245,7 +245,7 @@ fn try_file_bits<R: Print + AllocGlobal>(
     Ok(())
 }
 
-fn try_files<R: Print + AllocGlobal>(
+fn try_files<R: Files + Print + AllocGlobal>(
     rt: &R,
     trial: Trial<'_, '_>,
     files: &[File],

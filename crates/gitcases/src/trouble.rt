@@ -18,6 +18,10 @@ pub(crate) enum Trouble {
     NotBegun,
     /// No line begins so.
     UnknownLine,
+    /// A text is not UTF-8.
+    NoText,
+    /// A folder or a file can't be made.
+    NoFiles,
     /// Nothing can be printed.
     NoOutput,
 }
@@ -32,6 +36,8 @@ impl Trouble {
             Trouble::NoNumber => "a word is no number",
             Trouble::NotBegun => "the line does not go on with what is begun",
             Trouble::UnknownLine => "no line begins so",
+            Trouble::NoText => "a text is not UTF-8",
+            Trouble::NoFiles => "a folder or a file can't be made",
             Trouble::NoOutput => "the output is closed",
         }
     }

@@ -1,0 +1,43 @@
+//! URLs that a user gives, and paths that a client sends.
+
+use crate::answers::{MEMORY, OK};
+use crate::trouble::Trouble;
+use gitwords::{Ending, GitUrl, ServedPath};
+use std::alloc::{Allocator, Global};
+
+// The answer to a path that names no repository.
+const NONE: &str = "none";
+
+/// The answer to a URL: `ok`, its host, its port and its path, or the fault.
+pub(crate) fn of_url(alloc: Global, text: &[u8]) -> Result<String, Trouble> {
+    let Ok(text) = str::from_utf8(text) else {
+        return Err(Trouble::NoText);
+    };
+    match GitUrl::parse(text) {
+        Ok(url) => {
+            let GitUrl { host, port, path } = url;
+            Ok(format!(in alloc; "{OK} {host} {port} {path}")?)
+        }
+        Err(fault) => Ok(format!(in alloc; "{fault}")?),
+    }
+}
+
+/// The answer to the path of a client: `ok` and the directory below the base that is looked at last, or
+/// `none`.
+pub(crate) fn of_served<A: Allocator + Copy>(
+    alloc: Global,
+    memory: A,
+    text: &[u8],
+) -> Result<String, Trouble> {
+    let path = match str::from_utf8(text) {
+        Ok(text) => ServedPath::parse(text),
+        Err(_) => None,
+    };
+    let Some(path) = path else {
+        return Ok(String::from_str(alloc, NONE)?);
+    };
+    match path.candidate(memory, Ending::Bare) {
+        Ok(candidate) => Ok(format!(in alloc; "{OK} {candidate}")?),
+        Err(_) => Ok(String::from_str(alloc, MEMORY)?),
+    }
+}
