@@ -1,10 +1,12 @@
 """Bare repositories that are made, read and checked by python alone: gitrepository-layout(5), gitformat-pack(5)."""
 
+import functools
 import hashlib
 import os
 import random
 import struct
 import zlib
+from bisect import bisect_right
 
 from lies import id_of, pack, whole
 
@@ -45,7 +47,13 @@ class History:
 
 
 def pack_of(objects):
-    return pack([whole(kind, body) for kind, body in objects])
+    return pack([entry_of(kind, body) for kind, body in objects])
+
+
+@functools.lru_cache(maxsize=None)
+def entry_of(kind, body):
+    """An object's entry in a pack, which is made once."""
+    return whole(kind, body)
 
 
 # ---- writing
@@ -86,11 +94,12 @@ def put_pack(path, objects):
     """Puts a pack and its index in place, the pack first. It returns the path of both, without an ending."""
     rows, text, start = [], pack_of(objects), 12
     for kind, body in objects:
-        entry = whole(kind, body)
+        entry = entry_of(kind, body)
         rows.append((id_of(kind, body), zlib.crc32(entry), start))
         start += len(entry)
     rows = sorted({row[0]: row for row in rows}.values())
-    fans = [sum(row[0][0] <= first for row in rows) for first in range(256)]
+    firsts = [row[0][0] for row in rows]
+    fans = [bisect_right(firsts, first) for first in range(256)]
     index = b"\xfftOc\0\0\0\2" + struct.pack(">256I", *fans) + b"".join(row[0] for row in rows)
     index += b"".join(struct.pack(">I", row[1]) for row in rows) + b"".join(struct.pack(">I", row[2]) for row in rows)
     index += text[-20:]

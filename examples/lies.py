@@ -73,9 +73,12 @@ class Case:
 
 
 def zip_bomb(megabytes):
-    """A zlib stream of so many megabytes of zeros."""
-    deflate = zlib.compressobj(9)
-    return b"".join(deflate.compress(bytes(MEGABYTE)) for _ in range(megabytes)) + deflate.flush()
+    """A zlib stream of so many megabytes of zeros. No block refers to one before it, so one is made, and repeated."""
+    deflate = zlib.compressobj(9, wbits=-15)
+    block = deflate.compress(bytes(MEGABYTE)) + deflate.flush(zlib.Z_FULL_FLUSH)
+    # The first half of the Adler-32 stays 1, which is added to the second half at each byte.
+    adler = struct.pack(">HH", megabytes * MEGABYTE % 65_521, 1)
+    return b"\x78\xda" + block * megabytes + deflate.flush() + adler
 
 
 def broken_packs():
@@ -162,6 +165,7 @@ def cases():
 # ---- servers
 
 
+FLUSH = b"0000"
 ADVERT = packet(b"version 2\n") + packet(b"ls-refs\n") + packet(b"fetch\n") + packet(b"object-format=sha1\n") + b"0000"
 
 
@@ -196,8 +200,10 @@ class Liar:
         self.socket.close()
 
     def send(self, stream, place, said):
-        """Sends what is said at a place: `advert`, `refs` or `pack`."""
+        """Sends what is said at a place: `advert`, `refs` or `pack`. It ends the connection after what is no whole message."""
         stream.sendall(said)
+        if not said.endswith(FLUSH):
+            raise OSError("it says no more")
 
     def accept(self):
         while True:

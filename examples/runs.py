@@ -6,6 +6,7 @@ import subprocess
 import sys
 import threading
 import time
+from concurrent.futures import ThreadPoolExecutor
 
 from both_ends import ENV
 
@@ -41,11 +42,28 @@ class Checks:
         says = ran.status == 1 and is_sentence(ran.told) and all(word.encode() in ran.told for word in words)
         self.check(f"{what}: refused in a sentence", says, ran)
 
+    def take(self):
+        """What was counted, which begins anew: a process tells another one."""
+        counts = self.tried, self.wrong, self.most
+        self.tried, self.wrong, self.most = 0, [], (0, "")
+        return counts
+
+    def add(self, tried, wrong, most):
+        """Counts what another process has counted."""
+        self.tried, self.wrong, self.most = self.tried + tried, self.wrong + wrong, max(self.most, most)
+
     def end(self, *more):
         """Prints the counts, and returns the exit status."""
         print(f"at most {self.most[0]:.0f} MB ({self.most[1]})")
         print(f"{self.tried} checks, {len(self.wrong)} wrong", *more, sep=", ")
         return 1 if self.wrong or not self.tried else 0
+
+
+def at_once(take, cases, most=4):
+    """Takes cases, so many at a time."""
+    with ThreadPoolExecutor(most) as pool:
+        for _ in pool.map(take, cases):
+            pass
 
 
 def is_printable(text):

@@ -1,7 +1,7 @@
 """Tries gitrepo against peers that lie or stop, and against trouble on the disk, without git. usage: trouble.py PROGRAM
 
 It makes, reads and checks its repositories by itself (bare.py), and nothing leaves 127.0.0.1. Each check is of an exit status, of
-the sentence on standard error, of what is in the directory afterwards, of memory, or of time. It is over within a minute.
+the sentence on standard error, of what is in the directory afterwards, of memory, or of time. It is over within 40 seconds.
 """
 
 import itertools
@@ -14,22 +14,22 @@ import sys
 import tempfile
 import threading
 import time
-from concurrent.futures import ThreadPoolExecutor
+from concurrent.futures import ProcessPoolExecutor
 
 from bare import MAIN, OLD, History, faults_of, files_of, make, pack_of, put_loose, put_pack, put_packed, put_ref, refs_of, write
 from both_ends import Gitrepo, answer_to, hello, packet
 from lies import ADVERT, GOOD, NEW, TIP, Liar, bands, bombs, chains, listing, names, packfile, progress, spoken
-from runs import Checks, Running, is_printable, run, run_limited
+from runs import Checks, Running, at_once, is_printable, run, run_limited
 
 PROGRAM = os.path.abspath(sys.argv[1])
 HEADS, TAGS = "+refs/heads/*:refs/heads/*", "+refs/tags/*:refs/tags/*"
-# For so long a silent peer is waited for, and within so long a closed connection ends a run.
-SILENT, SOON = 2, 40
-# The limit of a client's first line.
-FIRST_LINE = 10
+# A client still waits so long after its server became silent, and a closed connection ends a run within so long.
+SILENT, SOON = 1, 40
+# The deadlines of a client's first line, and of a server's next byte.
+FIRST_LINE, NEXT_BYTE = 10, 60
 KILLS = 20
-# So many steps are taken at a time.
-AT_A_TIME = 4
+# So many steps are taken at a time, each in a process of its own. One of them only waits.
+AT_A_TIME = 5
 # So many refs have a longer file than the index of a small pack.
 BRANCHES = 25
 CLONES = 12
@@ -51,10 +51,10 @@ def new_repository(path, history=FIRST, name=OLD):
 
 
 class Copies:
-    """Copies of a repository, each in a folder of its own that the block removes."""
+    """Copies of a repository, in the folder of a step."""
 
-    def __init__(self, folder, base):
-        self.folder, self.base, self.numbers = folder, base, itertools.count()
+    def __init__(self, folder):
+        self.folder, self.base, self.numbers = folder, new_repository(f"{folder}/base"), itertools.count()
 
     def new(self):
         path = f"{self.folder}/copy-{next(self.numbers)}"
@@ -62,7 +62,7 @@ class Copies:
         return path
 
     def free(self):
-        """A path at which nothing is yet. Steps run at once, so no two clones share one."""
+        """A path at which nothing is yet. Cases are tried at once, so no two clones share one."""
         return f"{self.folder}/clone-{next(self.numbers)}"
 
 
@@ -82,7 +82,7 @@ class Stopping(Liar):
 
     def __init__(self, place, count, is_silent=False):
         self.place, self.count, self.is_silent = place, count, is_silent
-        self.is_over = threading.Event()
+        self.is_over, self.has_stopped = threading.Event(), threading.Semaphore(0)
         super().__init__(ADVERT, listing(NEW), packfile(GOOD))
 
     def send(self, stream, place, said):
@@ -90,8 +90,13 @@ class Stopping(Liar):
             return super().send(stream, place, said)
         stream.sendall(said[:self.count])
         if self.is_silent:
+            self.has_stopped.release()
             self.is_over.wait()
         raise OSError("it stops")
+
+    def wait_for(self, clients):
+        """Waits until it is silent to so many clients, and answers whether it is."""
+        return all(self.has_stopped.acquire(timeout=SOON) for _ in range(clients))
 
     def __exit__(self, *words):
         self.is_over.set()
@@ -105,30 +110,36 @@ def stops():
             yield place, count
 
 
-def servers_that_close(copies):
-    for place, count in stops():
-        what = f"a server that closes after {count} bytes of its {place}"
-        path, clone = copies.new(), copies.free()
-        before = files_of(path)
-        with Stopping(place, count) as server:
-            ran = run(*fetch_words(path, server.url()))
-            cloned = run(*clone_words(clone, server.url()))
-        for one in (ran, cloned):
-            checks.refused(what, one, server.url(), "ended early")
-            check(f"{what}: at once", one.seconds < SOON, one)
-        check(f"{what}: nothing is left of a fetch", files_of(path) == before)
-        check(f"{what}: nothing is left of a clone", not os.path.exists(clone))
+def servers_that_close(folder):
+    copies = Copies(folder)
+    at_once(lambda stop: server_that_closes(copies, *stop), stops())
 
 
-def silent_servers(copies):
+def server_that_closes(copies, place, count):
+    what = f"a server that closes after {count} bytes of its {place}"
+    path, clone = copies.new(), copies.free()
+    before = files_of(path)
+    with Stopping(place, count) as server:
+        ran = run(*fetch_words(path, server.url()))
+        cloned = run(*clone_words(clone, server.url()))
+    for one in (ran, cloned):
+        checks.refused(what, one, server.url(), "ended early")
+        check(f"{what}: at once", one.seconds < SOON, one)
+    check(f"{what}: nothing is left of a fetch", files_of(path) == before)
+    check(f"{what}: nothing is left of a clone", not os.path.exists(clone))
+
+
+def silent_servers(folder):
     """All at once: no client gives up before its deadline. Killed, it leaves nothing but a clone's empty repository."""
-    tries = []
+    copies, tries = Copies(folder), []
     for place, count in stops():
         server = Stopping(place, count, True)
-        path, clone = copies.new(), f"{copies.folder}/clone-{place}-{count}"
+        path, clone = copies.new(), copies.free()
         before = files_of(path)
         runs = [Running(*fetch_words(path, server.url())), Running(*clone_words(clone, server.url()))]
         tries.append((f"a server that is silent after {count} bytes of its {place}", server, path, clone, before, runs))
+    for what, server, *_, runs in tries:
+        check(f"{what}: it comes so far", server.wait_for(len(runs)), [one.texts for one in runs])
     time.sleep(SILENT)
     for what, server, path, clone, before, runs in tries:
         check(f"{what}: the client waits", not any(one.is_over() for one in runs), [one.texts for one in runs])
@@ -140,26 +151,47 @@ def silent_servers(copies):
         check(f"{what}: no object and no ref of a clone", left <= {"HEAD", "config"}, left)
 
 
-def lying_servers(copies):
+def deadline(folder):
+    """A client gives up at a server that is silent from the beginning, once its deadline is over."""
+    copies = Copies(folder)
+    path, clone = copies.new(), copies.free()
+    before = files_of(path)
+    with Stopping("advert", 0, True) as server:
+        words = fetch_words(path, server.url()), clone_words(clone, server.url()), [PROGRAM, "ls", server.url()]
+        for ended in [one.end() for one in [Running(*some) for some in words]]:
+            checks.refused("a deadline", ended, server.url(), f"silent for {NEXT_BYTE} seconds")
+            check("a deadline: when it is over", NEXT_BYTE - 1 < ended.seconds, ended)
+    check("a deadline: nothing is left of a fetch", files_of(path) == before)
+    check("a deadline: nothing is left of a clone", not os.path.exists(clone))
+
+
+def lying_servers(folder):
     """Names of refs that climb or are in each other's way, bombs, a long chain, and texts that are no answer."""
-    for case in itertools.chain(names(), bombs(300), chains(100)):
-        path, clone = copies.new(), copies.free()
-        before = files_of(path)
-        with Liar(refs=listing(case.refs), pack=packfile(case.pack)) as server:
-            ran = run(*fetch_words(path, server.url()))
-            cloned = run(*clone_words(clone, server.url()))
-        judge(case.what, ran, cloned, path, clone, before, case)
-    for what, server in spoken():
-        path, clone = copies.new(), copies.free()
-        before = files_of(path)
-        with server:
-            ran = run(*fetch_words(path, server.url()))
-            cloned = run(*clone_words(clone, server.url()))
-            listed = run(PROGRAM, "ls", server.url())
-        judge(what, ran, cloned, path, clone, before)
-        checks.within_bounds(what, listed)
-        if listed.status:
-            checks.refused(f"{what}, ls", listed)
+    copies = Copies(folder)
+    at_once(lambda case: lying_server(copies, case), itertools.chain(names(), bombs(300), chains(100)))
+    at_once(lambda one: server_of_no_answer(copies, *one), spoken())
+
+
+def lying_server(copies, case):
+    path, clone = copies.new(), copies.free()
+    before = files_of(path)
+    with Liar(refs=listing(case.refs), pack=packfile(case.pack)) as server:
+        ran = run(*fetch_words(path, server.url()))
+        cloned = run(*clone_words(clone, server.url()))
+    judge(case.what, ran, cloned, path, clone, before, case)
+
+
+def server_of_no_answer(copies, what, server):
+    path, clone = copies.new(), copies.free()
+    before = files_of(path)
+    with server:
+        ran = run(*fetch_words(path, server.url()))
+        cloned = run(*clone_words(clone, server.url()))
+        listed = run(PROGRAM, "ls", server.url())
+    judge(what, ran, cloned, path, clone, before)
+    checks.within_bounds(what, listed)
+    if listed.status:
+        checks.refused(f"{what}, ls", listed)
 
 
 def judge(what, ran, cloned, path, clone, before, case=None):
@@ -263,8 +295,8 @@ def silent_client(folder):
         check("a silent client: for ten seconds", FIRST_LINE - 1 < seconds < FIRST_LINE + SOON, seconds)
         ended = waiting.end()
         check("a silent client: the next is served", ended.status == 0 and OLD.encode() in ended.out, ended)
-        said = "connection to the client was lost, or its time was over"
-        check("a silent client: the log", any(said in line for line in server.log()), server.log())
+        logged = any(" - 0 requests " in line and " its time" in line for line in server.log())
+        check("a silent client: the log", logged, server.log())
 
 
 def wrong_urls(folder):
@@ -395,7 +427,11 @@ class Seen:
 
     def wait(self, running, path, before):
         while not running.is_over():
-            for _, _, found in os.walk(path):
+            for folder in ("", "refs/heads", "refs/tags", "objects/pack"):
+                try:
+                    found = os.listdir(f"{path}/{folder}")
+                except FileNotFoundError:
+                    continue
                 if any(self.part in name and name not in before for name in found):
                     return
 
@@ -540,31 +576,35 @@ def terminals(folder):
                 check(f"the name {name!r}, {words[0]} on a terminal: it is shown, or refused", b"31mx" in shown or status == 1, shown)
 
 
-def take(name, step):
-    """Takes a step to its end."""
+# The longest come first.
+STEPS = {
+    "silent client": silent_client, "kills": kills, "changing": changing, "lying": lying_servers, "full": full_disks,
+    "closing": servers_that_close, "silent": silent_servers, "paths": paths_of_clients, "small disks": small_disks,
+    "terminals": terminals, "urls": wrong_urls,
+}
+# This one takes a minute, and so it is only tried if it is named.
+SLOW = {"deadline": deadline}
+
+
+def take(name, folder):
+    """Takes a step to its end, and answers what was checked."""
     began = time.monotonic()
+    os.mkdir(folder)
     try:
-        step()
+        (STEPS | SLOW)[name](folder)
     except (OSError, ValueError, subprocess.SubprocessError) as error:
         check(f"{name}: it comes to its end", False, repr(error))
     print(f"{name}: {time.monotonic() - began:.1f} s", flush=True)
+    return checks.take()
 
 
 def main():
     began = time.monotonic()
-    with tempfile.TemporaryDirectory(prefix="trouble-") as folder:
-        copies = Copies(folder, new_repository(f"{folder}/base"))
-        steps = {
-            "silent client": lambda: silent_client(folder), "closing": lambda: servers_that_close(copies),
-            "silent": lambda: silent_servers(copies), "lying": lambda: lying_servers(copies),
-            "paths": lambda: paths_of_clients(folder), "urls": lambda: wrong_urls(folder), "full": lambda: full_disks(folder),
-            "small disks": lambda: small_disks(folder), "kills": lambda: kills(folder), "changing": lambda: changing(folder),
-            "terminals": lambda: terminals(folder),
-        }
-        asked = sys.argv[2:] or list(steps)
-        with ThreadPoolExecutor(AT_A_TIME) as pool:
-            for _ in pool.map(lambda name: take(name, steps[name]), asked):
-                pass
+    asked = sys.argv[2:] or list(STEPS)
+    with tempfile.TemporaryDirectory(prefix="trouble-") as folder, ProcessPoolExecutor(AT_A_TIME) as pool:
+        folders = [f"{folder}/{name.replace(' ', '-')}" for name in asked]
+        for counts in pool.map(take, asked, folders):
+            checks.add(*counts)
     return checks.end(f"{time.monotonic() - began:.0f} s")
 
 
