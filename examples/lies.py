@@ -64,12 +64,12 @@ NEW = [(TIP, b"refs/heads/new")]
 class Case:
     """A pack, the refs that its server has, and whether it is taken; `None` where its objects may stay, but no ref may move.
 
-    A clone takes what a fetch takes, unless it is said to take more.
+    A clone takes what a fetch takes, unless it is said whether it does.
     """
 
-    def __init__(self, what, pack, refs=NEW, is_taken=False, is_cloned=False):
+    def __init__(self, what, pack, refs=NEW, is_taken=False, is_cloned=None):
         self.what, self.pack, self.refs, self.is_taken = what, pack, refs, is_taken
-        self.is_cloned = is_taken or is_cloned
+        self.is_cloned = bool(is_taken) if is_cloned is None else is_cloned
 
 
 def zip_bomb(megabytes):
@@ -104,6 +104,7 @@ def broken_packs():
     yield Case("a size of one more", pack([*ALL[:2], whole("blob", BLOB, len(BLOB) + 1)]))
     yield Case("a tree where a blob is named", pack([*ALL[:2], whole("tree", BLOB)]))
     yield Case("a base that is not there", pack(ALL + [by_id(b"\x11" * 20, size_of(5) + size_of(5) + b"\x05abcde")]))
+    yield Case("a delta of two bytes", pack(ALL + [whole("blob", b"base"), by_id(id_of("blob", b"base"), size_of(4) + size_of(0))]))
 
 
 def bombs(megabytes):
@@ -128,6 +129,48 @@ def many_bombs():
     yield Case("forty deltas of 262 MB", pack(ALL + [whole("blob", base), *deltas]))
 
 
+def compressed(*parts):
+    """A zlib stream of these parts, which may have a GB together."""
+    deflate = zlib.compressobj(9)
+    return b"".join(deflate.compress(part) for part in parts) + deflate.flush()
+
+
+def large(kind, first, line, count, last=b""):
+    """An entry of a kind whose body has a line so many times."""
+    size = len(first) + len(line) * count + len(last)
+    return head(KINDS[kind], size) + compressed(first, line * count, last)
+
+
+def by_copies(size, last):
+    """A delta of a base of zeros that has four other bytes at its end."""
+    delta, at = size_of(size) + size_of(size), 0
+    while at < size - 4:
+        count = min(size - 4 - at, 0xFFFFFF)
+        delta += b"\xff" + struct.pack("<I", at) + struct.pack("<I", count)[:3]
+        at += count
+    return delta + b"\x04" + last
+
+
+def hogs():
+    """Small packs that take much memory, if they are not refused in time."""
+    empty = whole("blob", b"")
+    yield Case("as many empty objects as 64 MiB have", with_trailer(b"PACK" + struct.pack(">II", 2, 7_456_000) + empty * 7_456_000))
+    yield Case("a tree of 8,000,000 entries", pack(ALL + [large("tree", b"", TREE, 8_000_000)]))
+    tree, parent = COMMIT[:46], b"parent %s\n" % TIP.hex().encode()
+    yield Case("a commit of 5,000,000 parents", pack(ALL + [large("commit", tree, parent, 5_000_000, WHO + b"\nm\n")]))
+    size = 254 * MEGABYTE
+    zeros = bytes(size)
+    of_zeros = hashlib.sha1(b"blob %d\0" % size)
+    first, made = of_zeros.copy(), of_zeros.copy()
+    first.update(zeros)
+    made.update(zeros[4:] + b"one\n")
+    inserts = size_of(size) + size_of(size // 128 * 127) + (b"\x7f" + bytes(127)) * (size // 128)
+    entries = [head(3, size) + compressed(zeros)]
+    entries += [by_id(first.digest(), by_copies(size, last)) for last in (b"one\n", b"two\n")]
+    entries += [by_id(made.digest(), inserts[:-1] + last) for last in (b"a", b"b")]
+    yield Case("bases and deltas of 254 MB", pack(ALL + entries))
+
+
 def chains(count):
     base = last = bytes(65_536)
     entries, before = [whole("blob", base)], id_of("blob", base)
@@ -146,6 +189,11 @@ def names():
     ):
         yield Case(f"a ref named {name[:40]!r}", GOOD, [(TIP, name)])
     yield Case("a ref below a ref", GOOD, [(TIP, b"refs/heads/d"), (TIP, b"refs/heads/d/e")], None)
+    escape = b"refs/heads/\xc2\x9b31m"
+    yield Case("a ref below a ref, with control bytes", GOOD, [(TIP, escape), (TIP, escape + b"/e")], None)
+    yield Case("a name that is not UTF-8", GOOD, [(TIP, b"refs/heads/\x9b31m")], is_cloned=True)
+    for what, kind, body in (("tree", "tree", TREE), ("blob", "blob", BLOB)):
+        yield Case(f"HEAD at a {what}", GOOD, [(id_of(kind, body), b"HEAD"), *NEW], is_taken=True, is_cloned=False)
     yield Case("a ref below one that is here", GOOD, [(TIP, b"refs/heads/old/e")], None, is_cloned=True)
     # Its first line counts.
     yield Case("a ref twice", GOOD, [(TIP, b"refs/heads/d"), (id_of("tree", TREE), b"refs/heads/d")], is_taken=True)
@@ -158,6 +206,7 @@ def cases():
     yield from broken_packs()
     yield from bombs(1024)
     yield from many_bombs()
+    yield from hogs()
     yield from chains(3_000)
     yield from names()
 

@@ -289,8 +289,14 @@ def protected(folder, theirs):
     head = git(work, "symbolic-ref", "HEAD")
     before = refs(work)
     add_history(path, 3, 43, onto=tip(path))
-    refuses("a branch that is checked out", gitrepo("fetch", work, url, f"+{BRANCH}:{head}"), head)
+    for spelt in (work, f"{work}/", f"{work}/.git", f"{work}/.git/", f"{work}/.git/."):
+        refuses(f"a branch that is checked out, {spelt[len(folder):]}", gitrepo("fetch", spelt, url, f"+{BRANCH}:{head}"), head)
+    refuses("a branch that is checked out, .", gitrepo("fetch", ".", url, f"+{BRANCH}:{head}", cwd=f"{work}/.git"), head)
     check("a branch that is checked out stays", refs(work) == before and git(work, "status", "--porcelain") == "")
+    bare = f"{folder}/bare/.git"
+    git(None, "clone", "--quiet", "--bare", work, bare)
+    done = gitrepo("fetch", f"{folder}/bare", url, f"+{BRANCH}:{head}")
+    check("a bare repository has no branch that is checked out", done and tip(bare, head) == tip(path), done)
     copy = f"{folder}/protected"
     check("clone for what is protected", gitrepo("clone", url, copy))
     before = refs(copy)
@@ -330,6 +336,11 @@ def odd_head(folder, theirs):
     copy = f"{folder}/odd-head"
     done = gitrepo("clone", theirs.url("odd-head.git"), copy)
     check("HEAD outside of refs/heads is detached", done and head_of(copy) == tip(path) + "\n" and not faults_of(copy), done)
+    git(path, "tag", "--annotate", "--message", "t", "odd", BRANCH)
+    git(path, "symbolic-ref", "HEAD", "refs/tags/odd")
+    done = gitrepo("clone", theirs.url("odd-head.git"), f"{copy}-tag")
+    head = done and head_of(f"{copy}-tag")
+    check("HEAD at a tag is detached at its commit", head == tip(path) + "\n" and not faults_of(f"{copy}-tag"), done)
 
 
 def home(folder):

@@ -1,5 +1,5 @@
 -- Replies whose packets are known.
-use Rattle.std.proofs.Common.{◌≡◌, Bool, true, List, ◌++◌, refl, sym, ap, ◌∙◌}
+use Rattle.std.proofs.Common.{◌≡◌, List, ◌++◌, refl, sym, ap, ◌∙◌}
 use Rattle.gpkt.specs.Packets.{Packet}
 use Rattle.gdialogue.specs.Sides.{LeadsTo, SaysExactly}
 use Rattle.gdialogue.specs.declared.side.Said.TheVariants.{More, Whole}

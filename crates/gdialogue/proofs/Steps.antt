@@ -1,14 +1,14 @@
 -- The steps of a dialogue: a packet that is heard, and packets that are said.
-use Rattle.std.proofs.Common.{◌≡◌, ℕ, ◌+◌, ◌<◌, ◌≤◌, ◌^◌, Bool, true, false, List, [], ◌∷◌, ◌++◌, length, Option, Some, None, Result, Ok, Err, refl, sym, ap, ◌∙◌, subst, arith, length-append, append-nil, append_assoc}
+use Rattle.std.proofs.Common.{◌≡◌, ℕ, ◌+◌, ◌<◌, ◌^◌, Bool, true, false, List, [], ◌∷◌, ◌++◌, length, Option, Some, None, Result, Ok, Err, refl, sym, ap, ◌∙◌, subst, append-nil, append_assoc}
 use Rattle.std.proofs.lemmas.List.{length_push}
 use Rattle.gpkt.specs.Packets.{Bytes, Packet}
-use Rattle.ggrammar.specs.Grammar.{Judge, LawsOf, Open, Whole, IsOpen, IsWhole}
+use Rattle.ggrammar.specs.Grammar.{Judge, LawsOf, Whole, IsOpen, IsWhole}
 use Rattle.ggrammar.specs.MessageReading.{IsReason, TakesPacket}
 use Rattle.ggrammar.specs.declared.message.Step.{Step}
 use Rattle.ggrammar.specs.declared.message.Step.TheVariants as step
 use Rattle.ggrammar.specs.declared.fault.Why.{Why}
 use Rattle.ggrammar.specs.declared.fault.MessageFault.{MessageFault}
-use Rattle.gtalk.specs.Talks.{Talk, Says, hearing, no_talk, saying, stopping}
+use Rattle.gtalk.specs.Talks.{Talk, Says, hearing, no_talk, stopping}
 use Rattle.gtalk.specs.declared.conversation.Stop.{Stop}
 use Rattle.gdialogue.specs.Sides.{LeadsTo, MayAnswer, SaysSome}
 use Rattle.gdialogue.specs.declared.side.Said.{Said}
@@ -130,7 +130,8 @@ module _ {S M R : Type 0} (judge : S → Judge) (brings : S → List Packet → 
 
   -- what is said to a message
   abbrev AnswersIt : S → M → Answer R → S → Type 0
-  AnswersIt side message result after = (lines packets : List Packet) (goes : Bool) → IsWhole (judge side) lines → message_holds message lines
+  AnswersIt side message result after = (lines packets : List Packet) (goes : Bool) → judge_of message ≡ judge side
+      → IsWhole (judge side) lines → message_holds message lines
       → MayAnswer may result packets goes → answers side lines packets goes after
 
   -- how the talk ended, by its packets
@@ -155,30 +156,30 @@ module _ {S M R : Type 0} (judge : S → Judge) (brings : S → List Packet → 
       (dialogue.HasEnded.last heard packets lines rest side after so_far whole says)
 
   pub answers_message : (side after : S) (message new : M) (frame : ℕ) (packet : Packet) (result : Result Step Why) (answered : Answer R) (reply : R)
-      → Takes message new packet result → result ≡ Ok step.Whole → AnswersIt side new answered after → answered ≡ answer.GoesOn reply
+      → Takes message new packet result → judge_of new ≡ judge_of message → result ≡ Ok step.Whole → AnswersIt side new answered after → answered ≡ answer.GoesOn reply
       → (talk : Talk) → Hearing side message frame talk → Saying after reply (hearing talk packet)
-  answers_message side after message new frame packet result answered reply takes is does same talk h =
+  answers_message side after message new frame packet result answered reply takes stays is does same talk h =
       let w = whole_message side message new frame packet result talk takes is h in
       let lines = h.front ++ packet ∷ [] in
       record {
         first = h.first;
         due = λ rest goes may_say.
             answered_so side after h.first h.heard lines talk.said rest (talk.heard ++ packet ∷ []) talk.stopped goes h.answered w.0
-            (does lines rest goes w.0 w.1 (subst (λ a. MayAnswer may a rest goes) (sym same) may_say))
+            (does lines rest goes (stays ∙ h.judged) w.0 w.1 (subst (λ a. MayAnswer may a rest goes) (sym same) may_say))
             (with_packet side message frame packet talk h) h.unstopped;
       }
 
   pub answers_last : (side after : S) (message new : M) (frame : ℕ) (packet : Packet) (result : Result Step Why) (answered : Answer R) (reply : R)
-      → Takes message new packet result → result ≡ Ok step.Whole → AnswersIt side new answered after → answered ≡ answer.Last reply
+      → Takes message new packet result → judge_of new ≡ judge_of message → result ≡ Ok step.Whole → AnswersIt side new answered after → answered ≡ answer.Last reply
       → (talk : Talk) → Hearing side message frame talk → Ending after reply (hearing talk packet)
-  answers_last side after message new frame packet result answered reply takes is does same talk h =
+  answers_last side after message new frame packet result answered reply takes stays is does same talk h =
       let w = whole_message side message new frame packet result talk takes is h in
       let lines = h.front ++ packet ∷ [] in
       record {
         first = h.first;
         due = λ rest goes may_say.
             answered_so side after h.first h.heard lines talk.said rest (talk.heard ++ packet ∷ []) talk.stopped false h.answered w.0
-            (does lines rest false w.0 w.1 (subst (λ a. MayAnswer may a rest false) (sym same) (refl, (goes, may_say))))
+            (does lines rest false (stays ∙ h.judged) w.0 w.1 (subst (λ a. MayAnswer may a rest false) (sym same) (refl, (goes, may_say))))
             (with_packet side message frame packet talk h) h.unstopped;
       }
 

@@ -77,8 +77,8 @@ pub trait Side<M: Message, R: Reply> {
 
     /// Answers a message. After an answer with which the dialogue goes on, fewer are left.
     fn answer(&mut self, message: M) -> Answer<R>
-        ensures answers { (lines said : List Packet) (goes : Bool) → IsWhole (judge self.old) lines
-            → M.holds message lines → MayAnswer R.may result said goes
+        ensures answers { (lines said : List Packet) (goes : Bool) → M.judge message ≡ judge self.old
+            → IsWhole (judge self.old) lines → M.holds message lines → MayAnswer R.may result said goes
             → answers self.old lines said goes self.new }
         ensures fewer { (reply : R) → result ≡ Answer.GoesOn reply
             → messages self.new < messages self.old };

@@ -78,8 +78,9 @@ pub(crate) struct Row<'a> {
 
 // How much a pack may ask for, unless a row says otherwise.
 const LIMITS: IndexLimits = IndexLimits {
+    objects: 1_048_576,
     object: 268_435_456,
-    held: 536_870_912,
+    held: 268_435_456,
     total: 4_294_967_296,
 };
 

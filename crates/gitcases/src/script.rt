@@ -395,11 +395,13 @@ impl<'a> Script<'a> {
         Ok(())
     }
 
-    // The most bytes of an object, of those that are held, and of all.
+    // The most objects, and the most bytes of an object, of those that are held, and of all.
     fn set_limits(&mut self, rest: &str) -> Result<(), Trouble> {
-        let (object, more) = first_of(rest);
+        let (objects, more) = first_of(rest);
+        let (object, more) = first_of(more);
         let (held, total) = first_of(more);
         let limits = IndexLimits {
+            objects: number_of(objects)?,
             object: number_of(object)?,
             held: number_of(held)?,
             total: number_of(total)?,

@@ -1,6 +1,6 @@
 -- What objects link to (gitglossary(7), "commit object", "tree object", "tag object"). A link is an id, and the type of
 -- the object that has it.
-use Rattle.std.specs.Prelude.{◌≡◌, ◌≢◌, ⊤, ℕ, List, [], ◌∷◌, ◌++◌, map, codes}
+use Rattle.std.specs.Prelude.{◌≡◌, ◌≢◌, ⊤, ℕ, ◌≤◌, List, [], ◌∷◌, ◌++◌, length, map, codes}
 use Rattle.std.specs.List.{filter_map}
 use Rattle.gname.specs.Ids.{Id}
 use Rattle.gitobject.specs.Lines.{BeginsWithId, BeginsWithName, BeginsWithType}
@@ -27,8 +27,10 @@ pub record IsCommit (body : List ℕ) (tree : Id) (parents : List Id) : Type 0 w
   pub names : BeginsWithId (codes "tree ") body tree rest
   pub follows : HasParents rest parents
 
--- a tag: the line of the object that it names, that of the object's type, and that of its own name
+-- A tag: the line of the object that it names, that of the object's type, and that of its own name. Git takes none of
+-- fewer than 64 bytes.
 pub record IsTag (body : List ℕ) (target : Id) (kind : ObjectType) : Type 0 where
+  pub least : 64 ≤ length body
   pub after_object : List ℕ
   pub after_type : List ℕ
   pub object : BeginsWithId (codes "object ") body target after_object

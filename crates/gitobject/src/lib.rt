@@ -16,20 +16,23 @@
 //! - An object has one list of links, and a text is that of one object: [`laws`].
 //! - No call panics, overflows or reads out of bounds, and each returns.
 //!
+//! # Only tested
+//!
+//! The definitions in `specs/` are Git's: the program `gitcases` has objects that are right and wrong, and
+//! `examples/with-git.sh` has repositories that Git made.
+//!
 //! # Differences from Git
 //!
 //! - Only what gives links is judged. git-fsck(1) also checks the author and the committer of a commit, and the names
 //!   and the order of a tree's entries.
 //! - Git accepts a commit that ends within the line of a parent, and ignores that line. This crate refuses the commit,
 //!   as git-fsck(1) does.
-//! - Git refuses a tag of fewer than 64 bytes, and reads the type of a tag only up to the first NUL.
+//! - Git reads the type of a tag only up to the first NUL.
 //!
 //! # What the contracts do not rule out
 //!
 //! Any call that allocates may fail with out of memory; the contracts do not say when. They say nothing of time, or of
 //! how much memory a call takes.
-//!
-//! There are no tests here.
 //!
 //! # Stands on
 //!

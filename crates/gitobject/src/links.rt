@@ -16,6 +16,9 @@ use crate::types::ObjectType;
 use gname::Oid;
 use std::alloc::{AllocError, Allocator};
 
+// The least bytes of a tag.
+const MIN_TAG: usize = 64;
+
 /// A link of an object: the id of another one, and the type that the other one must have.
 #[derive(Clone, Copy, Debug, PartialEq, Eq, Drop)]
 pub struct Link {
@@ -113,12 +116,15 @@ fn goes_on(text: &[u8]) -> bool
     }
 }
 
-/// The object that a tag names; `None` if the bytes do not begin as those of a tag.
+/// The object that a tag names; `None` if the bytes do not begin as those of a tag, or are fewer than 64.
 pub fn tag_link(body: &[u8]) -> Option<Link>
     ensures { MatchOption result
         ((target : Id) (kind : ObjectType) → ¬ (IsTag body.now target kind))
         (λ link. IsTag body.now link.id link.kind) }
 {
+    if body.len() < MIN_TAG {
+        return None;
+    }
     let Some(object) = id_line(b"object ", body) else {
         return None;
     };

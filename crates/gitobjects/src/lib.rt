@@ -28,6 +28,11 @@
 //! - No call panics, overflows or reads out of bounds, and each returns, on any files, also if a
 //!   chain of deltas leads back to itself.
 //!
+//! # Only tested
+//!
+//! The program `gitcases` reads directories that are right, wrong and hostile, while files change and
+//! memory ends. `examples/with-git.sh` reads directories that Git made, in each layout.
+//!
 //! # Differences from Git
 //!
 //! - A pack stays open once it is found. Git opens packs as it needs them, and closes some.
@@ -45,6 +50,8 @@
 //! - A path in quotes in `info/alternates`, or one that is not UTF-8, is a fault. Git reads both.
 //! - An alternate that is not there is left out. Git does so, too, and prints an error.
 //! - An entry of a pack must have no byte after its stream. Git does not look for one.
+//! - A pack whose index has an offset outside of the pack is left out as a whole. In Git only the
+//!   object with that offset is broken.
 //!
 //! # What the contracts do not rule out
 //!

@@ -70,8 +70,10 @@ Makes base [] text body = (text ≡ []) × (body ≡ [])
 Makes base (i ∷ is) text body =
     (rest more : List ℕ) × BeginsWithInstruction base text i rest × (body ≡ added base i ++ more) × Makes base is rest more
 
--- a delta of the base that makes the body: the sizes of both, and instructions
+-- A delta of the base that makes the body: the sizes of both, and instructions. Git takes none of fewer than four bytes
+-- (`DELTA_SIZE_MIN` of its `delta.h`), so no two bytes make an empty body.
 pub record IsDelta (base delta body : List ℕ) : Type 0 where
+  pub least : 4 ≤ length delta
   pub base_size : List ℕ
   pub size : List ℕ
   pub commands : List ℕ

@@ -6,6 +6,9 @@ ghost use Rattle.gitpack.specs.Deltas.{BeginsWithInstruction, Instruction, IsCop
 use crate::numbers::split_size;
 use std::alloc::{AllocError, Allocator};
 
+// The least bytes of a delta.
+const MIN_DELTA: usize = 4;
+
 // A command from here on is a copy; one below is an insertion, of so many bytes.
 const COPIES: u8 = 128;
 
@@ -50,6 +53,9 @@ pub fn apply_delta<A: Allocator + Copy>(
         ((body : List ℕ) → IsDelta base.now delta.now body → ¬ (length body ≤ most))
         (λ body. IsDelta base.now delta.now body.items × (length body.items ≤ most))) }
 {
+    if delta.len() < MIN_DELTA {
+        return Ok(None);
+    }
     let Some((base_size, after)) = split_size(delta) else {
         return Ok(None);
     };

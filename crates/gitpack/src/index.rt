@@ -1,6 +1,6 @@
 //! The pack index of version 2 (gitformat-pack(5)).
 
-ghost use Rattle.std.specs.Prelude.{◌≡◌, ◌==◌, ◌≢◌, ◌^◌, ◌<◌, All, IfOk, IfSome, IsTrue, MatchOption, length};
+ghost use Rattle.std.specs.Prelude.{◌≡◌, ◌==◌, ◌≢◌, ◌^◌, ◌<◌, ◌≤◌, All, IfOk, IfSome, IsTrue, MatchOption, length};
 ghost use Rattle.std.specs.List.{HoldsAt};
 ghost use Rattle.gitpack.specs.Indexes.{AreEntries, IsIndex};
 
@@ -112,18 +112,36 @@ impl<A: Allocator + Copy> PackIndex<A> {
     }
 
     /// The id of the line at this place; `None` past the end.
-    pub fn id(&self, place: usize) -> Option<Oid> {
-        Some(self.entries.get(place)?.id)
+    pub fn id(&self, place: usize) -> Option<Oid>
+        ensures { MatchOption result (length self.now.entries ≤ place)
+            (λ id. HoldsAt (λ e. e.id ≡ id) self.now.entries place) }
+    {
+        match self.entries.get(place) {
+            Some(entry) => Some(entry.id),
+            None => None,
+        }
     }
 
     /// The CRC-32 of the line at this place; `None` past the end.
-    pub fn crc(&self, place: usize) -> Option<u32> {
-        Some(self.entries.get(place)?.crc)
+    pub fn crc(&self, place: usize) -> Option<u32>
+        ensures { MatchOption result (length self.now.entries ≤ place)
+            (λ crc. HoldsAt (λ e. e.crc ≡ crc) self.now.entries place) }
+    {
+        match self.entries.get(place) {
+            Some(entry) => Some(entry.crc),
+            None => None,
+        }
     }
 
     /// The offset of the line at this place; `None` past the end.
-    pub fn offset(&self, place: usize) -> Option<u64> {
-        Some(self.entries.get(place)?.offset)
+    pub fn offset(&self, place: usize) -> Option<u64>
+        ensures { MatchOption result (length self.now.entries ≤ place)
+            (λ offset. HoldsAt (λ e. e.offset ≡ offset) self.now.entries place) }
+    {
+        match self.entries.get(place) {
+            Some(entry) => Some(entry.offset),
+            None => None,
+        }
     }
 
     /// The checksum of the pack, which is the trailer of the pack.

@@ -22,12 +22,15 @@ pub trait ObjectVisitor {
         requires { id.now ≡ id_of kind body.now };
 }
 
-/// How much a pack may ask for. A small pack can hold objects of very many bytes.
+/// How much a pack may ask for. A small pack can hold objects of very many bytes, or very many
+/// objects: an entry has nine bytes at least, and takes some two hundred bytes of memory.
 #[derive(Clone, Copy, Debug, Drop)]
 pub struct IndexLimits {
+    /// The most objects.
+    pub objects: usize,
     /// The most bytes of an object.
     pub object: usize,
-    /// The most bytes of the objects that are held at a time, as bases of deltas.
+    /// The most bytes that are held at a time to apply deltas: bases, a delta, and what it makes.
     pub held: usize,
     /// The most bytes of all objects and deltas together.
     pub total: usize,

@@ -7,14 +7,16 @@
 //! - [`read_head`] accepts exactly the heads of entries in `specs/Entries.antt`: a type, a size,
 //!   and the offset or the id of a base. Bytes begin with one head ([`laws`]), so each head that
 //!   [`PackWriter`] writes is read again.
-//! - [`apply_delta`] makes a body exactly if the bytes are a delta of the base. In a delta both
-//!   sizes are right, and each copy lies within the base. The body is the bytes that the copies
-//!   and insertions add, in order. [`made_size`] answers the size of that body.
+//! - [`apply_delta`] makes a body exactly if the bytes are a delta of the base, and the body has at
+//!   most as many bytes as the limit says. In a delta both sizes are right, and each copy lies within
+//!   the base. The body is the bytes that the copies and insertions add, in order. [`made_size`]
+//!   answers the size of that body.
 //! - [`DeltaBase::make_delta`] answers only a delta of the base that makes the target, with at most
 //!   as many bytes as the limit says.
 //! - [`PackIndex::read`] answers an index only for the text of that index. The lines are sorted by
-//!   their ids, and the fan-out table and both tables of offsets are theirs. [`PackIndex::find`]
-//!   finds an id exactly if it is in the index.
+//!   their ids, and the fan-out table and both tables of offsets are theirs.
+//! - [`PackIndex::find`] finds an id exactly if it is in the index. [`PackIndex::id`],
+//!   [`PackIndex::crc`] and [`PackIndex::offset`] answer what the line at a place has.
 //! - [`IndexedPack::write_index`] writes the text of version 2, with its own checksum.
 //! - [`PackWriter`] writes the header with the count, then each entry as it is put, and then the
 //!   SHA-1 of all. [`put_header`] and [`put_entry`] write one of these alone.
@@ -24,23 +26,29 @@
 //! - [`index_pack`] is the same for a pack that is given whole.
 //! - No call panics, overflows or reads out of bounds, and each returns.
 //!
+//! # Only tested
+//!
+//! The program `gitcases` indexes packs that are right, wrong and hostile, cut and changed ones too,
+//! and looks for their objects in the index. `examples/with-git.sh` indexes packs that Git made, and
+//! Git reads those that are written.
+//!
 //! # Differences from Git
 //!
-//! - A size in a delta and an offset of a base have eight bytes at most, and a type and a size
-//!   nine. A delta may make an empty body, which Git refuses.
+//! - A size in a delta and an offset of a base have eight bytes at most.
 //! - A pack of version 3 is refused; Git reads it. All ids are SHA-1.
 //! - An index of version 1 is not read. One of version 2 is read only as Git writes it: no offset
 //!   below 2^31 lies in the table of 64-bit offsets. The checksum of the index itself is not
 //!   tested.
 //! - A pack of 2^31 objects or more is refused, and so is a thin pack.
 //! - An object that a pack holds twice is accepted, and both entries are in the index. Git does so
-//!   without `--strict`. A delta by id whose base comes twice is refused, as in Git.
+//!   without `--strict`. A delta by id whose base comes twice is refused, as in Git 2.39; later
+//!   versions take it.
 //!
 //! # What the contracts do not rule out
 //!
 //! - Any call that allocates may fail with out of memory; the contracts do not say when.
-//! - [`PackIndex::read`] might refuse the text of an index, and its contract says nothing of
-//!   [`PackIndex::id`], [`PackIndex::crc`] and [`PackIndex::offset`].
+//! - [`PackIndex::read`] might refuse the text of an index, also one that
+//!   [`IndexedPack::write_index`] wrote.
 //! - [`DeltaBase::make_delta`] might never find a delta, or find a longer one than need be. The search
 //!   for it is proved safe only: what it finds is applied, and answered if it makes the target.
 //! - [`IncomingPack`] and [`index_pack`] might refuse a good pack. They might leave out any object, list
@@ -53,8 +61,6 @@
 //! - [`PackWriter`] and [`put_entry`] might refuse an entry. The number of entries is not compared with the count,
 //!   and no clause bounds the bytes of the pack.
 //! - The contracts say nothing of time, or of how much memory a call takes.
-//!
-//! There are no tests here.
 //!
 //! # Stands on
 //!

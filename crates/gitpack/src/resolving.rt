@@ -121,10 +121,8 @@ impl<'a, A: Allocator + Copy> Resolver<'a, A> {
 
     // Holds an object, to apply deltas to it.
     fn hold(&mut self, base: Base<A>) -> Result<(), PackFileFault> {
+        self.check_held(base.body.len())?;
         self.held = self.held.saturating_add(base.body.len());
-        if self.held > self.limits.held {
-            return Err(PackFileFault::TooLarge);
-        }
         self.bases.push(base)?;
         Ok(())
     }
@@ -184,6 +182,7 @@ impl<'a, A: Allocator + Copy> Resolver<'a, A> {
         if entry.object.is_some() {
             return Err(PackFileFault::Entry(place));
         }
+        self.check_held(entry.size)?;
         let delta = self.text_of(place, &entry)?;
         self.check_size(delta.as_slice())?;
         let Some((kind, body)) = self.apply(delta.as_slice())? else {
@@ -203,11 +202,21 @@ impl<'a, A: Allocator + Copy> Resolver<'a, A> {
         Ok(())
     }
 
-    // The object that a delta makes has no more bytes than an object may have.
+    // Whether so many bytes more may be held.
+    fn check_held(&self, more: usize) -> Result<(), PackFileFault> {
+        if self.held.saturating_add(more) > self.limits.held {
+            return Err(PackFileFault::TooLarge);
+        }
+        Ok(())
+    }
+
+    // The object that a delta makes has no more bytes than an object may have, and may be held beside
+    // the delta.
     fn check_size(&self, delta: &[u8]) -> Result<(), PackFileFault> {
         match made_size(delta) {
             Some(size) if size > self.limits.object => Err(PackFileFault::TooLarge),
-            _ => Ok(()),
+            Some(size) => self.check_held(delta.len().saturating_add(size)),
+            None => Ok(()),
         }
     }
 
@@ -235,19 +244,34 @@ impl<'a, A: Allocator + Copy> Resolver<'a, A> {
     /// The objects, if each entry is one. It fails with `Thin` if the base of a delta is not in
     /// the pack, and with `Memory`.
     pub(crate) fn into_entries(self) -> Result<Vec<IndexedEntry, A>, PackFileFault> {
-        let mut indexed = Vec::with_capacity(self.alloc, self.entries.len())?;
-        for scanned in &self.entries {
-            let Some(object) = scanned.object else {
-                return Err(PackFileFault::Thin);
-            };
-            let entry = IndexEntry {
-                id: object.id,
-                crc: scanned.crc,
-                offset: scanned.start as u64,
-            };
-            let kind = object.kind;
-            indexed.push(IndexedEntry { entry, kind })?;
-        }
-        Ok(indexed)
+        let alloc = self.alloc;
+        let entries = self.into_scanned();
+        list_objects(alloc, entries.as_slice())
     }
+
+    // The entries alone. The memory of all texts is given back.
+    fn into_scanned(self) -> Vec<Scanned, A> {
+        self.entries
+    }
+}
+
+// The objects of these entries, if each is one.
+fn list_objects<A: Allocator + Copy>(
+    alloc: A,
+    entries: &[Scanned],
+) -> Result<Vec<IndexedEntry, A>, PackFileFault> {
+    let mut objects = Vec::with_capacity(alloc, entries.len())?;
+    for scanned in entries {
+        let Some(object) = scanned.object else {
+            return Err(PackFileFault::Thin);
+        };
+        let entry = IndexEntry {
+            id: object.id,
+            crc: scanned.crc,
+            offset: scanned.start as u64,
+        };
+        let kind = object.kind;
+        objects.push(IndexedEntry { entry, kind })?;
+    }
+    Ok(objects)
 }

@@ -140,9 +140,8 @@ impl<A: Allocator + Copy> Scanner<A> {
         ScannedPack {
             alloc: self.alloc,
             limits: IndexLimits {
-                object: self.limits.object,
-                held: self.limits.held,
                 total: self.limits.total.saturating_sub(self.total),
+                ..self.limits
             },
             entries: self.entries,
             texts: self.texts,
@@ -159,6 +158,9 @@ impl<A: Allocator + Copy> Scanner<A> {
         let Some(count) = entry_count(body) else {
             return Ok(());
         };
+        if count as usize > self.limits.objects {
+            return Err(PackFileFault::TooLarge);
+        }
         for _entry in self.entries.len()..count as usize {
             if !self.scan_entry(body, visitor)? {
                 return Ok(());

@@ -11,7 +11,7 @@ use crate::opening::repository_fault;
 use crate::progress::Progress;
 use crate::remote::{Remote, tips_of};
 use crate::sentences::Sentence;
-use gclient::Spec;
+use gclient::{Repo, Spec};
 use ggraph::{Head, Refs, Target};
 use gitrepository::{NewRepository, RepositoryFault};
 use gitwords::CloneArgs;
@@ -223,6 +223,7 @@ where
         remote,
         specs: specs.as_slice(),
         tips: &tips,
+        head_ref: HEAD_REF,
     };
     match make(rt, dir, remote, &head)? {
         Ok(new) => fill(rt, &found, new, wanted, progress),
@@ -271,20 +272,21 @@ fn keep<R: Files>(
     fetch: &Fetch,
 ) -> Result<(), Fault> {
     let repo = &fetch.client.repo;
-    let (refs, head) = kept_refs(alloc, repo.refs())?;
+    let (refs, head) = kept_refs(alloc, repo)?;
     match new.finish(fetch.received.as_ref(), repo.graph(), &refs, &head) {
         Ok(()) => Ok(()),
         Err(fault) => Err(repository_fault(alloc, found.own.as_str(), &fault)),
     }
 }
 
-// The branches and tags, and a HEAD that is detached. Any other HEAD is there already.
-fn kept_refs(alloc: Global, refs: &Refs<Global>) -> Result<(Refs<Global>, Head<Global>), Fault> {
+// The branches and tags, and a HEAD that is detached: at the commit to which its tag leads, if it is
+// at a tag. Any other HEAD is there already.
+fn kept_refs(alloc: Global, repo: &Repo<Global>) -> Result<(Refs<Global>, Head<Global>), Fault> {
     let mut kept = Refs::new(alloc);
     let mut head = Head::None;
-    for pair in refs.as_slice() {
+    for pair in repo.refs().as_slice() {
         if pair.0.as_bytes() == HEAD_REF {
-            head = Head::Id(pair.1);
+            head = Head::Id(repo.graph().peel(&pair.1).unwrap_or(pair.1));
         } else if kept.set(pair.0.copy_in(alloc)?, pair.1).is_err() {
             return Err(Fault::Memory);
         }

@@ -2,7 +2,9 @@
 
 use crate::fault::Fault;
 use crate::sentences::Sentence;
+use gitobjects::StoredFiles;
 use gitrefs::{GitDirectory, parse_common_dir, parse_git_file};
+use gitrepository::is_bare;
 use gitwords::{Ending, ServedPath};
 use std::alloc::{AllocError, Global};
 use std::fs::Files;
@@ -23,8 +25,8 @@ pub(crate) struct Directories {
     /// The directory of objects and refs. It is another one if the first is that of a linked worktree
     /// (git-worktree(1)).
     pub(crate) common: String,
-    /// Whether there is a work tree.
-    pub(crate) has_work_tree: bool,
+    /// Whether a file `.git` leads to the first: that of a linked worktree, or of a submodule.
+    pub(crate) is_linked: bool,
 }
 
 impl Directories {
@@ -33,8 +35,37 @@ impl Directories {
         Ok(Directories {
             own: String::from_str(alloc, path)?,
             common: String::from_str(alloc, path)?,
-            has_work_tree: false,
+            is_linked: false,
         })
+    }
+
+    /// The same directories.
+    pub(crate) fn copy_in(&self, alloc: Global) -> Result<Directories, AllocError> {
+        Ok(Directories {
+            own: String::from_str(alloc, self.own.as_str())?,
+            common: String::from_str(alloc, self.common.as_str())?,
+            is_linked: self.is_linked,
+        })
+    }
+
+    /// The directory of packs.
+    pub(crate) fn packs(&self, alloc: Global) -> Result<String, AllocError> {
+        below(alloc, self.common.as_str(), "objects/pack")
+    }
+
+    /// Whether there is a work tree: a file `.git` leads to the repository, or its configuration says
+    /// that it is not bare (git-config(1), "core.bare"). If that is not said, its name is `.git`.
+    pub(crate) fn has_work_tree<R>(&self, rt: &R) -> Result<bool, Fault>
+    where
+        R: Files + AllocGlobal,
+    {
+        if self.is_linked {
+            return Ok(true);
+        }
+        match is_bare(&StoredFiles::new(rt), rt.alloc(), self.common.as_str())? {
+            Some(is_bare) => Ok(!is_bare),
+            None => Ok(is_named_git(self.own.as_str())),
+        }
     }
 
     /// The refs of the repository.
@@ -117,10 +148,7 @@ where
 {
     match read_link(rt, path.as_str())? {
         Link::Absent => Ok(None),
-        Link::Directory => {
-            let has_work_tree = is_in_work_tree(path.as_str());
-            look_into(rt, path, has_work_tree)
-        }
+        Link::Directory => look_into(rt, path, false),
         Link::File(text) => match parse_git_file(text.as_slice()) {
             Some(target) => follow(rt, parent_of(path.as_str()), target),
             None => Ok(None),
@@ -140,7 +168,7 @@ where
 }
 
 // The repository whose Git directory is at a path: it has HEAD, objects and refs.
-fn look_into<R>(rt: &R, own: String, has_work_tree: bool) -> Result<Option<Directories>, Fault>
+fn look_into<R>(rt: &R, own: String, is_linked: bool) -> Result<Option<Directories>, Fault>
 where
     R: Files + AllocGlobal,
 {
@@ -154,15 +182,16 @@ where
         Ok(Some(Directories {
             own,
             common,
-            has_work_tree,
+            is_linked,
         }))
     } else {
         Ok(None)
     }
 }
 
-// Whether a Git directory lies in a work tree, by its name.
-fn is_in_work_tree(path: &str) -> bool {
+// Whether the last name in a path is `.git`. Slashes may end the path.
+fn is_named_git(path: &str) -> bool {
+    let path = path.trim_end_matches('/');
     path == ".git" || path.ends_with("/.git")
 }
 

@@ -28,9 +28,17 @@ impl fmt::Display for Fault {
     fn fmt<W: fmt::Write>(&self, f: &mut fmt::Formatter<W>) -> fmt::Result {
         match self {
             Fault::Memory => f.write_str(OUT_OF_MEMORY_TEXT),
-            Fault::Said(text) => f.write_str(text.as_str()),
+            Fault::Said(text) => write_shown(text.as_str(), f),
         }
     }
+}
+
+// Writes a text as a terminal may show it on one line, with a question mark for each control character.
+fn write_shown<W: fmt::Write>(text: &str, f: &mut fmt::Formatter<W>) -> fmt::Result {
+    for letter in text.chars() {
+        f.write_char(if letter.is_control() { '?' } else { letter })?;
+    }
+    Ok(())
 }
 
 impl From<AllocError> for Fault {

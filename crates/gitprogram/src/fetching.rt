@@ -8,7 +8,7 @@ use crate::output::Output;
 use crate::progress::{Progress, Watched};
 use crate::remote::{Remote, tips_of};
 use crate::sentences::Sentence;
-use gclient::{FetchFault, Fetched, PackOptions, RefUpdate, Repo, Spec};
+use gclient::{ClientFault, FetchFault, Fetched, MAX_SPECS, PackOptions, RefUpdate, Repo, Spec};
 use gcmd::{Ends, PackLimit, ProgramFault, send_report};
 use gconnect::{GitFetch, fetch_git};
 use ggraph::{Head, Refs, Repository};
@@ -18,7 +18,7 @@ use gitrefs::RefUpdate as RefMove;
 use gitrepository::{Received, RepositoryFault, StoreIndexer, Tips, install_pack};
 use gitwords::{FetchArgs, Verbosity};
 use glsreply::LsReply;
-use gname::{MAX_PACK, RefName};
+use gname::{MAX_PACK, Oid, Prefix, RefName};
 use gpkt::{FromRead, ToWrite};
 use gtcp::{Peer, Silence};
 use std::alloc::{AllocError, Global};
@@ -42,6 +42,8 @@ pub(crate) struct Wanted<'a> {
     pub(crate) specs: &'a [Spec<Global>],
     /// The ids of the server's refs.
     pub(crate) tips: &'a Tips<Global>,
+    /// The name of the ref to which HEAD of a clone goes.
+    pub(crate) head_ref: &'a [u8],
 }
 
 /// A repository of a client, and the refs that it had.
@@ -98,6 +100,7 @@ where
         remote: &remote,
         specs: asked.specs.as_slice(),
         tips: &tips,
+        head_ref: b"",
     };
     let mut progress = progress_of(rt.alloc(), asked.verbosity, errors);
     let outcome = receive(rt, &found, wanted, &mut progress);
@@ -105,7 +108,7 @@ where
     conclude(rt, &found, report, outcome)
 }
 
-// The server's refs, among which each ref that refspecs name has to be.
+// The server's refs that refspecs may take, among which each ref that they name has to be.
 fn list_sources<R>(
     rt: &R,
     remote: &Remote,
@@ -114,9 +117,29 @@ fn list_sources<R>(
 where
     R: AllocGlobal + Net,
 {
-    let listed = remote.list(rt, rt.alloc(), &[])?;
+    let prefixes = prefixes_of(rt.alloc(), remote, specs)?;
+    let listed = remote.list(rt, rt.alloc(), prefixes.as_slice())?;
     check_sources(rt.alloc(), remote, &listed, specs)?;
     Ok(listed)
+}
+
+// The beginnings of the names of refs that refspecs may take.
+fn prefixes_of(
+    alloc: Global,
+    remote: &Remote,
+    specs: &[Spec<Global>],
+) -> Result<Vec<Prefix>, Fault> {
+    if specs.len() > MAX_SPECS {
+        return Err(remote.fault(alloc, &FetchFault::Client(ClientFault::TooManySpecs)));
+    }
+    let mut prefixes = Vec::new(alloc);
+    for spec in specs {
+        match Prefix::new(alloc, spec.prefix().as_bytes()) {
+            Ok(prefix) => prefixes.push(prefix)?,
+            Err(_) => return Err(Fault::Memory),
+        }
+    }
+    Ok(prefixes)
 }
 
 // The report of a fetch that brings nothing; `None` of any other.
@@ -207,6 +230,7 @@ fn keep<R: Files + AllocGlobal>(rt: &R, found: &Directories, fetch: &Fetch) -> R
     let client = &fetch.client;
     let updates = updates_of(rt.alloc(), &client.before, client.repo.refs())?;
     check_head(rt, found, updates.as_slice())?;
+    check_names(rt.alloc(), updates.as_slice())?;
     match install_and_move(rt, found, &fetch.received, updates.as_slice()) {
         Ok(()) => Ok(()),
         Err(fault) => Err(repository_fault(rt.alloc(), found.common.as_str(), &fault)),
@@ -219,7 +243,7 @@ fn check_head<R>(rt: &R, found: &Directories, updates: &[RefMove]) -> Result<(),
 where
     R: Files + AllocGlobal,
 {
-    if !found.has_work_tree {
+    if !found.has_work_tree(rt)? {
         return Ok(());
     }
     let read = found.refs(rt.alloc(), rt).read_refs();
@@ -247,6 +271,17 @@ fn check_branch(alloc: Global, branch: &RefName<Global>, updates: &[RefMove]) ->
                 name: branch.as_bytes(),
             },
         ));
+    }
+    Ok(())
+}
+
+// Fails at the first name of a ref that is not UTF-8, since no path can be made of it.
+fn check_names(alloc: Global, updates: &[RefMove]) -> Result<(), Fault> {
+    for update in updates {
+        let name = update.name.as_bytes();
+        if str::from_utf8(name).is_err() {
+            return Err(Fault::of(alloc, Sentence::NoFileName { name }));
+        }
     }
     Ok(())
 }
@@ -409,7 +444,7 @@ where
     let mut client = client;
     match converse(rt, &mut client.repo, indexer, wanted, progress) {
         Ok(fetched) => {
-            check_branches(rt.alloc(), wanted.remote, &client, indexer)?;
+            check_commits(rt.alloc(), wanted, &client, indexer)?;
             Ok(Fetch {
                 client,
                 fetched,
@@ -420,26 +455,57 @@ where
     }
 }
 
-// Fails if a branch would move to a tag, a tree or a blob (git-update-ref(1)).
-fn check_branches<R: Files>(
+// Fails if a branch would move to a tag, a tree or a blob, or HEAD of a clone to a tree or a blob
+// (git-update-ref(1)).
+fn check_commits<R: Files>(
     alloc: Global,
-    remote: &Remote,
+    wanted: Wanted<'_>,
     client: &Client,
     indexer: &StoreIndexer<'_, '_, StoredFiles<'_, R>, Global>,
 ) -> Result<(), Fault> {
     for pair in client.repo.refs().as_slice() {
-        if pair.0.as_bytes().starts_with(BRANCHES) && client.before.get(&pair.0) != Some(pair.1) {
-            match indexer.kind_of(&pair.1) {
-                Ok(ObjectType::Commit) => {}
-                Ok(_) => {
-                    let name = pair.0.as_bytes();
-                    return Err(Fault::of(alloc, Sentence::NoCommit { name }));
-                }
-                Err(fault) => return Err(refused_pack(alloc, remote, &fault)),
-            }
+        if client.before.get(&pair.0) == Some(pair.1) {
+            continue;
+        }
+        let name = pair.0.as_bytes();
+        if name.starts_with(BRANCHES) && !is_commit(alloc, wanted.remote, indexer, &pair.1)? {
+            return Err(Fault::of(alloc, Sentence::NoCommit { name }));
+        }
+        if name == wanted.head_ref {
+            check_head_commit(alloc, wanted.remote, client, indexer, &pair.1)?;
         }
     }
     Ok(())
+}
+
+// Fails if HEAD of a clone, which is at this object or at the one to which this tag leads, would be at
+// no commit.
+fn check_head_commit<R: Files>(
+    alloc: Global,
+    remote: &Remote,
+    client: &Client,
+    indexer: &StoreIndexer<'_, '_, StoredFiles<'_, R>, Global>,
+    id: &Oid,
+) -> Result<(), Fault> {
+    let id = client.repo.graph().peel(id).unwrap_or(*id);
+    if is_commit(alloc, remote, indexer, &id)? {
+        return Ok(());
+    }
+    let url = remote.url.as_str();
+    Err(Fault::of(alloc, Sentence::NoHeadCommit { url }))
+}
+
+// Whether an object that came, or was here, is a commit.
+fn is_commit<R: Files>(
+    alloc: Global,
+    remote: &Remote,
+    indexer: &StoreIndexer<'_, '_, StoredFiles<'_, R>, Global>,
+    id: &Oid,
+) -> Result<bool, Fault> {
+    match indexer.kind_of(id) {
+        Ok(kind) => Ok(kind == ObjectType::Commit),
+        Err(fault) => Err(refused_pack(alloc, remote, &fault)),
+    }
 }
 
 // Connects to the server, and holds the conversation of a fetch.

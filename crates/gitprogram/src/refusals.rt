@@ -17,44 +17,107 @@ fn send_text<W: Sink>(text: &[u8], writer: &mut LineWriter<W>) -> Result<(), Wri
     writer.push()
 }
 
-// The packet by which the libraries refuse a request that is over a limit. It does not say which.
-const OVER_LIMIT: &[u8] = b"0024ERR upload-pack: limit exceeded\n";
+/// The error line for a client whose path names no repository that is served, as git-daemon(1) has it.
+pub(crate) const NOT_SERVED: &[u8] = b"access denied or repository not exported: ";
 
-// The packet that is sent in its place.
-const LIMITS: &[u8] =
-    b"0061ERR upload-pack: a request has at most 1,024 wants, 4,096 haves and 64 prefixes of ref names\n";
+/// The error line for a client whose first line is malformed, as that of an older protocol is.
+pub(crate) const BAD_FIRST_LINE: &[u8] =
+    b"upload-pack: bad line: gitrepo serves protocol version 2 alone (git -c protocol.version=2)";
 
-/// A writer that names the limits to a client whose request is over one. Bytes of other packets pass
-/// as they are.
+/// The error line for a client of a repository that is not opened.
+pub(crate) const NOT_OPENED: &[u8] = b"upload-pack: the repository cannot be read";
+
+/// The error line for a client whose request is over a limit.
+pub(crate) const LIMITS: &[u8] =
+    b"upload-pack: a request has at most 1,024 wants, 4,096 haves and 64 prefixes of ref names";
+
+/// The packet for a client that connects while there are too many connections.
+pub(crate) const FULL: &[u8] = b"004aERR upload-pack: the server has too many connections: try again later\n";
+
+/// The packet for a client that connects while there are too many connections from its address.
+pub(crate) const FULL_OF_ADDRESS: &[u8] =
+    b"0051ERR upload-pack: there are too many connections from your address: try later\n";
+
+/// The error line for a client whose pack is not made.
+pub(crate) const PACK_FAILED: &[u8] =
+    b"upload-pack: pack failed: it would have more than 64 MiB, or an object is missing or refused here";
+
+// A packet of the libraries, and the one that is sent in its place.
+#[derive(Clone, Copy)]
+struct Wording {
+    packet: &'static [u8],
+    sent: &'static [u8],
+}
+
+// The packets of the libraries that do not name a limit.
+const WORDINGS: [Wording; 2] = [
+    Wording {
+        packet: b"0024ERR upload-pack: limit exceeded\n",
+        sent: b"0061ERR upload-pack: a request has at most 1,024 wants, 4,096 haves and 64 prefixes of ref names\n",
+    },
+    Wording {
+        packet: b"0021ERR upload-pack: pack failed\n",
+        sent: b"006aERR upload-pack: pack failed: it would have more than 64 MiB, or an object is missing or refused here\n",
+    },
+];
+
+/// A writer that names the limits to a client that is refused for one. Bytes of other packets pass as
+/// they are.
 #[derive(Drop)]
 pub(crate) struct Worded<W> {
     writer: W,
-    // How many of the last bytes are held back, since they begin the packet of the libraries.
+    // How many of the last bytes are held back, since they begin the packet of this wording.
     held: usize,
+    wording: Wording,
 }
 
 impl<W> Worded<W> {
     /// A writer that holds nothing back.
     pub(crate) fn new(writer: W) -> Worded<W> {
-        Worded { writer, held: 0 }
+        Worded {
+            writer,
+            held: 0,
+            wording: WORDINGS[0],
+        }
+    }
+
+    // The bytes that are held back.
+    fn held_bytes(&self) -> &'static [u8] {
+        self.wording.packet.get(..self.held).unwrap_or(&[])
+    }
+
+    // Holds some bytes back if they go on with a packet that has a wording. Answers whether they do.
+    fn hold(&mut self, buf: &[u8]) -> bool {
+        let held = self.held_bytes();
+        for wording in WORDINGS {
+            if let Some(rest) = wording.packet.strip_prefix(held) {
+                if rest.starts_with(buf) {
+                    self.wording = wording;
+                    self.held = held.len().saturating_add(buf.len());
+                    return true;
+                }
+            }
+        }
+        false
     }
 }
 
 impl<W: Write> Worded<W> {
-    // Writes the bytes that are held back.
+    // Writes the bytes that are held back, or the packet in their place.
     fn write_held(&mut self) -> io::Result<()> {
-        let held = OVER_LIMIT.get(..self.held).unwrap_or(&[]);
+        let held = self.held_bytes();
         self.held = 0;
-        self.writer
-            .write_all(if held == OVER_LIMIT { LIMITS } else { held })
+        self.writer.write_all(if held == self.wording.packet {
+            self.wording.sent
+        } else {
+            held
+        })
     }
 }
 
 impl<W: Write> Write for Worded<W> {
     fn write(&mut self, buf: &[u8]) -> io::Result<usize> {
-        let due = OVER_LIMIT.get(self.held..).unwrap_or(&[]);
-        if due.starts_with(buf) {
-            self.held += buf.len();
+        if self.hold(buf) {
             return Ok(buf.len());
         }
         self.write_held()?;

@@ -5,7 +5,7 @@ use ganswer::{BuildFault, ServeFault};
 use gclient::{ClientFault, FetchFault, MAX_SPECS, RepoFault};
 use ggrammar::Why;
 use ggraph::{GraphFault, MAX_NODES, MAX_REFS, PackFault};
-use gitobjects::StoreFault;
+use gitobjects::{Cause, FileFault, StoreFault};
 use gitrefs::RefFault;
 use gitrepository::{FormFault, RepositoryFault};
 use gitwords::{Shown, clean_byte};
@@ -58,6 +58,14 @@ pub(crate) enum Sentence<'a> {
     NoCommit {
         name: &'a [u8],
     },
+    /// HEAD of a clone would be at an object that is no commit.
+    NoHeadCommit {
+        url: &'a str,
+    },
+    /// A ref would move whose name is not UTF-8.
+    NoFileName {
+        name: &'a [u8],
+    },
     /// A repository cannot be served.
     Build {
         path: &'a str,
@@ -107,6 +115,12 @@ pub(crate) enum Sentence<'a> {
     Request(&'a ServeFault),
     /// The client is gone.
     ClientLost,
+    /// The client did not send its first line, or a request, in its time.
+    ClientSilent,
+    /// The client took no byte in its time.
+    ClientStalled,
+    /// The connection took more than its time.
+    ClientSlow,
     /// The client of `upload-pack` does not ask for version 2.
     NoVersion2,
     /// Standard output failed.
@@ -128,9 +142,7 @@ impl fmt::Display for Sentence<'_> {
             }
             Sentence::Open { path, error } => write_refused("open ", path, error, f),
             Sentence::Repository { path, fault } => write_repository(path, fault, f),
-            Sentence::BrokenRef { path, name, fault } => {
-                write!(f, "{path}: {}: {fault}: 'git fsck' says more", Clean(name))
-            }
+            Sentence::BrokenRef { path, name, fault } => write_broken_ref(path, name, fault, f),
             Sentence::CheckedOut { name } => {
                 write!(f, "{} is checked out: fetch into another ref", Clean(name))
             }
@@ -144,6 +156,13 @@ impl fmt::Display for Sentence<'_> {
                 "{} would be at a tag, a tree or a blob, but a branch is at a commit: fetch into refs/tags/",
                 Clean(name)
             ),
+            Sentence::NoHeadCommit { url } => write!(
+                f,
+                "HEAD of {url} is at a tree or a blob: make a repository by 'git init --bare', and fetch into that"
+            ),
+            Sentence::NoFileName { name } => {
+                write!(f, "{} is not UTF-8: fetch into another ref", Clean(name))
+            }
             Sentence::Build { path, fault } => write!(f, "cannot serve {path}: {fault}"),
             Sentence::Client { path, fault } => write_client_repo(path, fault, f),
             Sentence::Address { url } => write!(
@@ -165,6 +184,9 @@ impl fmt::Display for Sentence<'_> {
             Sentence::NotServed => f.write_str("no repository is served at this path"),
             Sentence::Request(fault) => write_request(fault, f),
             Sentence::ClientLost => f.write_str("the connection to the client was lost"),
+            Sentence::ClientSilent => f.write_str("the client sent no request in its time"),
+            Sentence::ClientStalled => f.write_str("the client took nothing in its time"),
+            Sentence::ClientSlow => f.write_str("the connection took too long"),
             Sentence::NoVersion2 => f.write_str(
                 "GIT_PROTOCOL does not ask for version 2: use git -c protocol.version=2, \
                 and let sshd accept GIT_PROTOCOL",
@@ -203,11 +225,34 @@ fn write_repository<W: fmt::Write>(
 ) -> fmt::Result {
     match fault {
         RepositoryFault::Memory => f.write_str(OUT_OF_MEMORY_TEXT),
-        RepositoryFault::Refs(fault) => write_refs(fault, f),
+        RepositoryFault::Refs(fault) => write_refs(path, fault, f),
         RepositoryFault::File { path, error } => write_refused("write ", path.as_str(), error, f),
-        RepositoryFault::Store(StoreFault::File(fault)) => fmt::Display::fmt(fault, f),
+        RepositoryFault::Store(StoreFault::File(fault)) => write_store_file(fault, f),
         RepositoryFault::Form { fault, .. } => write!(f, "{path} {}", form_text(*fault)),
+        RepositoryFault::Objects => write!(
+            f,
+            "{path} has more than {} commits and tags: use git",
+            Thousands(MAX_NODES)
+        ),
         _ => write!(f, "{path}: {fault}: 'git fsck' says more"),
+    }
+}
+
+// A file of the objects of a repository.
+fn write_store_file<W: fmt::Write>(
+    fault: &FileFault<Global>,
+    f: &mut fmt::Formatter<W>,
+) -> fmt::Result {
+    match fault.cause {
+        Cause::Open(ErrorKind::NotFound) | Cause::List(ErrorKind::NotFound) => {
+            write!(f, "cannot open {}: there is none", fault.path)
+        }
+        Cause::Open(ErrorKind::Other | ErrorKind::Uncategorized) => write!(
+            f,
+            "cannot open {}: if too many files are open, 'git gc' makes one pack of all",
+            fault.path
+        ),
+        _ => fmt::Display::fmt(fault, f),
     }
 }
 
@@ -227,21 +272,72 @@ pub(crate) fn form_text(fault: FormFault) -> &'static str {
     }
 }
 
-fn write_refs<W: fmt::Write>(fault: &RefFault<Global>, f: &mut fmt::Formatter<W>) -> fmt::Result {
+// A ref whose file is malformed, or that leads to an object which is missing or refused.
+fn write_broken_ref<W: fmt::Write>(
+    path: &str,
+    name: &[u8],
+    fault: &RepositoryFault<Global>,
+    f: &mut fmt::Formatter<W>,
+) -> fmt::Result {
+    write!(f, "{path}: {}: ", Clean(name))?;
+    match fault {
+        RepositoryFault::Refs(RefFault::File { cause, .. }) => write!(f, "{cause}")?,
+        _ => write!(f, "{fault}")?,
+    }
+    f.write_str(": 'git fsck' says more")
+}
+
+fn write_refs<W: fmt::Write>(
+    repository: &str,
+    fault: &RefFault<Global>,
+    f: &mut fmt::Formatter<W>,
+) -> fmt::Result {
     let RefFault::File { path, cause } = fault else {
         return f.write_str(OUT_OF_MEMORY_TEXT);
     };
+    let file = RefFile {
+        repository,
+        path: path.as_str(),
+    };
     match cause {
-        gitrefs::Cause::System(error) => write_refused("read or write ", path.as_str(), error, f),
+        gitrefs::Cause::System(error) => {
+            write!(f, "cannot read or write {file}: ")?;
+            write_reason(error, f)
+        }
         gitrefs::Cause::Locked => write!(
             f,
-            "{path} is locked: wait for the other process, or remove {path}.lock if there is none"
+            "{file} is locked: wait for the other process, or remove {file}.lock if there is none"
         ),
         gitrefs::Cause::Moved => write!(
             f,
-            "{path} has moved meanwhile, or its object is missing: fetch again, or see 'git fsck'"
+            "{file} has moved meanwhile, or its object is missing: fetch again, or see 'git fsck'"
         ),
-        cause => write!(f, "{path}: {cause}"),
+        gitrefs::Cause::Refs => write!(
+            f,
+            "{file}: there are more than {} refs: use git",
+            Thousands(MAX_REFS)
+        ),
+        gitrefs::Cause::Conflict | gitrefs::Cause::Symbolic | gitrefs::Cause::Utf8 => {
+            write!(f, "{file}: {cause}: fetch into another ref")
+        }
+        cause => write!(f, "{file}: {cause}"),
+    }
+}
+
+// The file of a ref. Peers choose the names of refs, so the part of its path below the repository is
+// shown cleaned.
+#[derive(Clone, Copy)]
+struct RefFile<'a> {
+    repository: &'a str,
+    path: &'a str,
+}
+
+impl fmt::Display for RefFile<'_> {
+    fn fmt<W: fmt::Write>(&self, f: &mut fmt::Formatter<W>) -> fmt::Result {
+        match self.path.strip_prefix(self.repository) {
+            Some(name) => write!(f, "{}{}", self.repository, Clean(name.as_bytes())),
+            None => f.write_str(self.path),
+        }
     }
 }
 

@@ -24,6 +24,10 @@ use std::marker::Model;
 // each id is kept: a map of so many takes some hundred MiB.
 const MAX_NEEDS: usize = 4_194_304;
 
+// The most bytes of a commit, a tree or a tag, of which a list of all links is made: 64 MiB. A tree of
+// so many has two million entries.
+const MAX_LINKING: usize = 67_108_864;
+
 /// All that is known of the objects of a pack that comes. Contracts see the entries of its commits
 /// and tags.
 #[derive(Drop)]
@@ -146,13 +150,17 @@ impl<A: Allocator + Copy> Arrival<A> {
         }
     }
 
-    // Notes the objects to which an object links.
+    // Notes the objects to which an object links. It fails with `TooLarge` if a commit, a tree or a tag
+    // has too many bytes.
     fn need_links(
         &mut self,
         id: &Oid,
         kind: ObjectType,
         body: &[u8],
     ) -> Result<(), RepositoryFault<A>> {
+        if kind != ObjectType::Blob && body.len() > MAX_LINKING {
+            return Err(RepositoryFault::Pack(PackFileFault::TooLarge));
+        }
         let links = match links_of(self.alloc, kind, body) {
             Ok(links) => links,
             Err(fault) => return Err(RepositoryFault::of_object(id, fault)),

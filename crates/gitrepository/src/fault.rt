@@ -88,11 +88,11 @@ pub enum RepositoryFault<A: Allocator + Copy> {
 pub enum CheckFault<A: Allocator + Copy> {
     /// The repository is not read, or out of memory.
     Repository(RepositoryFault<A>),
-    /// An object that a ref or HEAD reaches is missing or refused.
+    /// An object that a ref or HEAD reaches is missing or refused, or the file of a ref is malformed.
     Ref {
         /// The name of the ref, or `HEAD`.
         name: RefName<A>,
-        /// The fault, which names the object.
+        /// The fault, which names the object or the file.
         fault: RepositoryFault<A>,
     },
 }
@@ -254,7 +254,9 @@ fn write_pack<W: fmt::Write>(fault: PackFileFault, f: &mut fmt::Formatter<W>) ->
             "entry {at} of the pack, counted from 0, is malformed"
         ),
         PackFileFault::Thin => f.write_str("the base of a delta is not in the pack"),
-        PackFileFault::TooLarge => f.write_str("the pack or an object in it is too large"),
+        PackFileFault::TooLarge => f.write_str(
+            "the pack is too large to index: an object may have 256 MiB, all of them 4 GiB, and name 4,194,304 ids",
+        ),
         PackFileFault::Format => f.write_str("the base of a delta has no SHA-1 id"),
         PackFileFault::Refused => f.write_str("an object of the pack is refused"),
     }

@@ -13,11 +13,13 @@ use gitpack::{IncomingPack, IndexLimits, IndexedPack, PackFileFault};
 use std::alloc::{AllocError, Allocator};
 use std::marker::Model;
 
-// How much a pack may ask for: an object has 256 MiB at most, 512 MiB are held at a time, and all
-// objects have 4 GiB.
+// How much a pack may ask for. There are at most 1,048,576 objects, which take 160 MiB of memory, and
+// each has at most 256 MiB. A delta, its bases that are held and what it makes have 256 MiB together,
+// and all objects have 4 GiB.
 const LIMITS: IndexLimits = IndexLimits {
+    objects: 1_048_576,
     object: 268_435_456,
-    held: 536_870_912,
+    held: 268_435_456,
     total: 4_294_967_296,
 };
 

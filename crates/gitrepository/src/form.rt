@@ -85,33 +85,53 @@ pub(crate) fn turns_commit_graph_off<F: ObjectFiles, A: Allocator + Copy>(
     alloc: A,
     git_dir: &str,
 ) -> Result<bool, AllocError> {
+    Ok(core_flag(files, alloc, git_dir, b"commitgraph")? == Some(false))
+}
+
+/// Whether the configuration says that the repository is bare: it has no work tree (git-config(1),
+/// "core.bare"). It is `None` if the configuration does not say so, or is not read. It fails out of
+/// memory alone.
+pub fn is_bare<F: ObjectFiles, A: Allocator + Copy>(
+    files: &F,
+    alloc: A,
+    git_dir: &str,
+) -> Result<Option<bool>, AllocError> {
+    core_flag(files, alloc, git_dir, b"bare")
+}
+
+// The value of a variable of the section `core`, which is yes or no; `None` if it is not set.
+fn core_flag<F: ObjectFiles, A: Allocator + Copy>(
+    files: &F,
+    alloc: A,
+    git_dir: &str,
+    name: &[u8],
+) -> Result<Option<bool>, AllocError> {
     let path = path_of(alloc, git_dir, "config")?;
     let text = match files.read(alloc, path.as_str(), MAX_CONFIG) {
         Ok(Some(text)) => text,
         Err(Cause::Memory) => return Err(AllocError),
-        Ok(None) | Err(_) => return Ok(false),
+        Ok(None) | Err(_) => return Ok(None),
     };
     match parse_config(alloc, text.as_slice()) {
-        Ok(settings) => Ok(turns_off(settings.as_slice())),
-        Err(ConfigFault::Malformed) => Ok(false),
+        Ok(settings) => Ok(last_flag(settings.as_slice(), name)),
+        Err(ConfigFault::Malformed) => Ok(None),
         Err(ConfigFault::Memory) => Err(AllocError),
     }
 }
 
-// Whether the last of the settings of `core.commitGraph` is that of no.
-fn turns_off<A: Allocator + Copy>(settings: &[Setting<A>]) -> bool {
-    let mut is_off = false;
+// The value of the last setting of a variable of the section `core`; `None` if there is none.
+fn last_flag<A: Allocator + Copy>(settings: &[Setting<A>], name: &[u8]) -> Option<bool> {
+    let mut flag = None;
     for setting in settings {
-        if is_commit_graph(setting) {
-            is_off = is_no(setting);
+        if is_of_core(setting, name) {
+            flag = Some(!is_no(setting));
         }
     }
-    is_off
+    flag
 }
 
-fn is_commit_graph<A: Allocator + Copy>(setting: &Setting<A>) -> bool {
-    setting.section.as_slice() == b"core".as_slice()
-        && setting.name.as_slice() == b"commitgraph".as_slice()
+fn is_of_core<A: Allocator + Copy>(setting: &Setting<A>, name: &[u8]) -> bool {
+    setting.section.as_slice() == b"core".as_slice() && setting.name.as_slice() == name
 }
 
 // Whether the value is one of those for no. A name without a value is yes.
@@ -184,8 +204,7 @@ fn sets_version_1<A: Allocator + Copy>(setting: &Setting<A>) -> bool {
 }
 
 fn is_version<A: Allocator + Copy>(setting: &Setting<A>) -> bool {
-    setting.section.as_slice() == b"core".as_slice()
-        && setting.name.as_slice() == b"repositoryformatversion".as_slice()
+    is_of_core(setting, b"repositoryformatversion")
 }
 
 fn has_value<A: Allocator + Copy>(setting: &Setting<A>, value: &[u8]) -> bool {
@@ -205,6 +224,9 @@ fn fault_of<A: Allocator + Copy>(setting: &Setting<A>, is_version_1: bool) -> Op
     }
     if setting.section.as_slice() == b"extensions".as_slice() {
         return extension_fault(setting, is_version_1);
+    }
+    if is_version_1 && setting.section.as_slice().starts_with(b"extensions.") {
+        return Some(FormFault::Extension);
     }
     None
 }

@@ -17,8 +17,11 @@ use std::cell::RefCell;
 ///
 /// Each object is inflated, and its id is computed. An object that an object of the pack names is
 /// in the pack or in the store, with the type by which it is named. An object that the store has
-/// too has the same bytes there. The objects of a pack name at most 4,194,304 ids: beyond, the pack
-/// is too large.
+/// too has the same bytes there.
+///
+/// A pack is too large if it has more than 1,048,576 objects, or if they name more than 4,194,304
+/// ids. An object may have 256 MiB, and a commit, a tree or a tag 64 MiB. A delta, its bases that are
+/// held and what it makes may have 256 MiB together, and all objects and deltas 4 GiB.
 #[derive(Drop)]
 pub struct StoreIndexer<'t, 'f, F: ObjectFiles, A: Allocator + Copy> {
     reader: RefCell<ObjectReader<'f, F, A>>,

@@ -10,8 +10,8 @@
 //!   parts, and then holds one entry at a time.
 //! - A [`StoreIndexer`] indexes a pack while it comes, and keeps it. [`install_pack`] brings it to the
 //!   directory.
-//! - [`open_store`] refuses a repository of a form that is not read. A [`NewRepository`] is one that a
-//!   clone makes. [`check_repository`] checks that all that the refs reach is there.
+//! - [`open_store`] refuses a repository of a form that is not read, and [`is_bare`] tells whether one has
+//!   no work tree. A [`NewRepository`] is one that a clone makes. [`check_repository`] checks that all that the refs reach is there.
 //!
 //! # Proved
 //!
@@ -22,7 +22,7 @@
 //! - [`check_refs`] counts a graph in which each entry is that of an object.
 //! - A pack that goes out has a header, as many entries as the header says, and the SHA-1 of all
 //!   bytes before. Each entry has a well-formed head. The pack has at most `MAX_PACK` bytes. Parts of
-//!   it are such a pack in order, or the beginning of one that ends in a fault.
+//!   it are such a pack in order. If they end in a fault, no clause says what they are.
 //! - A pack is accepted only if its trailer is the SHA-1 of all bytes before. Each entry that the
 //!   indexer answers is that of an object, or is a tree or blob that a tag names. The entry of this
 //!   tag is among the answer.
@@ -71,7 +71,8 @@
 //! - [`check_refs`] might look at other objects than those that the refs reach. The graph whose nodes
 //!   it counts may be another one, and its count of objects has no clause.
 //! - [`Tips`] might forget an id, [`add_leaves`] might add other nodes, and a repository of any form
-//!   might be opened or refused. The names of peeled refs in a new repository might be wrong.
+//!   might be opened or refused. [`is_bare`] might answer anything. The names of peeled refs in a new
+//!   repository might be wrong.
 //! - The indexer might leave out an entry, or answer one of an object that the pack does not have. It
 //!   looks for the trees and blobs that are named, and compares objects that are here already; no
 //!   clause says so, nor when it reads an object. A loose object that comes here meanwhile may be left
@@ -132,7 +133,7 @@ pub use crate::copying::PackCounts;
 pub use crate::fault::{CheckFault, FormFault, ObjectCause, RepositoryFault};
 pub use crate::feed::{Received, StoreFeed};
 pub use crate::folder::{PackFolder, Stage};
-pub use crate::form::{check_form, open_store};
+pub use crate::form::{check_form, is_bare, open_store};
 pub use crate::indexer::StoreIndexer;
 pub use crate::install::{install_files, install_pack};
 pub use crate::kept::KeptPack;

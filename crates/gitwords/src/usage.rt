@@ -121,7 +121,7 @@ comes one whose name ends in ^{}, with the id of the object that the tag leads t
     Row {
         name: "serve",
         about: "Serve every repository below a directory over git://",
-        usage: "gitrepo serve --listen ADDR [--connections N] [--export-all] BASE",
+        usage: "gitrepo serve --listen ADDR [OPTION]... BASE",
         words: &[
             Word::Valued(
                 "listen",
@@ -132,6 +132,16 @@ comes one whose name ends in ^{}, with the id of the object that the tag leads t
                 "connections",
                 "N",
                 "End after N connections, from 1 to 1000000",
+            ),
+            Word::Optional(
+                "max-connections",
+                "N",
+                "Refuse more than N connections at once (1024 by default)",
+            ),
+            Word::Optional(
+                "max-per-address",
+                "N",
+                "Refuse more than N connections at once from one address (64 by default)",
             ),
             Word::Flag(
                 "export-all",

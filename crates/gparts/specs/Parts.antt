@@ -9,7 +9,7 @@ use Rattle.gobject.specs.declared.node.Entry.{Entry}
 abbrev pub Gives : Type 1
 Gives = List ℕ → Option PackFault → Type 0
 
--- what is given is a pack of the list, or a beginning that ends in a fault which the packer may answer for it
+-- what is given whole is a pack of the list; any other bytes end in a fault that the packer may answer for the list
 pub record Begins {A : Type 0} (packs : Packs A) (fails : PackFails A) (list : List (Entry A)) (gives : Gives)
     (most : ℕ) : Type 0 where
   pub whole : (bytes : List ℕ) → gives bytes None → MayPack packs list bytes

@@ -2,15 +2,16 @@
 //!
 //! # Proved
 //!
-//! - The parts that a [`PartPacker`] gives are, in order, a pack of the entries. Where it fails, they are
-//!   the beginning of one, and the fault is one of its own.
+//! - The parts that a [`PartPacker`] gives are, in order, a pack of the entries, of at most
+//!   `gname::MAX_PACK` bytes. If it fails, the fault is one of its own.
 //! - Any packer of `gobject` is one, as a [`WholePack`]. Its packs and its faults are those of that packer.
 //! - No call panics, overflows or reads out of bounds, and each returns.
 //!
 //! # What the contracts do not rule out
 //!
 //! A packer may take as long as it likes, more memory than it needs, and more calls than it needs, as
-//! long as each gives a byte. It may fail after any part.
+//! long as each gives a byte. It may fail after any part, and no clause says that the parts before a
+//! fault were the beginning of a pack.
 //!
 //! There are no tests here.
 //!

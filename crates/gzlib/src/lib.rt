@@ -9,16 +9,26 @@
 //!   with which the stream ends, and the stream lies within the bytes. At a fault the body is as it
 //!   was. [`Inflater::inflate_front`] appends at most `count` bytes.
 //! - [`put_stored`] appends exactly the stream of stored blocks that `specs/Stored.antt` defines.
-//! - [`Deflater::deflate`] appends a header, some blocks, and the Adler-32 of the bytes. At a fault
-//!   `out` is as it was.
+//! - [`Deflater::deflate`] appends a header, some bytes as blocks, and the Adler-32 of the bytes. At
+//!   a fault `out` is as it was.
 //! - No call panics, overflows or reads out of bounds, and each returns, for any bytes.
+//!
+//! # Only tested
+//!
+//! - Inflating is RFC 1951's function: the program `gitcases` has streams right and wrong, and
+//!   `examples/with-git.sh` has packs that Git made.
+//! - Deflated bytes inflate to the same bytes: `gitcases` inflates them here, and
+//!   `examples/with-git.sh` by Git.
+//! - By hand: of streams that were changed, this crate and zlib took the same ones. A header may name
+//!   any window up to 32 KiB. A code may be incomplete only if it has one symbol, of one bit; and
+//!   there may be no code of distances.
 //!
 //! # What the contracts do not rule out
 //!
 //! No contract says that inflating is RFC 1951's function, or that what is deflated inflates to the
-//! same bytes. No test here shows either; both were tried against zlib. The contracts do not say
-//! which fault comes: an inflater could refuse a good stream. Deflated blocks could be larger than
-//! need be. [`Inflater::inflate_front`] could append fewer bytes than the text has.
+//! same bytes. The contracts do not say which fault comes: an inflater could refuse a good stream.
+//! Deflated blocks could be larger than need be. [`Inflater::inflate_front`] could append fewer bytes
+//! than the text has.
 //!
 //! Any call that allocates may fail with out of memory; the contracts do not say when. They say
 //! nothing of time, or of how much memory a call takes.

@@ -29,5 +29,6 @@ returns g c =
     let s = c.in-Some-split_size.ensures in
     let same = c.if-base_size-base.false in
     let few = c.if-size-most.false in
+    let least = c.if-delta-lt-MIN_DELTA.false in
     follow_delta c.args.base.now c.args.delta.now c.in-Some.after.now f.0 c.in-Some.base_size f.1 f.2 c.in-Some-split_size.commands.now s.0 c.in-Some-split_size.size s.1 s.2
-    c.follow.result (λ v. v.items) c.args.most (omega (arith, same)) (omega (arith, few)) c.follow.ensures
+    c.follow.result (λ v. v.items) c.args.most (omega (arith, least)) (omega (arith, same)) (omega (arith, few)) c.follow.ensures

@@ -1,4 +1,4 @@
-use Rattle.gdialogue.proofs.Steps.{hears_next, says_last, says_more}
+use Rattle.gdialogue.proofs.Steps.{hears_next, says_last}
 use Rattle.gdialogue.proofs.dialogue.Dialogue.say_some.Goals as goal
 
 pub returns-in-Whole-clause-said : goal.returns-in-Whole-clause-said

@@ -1,4 +1,4 @@
-use Rattle.std.proofs.Common.{Ok, Err, ap, ◌∙◌, arith}
+use Rattle.std.proofs.Common.{Ok, ap, ◌∙◌, arith}
 use Rattle.gdialogue.proofs.Steps.{answers_last, answers_message, goes_on_hearing, refuses_packet}
 use Rattle.gdialogue.proofs.dialogue.Dialogue.take.Goals as goal
 
@@ -14,13 +14,13 @@ pub returns-in-GoesOn-clause-heard : goal.returns-in-GoesOn-clause-heard
 returns-in-GoesOn-clause-heard g c = λ talk h.
     answers_message g.S.Side.judge g.S.Side.brings g.S.Side.opens g.S.Side.answers g.S.Side.refuses g.M.Message.judge g.M.Message.brings g.M.Message.holds g.M.Message.left g.R.Reply.may
     c.args.self.now.side c.answer.new.self c.args.message c.take.new.self c.args.frame _ c.take.result c.answer.result c.in-GoesOn.reply
-    c.take.ensures.takes (c.in-Ok-Whole.is ∙ ap (λ x. Ok x) c.in-Ok-Whole.field-0-is) c.answer.ensures.answers c.in-GoesOn.is talk h
+    c.take.ensures.takes c.take.ensures.judge (c.in-Ok-Whole.is ∙ ap (λ x. Ok x) c.in-Ok-Whole.field-0-is) c.answer.ensures.answers c.in-GoesOn.is talk h
 
 pub returns-in-Last-clause-heard : goal.returns-in-Last-clause-heard
 returns-in-Last-clause-heard g c = λ talk h.
     answers_last g.S.Side.judge g.S.Side.brings g.S.Side.opens g.S.Side.answers g.S.Side.refuses g.M.Message.judge g.M.Message.brings g.M.Message.holds g.M.Message.left g.R.Reply.may
     c.args.self.now.side c.answer.new.self c.args.message c.take.new.self c.args.frame _ c.take.result c.answer.result c.in-Last.reply
-    c.take.ensures.takes (c.in-Ok-Whole.is ∙ ap (λ x. Ok x) c.in-Ok-Whole.field-0-is) c.answer.ensures.answers c.in-Last.is talk h
+    c.take.ensures.takes c.take.ensures.judge (c.in-Ok-Whole.is ∙ ap (λ x. Ok x) c.in-Ok-Whole.field-0-is) c.answer.ensures.answers c.in-Last.is talk h
 
 pub returns-in-Err-clause-heard : goal.returns-in-Err-clause-heard
 returns-in-Err-clause-heard g c = λ talk h.

@@ -1,0 +1,9 @@
+use Rattle.std.proofs.Math.Logic.{∥∥₁_map}
+use Rattle.gevents.proofs.Counting.{counted_on}
+use Rattle.gevents.proofs.peer.Peer.read_once.Goals as goal
+
+pub invariant_of-self : goal.invariant_of-self
+invariant_of-self g c = record {
+  held = ∥∥₁_map c.args.self.now.held (counted_on g.C.Conversation.holds c.args.self.now.connection c.read_some.new.connection
+      c.read_some.ensures.hears.more _ c.read_some.ensures.hears.moves);
+}

@@ -1,0 +1,128 @@
+//! Those who connect.
+
+ghost use Rattle.gtalk.specs.Talks.{no_talk};
+
+use crate::event::{End, Event, Refusal};
+use crate::event_loop::{Caller, Calls, EventLoop};
+use crate::patience::Patience;
+use crate::peer::Peer;
+use crate::slot::Slot;
+use gtalk::{Connection, Conversation};
+use mio::net::TcpStream;
+use std::alloc::Allocator;
+use std::io::{self, ErrorKind, Write};
+use std::net::{IpAddr, SocketAddr};
+
+// The system's numbers for no more open files, in the process and in all, no memory, and no buffer (errno(3)).
+const STARVED: [i32; 4] = [24, 23, 12, 105];
+
+impl<C: Conversation + Drop, A: Allocator + Copy> EventLoop<'_, C, A> {
+    /// Begins a conversation with the peer of the last event, if that was [`Event::Connected`].
+    pub fn begin(&mut self, conversation: C)
+        requires { C.holds conversation no_talk }
+    {
+        if let Some(Caller::Welcome(stream, address)) = self.caller.take() {
+            let peer = Peer {
+                stream,
+                address,
+                connection: Connection::new(conversation, self.alloc),
+                patience: Patience::new(self.now, self.limits),
+                sent: 0,
+                was_silent: false,
+            };
+            self.admit(peer);
+        }
+    }
+
+    /// Sends bytes to the peer of the last event, if that was [`Event::Refused`], and closes it. As many
+    /// are sent as the socket takes at once.
+    pub fn refuse(&mut self, bytes: &[u8]) {
+        if let Some(Caller::Refused(mut stream)) = self.caller.take() {
+            let _ = stream.write(bytes);
+            self.let_leave(stream, true);
+        }
+    }
+
+    /// Accepts a connection, if one waits.
+    pub(crate) fn accept(&mut self) -> io::Result<Option<Event<C, A>>> {
+        match self.listener.accept() {
+            Ok((stream, address)) => Ok(Some(self.receive(stream, address))),
+            Err(error) => {
+                self.calls = calls_after(error)?;
+                Ok(None)
+            }
+        }
+    }
+
+    // Takes in a caller, or refuses it.
+    fn receive(&mut self, stream: TcpStream, address: SocketAddr) -> Event<C, A> {
+        self.calls = Calls::Some;
+        match self.refusal(address.ip()) {
+            None => {
+                self.accepted = self.accepted.saturating_add(1);
+                let _ = stream.set_nodelay(true);
+                self.caller = Some(Caller::Welcome(stream, address));
+                Event::Connected(address)
+            }
+            Some(why) => {
+                self.caller = Some(Caller::Refused(stream));
+                Event::Refused(address, why)
+            }
+        }
+    }
+
+    // Why a peer from this IP address is refused, if it is.
+    fn refusal(&self, ip: IpAddr) -> Option<Refusal> {
+        let mut peers: usize = 0;
+        let mut of_address: usize = 0;
+        for (_, slot) in self.slots.iter() {
+            if let Slot::Talks(peer) = slot {
+                peers = peers.saturating_add(1);
+                if peer.address.ip() == ip {
+                    of_address = of_address.saturating_add(1);
+                }
+            }
+        }
+        if peers >= self.limits.at_once {
+            Some(Refusal::Full)
+        } else if of_address >= self.limits.at_once_of_address {
+            Some(Refusal::FullOfAddress)
+        } else {
+            None
+        }
+    }
+
+    // Takes a peer among those that are served. It has its first turn once its socket is ready.
+    fn admit(&mut self, peer: Peer<C, A>) {
+        self.failed = match self.slots.insert(Slot::Talks(peer)) {
+            Ok(key) if self.watch(key, true) => None,
+            Ok(key) => self.part_with(key, End::Lost),
+            Err(refused) => match refused.value {
+                Slot::Talks(peer) => Some(peer.end(End::Memory, self.now).0),
+                Slot::Leaves(_leaver) => None,
+            },
+        };
+    }
+}
+
+// Whether connections may still wait after one was not accepted (accept(2)). It fails if no other can be accepted.
+fn calls_after(error: io::Error) -> io::Result<Calls> {
+    match error.kind() {
+        ErrorKind::WouldBlock => Ok(Calls::None),
+        ErrorKind::ConnectionAborted
+        | ErrorKind::Interrupted
+        | ErrorKind::NetworkDown
+        | ErrorKind::NetworkUnreachable
+        | ErrorKind::HostUnreachable
+        | ErrorKind::PermissionDenied => Ok(Calls::Some),
+        _ if is_starved(&error) => Ok(Calls::Starved),
+        _ => Err(error),
+    }
+}
+
+fn is_starved(error: &io::Error) -> bool {
+    match error.raw_os_error() {
+        Some(number) => STARVED.contains(&number),
+        None => false,
+    }
+}

@@ -1,0 +1,57 @@
+//! Many conversations at once, on one thread, over sockets that do not block.
+//!
+//! An [`EventLoop`] accepts peers at a listener. Ask it for one [`Event`] after the other: a peer has connected, or a
+//! connection has ended. Begin a conversation with each peer that has connected. The loop moves bytes between the
+//! sockets and the conversations, each as its socket is ready (`mio`), so no peer waits for another one to send or
+//! to take.
+//!
+//! - A peer moves bytes at most 256 times before the others have their turn.
+//! - [`Limits`] says how many connections there may be, in all and from one IP address. The loop hands out a peer
+//!   beyond that as one to refuse.
+//! - Each peer has its time: for its first message, for the first byte of a request and for the rest of
+//!   it, for taking bytes, and for the whole connection. A peer that is listened to and had its time is
+//!   heard as one whose device failed, so the conversation may say a last word. Any other is closed.
+//! - A connection takes no memory for bytes before the first one comes. It takes some hundred bytes for
+//!   itself, and what the conversation has.
+//! - The thread sleeps while nothing can be done. It looks at the deadlines ten times a second while
+//!   there are peers.
+//! - A conversation that works for a time before it answers holds up all others for that time.
+//!
+//! # Proved
+//!
+//! - A connection that has ended is one of its conversation ([`Ended`]). Bytes came and bytes were sent of which the
+//!   connection holds (`gtalk`), and the count of those that were sent is right.
+//! - Over any reader: the bytes of one read are received, no further than the packet that is coming, and
+//!   the end of the input only at its end. Over any writer: the bytes that one write took count as sent.
+//! - No call panics, overflows or reads out of bounds, and each returns.
+//!
+//! # Only tested
+//!
+//! All that sockets and the clock do: who is accepted and who is refused, that each ready peer has its
+//! turn, and when a peer is given up (`examples/many-clients.py`).
+//!
+//! # What the contracts do not rule out
+//!
+//! - No contract says which bytes a socket gives or takes. So none says that the bytes of a connection
+//!   are those of its socket, as one says of each read and write over any reader and writer.
+//! - A peer might never have its turn, or be given up at once. A connection might never come back.
+//! - The address of a peer, how a connection ended and how long it took have no clause.
+//!
+//! # Stands on
+//!
+//! `gtalk` for connections, `mio` for readiness, `slab` for the places of peers. The proofs cite `gpkt`.
+#![tactic(auto)]
+
+mod accepting;
+mod event;
+mod event_loop;
+mod leaver;
+mod limits;
+mod moving;
+mod patience;
+mod peer;
+mod slot;
+
+pub use crate::event::{End, Ended, Event, Refusal};
+pub use crate::event_loop::EventLoop;
+pub use crate::limits::Limits;

@@ -1,0 +1,242 @@
+//! The bytes of one peer, on a socket that does not block.
+
+ghost use Rattle.std.specs.Prelude.{◌≡◌, ◌<◌, ◌≤◌, [], Ok, IfOk, OnErr, length, take};
+ghost use Rattle.std.specs.Io.KnownBytes.{Consumes, IsAtEnd, Keeps};
+ghost use Rattle.gpkt.specs.Change.{change_of};
+ghost use Rattle.gtalk.specs.Connections.{HearsRead, IsTurn, has_stopped, pending_of};
+ghost use Rattle.gtalk.specs.Partial.{IsByEnd};
+ghost use Rattle.gevents.specs.Peers.{SendsCounted, written_count};
+
+use crate::event::{End, Ended};
+use crate::limits::Limits;
+use crate::peer::Peer;
+use gtalk::{Connection, Conversation, Turn};
+use mio::net::TcpStream;
+use std::alloc::Allocator;
+use std::io::{self, ErrorKind, Read, Write};
+use std::time::Instant;
+
+// The most bytes of one read.
+const PIECE: usize = 4_096;
+
+// How often bytes are moved before another peer has its turn.
+const MOVES: u32 = 256;
+
+/// The state of a peer after its turn.
+#[derive(Clone, Copy)]
+pub(crate) enum After {
+    /// It waits for its socket.
+    Waits,
+    /// More can be moved at once.
+    GoesOn,
+    /// Its connection has ended.
+    Ends(End),
+}
+
+// One move of bytes.
+enum Move {
+    // It can go on.
+    Moved,
+    // The socket does not go on now.
+    Blocked,
+    // The connection has ended.
+    Ended(End),
+}
+
+impl<C: Conversation, A: Allocator + Copy> Peer<C, A> {
+    /// Moves bytes until the socket would block, or the connection has ended.
+    pub(crate) fn advance(&mut self, now: Instant, limits: &Limits) -> After {
+        for _ in 0..MOVES {
+            match self.step(now, limits) {
+                Move::Moved => {}
+                Move::Blocked => return After::Waits,
+                Move::Ended(end) => return After::Ends(end),
+            }
+        }
+        After::GoesOn
+    }
+
+    /// Gives the peer up, if it had its time. The conversation may say a last word.
+    pub(crate) fn give_up(&mut self, now: Instant, limits: &Limits) -> After {
+        if self.patience.is_overdue(now, limits, self.sent) {
+            return After::Ends(End::Overdue);
+        }
+        if !self.patience.is_late(now) {
+            return After::Waits;
+        }
+        if !matches!(self.connection.turn(), Turn::Listens) {
+            return After::Ends(End::Stalled);
+        }
+        self.was_silent = true;
+        self.fail();
+        self.advance(now, limits)
+    }
+
+    /// The connection, as it is handed back, and the socket.
+    pub(crate) fn end(self, end: End, now: Instant) -> (Ended<C, A>, TcpStream) {
+        let Peer {
+            stream,
+            address,
+            connection,
+            patience,
+            sent,
+            ..
+        } = self;
+        let took = now.duration_since(patience.began());
+        let ended = Ended {
+            connection,
+            address,
+            end,
+            sent,
+            took,
+        };
+        (ended, stream)
+    }
+
+    // Moves bytes once.
+    fn step(&mut self, now: Instant, limits: &Limits) -> Move {
+        if !self.connection.output().is_empty() {
+            return self.write(now, limits);
+        }
+        match self.connection.turn() {
+            Turn::Speaks => self.speak(now, limits),
+            Turn::Listens => self.read(now, limits),
+            Turn::Done if self.was_silent => Move::Ended(End::Silent),
+            Turn::Done => Move::Ended(End::Over),
+        }
+    }
+
+    fn write(&mut self, now: Instant, limits: &Limits) -> Move {
+        match self.write_once() {
+            Ok(0) => Move::Ended(End::Lost),
+            Ok(_) => {
+                self.patience.sent(now, limits);
+                Move::Moved
+            }
+            Err(error) => failed(error.kind()),
+        }
+    }
+
+    fn write_once(&mut self) -> io::Result<usize> {
+        let written = write_some(&mut self.connection, &mut self.stream);
+        let sent = self.sent.saturating_add(written_count(&written) as u64);
+        self.sent = sent;
+        written
+    }
+
+    fn speak(&mut self, now: Instant, limits: &Limits) -> Move
+        requires turn { IsTurn C.turn self.old.connection Turn.Speaks }
+        requires all_sent { pending_of self.old.connection ≡ [] }
+    {
+        self.patience.speaks(now, limits);
+        match self.connection.speak() {
+            Ok(()) => Move::Moved,
+            Err(_) => Move::Ended(End::Memory),
+        }
+    }
+
+    fn read(&mut self, now: Instant, limits: &Limits) -> Move
+        requires { IsTurn C.turn self.old.connection Turn.Listens }
+    {
+        self.patience.listens(now, limits);
+        match self.read_once() {
+            Ok(()) => {
+                self.patience.received(now, limits);
+                Move::Moved
+            }
+            Err(error) if is_passing(error.kind()) => failed(error.kind()),
+            Err(_) => {
+                self.fail();
+                Move::Moved
+            }
+        }
+    }
+
+    fn read_once(&mut self) -> io::Result<()>
+        requires { IsTurn C.turn self.old.connection Turn.Listens }
+        ensures { OnErr result (self.new.connection ≡ self.old.connection) }
+    {
+        read_some(&mut self.connection, &mut self.stream)
+    }
+
+    // Has the conversation hear that nothing more comes.
+    fn fail(&mut self)
+        requires { IsTurn C.turn self.old.connection Turn.Listens }
+    {
+        self.connection.receive_failure();
+    }
+}
+
+// Whether a socket that failed so may be tried again.
+fn is_passing(kind: ErrorKind) -> bool {
+    matches!(kind, ErrorKind::WouldBlock | ErrorKind::Interrupted)
+}
+
+// The move that failed so.
+fn failed(kind: ErrorKind) -> Move {
+    match kind {
+        ErrorKind::WouldBlock => Move::Blocked,
+        ErrorKind::Interrupted => Move::Moved,
+        _ => Move::Ended(End::Lost),
+    }
+}
+
+// How many bytes a write took.
+fn written_count(written: &io::Result<usize>) -> usize
+    ensures { result ≡ written_count written.now }
+{
+    match written {
+        Ok(count) => *count,
+        Err(_) => 0,
+    }
+}
+
+// Writes once.
+fn write_some<C: Conversation, A: Allocator + Copy, W: Write>(
+    connection: &mut Connection<C, A>,
+    writer: &mut W,
+) -> io::Result<usize>
+    ensures { SendsCounted C.holds connection.old connection.new
+        (change_of W.contents writer.old writer.new) (written_count result) }
+{
+    match writer.write(connection.output()) {
+        Ok(count) => {
+            connection.sent(count);
+            Ok(count)
+        }
+        Err(error) => Err(error),
+    }
+}
+
+// Reads once, and no further than the packet that is coming.
+fn read_some<C: Conversation, A: Allocator + Copy, R: Read>(
+    connection: &mut Connection<C, A>,
+    reader: &mut R,
+) -> io::Result<()>
+    requires { IsTurn C.turn connection.old Turn.Listens }
+    ensures hears { HearsRead C.holds connection.old connection.new
+        (change_of R.remaining reader.old reader.new) }
+    ensures end { IsByEnd (has_stopped connection.new) → IsAtEnd (R.remaining reader.new) }
+    ensures err { OnErr result (connection.new ≡ connection.old) }
+{
+    let mut piece = [0; PIECE];
+    let most = connection.wanted().min(PIECE);
+    match read_front(reader, &mut piece, most) {
+        Ok(0) => connection.receive_end(),
+        Ok(count) => connection.receive(&piece[..count]),
+        Err(error) => return Err(error),
+    }
+    Ok(())
+}
+
+// Reads so many bytes at most, into the front of `piece`.
+fn read_front<R: Read>(reader: &mut R, piece: &mut [u8], most: usize) -> io::Result<usize>
+    requires { most ≤ length piece.old }
+    ensures few { IfOk result (λ n. n ≤ most) }
+    ensures bytes { IfOk result
+        (λ n. Consumes (R.remaining reader.old) (R.remaining reader.new) (take n piece.new)) }
+    ensures end { result ≡ Ok 0 → 0 < most → IsAtEnd (R.remaining reader.new) }
+    ensures err { OnErr result (Keeps (R.remaining reader.old) (R.remaining reader.new)) }
+{
+    reader.read(&mut piece[..most])
+}

@@ -1,0 +1,118 @@
+//! Those that are served.
+
+use crate::event::{End, Ended, Event};
+use crate::event_loop::EventLoop;
+use crate::leaver::Leaver;
+use crate::moving::After;
+use crate::peer::Peer;
+use gtalk::Conversation;
+use mio::net::TcpStream;
+use mio::{Interest, Token};
+use std::alloc::Allocator;
+use std::net::Shutdown;
+
+// The most peers that have time to close their ends.
+const LEAVERS: u32 = 256;
+
+/// A peer with a socket.
+#[derive(Drop)]
+pub(crate) enum Slot<C: Conversation, A: Allocator + Copy> {
+    /// A peer.
+    Talks(Peer<C, A>),
+    /// A peer whose connection has ended.
+    Leaves(Leaver),
+}
+
+impl<C: Conversation, A: Allocator + Copy> Slot<C, A> {
+    fn stream(&mut self) -> &mut TcpStream {
+        match self {
+            Slot::Talks(peer) => &mut peer.stream,
+            Slot::Leaves(leaver) => &mut leaver.stream,
+        }
+    }
+}
+
+impl<C: Conversation + Drop, A: Allocator + Copy> EventLoop<'_, C, A> {
+    /// Gives a socket its turn.
+    pub(crate) fn advance(&mut self, key: usize) -> Option<Event<C, A>> {
+        let after = match self.slots.get_mut(key) {
+            Some(Slot::Talks(peer)) => peer.advance(self.now, self.limits),
+            Some(Slot::Leaves(leaver)) => leaver.advance(),
+            None => After::Waits,
+        };
+        self.settle(key, after)
+    }
+
+    /// Gives one up, if it had its time.
+    pub(crate) fn give_up_one(&mut self, key: usize) -> Option<Event<C, A>> {
+        let after = match self.slots.get_mut(key) {
+            Some(Slot::Talks(peer)) => peer.give_up(self.now, self.limits),
+            Some(Slot::Leaves(leaver)) => leaver.give_up(self.now),
+            None => After::Waits,
+        };
+        self.settle(key, after)
+    }
+
+    // Ends a turn, or the connection.
+    fn settle(&mut self, key: usize, after: After) -> Option<Event<C, A>> {
+        let ended = match after {
+            After::Waits => None,
+            After::GoesOn if self.watch(key, false) => None,
+            After::GoesOn => self.part_with(key, End::Lost),
+            After::Ends(end) => self.part_with(key, end),
+        };
+        match ended {
+            Some(ended) => Some(Event::Ended(ended)),
+            None => None,
+        }
+    }
+
+    /// Has a socket reported once it is ready, also if it is so now.
+    pub(crate) fn watch(&mut self, key: usize, is_new: bool) -> bool {
+        let Some(slot) = self.slots.get_mut(key) else {
+            return false;
+        };
+        let interests = Interest::READABLE | Interest::WRITABLE;
+        let registry = self.poll.registry();
+        let watched = if is_new {
+            registry.register(slot.stream(), Token(key), interests)
+        } else {
+            registry.reregister(slot.stream(), Token(key), interests)
+        };
+        watched.is_ok()
+    }
+
+    /// Parts with one. A peer with which the conversation came to its end has time to close its end.
+    pub(crate) fn part_with(&mut self, key: usize, end: End) -> Option<Ended<C, A>> {
+        match self.slots.try_remove(key) {
+            Some(Slot::Talks(peer)) => {
+                let (ended, stream) = peer.end(end, self.now);
+                if matches!(end, End::Over | End::Silent) {
+                    self.let_leave(stream, false);
+                }
+                Some(ended)
+            }
+            Some(Slot::Leaves(_)) => {
+                self.leavers = self.leavers.saturating_sub(1);
+                None
+            }
+            None => None,
+        }
+    }
+
+    /// Sends nothing more to a peer, and lets it close its end. If too many leave, the connection is closed at once.
+    pub(crate) fn let_leave(&mut self, stream: TcpStream, is_new: bool) {
+        let _ = stream.shutdown(Shutdown::Write);
+        let mut leaver = Leaver::new(stream, self.now);
+        if self.leavers >= LEAVERS || matches!(leaver.advance(), After::Ends(_)) {
+            return;
+        }
+        if let Ok(key) = self.slots.insert(Slot::Leaves(leaver)) {
+            if self.watch(key, is_new) {
+                self.leavers = self.leavers.saturating_add(1);
+            } else {
+                let _ = self.slots.try_remove(key);
+            }
+        }
+    }
+}

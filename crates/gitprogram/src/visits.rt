@@ -1,0 +1,148 @@
+//! The connections of the server, and the line of the log about each.
+
+use crate::fault::Fault;
+use crate::repositories::Repositories;
+use crate::sentences::{Clean, Sentence};
+use crate::shared::Shared;
+use crate::visitor::Visitor;
+use ganswer::ServeFault;
+use gdialogue::Dialogue;
+use gevents::{End, Ended};
+use ggrammar::{Ends, MessageFault, Why};
+use gitrepository::StoreParts;
+use gserver::{Heard, ServerReply, ServerSide};
+use std::alloc::Global;
+use std::io::Write;
+use std::net::SocketAddr;
+use std::rt::Files;
+use std::{fmt, time};
+
+// The server's side of a connection.
+type Hosted<'h, 'f, 'r, R> =
+    ServerSide<'h, Global, Repositories<'f, 'r, R>, Shared<'f, 'r, R>>;
+
+// All that a server says.
+type Reply<'f, 'r, R> = ServerReply<Global, Shared<'f, 'r, R>, StoreParts<Global>>;
+
+/// A connection, as the server holds it.
+pub(crate) type Held<'h, 'f, 'r, R> = Dialogue<
+    Visitor<'h, 'f, 'r, R, Hosted<'h, 'f, 'r, R>>,
+    Heard<Global>,
+    Reply<'f, 'r, R>,
+>;
+
+/// Begins a connection.
+pub(crate) fn begin<'h, 'f, 'r, R: Files + AllocGlobal>(
+    alloc: Global,
+    repositories: &'h Repositories<'f, 'r, R>,
+) -> Held<'h, 'f, 'r, R> {
+    let side = ServerSide::new(repositories, alloc, Ends::Plain);
+    Dialogue::new(Visitor::new(side, repositories))
+}
+
+/// Writes the line about a connection that has ended.
+pub(crate) fn log_ended<R: Files + AllocGlobal, E: Write>(
+    alloc: Global,
+    ended: Ended<Held<'_, '_, '_, R>, Global>,
+    errors: &mut E,
+) {
+    let Ended {
+        connection,
+        address,
+        end,
+        sent,
+        took,
+        ..
+    } = ended;
+    let visitor = connection.into_conversation().into_side();
+    let (side, path, refused) = visitor.into_parts();
+    let fault = fault_of(alloc, &side, refused, end);
+    let line = Line {
+        address,
+        path: path.as_slice(),
+        requests: side.requests(),
+        bytes: sent,
+        took,
+        fault: fault.as_ref(),
+    };
+    let _ = writeln!(errors, "{line}");
+}
+
+// Why a connection was not served to its end, if so.
+fn fault_of<R: Files + AllocGlobal>(
+    alloc: Global,
+    side: &Hosted<'_, '_, '_, R>,
+    refused: Option<Fault>,
+    end: End,
+) -> Option<Fault> {
+    let said = match end {
+        End::Over => return match refused {
+            Some(fault) => Some(fault),
+            None => fault_of_side(alloc, side),
+        },
+        End::Silent => Sentence::ClientSilent,
+        End::Stalled => Sentence::ClientStalled,
+        End::Overdue => Sentence::ClientSlow,
+        End::Lost => Sentence::ClientLost,
+        End::Memory => return Some(Fault::Memory),
+    };
+    Some(Fault::of(alloc, said))
+}
+
+// Why a request was refused, if one was. A client may end the connection between two requests.
+fn fault_of_side<R: Files + AllocGlobal>(
+    alloc: Global,
+    side: &Hosted<'_, '_, '_, R>,
+) -> Option<Fault> {
+    if let Some(repo) = side.repo() {
+        if let Some(fault) = repo.take_fault() {
+            return Some(fault);
+        }
+    }
+    match side.fault()? {
+        ServeFault::Request(
+            MessageFault {
+                frame: 0,
+                why: Why::Ended,
+            },
+        ) if side.repo().is_some() => None,
+        fault => Some(Fault::of(alloc, Sentence::Request(fault))),
+    }
+}
+
+// The line about a connection.
+#[derive(Clone, Copy)]
+struct Line<'l> {
+    address: SocketAddr,
+    // The path that the client asked for; empty if it asked for none.
+    path: &'l [u8],
+    // How many requests were answered.
+    requests: u32,
+    // How many bytes were sent.
+    bytes: u64,
+    took: time::Duration,
+    fault: Option<&'l Fault>,
+}
+
+impl fmt::Display for Line<'_> {
+    fn fmt<W: fmt::Write>(&self, f: &mut fmt::Formatter<W>) -> fmt::Result {
+        let address = self.address;
+        let path = Clean(path_shown(self.path));
+        let requests = self.requests;
+        let bytes = self.bytes;
+        let seconds = self.took.as_secs();
+        let milliseconds = self.took.subsec_millis();
+        write!(
+            f,
+            "{address} {path} {requests} requests {bytes} bytes {seconds}.{milliseconds:03} s"
+        )?;
+        match self.fault {
+            None => Ok(()),
+            Some(fault) => write!(f, ": {fault}"),
+        }
+    }
+}
+
+fn path_shown(path: &[u8]) -> &[u8] {
+    if path.is_empty() { b"-" } else { path }
+}

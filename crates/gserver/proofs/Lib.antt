@@ -1,0 +1,10 @@
+pub mod TextLemmas
+pub mod HeardLemmas
+pub mod FillingLemmas
+pub mod StepLemmas
+pub mod SayLemmas
+pub mod RefLemmas
+pub mod FetchLemmas
+pub mod SideLemmas
+pub mod GreetingLemmas
+pub mod ListingLemmas

@@ -1,0 +1,33 @@
+-- What a server says to a request for objects, and its packs come in parts (gitprotocol-v2(5), "fetch").
+use Rattle.std.specs.Prelude.{◌≡◌, ◌⊎◌, Bool, false, List, [], ◌∷◌, ◌++◌}
+use Rattle.gobject.specs.Packs.{PackFails, Packs}
+use Rattle.gobject.specs.declared.fault.PackFault.{PackFault}
+use Rattle.gpkt.specs.Packets.{Packet}
+use Rattle.ggrammar.specs.declared.ends.Ends.{Ends}
+use Rattle.grequest.specs.Asked.{FetchAsked}
+use Rattle.gfetchreply.specs.FetchReplies.{FetchReply, canonical_reply}
+use Rattle.ganswer.specs.FetchAnswers.{CanServe, FailsToPack, FetchAnswer, IsPackDue}
+use Rattle.ganswer.specs.Servers.{Server}
+use Rattle.gserver.specs.Saying.{fatal_packet}
+
+module _ {A : Type 0} (server : Server A) (packs : Packs A) (fails : PackFails A) (asked : FetchAsked) where
+  -- the packets of an answer, in their one list
+  pub record SaysAnswer (ends : Ends) (goes_on : Bool) (said : List Packet) (goes : Bool) : Type 0 where
+    pub reply : FetchReply
+    pub answers : FetchAnswer server packs asked reply
+    pub all : said ≡ canonical_reply ends reply
+    pub goes_so : goes ≡ goes_on
+
+  -- a pack was due, and the packer failed in its middle: the packet of band 3 with its fault is the last
+  pub record SaysFailure (said : List Packet) (goes : Bool) : Type 0 where
+    pub fault : PackFault
+    pub can : CanServe server asked
+    pub due : IsPackDue server asked
+    pub failed : FailsToPack server fails asked fault
+    pub front : List Packet
+    pub all : said ≡ front ++ fatal_packet fault ∷ []
+    pub ended : goes ≡ false
+
+  -- one or the other
+  abbrev pub SaysFetch : Ends → Bool → List Packet → Bool → Type 0
+  SaysFetch ends goes_on said goes = SaysAnswer ends goes_on said goes ⊎ SaysFailure said goes

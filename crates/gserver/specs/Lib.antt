@@ -1,0 +1,10 @@
+pub mod Serving
+pub mod Replying
+pub mod Greetings
+pub mod Listings
+pub mod PackSaying
+pub mod Saying
+pub mod Fetching
+pub mod ErrTexts
+pub mod Heard
+pub mod steps

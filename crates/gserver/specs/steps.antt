@@ -1,0 +1,4 @@
+pub mod Filling
+pub mod Answering
+pub mod Stepping
+pub mod RefLines

@@ -1,0 +1,41 @@
+//! A server hears the first line of a connection, or a request.
+
+use ggrammar::{Message, Step, Why};
+use ghello::HelloReader;
+use gpkt::Line;
+use grequest::RequestReader;
+use std::alloc::Allocator;
+
+/// A message to a server.
+#[derive(Drop)]
+pub enum Heard<A: Allocator + Copy> {
+    /// The first line of a connection (gitprotocol-pack(5), "Git Transport").
+    Hello(HelloReader<A>),
+    /// A request (gitprotocol-v2(5), "Command Request").
+    Request(RequestReader<A>),
+}
+
+impl<A: Allocator + Copy> Message for Heard<A> {
+    ghost use Rattle.std.specs.Prelude.{⊤};
+    ghost use Rattle.gserver.specs.Heard.{brings_of, holds_of, judge_of};
+
+    ghost judge = { judge_of };
+
+    ghost brings = { brings_of };
+
+    ghost holds = { holds_of };
+
+    ghost left = { λ _ _. ⊤ };
+
+    fn take(&mut self, line: Line<'_>) -> Result<Step, Why> {
+        match self {
+            Heard::Hello(hello) => hello.take(line),
+            Heard::Request(request) => request.take(line),
+        }
+    }
+
+    fn laws() {
+        HelloReader::<A>::laws();
+        RequestReader::<A>::laws();
+    }
+}

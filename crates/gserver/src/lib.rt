@@ -1,0 +1,68 @@
+//! The server's end of Git's fetch service, protocol version 2, as a value that knows no device (gitprotocol-v2(5)).
+//!
+//! A [`ServerSide`] hears the first line of a connection and then one request after the other. A [`Host`] has the
+//! repositories, and each is [`Served`] to as many connections as ask for it. What the side says is a [`ServerReply`],
+//! packet by packet: a pack comes from its packer in parts and is never there whole.
+//!
+//! # Proved
+//!
+//! - To the first line the side says the advertisement of the repository that its host found, and serves that one from
+//!   then on (`Greets` in `specs/Serving.antt`).
+//! - To a request for refs it says an answer that `ganswer` has to it, in its one list of packets (`SaysLsAnswer` in
+//!   `specs/Listings.antt`).
+//! - To a request for objects it says an answer of the repository as it is then (`SaysFetch` in `specs/Fetching.antt`).
+//!   The pack is one of its packer, cut into packets of the largest size.
+//! - A packer that fails in the middle of a pack has one packet of band 3 said for it, with the fault's words.
+//!   The fault is one that it may answer for the objects to send. Nothing is said after that, and nothing more
+//!   is heard.
+//! - To an empty request nothing is said, and nothing more is heard.
+//! - Instead of an answer the packet of an error may be said. Nothing more is heard then (`Refuses`). A message that is
+//!   refused by its grammar is answered so.
+//! - Each call of [`Reply::say`](gdialogue::Reply) says something or nears the end, so a reply ends. A connection ends
+//!   after 4,294,967,295 requests at most.
+//! - An [`ErrText`] keeps as many bytes as there is room for.
+//! - No call panics, overflows or reads out of bounds, and each returns.
+//!
+//! # What the contracts do not rule out
+//!
+//! - Any repository that the host finds, whatever path the first line has. A repository may be another one after a
+//!   request for objects: its host opens it.
+//! - The packet of an error instead of any answer, with any words of the host.
+//! - A call that says few packets, and one that takes as long as its packer or its host takes.
+//! - Any packets before the packet of band 3.
+//! - Any count of requests and any fault in what [`ServerSide::requests`] and [`ServerSide::fault`] tell.
+//!
+//! # Only tested
+//!
+//! That it answers where it can: `examples/many-clients.py`, and the scripts that try `gitrepo` with git.
+//!
+//! # Stands on
+//!
+//! `ganswer` for the server and its answers, `gparts` for packers, `gdialogue` and `gtalk` for what is said. It uses
+//! `ghello`, `grequest`, `glsreply` and `gfetchreply` for the messages. `ggrammar`, `gpkt` and `gname` have what these
+//! share. `gobject` has the faults of packers, and `arrayvec` a text of bounded length.
+#![tactic(auto)]
+
+mod cursor;
+mod err_text;
+mod fetching;
+mod filling;
+mod greeting;
+mod heard;
+mod host;
+mod listing;
+mod ref_lines;
+mod reply;
+mod said;
+mod side;
+mod speech;
+
+pub use crate::err_text::ErrText;
+pub use crate::fetching::speak_fetch;
+pub use crate::greeting::Greeting;
+pub use crate::heard::Heard;
+pub use crate::host::{Host, Served};
+pub use crate::listing::Listing;
+pub use crate::reply::ServerReply;
+pub use crate::side::{MAX_REQUESTS, ServerSide};
+pub use crate::speech::Speech;

@@ -1,0 +1,91 @@
+//! The refs that a request asks for, line by line (gitprotocol-v2(5), "ls-refs"). The server lends the names.
+
+ghost use Rattle.std.specs.Prelude.{◌≡◌, ◌≤◌, ◌+◌, ◌++◌, length, map};
+ghost use Rattle.std.specs.Option.{option_copied};
+ghost use Rattle.gpkt.specs.Packets.{canonical_all, max_packet};
+ghost use Rattle.gtalk.specs.Talks.{queue_room};
+ghost use Rattle.glsreply.specs.LsReplies.{ref_packet, unborn_packets};
+ghost use Rattle.ganswer.specs.LsAnswers.{head_id, head_ref, unborn_of};
+ghost use Rattle.ganswer.specs.steps.Answers.{line_list};
+ghost use Rattle.gserver.specs.steps.RefLines.{SaysLines, SaysRefAt};
+
+use ganswer::Server;
+use glsreply::{LentLine, RefText};
+use grequest::LsRefsRequest;
+use gtalk::Outgoing;
+use std::alloc::Allocator;
+
+/// Says the target of an unborn HEAD, if the request asks for it and HEAD is unborn.
+pub(crate) fn say_unborn<A: Allocator + Copy, B: Allocator + Copy>(
+    server: &Server<A>,
+    asked: &LsRefsRequest<A>,
+    out: &mut Outgoing<B>,
+)
+    requires { length out.old + max_packet ≤ queue_room }
+    ensures { out.new ≡ out.old
+        ++ canonical_all (unborn_packets (unborn_of server.now asked.now)) }
+{
+    match server.unborn(asked) {
+        Some(target) => {
+            // Laws.
+            target.laws();
+            out.put_text(b"unborn HEAD symref-target:", target.as_bytes());
+        }
+        None => {}
+    }
+}
+
+/// Says the line of HEAD, if there is an id for it and it is asked for.
+pub(crate) fn say_head<A: Allocator + Copy, B: Allocator + Copy>(
+    server: &Server<A>,
+    asked: &LsRefsRequest<A>,
+    out: &mut Outgoing<B>,
+)
+    requires { length out.old + max_packet ≤ queue_room }
+    ensures { SaysLines server.now asked.now (head_ref (head_id server.now.head server.now.refs)) out.old
+        out.new }
+{
+    match server.head_id() {
+        Some(id) => {
+            let line = server.line(asked, server.name_of_head(), id, None);
+            say_line(line.as_ref(), out);
+        }
+        None => {}
+    }
+}
+
+/// Says the line of the ref at a position, if it is asked for, and answers whether there is a ref.
+pub(crate) fn say_ref<A: Allocator + Copy, B: Allocator + Copy>(
+    server: &Server<A>,
+    asked: &LsRefsRequest<A>,
+    at: usize,
+    out: &mut Outgoing<B>,
+) -> bool
+    requires { length out.old + max_packet ≤ queue_room }
+    ensures { SaysRefAt server.now asked.now at out.old out.new result }
+{
+    match server.refs().as_slice().get(at) {
+        Some(found) => {
+            let known = server.peeled_at(at);
+            let line = server.line(asked, &found.0, found.1, known);
+            say_line(line.as_ref(), out);
+            true
+        }
+        None => false,
+    }
+}
+
+// Says a line, if there is one.
+fn say_line<A: Allocator + Copy, B: Allocator + Copy>(
+    line: Option<&LentLine<'_, A>>,
+    out: &mut Outgoing<B>,
+)
+    requires { length out.old + max_packet ≤ queue_room }
+    ensures { out.new ≡ out.old ++ canonical_all (map ref_packet (line_list (option_copied line.entry))) }
+{
+    if let Some(line) = line {
+        let mut text = RefText::new();
+        text.set(line);
+        out.put_text(text.as_bytes(), b"");
+    }
+}

@@ -1,0 +1,189 @@
+//! What a server says, packet by packet.
+
+ghost use Rattle.std.specs.Prelude.{◌≡◌, ◌≤◌, ◌+◌, Bool, length};
+ghost use Rattle.gpkt.specs.Packets.{max_packet};
+ghost use Rattle.gtalk.specs.Talks.{queue_room};
+ghost use Rattle.gobject.specs.Faults.{pack_fault_text};
+ghost use Rattle.ggrammar.specs.declared.ends.Ends.{Ends};
+ghost use Rattle.gserver.specs.steps.Stepping.{FollowsHeading, StepsFrom, end_of, max_words};
+
+use crate::err_text::ErrText;
+use crate::filling::{Piece, say_piece};
+use gfetchreply::Acks;
+use ggrammar::Ends;
+use gname::MAX_ID_TEXT;
+use gobject::PackFault;
+use gparts::PartPacker;
+use gtalk::Outgoing;
+use std::alloc::Allocator;
+
+/// The packets that are said next.
+#[derive(Drop)]
+pub(crate) enum Rest<A: Allocator + Copy, R, P> {
+    Nothing,
+    /// The packet of an error.
+    Refusal(ErrText),
+    AckHeading(Acks<A>, Option<(R, P)>),
+    /// The acknowledged id at this position, or what follows them.
+    Ack(Acks<A>, usize, Option<(R, P)>),
+    Nak,
+    /// The delimiter before the section of a pack.
+    Delim(R, P),
+    PackHeading(R, P),
+    /// The next piece of a pack, or its end.
+    Pack(R, P),
+    Flush,
+    ResponseEnd,
+}
+
+/// The part that is to come after a step.
+#[derive(Drop)]
+pub(crate) enum Stepped<A: Allocator + Copy, R, P> {
+    /// More of the reply.
+    More(Rest<A, R, P>),
+    /// The next request is heard.
+    Whole,
+    /// Nothing.
+    Last,
+}
+
+/// Says what is next: one packet at most.
+pub(crate) fn step<A: Allocator + Copy, B: Allocator + Copy, R: PartPacker<A> + Drop>(
+    rest: Rest<A, R, R::Parts>,
+    ends: Ends,
+    goes_on: bool,
+    out: &mut Outgoing<B>,
+) -> Stepped<A, R, R::Parts>
+    requires { length out.old + max_packet ≤ queue_room }
+    ensures { StepsFrom R.gives R.most ends goes_on rest out.old out.new result }
+{
+    match rest {
+        Rest::Nothing => Stepped::Last,
+        Rest::Refusal(text) => {
+            out.put_text(b"ERR ", text.as_bytes());
+            Stepped::Last
+        }
+        Rest::AckHeading(acks, pack) => {
+            out.put_text(b"acknowledgments", b"");
+            Stepped::More(after_heading(acks, pack))
+        }
+        Rest::Ack(acks, at, pack) => say_ack::<A, B, R>(acks, at, pack, out),
+        Rest::Nak => {
+            out.put_text(b"NAK", b"");
+            Stepped::More(Rest::Flush)
+        }
+        Rest::Delim(packer, parts) => {
+            out.put_delim();
+            Stepped::More(Rest::PackHeading(packer, parts))
+        }
+        Rest::PackHeading(packer, parts) => {
+            out.put_text(b"packfile", b"");
+            Stepped::More(Rest::Pack(packer, parts))
+        }
+        Rest::Pack(packer, parts) => say_pack::<A, B, R>(packer, parts, out),
+        Rest::Flush => say_flush::<A, B, R>(ends, goes_on, out),
+        Rest::ResponseEnd => {
+            out.put_response_end();
+            end_of(goes_on)
+        }
+    }
+}
+
+// The place after the heading of the acknowledgments.
+fn after_heading<A: Allocator + Copy, R: Drop, P: Drop>(
+    acks: Acks<A>,
+    pack: Option<(R, P)>,
+) -> Rest<A, R, P>
+    ensures { FollowsHeading acks.ids pack result }
+{
+    if pack.is_none() && acks.ids().is_empty() {
+        Rest::Nak
+    } else {
+        Rest::Ack(acks, 0, pack)
+    }
+}
+
+// Says the acknowledged id at a position, if there is one, or that enough is common.
+fn say_ack<A: Allocator + Copy, B: Allocator + Copy, R: PartPacker<A> + Drop>(
+    acks: Acks<A>,
+    at: usize,
+    pack: Option<(R, R::Parts)>,
+    out: &mut Outgoing<B>,
+) -> Stepped<A, R, R::Parts>
+    requires { length out.old + max_packet ≤ queue_room }
+    ensures { (ends : Ends) (goes_on : Bool)
+        → StepsFrom R.gives R.most ends goes_on (Rest.Ack acks at pack) out.old out.new result }
+{
+    if let Some(id) = acks.ids().get(at) {
+        let mut digits = [0; MAX_ID_TEXT];
+        let count = id.to_hex(&mut digits);
+        out.put_text(b"ACK ", &digits[..count]);
+        return Stepped::More(Rest::Ack(acks, at + 1, pack));
+    }
+    match pack {
+        Some((packer, parts)) => {
+            out.put_text(b"ready", b"");
+            Stepped::More(Rest::Delim(packer, parts))
+        }
+        None => Stepped::More(Rest::Flush),
+    }
+}
+
+// Says the next piece of a pack. If the packer failed, it says why, and that is the last packet.
+fn say_pack<A: Allocator + Copy, B: Allocator + Copy, R: PartPacker<A> + Drop>(
+    packer: R,
+    mut parts: R::Parts,
+    out: &mut Outgoing<B>,
+) -> Stepped<A, R, R::Parts>
+    requires { length out.old + max_packet ≤ queue_room }
+    ensures { (ends : Ends) (goes_on : Bool)
+        → StepsFrom R.gives R.most ends goes_on (Rest.Pack packer parts) out.old out.new result }
+{
+    match say_piece::<A, B, R>(&packer, &mut parts, out) {
+        Piece::More => Stepped::More(Rest::Pack(packer, parts)),
+        Piece::Whole => Stepped::More(Rest::Flush),
+        Piece::Failed(fault) => {
+            out.put(&[3], words_of(fault).as_bytes());
+            Stepped::Last
+        }
+    }
+}
+
+// Says the flush that ends a reply.
+fn say_flush<A: Allocator + Copy, B: Allocator + Copy, R: PartPacker<A> + Drop>(
+    ends: Ends,
+    goes_on: bool,
+    out: &mut Outgoing<B>,
+) -> Stepped<A, R, R::Parts>
+    requires { length out.old + max_packet ≤ queue_room }
+    ensures { StepsFrom R.gives R.most ends goes_on Rest.Flush out.old out.new result }
+{
+    out.put_flush();
+    match ends {
+        Ends::Plain => end_of(goes_on),
+        Ends::Response => Stepped::More(Rest::ResponseEnd),
+    }
+}
+
+// How a reply ends.
+fn end_of<A: Allocator + Copy, R, P>(goes_on: bool) -> Stepped<A, R, P>
+    ensures { result ≡ end_of goes_on }
+{
+    if goes_on {
+        Stepped::Whole
+    } else {
+        Stepped::Last
+    }
+}
+
+// Why a packer failed, in words for a client.
+fn words_of(fault: PackFault) -> &'static str
+    ensures words { result.now ≡ pack_fault_text fault }
+    ensures few { length result.now ≤ max_words }
+{
+    match fault {
+        PackFault::Memory => "out of memory",
+        PackFault::TooLarge => "the pack is too large",
+        PackFault::Other => "the packer failed",
+    }
+}

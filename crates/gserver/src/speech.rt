@@ -1,0 +1,68 @@
+//! The reply to a request for objects, and the packet of an error.
+
+ghost use Rattle.std.specs.Prelude.{◌≡◌};
+
+use crate::cursor::Cursor;
+use crate::err_text::ErrText;
+use crate::said::{Rest, Stepped, step};
+use gdialogue::Said;
+use ggrammar::Ends;
+use gparts::PartPacker;
+use gtalk::Outgoing;
+use std::alloc::Allocator;
+use std::mem;
+
+/// The reply to a request for objects, the packet of an error, or nothing.
+///
+/// The pack comes from its packer, one piece at a time, and is never there whole.
+#[derive(Drop)]
+pub struct Speech<A: Allocator + Copy, R, P> {
+    pub(crate) rest: Rest<A, R, P>,
+    pub(crate) ends: Ends,
+    // Whether the next request is heard after a reply.
+    pub(crate) goes_on: bool,
+}
+
+impl<A: Allocator + Copy, R, P> Speech<A, R, P> {
+    /// The packet of an error, after which nothing more is heard.
+    pub fn refusing(text: ErrText) -> Speech<A, R, P>
+        ensures { result.rest ≡ Rest.Refusal text }
+    {
+        Speech {
+            rest: Rest::Refusal(text),
+            ends: Ends::Plain,
+            goes_on: false,
+        }
+    }
+
+    /// Nothing, after which nothing more is heard.
+    pub fn silent() -> Speech<A, R, P>
+        ensures { result.rest ≡ Rest.Nothing }
+    {
+        Speech {
+            rest: Rest::Nothing,
+            ends: Ends::Plain,
+            goes_on: false,
+        }
+    }
+}
+
+impl<A: Allocator + Copy, R: PartPacker<A> + Drop> Cursor for Speech<A, R, R::Parts> {
+    ghost use Rattle.gserver.specs.Saying.{SaysRest, steps_of};
+
+    ghost may = { λ speech. SaysRest R.gives speech.ends speech.goes_on speech.rest };
+
+    ghost steps = { λ speech. steps_of R.most speech.rest };
+
+    fn step<B: Allocator + Copy>(&mut self, out: &mut Outgoing<B>) -> Said {
+        let rest = mem::replace(&mut self.rest, Rest::Nothing);
+        match step::<A, B, R>(rest, self.ends, self.goes_on, out) {
+            Stepped::More(rest) => {
+                self.rest = rest;
+                Said::More
+            }
+            Stepped::Whole => Said::Whole,
+            Stepped::Last => Said::Last,
+        }
+    }
+}
