@@ -13,8 +13,12 @@ use std::alloc::Allocator;
 use std::io::{self, ErrorKind, Write};
 use std::net::{IpAddr, SocketAddr};
 
-// The system's numbers for no more open files, in the process and in all, no memory, and no buffer (errno(3)).
-const STARVED: [i32; 4] = [24, 23, 12, 105];
+// The system's numbers for no more open files, in the process and in all, no memory, no buffer, and no streams (errno(3)).
+const STARVED: [i32; 5] = [24, 23, 12, 105, 63];
+
+// Its numbers for faults of the network that are not faults of the listener (accept(2), "Error handling"): EPROTO,
+// ENOPROTOOPT, EHOSTDOWN, ENONET, EOPNOTSUPP and ETIMEDOUT.
+const NETWORK: [i32; 6] = [71, 92, 112, 64, 95, 110];
 
 impl<C: Conversation + Drop, A: Allocator + Copy> EventLoop<'_, C, A> {
     /// Begins a conversation with the peer of the last event, if that was [`Event::Connected`].
@@ -73,19 +77,10 @@ impl<C: Conversation + Drop, A: Allocator + Copy> EventLoop<'_, C, A> {
 
     // Why a peer from this IP address is refused, if it is.
     fn refusal(&self, ip: IpAddr) -> Option<Refusal> {
-        let mut peers: usize = 0;
-        let mut of_address: usize = 0;
-        for (_, slot) in self.slots.iter() {
-            if let Slot::Talks(peer) = slot {
-                peers = peers.saturating_add(1);
-                if peer.address.ip() == ip {
-                    of_address = of_address.saturating_add(1);
-                }
-            }
-        }
+        let peers = self.slots.len().saturating_sub(self.leavers as usize);
         if peers >= self.limits.at_once {
             Some(Refusal::Full)
-        } else if of_address >= self.limits.at_once_of_address {
+        } else if self.addresses.count(ip) >= self.limits.at_once_of_address {
             Some(Refusal::FullOfAddress)
         } else {
             None
@@ -94,13 +89,21 @@ impl<C: Conversation + Drop, A: Allocator + Copy> EventLoop<'_, C, A> {
 
     // Takes a peer among those that are served. It has its first turn once its socket is ready.
     fn admit(&mut self, peer: Peer<C, A>) {
+        let ip = peer.address.ip();
+        if self.addresses.add(ip).is_err() {
+            self.failed = Some(peer.end(End::Memory, self.now).0);
+            return;
+        }
         self.failed = match self.slots.insert(Slot::Talks(peer)) {
             Ok(key) if self.watch(key, true) => None,
             Ok(key) => self.part_with(key, End::Lost),
-            Err(refused) => match refused.value {
-                Slot::Talks(peer) => Some(peer.end(End::Memory, self.now).0),
-                Slot::Leaves(_leaver) => None,
-            },
+            Err(refused) => {
+                self.addresses.remove(ip);
+                match refused.value {
+                    Slot::Talks(peer) => Some(peer.end(End::Memory, self.now).0),
+                    Slot::Leaves(_leaver) => None,
+                }
+            }
         };
     }
 }
@@ -113,16 +116,17 @@ fn calls_after(error: io::Error) -> io::Result<Calls> {
         | ErrorKind::Interrupted
         | ErrorKind::NetworkDown
         | ErrorKind::NetworkUnreachable
-        | ErrorKind::HostUnreachable
-        | ErrorKind::PermissionDenied => Ok(Calls::Some),
-        _ if is_starved(&error) => Ok(Calls::Starved),
+        | ErrorKind::HostUnreachable => Ok(Calls::Some),
+        ErrorKind::PermissionDenied => Ok(Calls::Later),
+        _ if is_passing(&error) => Ok(Calls::Later),
         _ => Err(error),
     }
 }
 
-fn is_starved(error: &io::Error) -> bool {
+// Whether connections can be accepted again after a while.
+fn is_passing(error: &io::Error) -> bool {
     match error.raw_os_error() {
-        Some(number) => STARVED.contains(&number),
+        Some(number) => STARVED.contains(&number) || NETWORK.contains(&number),
         None => false,
     }
 }

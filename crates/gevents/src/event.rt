@@ -27,7 +27,7 @@ pub enum End {
     Stalled,
     /// The whole connection took too long.
     Overdue,
-    /// The socket failed while bytes were to be sent.
+    /// The socket failed while bytes were to be sent, or the system did not watch it.
     Lost,
     /// There was no memory for what was to be said.
     Memory,

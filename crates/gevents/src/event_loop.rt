@@ -2,6 +2,7 @@
 
 ghost use Rattle.gtalk.specs.Talks.{no_talk};
 
+use crate::addresses::Addresses;
 use crate::event::{Ended, Event};
 use crate::limits::Limits;
 use crate::slot::Slot;
@@ -33,8 +34,8 @@ pub(crate) enum Calls {
     None,
     /// Some may.
     Some,
-    /// Some may, and the system has no room for one now.
-    Starved,
+    /// Some may, and the system accepts none for now.
+    Later,
 }
 
 /// A peer that was accepted, until the next event is asked for.
@@ -69,7 +70,7 @@ pub struct EventLoop<'l, C: Conversation, A: Allocator + Copy> {
     pub(crate) poll: Poll,
     pub(crate) listener: TcpListener,
     events: Events<A>,
-    // The keys of the sockets that were reported and had no turn yet.
+    // The keys of the sockets that were reported and had no turn yet. There is room for as many as are reported at once.
     ready: Vec<usize, A>,
     part: Part,
     pub(crate) calls: Calls,
@@ -77,6 +78,8 @@ pub struct EventLoop<'l, C: Conversation, A: Allocator + Copy> {
     // A connection that ended as it began.
     pub(crate) failed: Option<Ended<C, A>>,
     pub(crate) slots: Slab<Slot<C, A>, A>,
+    /// How many peers are served from each IP address.
+    pub(crate) addresses: Addresses<A>,
     /// How many of the slots are those of peers that leave.
     pub(crate) leavers: u32,
     /// How many connections were accepted. It stays at the greatest number if there are more.
@@ -106,12 +109,13 @@ impl<'l, C: Conversation + Drop, A: Allocator + Copy> EventLoop<'l, C, A> {
             poll,
             listener,
             events,
-            ready: Vec::new(alloc),
+            ready: Vec::with_capacity(alloc, EVENTS)?,
             part: Part::Accepts(ACCEPTS),
             calls: Calls::Some,
             caller: None,
             failed: None,
             slots: Slab::new(alloc),
+            addresses: Addresses::new(alloc),
             leavers: 0,
             accepted: 0,
             now,
@@ -120,24 +124,29 @@ impl<'l, C: Conversation + Drop, A: Allocator + Copy> EventLoop<'l, C, A> {
     }
 
     /// Waits for the next event. `None` comes once as many connections were accepted as
-    /// [`Limits::accepted`] says, and all have ended.
+    /// [`Limits::accepted`] says, and all have ended. It comes again if the loop is asked again.
     ///
-    /// It fails if the system does not tell which sockets are ready, if no connection can be accepted any
-    /// more, and out of memory for the list of sockets that are ready. It may be asked again then.
+    /// It fails if the system does not tell which sockets are ready, and if no connection can be accepted any
+    /// more. It may be asked again then.
     pub fn next<R: Clock>(&mut self, rt: &R) -> io::Result<Option<Event<C, A>>> {
         self.caller = None;
         if let Some(ended) = self.failed.take() {
             return Ok(Some(Event::Ended(ended)));
         }
         for _ in 0..u64::MAX {
-            if let Some(event) = self.step(rt)? {
-                return Ok(Some(event));
-            }
             if self.is_over() {
                 break;
             }
+            if let Some(event) = self.step(rt)? {
+                return Ok(Some(event));
+            }
         }
         Ok(None)
+    }
+
+    /// Closes the listener, and all connections that have not ended.
+    pub fn close(self) {
+        drop(self);
     }
 
     // Whether no more connections are accepted, and all have ended.
@@ -194,7 +203,7 @@ impl<'l, C: Conversation + Drop, A: Allocator + Copy> EventLoop<'l, C, A> {
         match self.calls {
             Calls::Some => Some(Duration::ZERO),
             Calls::None if self.slots.is_empty() => None,
-            Calls::None | Calls::Starved => Some(Duration::from_millis(TICK)),
+            Calls::None | Calls::Later => Some(Duration::from_millis(TICK)),
         }
     }
 
@@ -226,10 +235,14 @@ impl<'l, C: Conversation + Drop, A: Allocator + Copy> EventLoop<'l, C, A> {
             return Ok(None);
         }
         self.part = Part::Accepts(left - 1);
-        self.accept()
+        let accepted = self.accept()?;
+        if self.calls == Calls::Later {
+            self.part = self.after_accepts();
+        }
+        Ok(accepted)
     }
 
-    // Deadlines are looked at now and then. A peer that is ready, and is not reported yet, is not given up.
+    // Deadlines are looked at now and then.
     fn after_accepts(&mut self) -> Part {
         if self.now < self.next {
             return Part::Polls;

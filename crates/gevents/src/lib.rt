@@ -11,8 +11,10 @@
 //! - Each peer has its time: for its first message, for the first byte of a request and for the rest of
 //!   it, for taking bytes, and for the whole connection. A peer that is listened to and had its time is
 //!   heard as one whose device failed, so the conversation may say a last word. Any other is closed.
+//!   Both have one more turn before that, since what they sent may not have been reported yet.
 //! - A connection takes no memory for bytes before the first one comes. It takes some hundred bytes for
-//!   itself, and what the conversation has.
+//!   itself, and what the conversation has. The room for what it says, two packets of the largest size, is
+//!   given back once all is sent and nothing more has come.
 //! - The thread sleeps while nothing can be done. It looks at the deadlines ten times a second while
 //!   there are peers.
 //! - A conversation that works for a time before it answers holds up all others for that time.
@@ -35,6 +37,7 @@
 //! - No contract says which bytes a socket gives or takes. So none says that the bytes of a connection
 //!   are those of its socket, as one says of each read and write over any reader and writer.
 //! - A peer might never have its turn, or be given up at once. A connection might never come back.
+//! - The loop might refuse every peer, fail, or end at once. It might send nothing to a peer that is refused.
 //! - The address of a peer, how a connection ended and how long it took have no clause.
 //!
 //! # Stands on
@@ -43,6 +46,7 @@
 #![tactic(auto)]
 
 mod accepting;
+mod addresses;
 mod event;
 mod event_loop;
 mod leaver;

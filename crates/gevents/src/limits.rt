@@ -2,7 +2,7 @@
 
 use std::time::Duration;
 
-/// How many connections a loop has, and how long each peer may take.
+/// How many connections a loop has, and how long each peer may take. A time of `Duration::MAX` never ends.
 #[derive(Clone, Copy, Debug, Drop)]
 pub struct Limits {
     /// How many connections are accepted before the loop ends. `None` if it goes on.

@@ -56,13 +56,26 @@ impl<C: Conversation, A: Allocator + Copy> Peer<C, A> {
         After::GoesOn
     }
 
-    /// Gives the peer up, if it had its time. The conversation may say a last word.
+    /// Gives the peer up, if it had its time. It has a turn before that, since its socket may be ready and not be
+    /// reported yet.
     pub(crate) fn give_up(&mut self, now: Instant, limits: &Limits) -> After {
         if self.patience.is_overdue(now, limits, self.sent) {
             return After::Ends(End::Overdue);
         }
         if !self.patience.is_late(now) {
             return After::Waits;
+        }
+        match self.advance(now, limits) {
+            After::Ends(end) => After::Ends(end),
+            _ if self.patience.is_late(now) => self.give_up_late(now, limits),
+            after => after,
+        }
+    }
+
+    // Gives up a peer that had its time. If it is listened to, the conversation may say a last word.
+    fn give_up_late(&mut self, now: Instant, limits: &Limits) -> After {
+        if !self.connection.output().is_empty() {
+            return After::Ends(End::Stalled);
         }
         if !matches!(self.connection.turn(), Turn::Listens) {
             return After::Ends(End::Stalled);
@@ -144,7 +157,10 @@ impl<C: Conversation, A: Allocator + Copy> Peer<C, A> {
                 self.patience.received(now, limits);
                 Move::Moved
             }
-            Err(error) if is_passing(error.kind()) => failed(error.kind()),
+            Err(error) if is_passing(error.kind()) => {
+                self.rest();
+                failed(error.kind())
+            }
             Err(_) => {
                 self.fail();
                 Move::Moved
@@ -157,6 +173,11 @@ impl<C: Conversation, A: Allocator + Copy> Peer<C, A> {
         ensures { OnErr result (self.new.connection ≡ self.old.connection) }
     {
         read_some(&mut self.connection, &mut self.stream)
+    }
+
+    // Keeps no room for what is said while the peer is silent.
+    fn rest(&mut self) {
+        self.connection.give_back();
     }
 
     // Has the conversation hear that nothing more comes.

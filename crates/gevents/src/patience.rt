@@ -21,7 +21,8 @@ enum Due {
 pub(crate) struct Patience {
     began: Instant,
     due: Due,
-    until: Instant,
+    // None if the clock does not go so far.
+    until: Option<Instant>,
 }
 
 impl Patience {
@@ -70,7 +71,10 @@ impl Patience {
 
     /// Whether the peer had its time for what it is to do.
     pub(crate) fn is_late(&self, now: Instant) -> bool {
-        self.until <= now
+        match self.until {
+            Some(until) => until <= now,
+            None => false,
+        }
     }
 
     /// Whether the whole connection had its time, on which so many bytes were sent.
@@ -80,7 +84,7 @@ impl Patience {
     }
 }
 
-// The moment after so much time. If the clock does not go so far, this is now.
-fn after(now: Instant, time: Duration) -> Instant {
-    now.checked_add(time).unwrap_or(now)
+// The moment after so much time, if the clock goes so far.
+fn after(now: Instant, time: Duration) -> Option<Instant> {
+    now.checked_add(time)
 }

@@ -86,6 +86,7 @@ impl<C: Conversation + Drop, A: Allocator + Copy> EventLoop<'_, C, A> {
     pub(crate) fn part_with(&mut self, key: usize, end: End) -> Option<Ended<C, A>> {
         match self.slots.try_remove(key) {
             Some(Slot::Talks(peer)) => {
+                self.addresses.remove(peer.address.ip());
                 let (ended, stream) = peer.end(end, self.now);
                 if matches!(end, End::Over | End::Silent) {
                     self.let_leave(stream, false);

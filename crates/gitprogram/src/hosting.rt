@@ -6,7 +6,10 @@ ghost use Rattle.std.specs.Prelude.{⊤};
 use crate::ahead::Ahead;
 use crate::directory::Directories;
 use crate::fault::Fault;
-use crate::opening::{Extent, NotOpened, ObjectPacker, open_history, open_objects, open_shown, read_listed, repository_fault};
+use crate::opening::{
+    Extent, NotOpened, ObjectPacker, open_history, open_objects, open_shown, read_listed,
+    repository_fault,
+};
 use crate::refusals::{NOT_OPENED, send_error};
 use crate::sentences::{Sentence, form_text};
 use ganswer::{ServeFault, Server};

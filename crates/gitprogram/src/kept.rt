@@ -1,10 +1,9 @@
 //! Repositories that are kept between connections.
 
-use crate::shared::{Objects, Shared, Shown};
+use crate::shared::Shared;
 use ggraph::MAX_NODES;
 use gserver::Served;
 use std::alloc::{AllocError, Global};
-use std::rc::{Rc, Weak};
 use std::rt::Files;
 
 // The most repositories that are kept.
@@ -14,9 +13,7 @@ const MAX_REPOSITORIES: usize = 64;
 #[derive(Drop)]
 struct Kept<'f, 'r, R: Files> {
     path: String,
-    shown: Rc<Shown, Global>,
-    // Its objects stay open as long as a connection uses them.
-    objects: Weak<Objects<'f, 'r, R>, Global>,
+    shared: Shared<'f, 'r, R>,
 }
 
 /// The repositories that were served last, the oldest first. They have at most 1,048,576 commits and
@@ -36,18 +33,18 @@ impl<'f, 'r, R: Files> KeptRepositories<'f, 'r, R> {
 
     /// The repository with this Git directory, for another connection; `None` if it is not kept. It fails
     /// only out of memory.
-    pub(crate) fn get(
-        &self,
-        alloc: Global,
-        path: &str,
-    ) -> Result<Option<Shared<'f, 'r, R>>, AllocError> {
-        match self.kept.iter().find(|kept| kept.path.as_str() == path) {
-            Some(kept) => {
-                let shown = kept.shown.clone()?;
-                Ok(Some(Shared::new(alloc, shown, kept.objects.upgrade())?))
-            }
+    pub(crate) fn get(&self, path: &str) -> Result<Option<Shared<'f, 'r, R>>, AllocError> {
+        let Some(place) = self.place_of(path) else {
+            return Ok(None);
+        };
+        match self.kept.get(place) {
+            Some(kept) => Ok(Some(kept.shared.share()?)),
             None => Ok(None),
         }
+    }
+
+    fn place_of(&self, path: &str) -> Option<usize> {
+        self.kept.iter().position(|kept| kept.path.as_str() == path)
     }
 
     /// Keeps a repository in place of the one with the same Git directory. The oldest go if there are too
@@ -58,20 +55,23 @@ impl<'f, 'r, R: Files> KeptRepositories<'f, 'r, R> {
         shared: &Shared<'f, 'r, R>,
     ) -> Result<(), AllocError> {
         let path = shared.shown.found.own.as_str();
-        if let Some(place) = self.kept.iter().position(|kept| kept.path.as_str() == path) {
+        if let Some(place) = self.place_of(path) {
             let _old = self.kept.remove(place);
         }
         self.make_room(shared.server().graph().len());
-        let objects = match &shared.objects {
-            Some(objects) => Rc::downgrade(objects)?,
-            None => Weak::new(),
-        };
-        self.kept.push(Kept {
-            path: String::from_str(alloc, path)?,
-            shown: shared.shown.clone()?,
-            objects,
-        })?;
-        Ok(())
+        let path = String::from_str(alloc, path)?;
+        let shared = shared.share()?;
+        match self.kept.push(Kept { path, shared }) {
+            Ok(()) => Ok(()),
+            Err(_) => Err(AllocError),
+        }
+    }
+
+    /// Closes the objects that no connection has open, since each pack takes a descriptor.
+    pub(crate) fn close_unused(&mut self) {
+        for kept in &mut self.kept {
+            kept.shared.close_unused();
+        }
     }
 
     // Lets the oldest repositories go until there is room for one with so many commits and tags.
@@ -99,7 +99,7 @@ impl<'f, 'r, R: Files> KeptRepositories<'f, 'r, R> {
     fn nodes(&self) -> usize {
         let mut nodes: usize = 0;
         for kept in &self.kept {
-            nodes = nodes.saturating_add(kept.shown.extent.server().graph().len());
+            nodes = nodes.saturating_add(kept.shared.server().graph().len());
         }
         nodes
     }

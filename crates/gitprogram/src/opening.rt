@@ -1,5 +1,8 @@
 //! A repository that is opened.
 
+ghost use Rattle.std.specs.Prelude.{◌≡◌};
+ghost use Rattle.gitprogram.specs.Sharing.{server_in};
+
 use crate::directory::Directories;
 use crate::fault::Fault;
 use crate::sentences::Sentence;
@@ -50,7 +53,9 @@ pub(crate) enum Extent {
 
 impl Extent {
     /// The server.
-    pub(crate) fn server(&self) -> &Server<Global> {
+    pub(crate) fn server(&self) -> &Server<Global>
+        ensures { result.now ≡ server_in self.now }
+    {
         match self {
             Extent::Whole(server) | Extent::Tips(server) => server,
         }

@@ -32,7 +32,8 @@ pub(crate) const LIMITS: &[u8] =
     b"upload-pack: a request has at most 1,024 wants, 4,096 haves and 64 prefixes of ref names";
 
 /// The packet for a client that connects while there are too many connections.
-pub(crate) const FULL: &[u8] = b"004aERR upload-pack: the server has too many connections: try again later\n";
+pub(crate) const FULL: &[u8] =
+    b"004aERR upload-pack: the server has too many connections: try again later\n";
 
 /// The packet for a client that connects while there are too many connections from its address.
 pub(crate) const FULL_OF_ADDRESS: &[u8] =
@@ -42,24 +43,35 @@ pub(crate) const FULL_OF_ADDRESS: &[u8] =
 pub(crate) const PACK_FAILED: &[u8] =
     b"upload-pack: pack failed: it would have more than 64 MiB, or an object is missing or refused here";
 
-// A packet of the libraries, and the one that is sent in its place.
+// A packet of the libraries that does not name a limit.
 #[derive(Clone, Copy)]
-struct Wording {
-    packet: &'static [u8],
-    sent: &'static [u8],
+enum Wording {
+    // A request is over a limit.
+    Request,
+    // A pack is not made.
+    Pack,
 }
 
-// The packets of the libraries that do not name a limit.
-const WORDINGS: [Wording; 2] = [
-    Wording {
-        packet: b"0024ERR upload-pack: limit exceeded\n",
-        sent: b"0061ERR upload-pack: a request has at most 1,024 wants, 4,096 haves and 64 prefixes of ref names\n",
-    },
-    Wording {
-        packet: b"0021ERR upload-pack: pack failed\n",
-        sent: b"006aERR upload-pack: pack failed: it would have more than 64 MiB, or an object is missing or refused here\n",
-    },
-];
+const WORDINGS: [Wording; 2] = [Wording::Request, Wording::Pack];
+
+impl Wording {
+    fn packet(self) -> &'static [u8] {
+        match self {
+            Wording::Request => b"0024ERR upload-pack: limit exceeded\n",
+            Wording::Pack => b"0021ERR upload-pack: pack failed\n",
+        }
+    }
+
+    // The packet that is sent in its place.
+    fn sent(self) -> &'static [u8] {
+        match self {
+            Wording::Request =>
+                b"0061ERR upload-pack: a request has at most 1,024 wants, 4,096 haves and 64 prefixes of ref names\n",
+            Wording::Pack =>
+                b"006aERR upload-pack: pack failed: it would have more than 64 MiB, or an object is missing or refused here\n",
+        }
+    }
+}
 
 /// A writer that names the limits to a client that is refused for one. Bytes of other packets pass as
 /// they are.
@@ -77,20 +89,20 @@ impl<W> Worded<W> {
         Worded {
             writer,
             held: 0,
-            wording: WORDINGS[0],
+            wording: Wording::Request,
         }
     }
 
     // The bytes that are held back.
     fn held_bytes(&self) -> &'static [u8] {
-        self.wording.packet.get(..self.held).unwrap_or(&[])
+        self.wording.packet().get(..self.held).unwrap_or(&[])
     }
 
     // Holds some bytes back if they go on with a packet that has a wording. Answers whether they do.
     fn hold(&mut self, buf: &[u8]) -> bool {
         let held = self.held_bytes();
         for wording in WORDINGS {
-            if let Some(rest) = wording.packet.strip_prefix(held) {
+            if let Some(rest) = wording.packet().strip_prefix(held) {
                 if rest.starts_with(buf) {
                     self.wording = wording;
                     self.held = held.len().saturating_add(buf.len());
@@ -107,8 +119,8 @@ impl<W: Write> Worded<W> {
     fn write_held(&mut self) -> io::Result<()> {
         let held = self.held_bytes();
         self.held = 0;
-        self.writer.write_all(if held == self.wording.packet {
-            self.wording.sent
+        self.writer.write_all(if held == self.wording.packet() {
+            self.wording.sent()
         } else {
             held
         })

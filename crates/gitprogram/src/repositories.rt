@@ -8,7 +8,7 @@ use crate::opening::{
 };
 use crate::refusals::{BAD_FIRST_LINE, LIMITS, NOT_OPENED, NOT_SERVED, PACK_FAILED};
 use crate::sentences::{Sentence, form_text};
-use crate::shared::{Objects, Shared, Shown, share};
+use crate::shared::{Shared, Shown, share};
 use ganswer::ServeFault;
 use ggrammar::{MessageFault, Why};
 use ghello::Hello;
@@ -73,6 +73,13 @@ impl<'f, 'r, R: Files + AllocGlobal> Repositories<'f, 'r, R> {
         }
     }
 
+    /// Closes the objects that no connection has open.
+    pub(crate) fn close_unused(&self) {
+        if let Ok(mut kept) = self.kept.try_borrow_mut() {
+            kept.close_unused();
+        }
+    }
+
     fn note_path(&self, path: &[u8]) -> Result<(), AllocError> {
         let mut copy = Vec::new(self.rt.alloc());
         copy.extend_from_slice(path)?;
@@ -109,7 +116,7 @@ impl<'f, 'r, R: Files + AllocGlobal> Repositories<'f, 'r, R> {
         }
         let extent = open_shown(alloc, self.rt, self.files, &found, listed)?;
         let shown = share(alloc, Shown { found, extent })?;
-        let shared = Shared::new(alloc, shown, None)?;
+        let shared = Shared::new(alloc, shown, None, None)?;
         self.keep(&shared)?;
         Ok(shared)
     }
@@ -117,9 +124,20 @@ impl<'f, 'r, R: Files + AllocGlobal> Repositories<'f, 'r, R> {
     // The repository that is kept, for another connection.
     fn find_kept(&self, found: &Directories) -> Result<Option<Shared<'f, 'r, R>>, AllocError> {
         match self.kept.try_borrow() {
-            Ok(kept) => kept.get(self.rt.alloc(), found.own.as_str()),
+            Ok(kept) => kept.get(found.own.as_str()),
             Err(_) => Ok(None),
         }
+    }
+
+    // The repository that is kept, if it has the same refs; otherwise the same one.
+    fn find_same(&self, repo: &Shared<'f, 'r, R>) -> Result<Shared<'f, 'r, R>, AllocError> {
+        let server = repo.server();
+        if let Some(kept) = self.find_kept(&repo.shown.found)? {
+            if has_refs(kept.server(), server.refs(), server.head()) {
+                return Ok(kept);
+            }
+        }
+        repo.handle()
     }
 
     fn keep(&self, shared: &Shared<'f, 'r, R>) -> Result<(), AllocError> {
@@ -137,11 +155,7 @@ impl<'f, 'r, R: Files + AllocGlobal> Repositories<'f, 'r, R> {
         if repo.is_open_since(changed) {
             return Ok(repo.handle()?);
         }
-        let server = repo.server();
-        let known = match self.find_kept(found)? {
-            Some(kept) if has_refs(kept.server(), server.refs(), server.head()) => kept,
-            _ => repo.handle()?,
-        };
+        let known = self.find_same(repo)?;
         if known.is_open_since(changed) {
             return Ok(known);
         }
@@ -167,8 +181,8 @@ impl<'f, 'r, R: Files + AllocGlobal> Repositories<'f, 'r, R> {
                 (share(alloc, Shown { found, extent })?, packer)
             }
         };
-        let objects = share(alloc, Objects { packer, changed })?;
-        Ok(Shared::new(alloc, shown, Some(objects))?)
+        let objects = share(alloc, packer)?;
+        Ok(Shared::new(alloc, shown, Some(objects), changed)?)
     }
 
     // When the directory of packs was changed last.

@@ -6,11 +6,12 @@ use crate::output::print;
 use crate::refusals::{FULL, FULL_OF_ADDRESS};
 use crate::repositories::Repositories;
 use crate::sentences::Sentence;
-use crate::visits::{begin, log_ended};
+use crate::visits::{Held, begin, log_ended};
 use gevents::{Event, EventLoop, Limits, Refusal};
 use gitobjects::StoredFiles;
 use gitwords::ServeArgs;
 use mio::net::TcpListener;
+use std::alloc::Global;
 use std::io;
 use std::io::{ErrorKind, Write};
 use std::net::{Net, ToSocketAddrs};
@@ -59,19 +60,70 @@ where
     R: Files + AllocGlobal + Clock + Net,
     E: Write,
 {
-    let alloc = rt.alloc();
-    let mut clients = EventLoop::new(rt, alloc, listener, limits)?;
-    while let Some(event) = clients.next(rt)? {
-        match event {
-            Event::Connected(_) => clients.begin(begin(alloc, repositories)),
-            Event::Refused(address, why) => {
-                clients.refuse(packet_of(why));
-                let _ = writeln!(errors, "{address} refused: {}", words_of(why));
-            }
-            Event::Ended(ended) => log_ended(alloc, ended, errors),
+    let clients = EventLoop::new(rt, rt.alloc(), listener, limits)?;
+    serve_all(rt, repositories, clients, errors)
+}
+
+// Serves all whom a loop accepts.
+fn serve_all<'h, 'f, 'r, R, E>(
+    rt: &R,
+    repositories: &'h Repositories<'f, 'r, R>,
+    mut clients: EventLoop<'_, Held<'h, 'f, 'r, R>, Global>,
+    errors: &mut E,
+) -> io::Result<()>
+where
+    R: Files + AllocGlobal + Clock,
+    E: Write,
+{
+    let served = serve_each(rt, repositories, &mut clients, errors);
+    clients.close();
+    served
+}
+
+// Serves them until no more are accepted, and all have gone.
+fn serve_each<'h, 'f, 'r, R, E>(
+    rt: &R,
+    repositories: &'h Repositories<'f, 'r, R>,
+    clients: &mut EventLoop<'_, Held<'h, 'f, 'r, R>, Global>,
+    errors: &mut E,
+) -> io::Result<()>
+where
+    R: Files + AllocGlobal + Clock,
+    E: Write,
+{
+    for _ in 0..u64::MAX {
+        if !serve_next(rt, repositories, clients, errors)? {
+            break;
         }
     }
     Ok(())
+}
+
+// Does what is to be done at the next event. If there is none, it answers `false`.
+fn serve_next<'h, 'f, 'r, R, E>(
+    rt: &R,
+    repositories: &'h Repositories<'f, 'r, R>,
+    clients: &mut EventLoop<'_, Held<'h, 'f, 'r, R>, Global>,
+    errors: &mut E,
+) -> io::Result<bool>
+where
+    R: Files + AllocGlobal + Clock,
+    E: Write,
+{
+    match clients.next(rt)? {
+        Some(Event::Connected(_)) => clients.begin(begin(rt.alloc(), repositories)),
+        Some(Event::Refused(address, why)) => {
+            clients.refuse(packet_of(why));
+            let words = words_of(why);
+            let _ = writeln!(errors, "{address} refused: {words}");
+        }
+        Some(Event::Ended(ended)) => {
+            log_ended(rt.alloc(), ended, errors);
+            repositories.close_unused();
+        }
+        None => return Ok(false),
+    }
+    Ok(true)
 }
 
 // The packet for a client that is one too many.

@@ -1,6 +1,6 @@
 //! A repository that several connections share.
 
-ghost use Rattle.std.specs.Prelude.{◌≡◌, ◌≤◌, ◌×◌, ◌++◌, List, ℕ, None, length, ⊤};
+ghost use Rattle.std.specs.Prelude.{◌≡◌, ◌≤◌, ◌++◌, List, ℕ, None, length, ⊤};
 
 use crate::directory::Directories;
 use crate::fault::Fault;
@@ -26,22 +26,15 @@ pub(crate) struct Shown {
     pub(crate) extent: Extent,
 }
 
-/// The objects of a repository.
-#[derive(Drop)]
-pub(crate) struct Objects<'f, 'r, R: Files> {
-    /// The packer of them.
-    pub(crate) packer: ObjectPacker<'f, 'r, R>,
-    /// When the directory of packs was changed last, before they were opened; `None` if nobody knows.
-    pub(crate) changed: Option<SystemTime>,
-}
-
 /// A repository that several connections share. Each connection has handles of its own.
 #[derive(Drop)]
 pub(crate) struct Shared<'f, 'r, R: Files> {
     alloc: Global,
     pub(crate) shown: Rc<Shown, Global>,
-    /// The objects, once a connection asked for some.
-    pub(crate) objects: Option<Rc<Objects<'f, 'r, R>, Global>>,
+    /// The packer of its objects, once a connection asked for some.
+    objects: Option<Rc<ObjectPacker<'f, 'r, R>, Global>>,
+    /// When the directory of packs was changed last, before they were opened; `None` if nobody knows.
+    pub(crate) changed: Option<SystemTime>,
     // Why the packer failed, for all handles of one connection.
     fault: Rc<RefCell<Option<Fault>>, Global>,
 }
@@ -51,21 +44,36 @@ impl<'f, 'r, R: Files> Shared<'f, 'r, R> {
     pub(crate) fn new(
         alloc: Global,
         shown: Rc<Shown, Global>,
-        objects: Option<Rc<Objects<'f, 'r, R>, Global>>,
+        objects: Option<Rc<ObjectPacker<'f, 'r, R>, Global>>,
+        changed: Option<SystemTime>,
     ) -> Result<Shared<'f, 'r, R>, AllocError> {
         Ok(Shared {
             alloc,
             shown,
             objects,
+            changed,
             fault: share(alloc, RefCell::new(None))?,
         })
     }
 
     /// Whether its objects are open, and the directory of packs was changed last as it was opened.
     pub(crate) fn is_open_since(&self, changed: Option<SystemTime>) -> bool {
-        match &self.objects {
-            Some(objects) => changed.is_some() && objects.changed == changed,
-            None => false,
+        self.objects.is_some() && changed.is_some() && self.changed == changed
+    }
+
+    /// The first handle of another connection. It fails only out of memory.
+    pub(crate) fn share(&self) -> Result<Shared<'f, 'r, R>, AllocError> {
+        let mut shared = self.handle()?;
+        shared.fault = share(self.alloc, RefCell::new(None))?;
+        Ok(shared)
+    }
+
+    /// Closes its objects, if no other handle has them open.
+    pub(crate) fn close_unused(&mut self) {
+        if let Some(packer) = &self.objects {
+            if Rc::strong_count(packer) == 1 {
+                self.objects = None;
+            }
         }
     }
 
@@ -78,9 +86,9 @@ impl<'f, 'r, R: Files> Shared<'f, 'r, R> {
     }
 
     // Notes why the packer failed. It knows more of its own faults.
-    fn note(&self, objects: &Objects<'f, 'r, R>, fault: PackFault) -> PackFault {
+    fn note(&self, packer: &ObjectPacker<'f, 'r, R>, fault: PackFault) -> PackFault {
         let cause = match fault {
-            PackFault::Other => objects.packer.take_fault(),
+            PackFault::Other => packer.take_fault(),
             _ => None,
         };
         let said = match cause {
@@ -123,22 +131,22 @@ impl<R: Files> PartPacker<Global> for Shared<'_, '_, R> {
         alloc: Global,
         entries: &[Entry<Global>],
     ) -> Result<StoreParts<Global>, PackFault> {
-        let Some(objects) = &self.objects else {
+        let Some(packer) = &self.objects else {
             return Err(PackFault::Other);
         };
-        match objects.packer.begin(alloc, entries) {
+        match packer.begin(alloc, entries) {
             Ok(parts) => Ok(parts),
-            Err(fault) => Err(self.note(objects, fault)),
+            Err(fault) => Err(self.note(packer, fault)),
         }
     }
 
     fn part(&self, parts: &mut StoreParts<Global>, out: &mut [u8]) -> Result<usize, PackFault> {
-        let Some(objects) = &self.objects else {
+        let Some(packer) = &self.objects else {
             return Err(PackFault::Other);
         };
-        match objects.packer.part(parts, out) {
+        match packer.part(parts, out) {
             Ok(count) => Ok(count),
-            Err(fault) => Err(self.note(objects, fault)),
+            Err(fault) => Err(self.note(packer, fault)),
         }
     }
 }
@@ -161,6 +169,7 @@ impl<R: Files> Served<Global> for Shared<'_, '_, R> {
             alloc: self.alloc,
             shown: self.shown.clone()?,
             objects,
+            changed: self.changed,
             fault: self.fault.clone()?,
         })
     }

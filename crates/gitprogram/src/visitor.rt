@@ -1,9 +1,14 @@
 //! One end of a connection of the server, with what is said of it in the log.
 
+ghost use Rattle.std.specs.Prelude.{◌≡◌, ◌⊎◌, []};
+
 use crate::fault::Fault;
 use crate::repositories::Repositories;
-use gdialogue::{Answer, Reply, Side};
-use ggrammar::{Message, MessageFault};
+use gdialogue::{Answer, Side};
+use ggrammar::{Message, MessageFault, Why};
+use gparts::PartPacker;
+use gserver::{Served, ServerReply, Speech};
+use std::alloc::Global;
 use std::rt::Files;
 
 /// A server's side, and what is said of its connection in the log.
@@ -22,7 +27,9 @@ impl<'h, 'f, 'r, R: Files + AllocGlobal, S> Visitor<'h, 'f, 'r, R, S> {
     pub(crate) fn new(
         side: S,
         repositories: &'h Repositories<'f, 'r, R>,
-    ) -> Visitor<'h, 'f, 'r, R, S> {
+    ) -> Visitor<'h, 'f, 'r, R, S>
+        ensures { result.side ≡ side }
+    {
         Visitor {
             side,
             repositories,
@@ -39,13 +46,18 @@ impl<'h, 'f, 'r, R: Files + AllocGlobal, S> Visitor<'h, 'f, 'r, R, S> {
         S: Drop,
     {
         let Visitor {
-            side, path, fault, ..
+            side,
+            path,
+            fault,
+            ..
         } = self;
         (side, path, fault)
     }
 
     // Takes what the last call noted.
-    fn take_notes(&mut self) {
+    fn take_notes(&mut self)
+        ensures { self.new.side ≡ self.old.side }
+    {
         if !self.has_path {
             self.has_path = true;
             self.path = self.repositories.take_path();
@@ -56,12 +68,12 @@ impl<'h, 'f, 'r, R: Files + AllocGlobal, S> Visitor<'h, 'f, 'r, R, S> {
     }
 }
 
-impl<R, S, M, Y> Side<M, Y> for Visitor<'_, '_, '_, R, S>
+impl<R, S, M, K> Side<M, ServerReply<Global, K, K::Parts>> for Visitor<'_, '_, '_, R, S>
 where
     R: Files + AllocGlobal,
-    S: Side<M, Y>,
+    S: Side<M, ServerReply<Global, K, K::Parts>>,
     M: Message,
-    Y: Reply,
+    K: Served<Global> + PartPacker<Global> + Drop,
 {
     ghost judge = { λ visitor. S.judge visitor.side };
 
@@ -71,7 +83,7 @@ where
 
     ghost answers = { λ old heard said goes new. S.answers old.side heard said goes new.side };
 
-    ghost refuses = { λ old fault said new. S.refuses old.side fault said new.side };
+    ghost refuses = { λ old fault said new. (said ≡ []) ⊎ S.refuses old.side fault said new.side };
 
     ghost messages = { λ visitor. S.messages visitor.side };
 
@@ -79,13 +91,17 @@ where
         self.side.message()
     }
 
-    fn answer(&mut self, message: M) -> Answer<Y> {
+    fn answer(&mut self, message: M) -> Answer<ServerReply<Global, K, K::Parts>> {
         let answer = self.side.answer(message);
         self.take_notes();
         answer
     }
 
-    fn refuse(&mut self, fault: MessageFault) -> Y {
+    // A client may end the connection between two requests.
+    fn refuse(&mut self, fault: MessageFault) -> ServerReply<Global, K, K::Parts> {
+        if self.has_path && fault.frame == 0 && matches!(fault.why, Why::Ended) {
+            return ServerReply::Speech(Speech::silent());
+        }
         self.repositories.note_first(!self.has_path);
         let said = self.side.refuse(fault);
         self.take_notes();

@@ -1,16 +1,18 @@
 //! The connections of the server, and the line of the log about each.
 
+ghost use Rattle.gtalk.specs.Talks.{no_talk};
+
 use crate::fault::Fault;
 use crate::repositories::Repositories;
 use crate::sentences::{Clean, Sentence};
 use crate::shared::Shared;
 use crate::visitor::Visitor;
-use ganswer::ServeFault;
 use gdialogue::Dialogue;
 use gevents::{End, Ended};
-use ggrammar::{Ends, MessageFault, Why};
+use ggrammar::Ends;
 use gitrepository::StoreParts;
 use gserver::{Heard, ServerReply, ServerSide};
+use gtalk::Conversation;
 use std::alloc::Global;
 use std::io::Write;
 use std::net::SocketAddr;
@@ -18,8 +20,7 @@ use std::rt::Files;
 use std::{fmt, time};
 
 // The server's side of a connection.
-type Hosted<'h, 'f, 'r, R> =
-    ServerSide<'h, Global, Repositories<'f, 'r, R>, Shared<'f, 'r, R>>;
+type Hosted<'h, 'f, 'r, R> = ServerSide<'h, Global, Repositories<'f, 'r, R>, Shared<'f, 'r, R>>;
 
 // All that a server says.
 type Reply<'f, 'r, R> = ServerReply<Global, Shared<'f, 'r, R>, StoreParts<Global>>;
@@ -35,7 +36,9 @@ pub(crate) type Held<'h, 'f, 'r, R> = Dialogue<
 pub(crate) fn begin<'h, 'f, 'r, R: Files + AllocGlobal>(
     alloc: Global,
     repositories: &'h Repositories<'f, 'r, R>,
-) -> Held<'h, 'f, 'r, R> {
+) -> Held<'h, 'f, 'r, R>
+    ensures { ⟦<Held<'h, 'f, 'r, R> as Conversation>⟧.holds result no_talk }
+{
     let side = ServerSide::new(repositories, alloc, Ends::Plain);
     Dialogue::new(Visitor::new(side, repositories))
 }
@@ -89,7 +92,7 @@ fn fault_of<R: Files + AllocGlobal>(
     Some(Fault::of(alloc, said))
 }
 
-// Why a request was refused, if one was. A client may end the connection between two requests.
+// Why a request was refused, if one was.
 fn fault_of_side<R: Files + AllocGlobal>(
     alloc: Global,
     side: &Hosted<'_, '_, '_, R>,
@@ -99,32 +102,25 @@ fn fault_of_side<R: Files + AllocGlobal>(
             return Some(fault);
         }
     }
-    match side.fault()? {
-        ServeFault::Request(
-            MessageFault {
-                frame: 0,
-                why: Why::Ended,
-            },
-        ) if side.repo().is_some() => None,
-        fault => Some(Fault::of(alloc, Sentence::Request(fault))),
-    }
+    let fault = side.fault()?;
+    Some(Fault::of(alloc, Sentence::Request(fault)))
 }
 
 // The line about a connection.
 #[derive(Clone, Copy)]
-struct Line<'l> {
+struct Line<'p, 'f> {
     address: SocketAddr,
     // The path that the client asked for; empty if it asked for none.
-    path: &'l [u8],
+    path: &'p [u8],
     // How many requests were answered.
     requests: u32,
     // How many bytes were sent.
     bytes: u64,
     took: time::Duration,
-    fault: Option<&'l Fault>,
+    fault: Option<&'f Fault>,
 }
 
-impl fmt::Display for Line<'_> {
+impl fmt::Display for Line<'_, '_> {
     fn fmt<W: fmt::Write>(&self, f: &mut fmt::Formatter<W>) -> fmt::Result {
         let address = self.address;
         let path = Clean(path_shown(self.path));

@@ -15,7 +15,7 @@ use Rattle.gserver.specs.ErrTexts.{text_packets}
 use Rattle.gserver.specs.Fetching.{SaysFetch}
 use Rattle.gserver.specs.Listings.{SaysLsAnswer}
 
--- the most requests of a connection
+-- the most requests of a connection after which another is heard
 abbrev pub max_requests : ℕ
 max_requests = 4294967295
 

@@ -19,7 +19,7 @@
 //! - Instead of an answer the packet of an error may be said. Nothing more is heard then (`Refuses`). A message that is
 //!   refused by its grammar is answered so.
 //! - Each call of [`Reply::say`](gdialogue::Reply) says something or nears the end, so a reply ends. A connection ends
-//!   after 4,294,967,295 requests at most.
+//!   after 4,294,967,296 requests at most.
 //! - An [`ErrText`] keeps as many bytes as there is room for.
 //! - No call panics, overflows or reads out of bounds, and each returns.
 //!
@@ -30,7 +30,8 @@
 //! - The packet of an error instead of any answer, with any words of the host.
 //! - A call that says few packets, and one that takes as long as its packer or its host takes.
 //! - Any packets before the packet of band 3.
-//! - Any count of requests and any fault in what [`ServerSide::requests`] and [`ServerSide::fault`] tell.
+//! - Any repository, any count of requests and any fault in what [`ServerSide::repo`], [`ServerSide::requests`] and
+//!   [`ServerSide::fault`] tell.
 //!
 //! # Only tested
 //!

@@ -25,7 +25,7 @@ use gparts::PartPacker;
 use grequest::{FetchRequest, LsRefsRequest, Request, RequestReader};
 use std::alloc::Allocator;
 
-/// The most requests of a connection.
+/// The most requests of a connection after which another is heard.
 pub const MAX_REQUESTS: u32 = u32::MAX;
 
 /// The server's end of a connection. It hears a first line, which names a repository, and then one request after the
@@ -65,7 +65,7 @@ impl<'h, A: Allocator + Copy, H, R> ServerSide<'h, A, H, R> {
         self.repo.as_ref()
     }
 
-    /// How many requests were answered, or are being answered.
+    /// How many requests were answered, or are being answered. It stays at [`MAX_REQUESTS`] if there is one more.
     pub fn requests(&self) -> u32
         ensures { result ≡ self.now.requests }
     {

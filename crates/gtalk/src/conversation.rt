@@ -24,7 +24,7 @@ pub enum Turn {
 pub enum Stop {
     /// The input ended between two packets.
     Ended,
-    /// The bytes that came are no packet, or there was no memory for them.
+    /// The bytes that came are no packet, the input ended within one, or there was no memory for them.
     Refused(LineFault),
     /// The device failed.
     Failed,

@@ -138,8 +138,8 @@ impl<C: Conversation, A: Allocator + Copy> Connection<C, A> {
 
     /// Says what is next, once all that was said before is sent.
     ///
-    /// Its only fault is [`TalkFault::Memory`], and only a first call has it. Nothing is said then, and the connection
-    /// is as it was.
+    /// Its only fault is [`TalkFault::Memory`], and only a call that takes the room has it: the first, and the next
+    /// after [`give_back`](Connection::give_back). Nothing is said then, and the connection is as it was.
     pub fn speak(&mut self) -> Result<(), TalkFault>
         requires turn { C.turn (conversation_of self.old) ≡ Turn.Speaks }
         requires all_sent { pending_of self.old ≡ [] }
@@ -162,6 +162,19 @@ impl<C: Conversation, A: Allocator + Copy> Connection<C, A> {
         self.outgoing = Some(out);
         self.sent = 0;
         Ok(())
+    }
+
+    /// Gives back the room for what is said, if all of it was sent. Room is taken again once more is said.
+    pub fn give_back(&mut self)
+        ensures moves { Moves C.holds self.old self.new [] [] }
+        ensures pending { pending_of self.new ≡ pending_of self.old }
+        ensures conversation { conversation_of self.new ≡ conversation_of self.old }
+        ensures stopped { has_stopped self.new ≡ has_stopped self.old }
+    {
+        if self.output().is_empty() {
+            self.outgoing = None;
+            self.sent = 0;
+        }
     }
 
     /// So many bytes of the output were sent.

@@ -22,6 +22,7 @@
 //! # What the contracts do not rule out
 //!
 //! - A read or a write of one byte each time.
+//! - Out of memory at any time: for bytes that come, and for what is said.
 //! - Memory that is taken before it is needed, or kept longer.
 //! - An event loop that drops a connection or its bytes: its own contract has to say so.
 //!

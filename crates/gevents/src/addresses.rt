@@ -1,0 +1,70 @@
+//! How many peers there are of each IP address.
+
+ghost use Rattle.std.specs.Prelude.{◌<◌, IfSome, vec_len};
+
+use std::alloc::{AllocError, Allocator};
+use std::net::IpAddr;
+
+/// How many peers there are of each IP address. A search looks at each address once, not at each peer.
+#[derive(Drop)]
+pub(crate) struct Addresses<A: Allocator + Copy> {
+    // No address is there twice.
+    counts: Vec<(IpAddr, usize), A>,
+}
+
+impl<A: Allocator + Copy> Addresses<A> {
+    /// No peers, which take no memory.
+    pub(crate) fn new(alloc: A) -> Addresses<A> {
+        Addresses {
+            counts: Vec::new(alloc),
+        }
+    }
+
+    /// How many peers have this address.
+    pub(crate) fn count(&self, ip: IpAddr) -> usize {
+        match self.position(ip) {
+            Some(at) => self.counts[at].1,
+            None => 0,
+        }
+    }
+
+    /// Counts a peer more. It fails only out of memory, and the peer is not counted then.
+    pub(crate) fn add(&mut self, ip: IpAddr) -> Result<(), AllocError> {
+        match self.position(ip) {
+            Some(at) => {
+                let count = self.counts[at].1;
+                self.counts[at] = (ip, count.saturating_add(1));
+                Ok(())
+            }
+            None => match self.counts.push((ip, 1)) {
+                Ok(()) => Ok(()),
+                Err(_) => Err(AllocError),
+            },
+        }
+    }
+
+    /// Counts a peer less.
+    pub(crate) fn remove(&mut self, ip: IpAddr) {
+        let Some(at) = self.position(ip) else {
+            return;
+        };
+        let count = self.counts[at].1;
+        if count > 1 {
+            self.counts[at] = (ip, count - 1);
+        } else {
+            let _ = self.counts.swap_remove(at);
+        }
+    }
+
+    // The position of an address, if a peer has it.
+    fn position(&self, ip: IpAddr) -> Option<usize>
+        ensures { IfSome result (λ at. at < vec_len self.now.counts) }
+    {
+        for at in 0..self.counts.len() {
+            if self.counts[at].0 == ip {
+                return Some(at);
+            }
+        }
+        None
+    }
+}
