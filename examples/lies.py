@@ -237,7 +237,8 @@ class Liar:
         self.said = (advert, refs, pack)
         self.socket = socket.create_server(("127.0.0.1", 0))
         self.port = self.socket.getsockname()[1]
-        threading.Thread(target=self.accept, daemon=True).start()
+        self.thread = threading.Thread(target=self.accept, daemon=True)
+        self.thread.start()
 
     def url(self):
         return f"git://127.0.0.1:{self.port}/x"
@@ -246,6 +247,9 @@ class Liar:
         return self
 
     def __exit__(self, *_):
+        # The thread ends before the socket closes: the next server's socket might get its number.
+        self.socket.shutdown(socket.SHUT_RDWR)
+        self.thread.join()
         self.socket.close()
 
     def send(self, stream, place, said):

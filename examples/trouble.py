@@ -460,8 +460,8 @@ def kill_one(what, path, base, server, refs, moment):
     ended = running.kill()
     name = f"a kill of a {what} ({type(moment).__name__.lower()} {list(vars(moment).values())[0]})"
     check(f"{name}: it was killed, or was over", ended.status in (0, -9), ended)
-    if not os.path.exists(f"{path}/HEAD"):
-        check(f"{name}: a clone alone has no HEAD", what == "clone")
+    if not all(os.path.exists(f"{path}/{part}") for part in ("HEAD", "objects", "refs")):
+        check(f"{name}: a clone alone is no repository yet", what == "clone")
         shutil.rmtree(path, ignore_errors=True)
         return
     found = refs_of(path)
