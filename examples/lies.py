@@ -168,7 +168,7 @@ def hogs():
     yield Case("bases and deltas of 254 MB", pack(ALL + entries))
 
 
-def chains(count):
+def chains(count, is_taken):
     base = last = bytes(65_536)
     entries, before = [whole("blob", base)], id_of("blob", base)
     for number in range(count):
@@ -176,7 +176,7 @@ def chains(count):
         delta = size_of(65_536) + size_of(65_536) + b"\xb0\xfa\xff" + b"\x06" + last[65_530:]
         entries.append(by_id(before, delta))
         before = id_of("blob", last)
-    yield Case(f"a chain of {count:,} deltas of 64 KiB", pack(ALL + entries), is_taken=True)
+    yield Case(f"a chain of {count:,} deltas of 64 KiB", pack(ALL + entries), is_taken=is_taken)
 
 
 def names():
@@ -199,7 +199,8 @@ def cases():
     yield from bombs(1024)
     yield from many_bombs()
     yield from hogs()
-    yield from chains(3_000)
+    yield from chains(3_000, True)
+    yield from chains(5_000, False)
     yield from names()
 
 

@@ -319,8 +319,9 @@ module _ (base delta after front : List ℕ) (base_number : ℕ) (based : IsSize
         let both = commands_are body d in
         none d.instructions body (subst (λ l. Makes base d.instructions l body) (sym both.1) d.makes) (sym both.0)
 
-    pub is_delta : base_number ≡ length base → (body : List ℕ) (is : List Instruction) → Makes base is commands body → length body ≡ number → IsDelta base delta body
-    is_delta same body is makes long = record {
+    pub is_delta : 4 ≤ length delta → base_number ≡ length base → (body : List ℕ) (is : List Instruction) → Makes base is commands body → length body ≡ number → IsDelta base delta body
+    is_delta least same body is makes long = record {
+      least = least;
       base_size = front;
       size = back;
       commands = commands;
@@ -331,12 +332,12 @@ module _ (base delta after front : List ℕ) (base_number : ℕ) (based : IsSize
       makes = makes;
     }
 
-    pub follow_delta : {T E : Type 0} (r : Result (Option T) E) (items : T → List ℕ) (most : ℕ) → base_number ≡ length base → number ≤ most
+    pub follow_delta : {T E : Type 0} (r : Result (Option T) E) (items : T → List ℕ) (most : ℕ) → 4 ≤ length delta → base_number ≡ length base → number ≤ most
         → IfOk r (λ made. MatchOption made ((is : List Instruction) (body : List ℕ) → Makes base is commands body → ¬ (length body ≡ number)) (λ v. (is : List Instruction) × Makes base is commands (items v) × (length (items v) ≡ number)))
         → IfOk r (λ made. MatchOption made ((body : List ℕ) → IsDelta base delta body → ¬ (length body ≤ most)) (λ v. IsDelta base delta (items v) × (length (items v) ≤ most)))
-    follow_delta (Err e) items most same few h = tt
-    follow_delta (Ok None) items most same few h = λ body d short. no_body h body d
-    follow_delta (Ok (Some v)) items most same few h = let n = h.2 in (is_delta same (items v) h.0 h.1 h.2, omega (arith, n, few))
+    follow_delta (Err e) items most least same few h = tt
+    follow_delta (Ok None) items most least same few h = λ body d short. no_body h body d
+    follow_delta (Ok (Some v)) items most least same few h = let n = h.2 in (is_delta least same (items v) h.0 h.1 h.2, omega (arith, n, few))
 
 pub is_nil : (l : List ℕ) → (length l == 0) ≡ true → l ≡ []
 is_nil [] h = refl

@@ -39,7 +39,8 @@
 //! - An index of version 1 is not read. One of version 2 is read only as Git writes it: no offset
 //!   below 2^31 lies in the table of 64-bit offsets. The checksum of the index itself is not
 //!   tested.
-//! - A pack of 2^31 objects or more is refused, and so is a thin pack.
+//! - A pack of 2^31 objects or more is refused, and so is a thin pack, and a chain of more than 4,095
+//!   deltas. Git makes no longer chain.
 //! - An object that a pack holds twice is accepted, and both entries are in the index. Git does so
 //!   without `--strict`. A delta by id whose base comes twice is refused, as in Git 2.39; later
 //!   versions take it.

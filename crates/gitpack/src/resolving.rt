@@ -13,11 +13,17 @@ use gitobject::{ObjectType, id_of};
 use gzlib::Inflater;
 use std::alloc::{AllocError, Allocator};
 
+// The most deltas of a chain, as in git-pack-objects(1), "--depth". Whoever reads the last object of a
+// chain reads all of it.
+const MAX_DEPTH: usize = 4_095;
+
 // An object to which deltas are applied.
 #[derive(Drop)]
 struct Base<A: Allocator + Copy> {
     kind: ObjectType,
     body: Vec<u8, A>,
+    // How many deltas made it, one of the other.
+    depth: usize,
     // Its deltas that are still to be applied.
     left: Cursor,
 }
@@ -93,8 +99,12 @@ impl<'a, A: Allocator + Copy> Resolver<'a, A> {
             return Ok(());
         }
         let body = self.text_of(place, &entry)?;
-        let kind = object.kind;
-        self.hold(Base { kind, body, left })
+        self.hold(Base {
+            kind: object.kind,
+            body,
+            depth: 0,
+            left,
+        })
     }
 
     // The bytes to which the stream of the entry at this place inflates. They are asked for once.
@@ -182,6 +192,7 @@ impl<'a, A: Allocator + Copy> Resolver<'a, A> {
         if entry.object.is_some() {
             return Err(PackFileFault::Entry(place));
         }
+        let depth = self.next_depth()?;
         self.check_held(entry.size)?;
         let delta = self.text_of(place, &entry)?;
         self.check_size(delta.as_slice())?;
@@ -197,12 +208,26 @@ impl<'a, A: Allocator + Copy> Resolver<'a, A> {
         }
         let left = self.children.of(entry.start, id);
         if self.children.peek(&left).is_some() {
-            self.hold(Base { kind, body, left })?;
+            self.hold(Base {
+                kind,
+                body,
+                depth,
+                left,
+            })?;
         }
         Ok(())
     }
 
-    // Whether so many bytes more may be held.
+    // How many deltas make the next object. It fails with `TooLarge` if they are too many.
+    fn next_depth(&self) -> Result<usize, PackFileFault> {
+        match self.bases.last() {
+            Some(base) if base.depth >= MAX_DEPTH => Err(PackFileFault::TooLarge),
+            Some(base) => Ok(base.depth.saturating_add(1)),
+            None => Ok(1),
+        }
+    }
+
+    // Fails with `TooLarge` unless so many bytes more may be held.
     fn check_held(&self, more: usize) -> Result<(), PackFileFault> {
         if self.held.saturating_add(more) > self.limits.held {
             return Err(PackFileFault::TooLarge);
