@@ -59,7 +59,7 @@ def lying_packs(folder, base):
         else:
             check(f"{case.what}: refused in a sentence", ran.status == 1 and is_sentence(ran.told), ran)
             check(f"{case.what}: no ref moves", after[0] == before[0], after[0])
-            check(f"{case.what}: nothing left behind", case.is_taken is None or after == before, set(after[1]) - set(before[1]))
+            check(f"{case.what}: nothing left behind", after == before, set(after[1]) - set(before[1]))
             check(f"{case.what}: fsck", not faults_of(path), faults_of(path))
         if case.is_cloned:
             check(f"{case.what}: cloned", clone.status == 0 and not faults_of(f"{path}-clone"), clone)

@@ -11,6 +11,8 @@ from both_ends import packet
 
 KINDS = {"commit": 1, "tree": 2, "blob": 3, "tag": 4}
 MEGABYTE = 1 << 20
+# The most deltas of a chain.
+LONGEST = 4_095
 # How many places of a pack are changed by chance.
 CHANGES = 60
 
@@ -62,7 +64,7 @@ NEW = [(TIP, b"refs/heads/new")]
 
 
 class Case:
-    """A pack, the refs that its server has, and whether it is taken; `None` where its objects may stay, but no ref may move.
+    """A pack, the refs that its server has, and whether it is taken.
 
     A clone takes what a fetch takes, unless it is said whether it does.
     """
@@ -171,7 +173,79 @@ def hogs():
     yield Case("bases and deltas of 254 MB", pack(ALL + entries))
 
 
-def chains(count):
+def copy_of(offset, size):
+    """What copies so many bytes, 255 at most, from an offset of at most 65,535 of a delta's base."""
+    return b"\x93" + struct.pack("<HB", offset, size)
+
+
+def merges(count, parents):
+    """Commits that each name one parent so many times."""
+    line = b"parent %s\n" % TIP.hex().encode()
+    for number in range(count):
+        yield large("commit", COMMIT[:46], line, parents, WHO + b"\n%d\n" % number)
+
+
+def octopuses(count):
+    """Deltas that make commits of 64 parents each, which is the most."""
+    body = COMMIT[:46] + b"parent %s\n" % TIP.hex().encode() * 64 + WHO + b"\n"
+    base, sizes = id_of("commit", body), size_of(len(body)) + size_of(len(body) + 4)
+    copies = b"\xb0" + struct.pack("<H", len(body))
+    yield whole("commit", body)
+    for number in range(count):
+        yield by_id(base, sizes + copies + b"\x04" + struct.pack(">I", number))
+
+
+def many_names(trees, names):
+    """Deltas that make trees of so many entries each, all of different names, from trees of few."""
+    entry, few = b"100644 f\0", 1_000
+    length = (len(entry) + 20) * few
+    insert = bytes([len(entry)]) + entry
+    # Ten bytes of one place, and ten of another one, name an object.
+    places = ((number % (length - 40), (number // (length - 40) * 37 + number * 7) % (length - 40)) for number in range(names))
+    copies = b"".join(insert + copy_of(one, 10) + copy_of(other, 10) for one, other in places)
+    delta = size_of(length) + size_of((len(entry) + 20) * names) + copies
+    stream = head(7, len(delta)), zlib.compress(delta)
+    chance = random.Random(7)
+    for _ in range(trees):
+        body = b"".join(entry + chance.randbytes(20) for _ in range(few))
+        yield whole("tree", body)
+        yield stream[0] + id_of("tree", body) + stream[1]
+
+
+def waiting(count):
+    """Chains of small blobs. Each has two deltas, so that it is held until its chain is applied."""
+    base = b"00000000"
+    for number in range(count // 2):
+        if number % LONGEST == 0:
+            base = b"base%04x" % (number // LONGEST)
+            yield whole("blob", base)
+        text = b"%08x" % (number + 1)
+        id, sizes = id_of("blob", base), size_of(8)
+        yield by_id(id, sizes + sizes + b"\x08" + text)
+        yield by_id(id, sizes + size_of(9) + b"\x09" + text + b"x")
+        base = text
+
+
+def last_bomb(megabytes):
+    """An object of zeros, and a delta of it, which is applied after all others."""
+    size, zeros = megabytes * MEGABYTE, hashlib.sha1(b"blob %d\0" % (megabytes * MEGABYTE))
+    for _ in range(megabytes):
+        zeros.update(bytes(MEGABYTE))
+    return [head(3, size) + zip_bomb(megabytes), by_id(zeros.digest(), size_of(size) + size_of(4) + b"\x04tiny")]
+
+
+def full_tables():
+    """Small packs of which each table is as large as it may be."""
+    yield Case("twenty merges of 1,300,000 parents", pack(ALL + list(merges(20, 1_300_000))))
+    yield Case("300,000 merges of 64 parents", pack(ALL + list(octopuses(300_000))))
+    yield Case("trees that name 4,000,000 objects", pack(ALL + list(many_names(100, 40_000))))
+    for objects, megabytes in ((1_000, 255), (524_000, 143), (1_048_000, 31)):
+        named = list(many_names(51, 40_000))
+        entries = ALL + named + list(waiting(objects - len(named))) + last_bomb(megabytes)
+        yield Case(f"{objects:,} objects, with 2,000,000 names and {megabytes} MB that are held", pack(entries))
+
+
+def chains(count, is_taken):
     base = last = bytes(65_536)
     entries, before = [whole("blob", base)], id_of("blob", base)
     for number in range(count):
@@ -179,7 +253,7 @@ def chains(count):
         delta = size_of(65_536) + size_of(65_536) + b"\xb0\xfa\xff" + b"\x06" + last[65_530:]
         entries.append(by_id(before, delta))
         before = id_of("blob", last)
-    yield Case(f"a chain of {count:,} deltas of 64 KiB", pack(ALL + entries), is_taken=True)
+    yield Case(f"a chain of {count:,} deltas of 64 KiB", pack(ALL + entries), is_taken=is_taken)
 
 
 def names():
@@ -188,13 +262,13 @@ def names():
         b"refs/heads/x/", b"refs/heads/a\tb", b"/etc/x", b"../x", b"refs/heads/a\x1b[2Jb", b"refs/heads/" + b"a" * 2000,
     ):
         yield Case(f"a ref named {name[:40]!r}", GOOD, [(TIP, name)])
-    yield Case("a ref below a ref", GOOD, [(TIP, b"refs/heads/d"), (TIP, b"refs/heads/d/e")], None)
+    yield Case("a ref below a ref", GOOD, [(TIP, b"refs/heads/d"), (TIP, b"refs/heads/d/e")])
     escape = b"refs/heads/\xc2\x9b31m"
-    yield Case("a ref below a ref, with control bytes", GOOD, [(TIP, escape), (TIP, escape + b"/e")], None)
+    yield Case("a ref below a ref, with control bytes", GOOD, [(TIP, escape), (TIP, escape + b"/e")])
     yield Case("a name that is not UTF-8", GOOD, [(TIP, b"refs/heads/\x9b31m")], is_cloned=True)
     for what, kind, body in (("tree", "tree", TREE), ("blob", "blob", BLOB)):
         yield Case(f"HEAD at a {what}", GOOD, [(id_of(kind, body), b"HEAD"), *NEW], is_taken=True, is_cloned=False)
-    yield Case("a ref below one that is here", GOOD, [(TIP, b"refs/heads/old/e")], None, is_cloned=True)
+    yield Case("a ref below one that is here", GOOD, [(TIP, b"refs/heads/old/e")], is_cloned=True)
     # Its first line counts.
     yield Case("a ref twice", GOOD, [(TIP, b"refs/heads/d"), (id_of("tree", TREE), b"refs/heads/d")], is_taken=True)
     yield Case("a branch at a tree that is not sent", GOOD, [(b"\x12" * 20, b"refs/heads/d")])
@@ -207,7 +281,9 @@ def cases():
     yield from bombs(1024)
     yield from many_bombs()
     yield from hogs()
-    yield from chains(3_000)
+    yield from full_tables()
+    yield from chains(LONGEST, True)
+    yield from chains(LONGEST + 1, False)
     yield from names()
 
 

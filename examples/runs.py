@@ -1,6 +1,8 @@
 """Runs of a program, and checks of what they bring, for the scripts that try gitrepo against trouble."""
 
 import os
+import re
+import resource
 import signal
 import subprocess
 import sys
@@ -12,6 +14,8 @@ from both_ends import ENV
 
 # The most memory of a process, in MB, and the most seconds of a run.
 MEMORY, SECONDS = 600, 90
+# The system counts a script's own memory to the runs that it begins. One with more MB than these watches its runs instead.
+WATCHED = 300
 
 
 class Checks:
@@ -76,12 +80,31 @@ def is_sentence(told):
     return told.startswith(b"gitrepo: ") and told.count(b"\n") == 1 and told.endswith(b"\n")
 
 
+def own_peak():
+    """The most memory that this script had, in MB."""
+    return resource.getrusage(resource.RUSAGE_SELF).ru_maxrss / 1024
+
+
+def peak_of(pid):
+    """The most memory that a process had so far, in MB, or 0 if it has ended."""
+    try:
+        with open(f"/proc/{pid}/status") as file:
+            found = re.search(r"^VmHWM:\s+(\d+) kB$", file.read(), re.M)
+    except OSError:
+        return 0
+    return int(found[1]) / 1024 if found else 0
+
+
 class Running:
     """A run that has begun. Its texts come through pipes, so that a limit on files is none on them."""
 
     def __init__(self, *words, **more):
         self.began = time.monotonic()
         self.process = subprocess.Popen(words, stdout=subprocess.PIPE, stderr=subprocess.PIPE, env=ENV, **more)
+        self.seen, self.watcher = 0, None
+        if own_peak() > WATCHED:
+            self.watcher = threading.Thread(target=self.watch, daemon=True)
+            self.watcher.start()
         self.texts = [b"", b""]
         pipes = self.process.stdout, self.process.stderr
         self.readers = [threading.Thread(target=self.read, args=pair, daemon=True) for pair in enumerate(pipes)]
@@ -91,6 +114,12 @@ class Running:
     def read(self, place, pipe):
         with pipe:
             self.texts[place] = pipe.read()
+
+    def watch(self):
+        """Notes its memory until it ends."""
+        while peak := peak_of(self.process.pid):
+            self.seen = max(self.seen, peak)
+            time.sleep(0.005)
 
     def is_over(self):
         """Whether it has ended. It is not waited for, so that its memory can be seen."""
@@ -113,7 +142,8 @@ class Running:
         self.process.returncode = os.waitstatus_to_exitcode(status)
         for reader in self.readers:
             reader.join()
-        return Ended(self.process.returncode, time.monotonic() - self.began, used.ru_maxrss / 1024, *self.texts)
+        memory = self.seen if self.watcher else used.ru_maxrss / 1024
+        return Ended(self.process.returncode, time.monotonic() - self.began, memory, *self.texts)
 
 
 class Ended:

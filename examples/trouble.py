@@ -168,7 +168,7 @@ def deadline(folder):
 def lying_servers(folder):
     """Names of refs that climb or are in each other's way, bombs, a long chain, and texts that are no answer."""
     copies = Copies(folder)
-    at_once(lambda case: lying_server(copies, case), itertools.chain(names(), bombs(300), chains(100)))
+    at_once(lambda case: lying_server(copies, case), itertools.chain(names(), bombs(300), chains(100, True)))
     at_once(lambda one: server_of_no_answer(copies, *one), spoken())
 
 
@@ -201,7 +201,7 @@ def judge(what, ran, cloned, path, clone, before, case=None):
         checks.refused(f"{what}, fetch", ran)
         refs = refs_of(path)
         check(f"{what}: no ref moves", refs == old, refs)
-        check(f"{what}: nothing is left", case and case.is_taken is None or files_of(path) == before)
+        check(f"{what}: nothing is left", files_of(path) == before)
     else:
         checks.within_bounds(what, ran)
     if cloned.status:
@@ -212,7 +212,7 @@ def judge(what, ran, cloned, path, clone, before, case=None):
         check(f"{what}: the clone is whole", faults_of(clone) == "", faults_of(clone))
     check(f"{what}: the repository is whole", faults_of(path) == "", faults_of(path))
     if case:
-        check(f"{what}: taken, or not", (ran.status == 0) == bool(case.is_taken), ran)
+        check(f"{what}: taken, or not", (ran.status == 0) == case.is_taken, ran)
         check(f"{what}: cloned, or not", (cloned.status == 0) == case.is_cloned, cloned)
     shutil.rmtree(clone, ignore_errors=True)
 
@@ -540,6 +540,23 @@ def changing(folder):
     print(f"a repository that changes: {done} of {CLONES} clones came through", flush=True)
 
 
+def two_clones(folder):
+    """Two clones into one directory at the same time: one is whole, and the other one is refused and leaves it alone."""
+    base = f"{folder}/two"
+    new_repository(f"{base}/r.git")
+    with Gitrepo(PROGRAM, base, "--export-all") as server:
+        for number in range(CLONES):
+            clone, what = f"{folder}/two-{number}", "two clones into one directory"
+            if number % 2:
+                os.mkdir(clone)
+            ended = [one.end() for one in [Running(*clone_words(clone, server.url("r.git"))) for _ in range(2)]]
+            refused = [one for one in ended if one.status]
+            check(f"{what}: one of them is refused", len(refused) == 1, ended)
+            for one in refused:
+                checks.refused(what, one, "exists and is not empty")
+            check(f"{what}: the other one is whole", refs_of(clone) == refs_of(f"{base}/r.git") and not faults_of(clone), ended)
+
+
 # ---- terminals
 
 
@@ -594,7 +611,7 @@ def terminals(folder):
 STEPS = {
     "silent client": silent_client, "kills": kills, "changing": changing, "lying": lying_servers, "full": full_disks,
     "closing": servers_that_close, "silent": silent_servers, "paths": paths_of_clients, "small disks": small_disks,
-    "terminals": terminals, "urls": wrong_urls,
+    "terminals": terminals, "urls": wrong_urls, "two clones": two_clones,
 }
 # This one takes a minute, and so it is only tried if it is named.
 SLOW = {"deadline": deadline}

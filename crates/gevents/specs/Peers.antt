@@ -1,11 +1,16 @@
--- A peer's connection, and the count of the bytes that were sent on it.
-use Rattle.std.specs.Prelude.{◌≡◌, [], ◌-◌, ◌^◌, ℕ, length, min, Result, Ok, Err}
-use Rattle.std.specs.Io.KnownBytes.{Appends}
+-- A peer's connection: the count of the bytes that were sent on it, what a read and a write do to it, and how it ends.
+use Rattle.std.specs.Prelude.{◌≡◌, ◌<◌, ◌⊎◌, [], ◌-◌, ◌^◌, ℕ, length, min, Result, Ok, Err, OnOk}
+use Rattle.std.specs.Io.KnownBytes.{Appends, Consumes}
 use Rattle.gpkt.specs.Change.{Change}
 use Rattle.gpkt.specs.Packets.{Bytes}
-use Rattle.gtalk.specs.Connections.{Holds, Moves}
+use Rattle.gtalk.specs.Connections.{Holds, IsDone, IsTurn, Moves, has_stopped, pending_of}
+use Rattle.gtalk.specs.Partial.{IsByBytes, IsByEnd}
 use Rattle.gtalk.specs.Talks.{Talk}
 use Rattle.gtalk.specs.declared.connection.Connection.{Connection}
+use Rattle.gtalk.specs.declared.conversation.Turn.{Turn}
+use Rattle.gtalk.specs.declared.conversation.Turn.TheVariants.{Listens}
+use Rattle.gevents.specs.declared.event.End.{End}
+use Rattle.gevents.specs.declared.event.End.TheVariants as end
 
 -- as many bytes as 64 bits count
 abbrev pub count_of : Bytes → ℕ
@@ -30,3 +35,22 @@ module _ {C A : Type 0} (holds : C → Talk → Type 0) where
     pub sent : Appends written.old written.new said
     pub moves : Moves holds old new [] said
     pub counted : length said ≡ count
+
+  -- What was read was received. Where the read did not fail, some bytes came, or the input has ended and nothing more
+  -- is heard.
+  pub record HearsOnce {E : Type 0} (old new : Connection C A) (read : Change) (result : Result Unit E) : Type 0 where
+    pub more : Bytes
+    pub received : Consumes read.old read.new more
+    pub moves : Moves holds old new more []
+    pub some : OnOk result (((0 < length more) × IsByBytes (has_stopped new)) ⊎ IsByEnd (has_stopped new))
+
+module _ {C A : Type 0} (turn : C → Turn) (connection : Connection C A) where
+  -- How it ends. Where the conversation is over, all that it said was sent. No peer from which a packet is due is given
+  -- up for what it did not take.
+  abbrev pub HasEnded : End → Type 0
+  HasEnded end.Over = IsDone turn connection × (pending_of connection ≡ [])
+  HasEnded end.Silent = IsDone turn connection × (pending_of connection ≡ [])
+  HasEnded end.Stalled = ¬ (IsTurn turn connection Listens × (pending_of connection ≡ []))
+  HasEnded end.Overdue = Unit {0}
+  HasEnded end.Lost = Unit {0}
+  HasEnded end.Memory = pending_of connection ≡ []

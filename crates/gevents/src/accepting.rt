@@ -1,5 +1,7 @@
 //! Those who connect.
 
+ghost use Rattle.std.specs.Prelude.{◌≡◌, []};
+ghost use Rattle.gtalk.specs.Connections.{pending_of};
 ghost use Rattle.gtalk.specs.Talks.{no_talk};
 
 use crate::event::{End, Event, Refusal};
@@ -88,7 +90,9 @@ impl<C: Conversation + Drop, A: Allocator + Copy> EventLoop<'_, C, A> {
     }
 
     // Takes a peer among those that are served. It has its first turn once its socket is ready.
-    fn admit(&mut self, peer: Peer<C, A>) {
+    fn admit(&mut self, peer: Peer<C, A>)
+        requires { pending_of peer.connection ≡ [] }
+    {
         let ip = peer.address.ip();
         if self.addresses.add(ip).is_err() {
             self.failed = Some(peer.end(End::Memory, self.now).0);

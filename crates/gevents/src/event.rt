@@ -1,6 +1,6 @@
 //! Events of a loop.
 
-ghost use Rattle.gevents.specs.Peers.{IsCounted};
+ghost use Rattle.gevents.specs.Peers.{HasEnded, IsCounted};
 
 use gtalk::{Connection, Conversation};
 use std::alloc::Allocator;
@@ -33,8 +33,8 @@ pub enum End {
     Memory,
 }
 
-/// A connection that has ended. Bytes came and went on it, as many as `sent` says, of which the conversation
-/// holds.
+/// A connection that has ended. Bytes came and went on it, of which the conversation holds. As many went as `sent`
+/// says, and the connection is in the state of its `end` ([`laws`](Ended::laws)).
 #[derive(Drop)]
 pub struct Ended<C: Conversation, A: Allocator + Copy> {
     /// The connection, as it was left.
@@ -48,6 +48,17 @@ pub struct Ended<C: Conversation, A: Allocator + Copy> {
     /// How long it took, from the accept on.
     pub took: Duration,
     ghost held: { ∥ IsCounted C.holds connection sent ∥₁ },
+    ghost ended: { ∥ HasEnded C.turn connection end ∥₁ },
+}
+
+impl<C: Conversation, A: Allocator + Copy> Ended<C, A> {
+    /// A law: what is true of each connection that has ended.
+    pub fn laws(&self)
+        ensures held { ∥ IsCounted C.holds self.now.connection self.now.sent ∥₁ }
+        ensures ended { ∥ HasEnded C.turn self.now.connection self.now.end ∥₁ }
+    {
+        let _ = &self.sent;
+    }
 }
 
 /// An event of a loop.

@@ -23,14 +23,23 @@
 //!
 //! - A connection that has ended is one of its conversation ([`Ended`]). Bytes came and bytes were sent of which the
 //!   connection holds (`gtalk`), and the count of those that were sent is right.
+//! - How a connection ended fits its state (`HasEnded` in `specs/Peers.antt`). After `Over` and `Silent` the
+//!   conversation is over and nothing waits to be sent. After `Memory` nothing waits either. `Stalled` is no
+//!   peer that only has to send.
+//! - A turn that ends the connection of a peer hands out that very connection, with its address, its count and its end
+//!   (`HandsOut` in `specs/Turns.antt`).
 //! - Over any reader: the bytes of one read are received, no further than the packet that is coming, and
-//!   the end of the input only at its end. Over any writer: the bytes that one write took count as sent.
+//!   the end of the input only at its end. A read that does not fail receives a byte at least, or that end
+//!   (`HearsOnce`). The conversation does not hear then that its device failed.
+//! - Over any writer: the bytes that one write took count as sent, and only these are gone from those that wait.
+//! - The one function by which a conversation hears that its device failed does tell it so. No clause says when it
+//!   is called.
 //! - No call panics, overflows or reads out of bounds, and each returns.
 //!
 //! # Only tested
 //!
 //! All that sockets and the clock do: who is accepted and who is refused, that each ready peer has its
-//! turn, and when a peer is given up (`examples/many-clients.py`).
+//! turn, and when a peer is given up. No program of this repository uses the loop yet.
 //!
 //! # What the contracts do not rule out
 //!
@@ -38,9 +47,13 @@
 //!   are those of its socket, as one says of each read and write over any reader and writer.
 //! - A peer might never have its turn, or be given up at once. A connection might never come back.
 //! - The loop might refuse every peer, fail, or end at once. It might send nothing to a peer that is refused.
-//! - A loop might spin, wait for a peer to which bytes are still to be sent, or end such a connection as if it
-//!   were over. It might never tell a conversation that its peer was given up.
-//! - The address of a peer, how a connection ended and how long it took have no clause.
+//! - A loop might spin, or wait for a peer to which bytes are still to be sent. It might ask a socket to write
+//!   nothing, and take that for the end.
+//! - It might give up a peer at any time, or never. Any connection might be called `Lost` or `Overdue`, and one that is
+//!   over `Silent`.
+//! - A conversation that is begun might be dropped, and so might a connection between two turns.
+//! - How long a connection took has no clause. No clause says that the address of a peer is the one that
+//!   [`Event::Connected`] named.
 //!
 //! # Stands on
 //!

@@ -1,11 +1,13 @@
 //! The bytes of one peer, on a socket that does not block.
 
-ghost use Rattle.std.specs.Prelude.{◌≡◌, ◌<◌, ◌≤◌, [], Ok, IfOk, OnErr, length, take};
+ghost use Rattle.std.specs.Prelude.{◌≡◌, ◌<◌, ◌≤◌, [], Ok, IfOk, OnErr, Some, drop, length, take};
 ghost use Rattle.std.specs.Io.KnownBytes.{Consumes, IsAtEnd, Keeps};
 ghost use Rattle.gpkt.specs.Change.{change_of};
-ghost use Rattle.gtalk.specs.Connections.{HearsRead, IsTurn, has_stopped, pending_of};
+ghost use Rattle.gtalk.specs.Connections.{IsTurn, conversation_of, has_stopped, pending_of};
 ghost use Rattle.gtalk.specs.Partial.{IsByEnd};
-ghost use Rattle.gevents.specs.Peers.{SendsCounted, written_count};
+ghost use Rattle.gtalk.specs.declared.conversation.Stop.TheVariants as stop;
+ghost use Rattle.gevents.specs.Peers.{HasEnded, HearsOnce, SendsCounted, written_count};
+ghost use Rattle.gevents.specs.Turns.{EndsBy, EndsByMove, IsEndOf, LosesAtMost};
 
 use crate::event::{End, Ended};
 use crate::limits::Limits;
@@ -45,7 +47,9 @@ enum Move {
 
 impl<C: Conversation, A: Allocator + Copy> Peer<C, A> {
     /// Moves bytes until the socket would block, or the connection has ended.
-    pub(crate) fn advance(&mut self, now: Instant, limits: &Limits) -> After {
+    pub(crate) fn advance(&mut self, now: Instant, limits: &Limits) -> After
+        ensures { EndsBy C.turn self.new.connection result }
+    {
         for _ in 0..MOVES {
             match self.step(now, limits) {
                 Move::Moved => {}
@@ -58,7 +62,9 @@ impl<C: Conversation, A: Allocator + Copy> Peer<C, A> {
 
     /// Gives the peer up, if it had its time. It has a turn before that, since its socket may be ready and not be
     /// reported yet.
-    pub(crate) fn give_up(&mut self, now: Instant, limits: &Limits) -> After {
+    pub(crate) fn give_up(&mut self, now: Instant, limits: &Limits) -> After
+        ensures { EndsBy C.turn self.new.connection result }
+    {
         if self.patience.is_overdue(now, limits, self.sent) {
             return After::Ends(End::Overdue);
         }
@@ -73,12 +79,15 @@ impl<C: Conversation, A: Allocator + Copy> Peer<C, A> {
     }
 
     // Gives up a peer that had its time. If it is listened to, the conversation may say a last word.
-    fn give_up_late(&mut self, now: Instant, limits: &Limits) -> After {
+    fn give_up_late(&mut self, now: Instant, limits: &Limits) -> After
+        ensures { EndsBy C.turn self.new.connection result }
+    {
         if !self.connection.output().is_empty() {
             return After::Ends(End::Stalled);
         }
-        if !matches!(self.connection.turn(), Turn::Listens) {
-            return After::Ends(End::Stalled);
+        match self.connection.turn() {
+            Turn::Listens => {}
+            Turn::Speaks | Turn::Done => return After::Ends(End::Stalled),
         }
         self.was_silent = true;
         self.fail();
@@ -86,7 +95,10 @@ impl<C: Conversation, A: Allocator + Copy> Peer<C, A> {
     }
 
     /// The connection, as it is handed back, and the socket.
-    pub(crate) fn end(self, end: End, now: Instant) -> (Ended<C, A>, TcpStream) {
+    pub(crate) fn end(self, end: End, now: Instant) -> (Ended<C, A>, TcpStream)
+        requires { HasEnded C.turn self.connection end }
+        ensures { IsEndOf self end result.0 }
+    {
         let Peer {
             stream,
             address,
@@ -107,7 +119,9 @@ impl<C: Conversation, A: Allocator + Copy> Peer<C, A> {
     }
 
     // Moves bytes once.
-    fn step(&mut self, now: Instant, limits: &Limits) -> Move {
+    fn step(&mut self, now: Instant, limits: &Limits) -> Move
+        ensures { EndsByMove C.turn self.new.connection result }
+    {
         if !self.connection.output().is_empty() {
             return self.write(now, limits);
         }
@@ -119,7 +133,9 @@ impl<C: Conversation, A: Allocator + Copy> Peer<C, A> {
         }
     }
 
-    fn write(&mut self, now: Instant, limits: &Limits) -> Move {
+    fn write(&mut self, now: Instant, limits: &Limits) -> Move
+        ensures { LosesAtMost result }
+    {
         match self.write_once() {
             Ok(0) => Move::Ended(End::Lost),
             Ok(_) => {
@@ -140,6 +156,7 @@ impl<C: Conversation, A: Allocator + Copy> Peer<C, A> {
     fn speak(&mut self, now: Instant, limits: &Limits) -> Move
         requires turn { IsTurn C.turn self.old.connection Turn.Speaks }
         requires all_sent { pending_of self.old.connection ≡ [] }
+        ensures { EndsByMove C.turn self.new.connection result }
     {
         self.patience.speaks(now, limits);
         match self.connection.speak() {
@@ -150,6 +167,7 @@ impl<C: Conversation, A: Allocator + Copy> Peer<C, A> {
 
     fn read(&mut self, now: Instant, limits: &Limits) -> Move
         requires { IsTurn C.turn self.old.connection Turn.Listens }
+        ensures { LosesAtMost result }
     {
         self.patience.listens(now, limits);
         match self.read_once() {
@@ -183,6 +201,7 @@ impl<C: Conversation, A: Allocator + Copy> Peer<C, A> {
     // Has the conversation hear that nothing more comes.
     fn fail(&mut self)
         requires { IsTurn C.turn self.old.connection Turn.Listens }
+        ensures { has_stopped self.new.connection ≡ Some stop.Failed }
     {
         self.connection.receive_failure();
     }
@@ -194,7 +213,9 @@ fn is_passing(kind: ErrorKind) -> bool {
 }
 
 // The move that failed so.
-fn failed(kind: ErrorKind) -> Move {
+fn failed(kind: ErrorKind) -> Move
+    ensures { LosesAtMost result }
+{
     match kind {
         ErrorKind::WouldBlock => Move::Blocked,
         ErrorKind::Interrupted => Move::Moved,
@@ -212,13 +233,17 @@ fn written_count(written: &io::Result<usize>) -> usize
     }
 }
 
-// Writes once.
+// Writes once. So many bytes as the writer took are gone from those that wait; if it failed, all are still there.
 fn write_some<C: Conversation, A: Allocator + Copy, W: Write>(
     connection: &mut Connection<C, A>,
     writer: &mut W,
 ) -> io::Result<usize>
-    ensures { SendsCounted C.holds connection.old connection.new
+    ensures sends { SendsCounted C.holds connection.old connection.new
         (change_of W.contents writer.old writer.new) (written_count result) }
+    ensures pending { pending_of connection.new
+        ≡ drop (written_count result) (pending_of connection.old) }
+    ensures conversation { conversation_of connection.new ≡ conversation_of connection.old }
+    ensures stopped { has_stopped connection.new ≡ has_stopped connection.old }
 {
     match writer.write(connection.output()) {
         Ok(count) => {
@@ -229,14 +254,14 @@ fn write_some<C: Conversation, A: Allocator + Copy, W: Write>(
     }
 }
 
-// Reads once, and no further than the packet that is coming.
+// Reads once, and no further than the packet that is coming. Bytes are received, or the end of the input is.
 fn read_some<C: Conversation, A: Allocator + Copy, R: Read>(
     connection: &mut Connection<C, A>,
     reader: &mut R,
 ) -> io::Result<()>
     requires { IsTurn C.turn connection.old Turn.Listens }
-    ensures hears { HearsRead C.holds connection.old connection.new
-        (change_of R.remaining reader.old reader.new) }
+    ensures hears { HearsOnce C.holds connection.old connection.new
+        (change_of R.remaining reader.old reader.new) result }
     ensures end { IsByEnd (has_stopped connection.new) → IsAtEnd (R.remaining reader.new) }
     ensures err { OnErr result (connection.new ≡ connection.old) }
 {

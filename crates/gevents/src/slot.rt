@@ -1,15 +1,21 @@
 //! Those that are served.
 
+ghost use Rattle.slab.specs.Slab.{get};
+ghost use Rattle.gevents.specs.Turns.{EndsAt, EndsSlot, HandsOut, HandsOutAfter, ended_in};
+
 use crate::event::{End, Ended, Event};
 use crate::event_loop::EventLoop;
 use crate::leaver::Leaver;
+use crate::limits::Limits;
 use crate::moving::After;
 use crate::peer::Peer;
 use gtalk::Conversation;
 use mio::net::TcpStream;
 use mio::{Interest, Token};
+use slab::Slab;
 use std::alloc::Allocator;
 use std::net::Shutdown;
+use std::time::Instant;
 
 // The most peers that have time to close their ends.
 const LEAVERS: u32 = 256;
@@ -30,40 +36,62 @@ impl<C: Conversation, A: Allocator + Copy> Slot<C, A> {
             Slot::Leaves(leaver) => &mut leaver.stream,
         }
     }
+
+    // Gives it its turn.
+    fn advance(&mut self, now: Instant, limits: &Limits) -> After
+        ensures { EndsSlot C.turn self.new result }
+    {
+        match self {
+            Slot::Talks(peer) => peer.advance(now, limits),
+            Slot::Leaves(leaver) => leaver.advance(),
+        }
+    }
+
+    // Gives it up, if it had its time.
+    fn give_up(&mut self, now: Instant, limits: &Limits) -> After
+        ensures { EndsSlot C.turn self.new result }
+    {
+        match self {
+            Slot::Talks(peer) => peer.give_up(now, limits),
+            Slot::Leaves(leaver) => leaver.give_up(now),
+        }
+    }
 }
 
 impl<C: Conversation + Drop, A: Allocator + Copy> EventLoop<'_, C, A> {
     /// Gives a socket its turn.
     pub(crate) fn advance(&mut self, key: usize) -> Option<Event<C, A>> {
-        let after = match self.slots.get_mut(key) {
-            Some(Slot::Talks(peer)) => peer.advance(self.now, self.limits),
-            Some(Slot::Leaves(leaver)) => leaver.advance(),
-            None => After::Waits,
-        };
+        let after = advance_at(&mut self.slots, key, self.now, self.limits);
         self.settle(key, after)
     }
 
     /// Gives one up, if it had its time.
     pub(crate) fn give_up_one(&mut self, key: usize) -> Option<Event<C, A>> {
-        let after = match self.slots.get_mut(key) {
-            Some(Slot::Talks(peer)) => peer.give_up(self.now, self.limits),
-            Some(Slot::Leaves(leaver)) => leaver.give_up(self.now),
-            None => After::Waits,
-        };
+        let after = give_up_at(&mut self.slots, key, self.now, self.limits);
         self.settle(key, after)
     }
 
     // Ends a turn, or the connection.
-    fn settle(&mut self, key: usize, after: After) -> Option<Event<C, A>> {
-        let ended = match after {
+    fn settle(&mut self, key: usize, after: After) -> Option<Event<C, A>>
+        requires { EndsAt C.turn (get self.old.slots key) after }
+        ensures { HandsOutAfter (get self.old.slots key) after (ended_in result) }
+    {
+        match self.settled(key, after) {
+            Some(ended) => Some(Event::Ended(ended)),
+            None => None,
+        }
+    }
+
+    // The connection that has ended with a turn.
+    fn settled(&mut self, key: usize, after: After) -> Option<Ended<C, A>>
+        requires { EndsAt C.turn (get self.old.slots key) after }
+        ensures { HandsOutAfter (get self.old.slots key) after result }
+    {
+        match after {
             After::Waits => None,
             After::GoesOn if self.watch(key, false) => None,
             After::GoesOn => self.part_with(key, End::Lost),
             After::Ends(end) => self.part_with(key, end),
-        };
-        match ended {
-            Some(ended) => Some(Event::Ended(ended)),
-            None => None,
         }
     }
 
@@ -83,7 +111,10 @@ impl<C: Conversation + Drop, A: Allocator + Copy> EventLoop<'_, C, A> {
     }
 
     /// Parts with one. A peer with which the conversation came to its end has time to close its end.
-    pub(crate) fn part_with(&mut self, key: usize, end: End) -> Option<Ended<C, A>> {
+    pub(crate) fn part_with(&mut self, key: usize, end: End) -> Option<Ended<C, A>>
+        requires { EndsAt C.turn (get self.old.slots key) (After.Ends end) }
+        ensures { HandsOut (get self.old.slots key) end result }
+    {
         match self.slots.try_remove(key) {
             Some(Slot::Talks(peer)) => {
                 self.addresses.remove(peer.address.ip());
@@ -115,5 +146,35 @@ impl<C: Conversation + Drop, A: Allocator + Copy> EventLoop<'_, C, A> {
                 let _ = self.slots.try_remove(key);
             }
         }
+    }
+}
+
+// Gives the one at a key its turn.
+fn advance_at<C: Conversation, A: Allocator + Copy>(
+    slots: &mut Slab<Slot<C, A>, A>,
+    key: usize,
+    now: Instant,
+    limits: &Limits,
+) -> After
+    ensures { EndsAt C.turn (get slots.new key) result }
+{
+    match slots.get_mut(key) {
+        Some(slot) => slot.advance(now, limits),
+        None => After::Waits,
+    }
+}
+
+// Gives up the one at a key, if it had its time.
+fn give_up_at<C: Conversation, A: Allocator + Copy>(
+    slots: &mut Slab<Slot<C, A>, A>,
+    key: usize,
+    now: Instant,
+    limits: &Limits,
+) -> After
+    ensures { EndsAt C.turn (get slots.new key) result }
+{
+    match slots.get_mut(key) {
+        Some(slot) => slot.give_up(now, limits),
+        None => After::Waits,
     }
 }

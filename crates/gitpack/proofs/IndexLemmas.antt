@@ -79,7 +79,7 @@ least : (x : ℕ) → ◌≡◌ {A = ℕ} (cond (nat_eq x 0) 1 0) (cond (nat_le 
 least x = grind (arith, nat_tests)
 
 -- a count, entry by entry
-counted-cons : (test : IndexEntry → Bool) (e : IndexEntry) (entries : List IndexEntry) → count_by test (e ∷ entries) ≡ cond (test e) 1 0 + count_by test entries
+pub counted-cons : (test : IndexEntry → Bool) (e : IndexEntry) (entries : List IndexEntry) → count_by test (e ∷ entries) ≡ cond (test e) 1 0 + count_by test entries
 counted-cons test e entries = sum_by-cons (λ x. cond (test x) 1 0) e entries
 
 with_least : (entries : List IndexEntry) → ids_beginning 0 entries ≡ ids_within 0 entries

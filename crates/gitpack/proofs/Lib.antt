@@ -4,3 +4,4 @@ pub mod HeadLemmas
 pub mod DeltaLemmas
 pub mod IndexLemmas
 pub mod SortLemmas
+pub mod RowLemmas

@@ -1,5 +1,5 @@
 -- The order of the lines of a pack index.
-use Rattle.std.proofs.Common.{◌≡◌, ◌≢◌, ℕ, zero, suc, ◌+◌, ◌<◌, ◌≤◌, true, false, Bool, not, IsTrue, List, length, get_or, All, Err, ◌⊎◌, inl, inr, refl, sym, ap, ◌∙◌, arith, rules}
+use Rattle.std.proofs.Common.{◌≡◌, ◌≢◌, ℕ, zero, suc, ◌+◌, ◌<◌, ◌≤◌, true, false, Bool, not, IsTrue, List, [], ◌∷◌, length, get_or, map, All, Err, ◌⊎◌, inl, inr, refl, sym, ap, ◌∙◌, arith, rules}
 use Rattle.std.specs.Cmp.{IsStrictWeakOrder, IsTotalOrder}
 use Rattle.std.specs.Cmp.Rules.{comparing}
 use Rattle.std.specs.List.{HoldsAt, IsAllAdjacentAnswer}
@@ -7,11 +7,16 @@ use Rattle.std.specs.List.Sorted.{IsBinarySearchResult, IsSortedByKey}
 use Rattle.std.specs.Ordering.{is_lt, ordering_reverse, ordering_then}
 use Rattle.std.specs.declared.cmp.Ordering.{Ordering}
 use Rattle.std.specs.declared.cmp.Ordering.TheVariants.{Less, Equal, Greater}
+use Rattle.std.proofs.lemmas.Bool.{false≢true}
+use Rattle.std.proofs.lemmas.List.{length-map}
+use Rattle.std.proofs.lemmas.List.Elements.{All-map}
 use Rattle.std.proofs.lemmas.List.Sorted.{ranks_by, searchable_from_sorted}
 use Rattle.std.proofs.lemmas.Map.Lookups.{exact_bytes}
+use Rattle.gitobject.specs.declared.types.ObjectType.TheVariants.{Blob}
 use Rattle.gname.specs.Ids.{Id, id_cmp}
-use Rattle.gitpack.specs.Indexes.{entry_id, object_id}
+use Rattle.gitpack.specs.Indexes.{HasText, Indexed, IsIndexed, IsLine, entry_id, index_of, line_of, object_id}
 use Rattle.gitpack.specs.declared.index.IndexEntry.{IndexEntry}
+use Rattle.gitpack.specs.declared.indexing.IndexedEntry.{IndexedEntry}
 
 not_true : (b : Bool) → true ≡ not b → b ≡ false
 not_true true h = cc
@@ -20,6 +25,17 @@ not_true false h = refl
 pub sorted_from_adjacent : (entries : List IndexEntry) (r : Bool) → IsTrue r → IsAllAdjacentAnswer (λ x y b. b ≡ not (is_lt (id_cmp y.id x.id))) entries r → IsSortedByKey entry_id id_cmp entries
 sorted_from_adjacent entries true is h = λ k d low high. not_true (is_lt (id_cmp (entry_id (get_or entries (k + 1) d)) (entry_id (get_or entries k d)))) (h k d high)
 sorted_from_adjacent entries false is h = cc
+
+no_line : IndexEntry
+no_line = record { id = []; crc = 0; offset = 0 }
+
+pub adjacent_from_sorted : (entries : List IndexEntry) (r : Bool) → IsAllAdjacentAnswer (λ x y b. b ≡ not (is_lt (id_cmp y.id x.id))) entries r → IsSortedByKey entry_id id_cmp entries → IsTrue r
+adjacent_from_sorted entries true h sorted = refl
+adjacent_from_sorted entries false h sorted =
+    let k = h.0 in
+    let up = sorted k no_line (omega arith) h.1 in
+    let down = h.2 no_line in
+    absurd (false≢true (down ∙ ap not up))
 
 -- ---- ids that are the same
 
@@ -67,3 +83,32 @@ module _ {X : Type 0} (key : X → Id) (entries : List X) (id : Id) (place : ℕ
 
 pub object_order : IsStrictWeakOrder (λ x y. is_lt (id_cmp (object_id x) (object_id y)))
 object_order = ranks_by ids_ordered object_id
+
+-- ---- the index of a pack
+
+no_object : IndexedEntry
+no_object = record { entry = no_line; kind = Blob }
+
+line_at : (objects : List IndexedEntry) (k : ℕ) (d : IndexEntry) (e : IndexedEntry) → k < length objects → get_or (map line_of objects) k d ≡ line_of (get_or objects k e)
+line_at [] k d e inside = absurd (omega (arith, inside))
+line_at (o ∷ objects) zero d e inside = refl
+line_at (o ∷ objects) (suc k) d e inside = line_at objects k d e (omega (arith, inside))
+
+sorted_lines : (objects : List IndexedEntry) → IsSortedByKey object_id id_cmp objects → IsSortedByKey entry_id id_cmp (map line_of objects)
+sorted_lines objects sorted = λ k d low high.
+    let more : k + 1 < length objects = omega (arith, high, length-map objects line_of) in
+    let next = line_at objects (k + 1) d no_object more in
+    let here = line_at objects k d no_object (omega (arith, more)) in
+    ap (λ e. is_lt (id_cmp (entry_id e) (entry_id (get_or (map line_of objects) k d)))) next
+    ∙ ap (λ e. is_lt (id_cmp (entry_id (line_of (get_or objects (k + 1) no_object))) (entry_id e))) here
+    ∙ sorted k no_object low more
+
+pub has_text : (pack : Indexed) → IsIndexed pack → HasText (index_of pack)
+has_text pack is = record {
+  entries = record {
+    lines = All-map IsLine line_of pack.entries is.objects.lines;
+    sorted = sorted_lines pack.entries is.objects.sorted;
+    few = let few = is.objects.few in omega (arith, few, length-map pack.entries line_of);
+  };
+  checksum = is.checksum;
+}

@@ -1,10 +1,11 @@
 -- The pack index of version 2 (gitformat-pack(5), "Version 2 pack-*.idx files support packs larger than 4 GiB").
-use Rattle.std.specs.Prelude.{◌≡◌, ℕ, zero, suc, ◌+◌, ◌<◌, ◌^◌, Bool, if◌then◌else◌, nat_le, nat_lt, List, [], ◌∷◌, ◌++◌, codes, length, slice_index, count_by, map}
+use Rattle.std.specs.Prelude.{◌≡◌, ℕ, zero, suc, ◌+◌, ◌<◌, ◌^◌, Bool, if◌then◌else◌, nat_le, nat_lt, List, [], ◌∷◌, ◌++◌, codes, length, slice_index, count_by, map, All, MatchOption, Option}
 use Rattle.std.specs.List.{flat_map}
 use Rattle.std.specs.List.Sorted.{IsSortedByKey}
 use Rattle.std.specs.Int.{w32, w64, to_be_bytes}
 use Rattle.sha1.specs.Sha1.{sha1}
-use Rattle.gname.specs.Ids.{Id, id_cmp}
+use Rattle.gname.specs.Ids.{Id, IsIdOf, id_cmp}
+use Rattle.gname.specs.declared.formats.Format.TheVariants.{Sha1}
 use Rattle.gitpack.specs.declared.index.IndexEntry.{IndexEntry}
 use Rattle.gitpack.specs.declared.indexing.IndexedEntry.{IndexedEntry}
 
@@ -16,10 +17,22 @@ pub record Index : Type 0 where
 abbrev pub entry_id : IndexEntry → Id
 entry_id e = e.id
 
--- no id is less than the one before, and the lines are few enough to be numbered in 31 bits
+-- the id of a line is one of SHA-1, its CRC-32 has 32 bits, and its offset has 64
+pub record IsLine (e : IndexEntry) : Type 0 where
+  pub id : IsIdOf Sha1 e.id
+  pub crc : e.crc < 2 ^ 32
+  pub offset : e.offset < 2 ^ 64
+
+-- each is a line, no id is less than the one before, and the lines are few enough to be numbered in 31 bits
 pub record AreEntries (entries : List IndexEntry) : Type 0 where
+  pub lines : All IsLine entries
   pub sorted : IsSortedByKey entry_id id_cmp entries
   pub few : length entries < 2 ^ 31
+
+-- an index that has a text
+pub record HasText (index : Index) : Type 0 where
+  pub entries : AreEntries index.entries
+  pub checksum : IsIdOf Sha1 index.checksum
 
 -- ---- the tables
 
@@ -62,11 +75,15 @@ short_offsets longs (e ∷ entries) =
 abbrev pub long_bytes : IndexEntry → List ℕ
 long_bytes e = if is_short e then [] else to_be_bytes w64 e.offset
 
+-- the signature, the version and the tables of these lines
+abbrev pub index_tables : List IndexEntry → List ℕ
+index_tables entries =
+    index_header ++ fan_out 256 entries ++ flat_map id_bytes entries ++ flat_map crc_bytes entries
+    ++ short_offsets 0 entries ++ flat_map long_bytes entries
+
 -- the text of an index without its own checksum
 abbrev pub index_body : Index → List ℕ
-index_body index =
-    index_header ++ fan_out 256 index.entries ++ flat_map id_bytes index.entries ++ flat_map crc_bytes index.entries
-    ++ short_offsets 0 index.entries ++ flat_map long_bytes index.entries ++ index.checksum
+index_body index = index_tables index.entries ++ index.checksum
 
 -- its whole text: the SHA-1 of all bytes before comes last
 abbrev pub index_text : Index → List ℕ
@@ -77,6 +94,14 @@ pub record IsIndex (index : Index) (text : List ℕ) : Type 0 where
   pub own : List ℕ
   pub long : length own ≡ 20
   pub parts : text ≡ index_body index ++ own
+
+-- no index has this text
+abbrev pub IsNoIndex : List ℕ → Type 0
+IsNoIndex text = (index : Index) → HasText index → ¬ (IsIndex index text)
+
+-- what reading a text answers: an index that has this text, or nothing if there is none
+abbrev pub ReadsIndex : List ℕ → Option Index → Type 0
+ReadsIndex text found = MatchOption found (IsNoIndex text) (λ index. HasText index × IsIndex index text)
 
 -- ---- a pack that is indexed
 
@@ -92,10 +117,16 @@ object_id e = e.entry.id
 abbrev pub line_of : IndexedEntry → IndexEntry
 line_of e = e.entry
 
--- no id is less than the one before, and the objects are few enough for an index
+-- each has a line, no id is less than the one before, and the objects are few enough for an index
 pub record AreObjects (entries : List IndexedEntry) : Type 0 where
+  pub lines : All (λ e. IsLine (line_of e)) entries
   pub sorted : IsSortedByKey object_id id_cmp entries
   pub few : length entries < 2 ^ 31
+
+-- a pack that has an index
+pub record IsIndexed (pack : Indexed) : Type 0 where
+  pub objects : AreObjects pack.entries
+  pub checksum : IsIdOf Sha1 pack.checksum
 
 -- the index of the pack
 abbrev pub index_of : Indexed → Index

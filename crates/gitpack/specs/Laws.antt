@@ -1,6 +1,7 @@
 -- What follows from the definitions of packs.
-use Rattle.std.specs.Prelude.{◌≡◌, ℕ, List, ◌++◌}
+use Rattle.std.specs.Prelude.{◌≡◌, ℕ, List, ◌++◌, Option, Some}
 use Rattle.gitpack.specs.Entries.{IsHead}
+use Rattle.gitpack.specs.Indexes.{HasText, Index, IsIndex, ReadsIndex, index_text}
 use Rattle.gitpack.specs.declared.entry.EntryForm.{EntryForm}
 
 -- bytes begin with one head: what is written is read again, whatever comes after it
@@ -9,3 +10,11 @@ HeadsAreOne =
     (form other_form : EntryForm) (size other_size : ℕ) (head other rest more : List ℕ)
     → IsHead form size head → IsHead other_form other_size other → head ++ rest ≡ other ++ more
     → (form ≡ other_form) × (size ≡ other_size) × (head ≡ other)
+
+-- a text is the text of one index
+abbrev pub IndexesAreOne : Type 0
+IndexesAreOne = (text : List ℕ) (a b : Index) → HasText a → HasText b → IsIndex a text → IsIndex b text → a ≡ b
+
+-- the text that is written of an index is read as that index, and is never refused
+abbrev pub IndexesReadBack : Type 0
+IndexesReadBack = (index : Index) (found : Option Index) → HasText index → ReadsIndex (index_text index) found → found ≡ Some index

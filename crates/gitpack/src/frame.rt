@@ -1,6 +1,8 @@
 //! The header and the trailer of a pack.
 
 ghost use Rattle.std.specs.Prelude.{◌≡◌, ◌-◌, ◌++◌, ◌↔◌, [], List, ℕ, IfSome, IsTrue, OnOk, length, take};
+ghost use Rattle.gname.specs.Ids.{IsIdOf};
+ghost use Rattle.gname.specs.declared.formats.Format.TheVariants as formats;
 ghost use Rattle.gitpack.specs.Packs.{IsFramed, pack_header, with_trailer};
 ghost use Rattle.sha1.specs.Sha1.{sha1};
 
@@ -79,6 +81,7 @@ impl<A: Allocator + Copy> PackBytes<A> {
     pub(crate) fn finish(self) -> Option<FramedPack<A>>
         ensures bytes { IfSome result (λ pack. pack.bytes.items ≡ self) }
         ensures frame { IfSome result (λ pack. IsFramed pack.count pack.trailer self) }
+        ensures id { IfSome result (λ pack. IsIdOf formats.Sha1 pack.trailer) }
     {
         let PackBytes { bytes, hasher } = self;
         let sum = hasher.finalize();
@@ -112,7 +115,8 @@ pub(crate) fn body_of(pack: &[u8]) -> &[u8] {
 // It is `None` if the trailer is another one, or if the pack begins with no header.
 fn frame_of(pack: &[u8], sum: &[u8; ID_BYTES]) -> Option<(u32, Oid)>
     requires { sum.now ≡ sha1 (take (length pack.now - 20) pack.now) }
-    ensures { IfSome result (λ frame. IsFramed frame.0 frame.1 pack.now) }
+    ensures frame { IfSome result (λ frame. IsFramed frame.0 frame.1 pack.now) }
+    ensures id { IfSome result (λ frame. IsIdOf formats.Sha1 frame.1) }
 {
     let Some((body, trailer)) = split_trailer(pack, sum) else {
         return None;
@@ -126,8 +130,9 @@ fn frame_of(pack: &[u8], sum: &[u8; ID_BYTES]) -> Option<(u32, Oid)>
 // The bytes of a pack before its trailer, and the trailer; `None` if it is not their SHA-1.
 fn split_trailer<'p>(pack: &'p [u8], sum: &[u8; ID_BYTES]) -> Option<(&'p [u8], Oid)>
     requires { sum.now ≡ sha1 (take (length pack.now - 20) pack.now) }
-    ensures { IfSome result (λ parts. (parts.1 ≡ sha1 parts.0.now)
+    ensures parts { IfSome result (λ parts. (parts.1 ≡ sha1 parts.0.now)
         × (pack.now ≡ with_trailer parts.0.now)) }
+    ensures id { IfSome result (λ parts. IsIdOf formats.Sha1 parts.1) }
 {
     let Some((body, trailer)) = pack.split_last_chunk::<ID_BYTES>() else {
         return None;

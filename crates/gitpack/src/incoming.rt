@@ -1,6 +1,7 @@
 //! A pack that is indexed as it comes.
 
-ghost use Rattle.std.specs.Prelude.{◌≡◌, ◌++◌, [], ℕ, IfOk, OnOk};
+ghost use Rattle.std.specs.Prelude.{◌≡◌, ◌++◌, [], ℕ, All, IfOk, OnOk};
+ghost use Rattle.gitpack.specs.Indexes.{IsLine, line_of};
 ghost use Rattle.gitpack.specs.Packs.{IsFramed};
 
 use crate::fault::PackFileFault;
@@ -84,7 +85,9 @@ fn objects_of<A: Allocator + Copy, V: ObjectVisitor>(
     scanner: Scanner<A>,
     pack: &FramedPack<A>,
     visitor: &mut V,
-) -> Result<Vec<IndexedEntry, A>, PackFileFault> {
+) -> Result<Vec<IndexedEntry, A>, PackFileFault>
+    ensures { IfOk result (λ objects. All (λ e. IsLine (line_of e)) objects.items) }
+{
     let bytes = pack.bytes.as_slice();
     let scanned = scanner.finish(body_of(bytes), pack.count, visitor)?;
     let mut resolver = Resolver::new(bytes, scanned)?;

@@ -1,8 +1,8 @@
 //! The pack index of version 2 (gitformat-pack(5)).
 
-ghost use Rattle.std.specs.Prelude.{◌≡◌, ◌==◌, ◌≢◌, ◌^◌, ◌<◌, ◌≤◌, All, IfOk, IfSome, IsTrue, MatchOption, length};
+ghost use Rattle.std.specs.Prelude.{◌≡◌, ◌==◌, ◌≢◌, ◌^◌, ◌<◌, ◌≤◌, ◌↔◌, All, IfOk, IfSome, IsTrue, MatchOption, length};
 ghost use Rattle.std.specs.List.{HoldsAt};
-ghost use Rattle.gitpack.specs.Indexes.{AreEntries, IsIndex};
+ghost use Rattle.gitpack.specs.Indexes.{AreEntries, IsLine, ReadsIndex};
 
 use crate::frame::is_same;
 use crate::index_reading::read_entries;
@@ -36,22 +36,23 @@ pub struct PackIndex<A: Allocator + Copy> {
 }
 
 impl<A: Allocator + Copy> Model for PackIndex<A> {
-    ghost use Rattle.gitpack.specs.Indexes.{AreEntries, Index};
+    ghost use Rattle.gitpack.specs.Indexes.{HasText, Index};
 
     ghost Value = { Index };
 
     ghost view = { λ index. record { entries = index.entries.items; checksum = index.checksum } };
 
-    ghost invariant = { λ index. AreEntries index.entries.items };
+    ghost invariant = { λ index.
+        HasText (record { entries = index.entries.items; checksum = index.checksum }) };
 }
 
 impl<A: Allocator + Copy> PackIndex<A> {
-    /// The index with this text; `None` of any other text. The checksum of the index itself is not
+    /// The index with this text; `None` if there is none. The checksum of the index itself is not
     /// tested.
     ///
     /// It fails only out of memory.
     pub fn read(alloc: A, bytes: &[u8]) -> Result<Option<PackIndex<A>>, AllocError>
-        ensures { IfOk result (λ found. IfSome found (λ index. IsIndex index bytes.now)) }
+        ensures { IfOk result (ReadsIndex bytes.now) }
     {
         let Some((text, _own)) = bytes.split_last_chunk::<ID_BYTES>() else {
             return Ok(None);
@@ -198,7 +199,8 @@ fn find(entries: &[IndexEntry], id: &Oid) -> Option<usize>
 
 // Whether the ids ascend, and the lines are few enough.
 fn are_entries(entries: &[IndexEntry]) -> bool
-    ensures { IsTrue result → AreEntries entries.now }
+    requires { All IsLine entries.now }
+    ensures { IsTrue result ↔ AreEntries entries.now }
 {
     entries.len() <= MAX_ENTRIES
         && entries.is_sorted_by(|one, other| !other.id.cmp(&one.id).is_lt())

@@ -1,19 +1,21 @@
 //! The tables of a pack index (gitformat-pack(5)).
 
-use crate::index::IndexEntry;
+ghost use Rattle.std.specs.Prelude.{◌≡◌, ◌^◌, ◌<◌, ◌++◌, ◌∷◌, ℕ, All, IfOk, IfSome, List, MatchOption, length};
+ghost use Rattle.gitpack.specs.Indexes.{AreEntries, IsLine, index_tables, long_bytes};
+ghost use Rattle.gitpack.specs.declared.index.IndexEntry.{IndexEntry};
+ghost use Rattle.gitpack.specs.steps.Rows.{AreRows, index_rows, longs_with, short_of};
+
+use crate::index::{IndexEntry, MAX_ENTRIES};
 use gitobject::{ID_BYTES, id_of_bytes};
 use std::alloc::{AllocError, Allocator};
 
-// The place of the last number of the fan-out table, which counts all ids, and the place after the
-// table.
+// The place of the last number of the fan-out table, which counts all ids.
 const COUNT: usize = 1_028;
-
-const IDS: usize = 1_032;
 
 // An offset with this bit is the place of a long one.
 const LONG_MARK: u32 = 1 << 31;
 
-// The tables of an index.
+// The tables of some lines of an index. A long offset of theirs is the next of the table.
 #[derive(Clone, Copy)]
 struct Tables<'a> {
     ids: &'a [u8],
@@ -29,35 +31,52 @@ struct Tables<'a> {
 pub(crate) fn read_entries<A: Allocator + Copy>(
     alloc: A,
     bytes: &[u8],
-) -> Result<Option<Vec<IndexEntry, A>>, AllocError> {
-    let mut entries = Vec::new(alloc);
-    let Some(count) = entry_count(bytes) else {
+) -> Result<Option<Vec<IndexEntry, A>>, AllocError>
+    ensures lines { IfOk result (λ found. IfSome found (λ entries. All IsLine entries.items)) }
+    ensures whole { (lines : List IndexEntry) → AreEntries lines → bytes.now ≡ index_tables lines
+        → IfOk result (λ found. MatchOption found ⊥ (λ entries. entries.items ≡ lines)) }
+{
+    let Some((count, rows)) = split_count(bytes) else {
         return Ok(None);
     };
-    let Some(tables) = split_tables(bytes, count) else {
+    let Some(tables) = split_tables(rows, count) else {
         return Ok(None);
     };
-    for place in 0..count {
-        let Some(entry) = entry_at(&tables, place) else {
-            return Ok(None);
-        };
-        entries.push(entry)?;
-    }
-    Ok(Some(entries))
+    read_lines(alloc, tables, count)
 }
 
-// The number of lines.
-fn entry_count(bytes: &[u8]) -> Option<usize> {
-    let count = bytes.get(COUNT..)?.first_chunk::<4>()?;
-    Some(u32::from_be_bytes(*count) as usize)
+// The number of lines, and the tables after the fan-out table.
+fn split_count(bytes: &[u8]) -> Option<(usize, &[u8])>
+    ensures { (lines : List IndexEntry) → AreEntries lines → bytes.now ≡ index_tables lines
+        → MatchOption result ⊥ (λ it. (it.0 ≡ length lines) × (it.1.now ≡ index_rows lines)) }
+{
+    let Some((_before, after)) = bytes.split_at_checked(COUNT) else {
+        return None;
+    };
+    let Some((count, rows)) = after.split_first_chunk::<4>() else {
+        return None;
+    };
+    Some((u32::from_be_bytes(*count) as usize, rows))
 }
 
 // The tables of so many lines.
-fn split_tables(bytes: &[u8], count: usize) -> Option<Tables<'_>> {
-    let (_before, rest) = bytes.split_at_checked(IDS)?;
-    let (ids, rest) = rest.split_at_checked(count.checked_mul(ID_BYTES)?)?;
-    let (crcs, rest) = rest.split_at_checked(count.checked_mul(4)?)?;
-    let (offsets, long_offsets) = rest.split_at_checked(count.checked_mul(4)?)?;
+fn split_tables(rows: &[u8], count: usize) -> Option<Tables<'_>>
+    ensures { (lines : List IndexEntry) → AreEntries lines → count ≡ length lines
+        → rows.now ≡ index_rows lines
+        → MatchOption result ⊥ (λ it. AreRows it.ids.now it.crcs.now it.offsets.now it.long_offsets.now 0 lines) }
+{
+    if count > MAX_ENTRIES {
+        return None;
+    }
+    let Some((ids, rest)) = rows.split_at_checked(count * ID_BYTES) else {
+        return None;
+    };
+    let Some((crcs, others)) = rest.split_at_checked(count * 4) else {
+        return None;
+    };
+    let Some((offsets, long_offsets)) = others.split_at_checked(count * 4) else {
+        return None;
+    };
     Some(Tables {
         ids,
         crcs,
@@ -66,21 +85,77 @@ fn split_tables(bytes: &[u8], count: usize) -> Option<Tables<'_>> {
     })
 }
 
-// The line at this place.
-fn entry_at(tables: &Tables<'_>, place: usize) -> Option<IndexEntry> {
-    let id = id_of_bytes(row::<ID_BYTES>(tables.ids, place)?);
-    let crc = u32::from_be_bytes(*row::<4>(tables.crcs, place)?);
-    let short = u32::from_be_bytes(*row::<4>(tables.offsets, place)?);
-    let offset = if short < LONG_MARK {
-        u64::from(short)
-    } else {
-        let place = (short - LONG_MARK) as usize;
-        u64::from_be_bytes(*row::<8>(tables.long_offsets, place)?)
-    };
-    Some(IndexEntry { id, crc, offset })
+// So many lines of these tables; `None` if the tables end before.
+fn read_lines<A: Allocator + Copy>(
+    alloc: A,
+    tables: Tables<'_>,
+    count: usize,
+) -> Result<Option<Vec<IndexEntry, A>>, AllocError>
+    ensures lines { IfOk result (λ found. IfSome found (λ entries. All IsLine entries.items)) }
+    ensures whole { (lines : List IndexEntry) → AreEntries lines → count ≡ length lines
+        → AreRows tables.entry.ids.now tables.entry.crcs.now tables.entry.offsets.now tables.entry.long_offsets.now 0 lines
+        → IfOk result (λ found. MatchOption found ⊥ (λ entries. entries.items ≡ lines)) }
+{
+    let mut entries = Vec::with_capacity(alloc, count)?;
+    let mut left = tables;
+    for _line in 0..count {
+        let Some((entry, more)) = split_line(left) else {
+            return Ok(None);
+        };
+        entries.push(entry)?;
+        left = more;
+    }
+    Ok(Some(entries))
 }
 
-// The row of a table at this place.
-fn row<const N: usize>(table: &[u8], place: usize) -> Option<&[u8; N]> {
-    table.get(place.checked_mul(N)?..)?.first_chunk::<N>()
+// The first line of these tables, and the tables of the others.
+fn split_line(tables: Tables<'_>) -> Option<(IndexEntry, Tables<'_>)>
+    ensures line { IfSome result (λ it. IsLine it.0) }
+    ensures first { (longs : ℕ) (line : IndexEntry) (more : List IndexEntry)
+        → IsLine line → longs < 2 ^ 31
+        → AreRows tables.entry.ids.now tables.entry.crcs.now tables.entry.offsets.now tables.entry.long_offsets.now longs (line ∷ more)
+        → MatchOption result ⊥ (λ it. (it.0 ≡ line)
+        × AreRows it.1.ids.now it.1.crcs.now it.1.offsets.now it.1.long_offsets.now (longs_with longs line) more) }
+{
+    let Some((id, ids)) = tables.ids.split_first_chunk::<ID_BYTES>() else {
+        return None;
+    };
+    let Some((crc, crcs)) = tables.crcs.split_first_chunk::<4>() else {
+        return None;
+    };
+    let Some((short, offsets)) = tables.offsets.split_first_chunk::<4>() else {
+        return None;
+    };
+    let short = u32::from_be_bytes(*short);
+    let Some((offset, long_offsets)) = split_offset(short, tables.long_offsets) else {
+        return None;
+    };
+    let entry = IndexEntry {
+        id: id_of_bytes(id),
+        crc: u32::from_be_bytes(*crc),
+        offset,
+    };
+    let more = Tables {
+        ids,
+        crcs,
+        offsets,
+        long_offsets,
+    };
+    Some((entry, more))
+}
+
+// The offset of a line of which the table of offsets has this number, and the long offsets after
+// it.
+fn split_offset(short: u32, longs: &[u8]) -> Option<(u64, &[u8])>
+    ensures { (before : ℕ) (line : IndexEntry) (more : List ℕ) → IsLine line
+        → short ≡ short_of before line → longs.now ≡ long_bytes line ++ more
+        → MatchOption result ⊥ (λ it. (it.0 ≡ line.offset) × (it.1.now ≡ more)) }
+{
+    if short < LONG_MARK {
+        return Some((u64::from(short), longs));
+    }
+    let Some((long, rest)) = longs.split_first_chunk::<8>() else {
+        return None;
+    };
+    Some((u64::from_be_bytes(*long), rest))
 }

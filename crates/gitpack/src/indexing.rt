@@ -1,8 +1,10 @@
 //! Indexing a pack that came from a peer.
 
-ghost use Rattle.std.specs.Prelude.{◌≡◌, ◌≢◌, ℕ, All, IfOk, MatchOption, length, map};
+ghost use Rattle.std.specs.Prelude.{◌≡◌, ◌≢◌, ℕ, All, IfOk, MatchOption, Option, Some, length, map};
 ghost use Rattle.gitobject.specs.Naming.{id_of};
-ghost use Rattle.gitpack.specs.Indexes.{AreObjects, index_of, index_text, line_of, object_id};
+ghost use Rattle.gname.specs.Ids.{IsIdOf};
+ghost use Rattle.gname.specs.declared.formats.Format.TheVariants as formats;
+ghost use Rattle.gitpack.specs.Indexes.{AreObjects, Index, IsLine, ReadsIndex, index_of, index_text, line_of, object_id};
 ghost use Rattle.gitpack.specs.Packs.{IsFramed};
 
 use crate::fault::PackFileFault;
@@ -53,13 +55,14 @@ pub struct IndexedPack<A: Allocator + Copy> {
 }
 
 impl<A: Allocator + Copy> Model for IndexedPack<A> {
-    ghost use Rattle.gitpack.specs.Indexes.{AreObjects, Indexed};
+    ghost use Rattle.gitpack.specs.Indexes.{Indexed, IsIndexed};
 
     ghost Value = { Indexed };
 
     ghost view = { λ pack. record { entries = pack.entries.items; checksum = pack.checksum } };
 
-    ghost invariant = { λ pack. AreObjects pack.entries.items };
+    ghost invariant = { λ pack.
+        IsIndexed (record { entries = pack.entries.items; checksum = pack.checksum }) };
 }
 
 impl<A: Allocator + Copy> IndexedPack<A> {
@@ -68,6 +71,8 @@ impl<A: Allocator + Copy> IndexedPack<A> {
         objects: Vec<IndexedEntry, A>,
         checksum: Oid,
     ) -> Result<IndexedPack<A>, PackFileFault>
+        requires lines { All (λ e. IsLine (line_of e)) objects.items }
+        requires checksum { IsIdOf formats.Sha1 checksum }
         ensures { IfOk result (λ pack. pack.checksum ≡ checksum) }
     {
         let entries = in_order(objects)?;
@@ -97,9 +102,14 @@ impl<A: Allocator + Copy> IndexedPack<A> {
         self.checksum
     }
 
-    /// The text of the pack index of version 2. It fails only out of memory.
+    /// The text of the pack index of version 2. [`crate::PackIndex::read`] reads it as this very
+    /// index.
+    ///
+    /// It fails only out of memory.
     pub fn write_index(&self, alloc: A) -> Result<Vec<u8, A>, AllocError>
-        ensures { IfOk result (λ text. text.items ≡ index_text (index_of self.now)) }
+        ensures text { IfOk result (λ text. text.items ≡ index_text (index_of self.now)) }
+        ensures read_back { IfOk result (λ text. (found : Option Index)
+            → ReadsIndex text.items found → found ≡ Some (index_of self.now)) }
     {
         let lines = lines_of(alloc, self.entries.as_slice())?;
         write_index(alloc, lines.as_slice(), &self.checksum)
@@ -156,6 +166,7 @@ pub fn index_pack<A: Allocator + Copy, V: ObjectVisitor>(
 fn in_order<A: Allocator + Copy>(
     objects: Vec<IndexedEntry, A>,
 ) -> Result<Vec<IndexedEntry, A>, PackFileFault>
+    requires { All (λ e. IsLine (line_of e)) objects.items }
     ensures { IfOk result (λ entries. AreObjects entries.items) }
 {
     let mut entries = objects;

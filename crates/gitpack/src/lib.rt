@@ -13,11 +13,13 @@
 //!   answers the size of that body.
 //! - [`DeltaBase::make_delta`] answers only a delta of the base that makes the target, with at most
 //!   as many bytes as the limit says.
-//! - [`PackIndex::read`] answers an index only for the text of that index. The lines are sorted by
-//!   their ids, and the fan-out table and both tables of offsets are theirs.
+//! - [`PackIndex::read`] answers an index exactly if the text is one of version 2 (`IsIndex` in
+//!   `specs/Indexes.antt`). The lines are sorted by their ids, and the fan-out table and both tables
+//!   of offsets are theirs. A text is the text of one index ([`laws`]).
 //! - [`PackIndex::find`] finds an id exactly if it is in the index. [`PackIndex::id`],
 //!   [`PackIndex::crc`] and [`PackIndex::offset`] answer what the line at a place has.
 //! - [`IndexedPack::write_index`] writes the text of version 2, with its own checksum.
+//!   [`PackIndex::read`] never refuses this text, and reads it as the index of that pack.
 //! - [`PackWriter`] writes the header with the count, then each entry as it is put, and then the
 //!   SHA-1 of all. [`put_header`] and [`put_entry`] write one of these alone.
 //! - [`IncomingPack`] accepts only packs of version 2 whose trailer is the SHA-1 of all bytes
@@ -39,7 +41,8 @@
 //! - An index of version 1 is not read. One of version 2 is read only as Git writes it: no offset
 //!   below 2^31 lies in the table of 64-bit offsets. The checksum of the index itself is not
 //!   tested.
-//! - A pack of 2^31 objects or more is refused, and so is a thin pack.
+//! - A pack of 2^31 objects or more is refused, and so is a thin pack, and a chain of more than 4,095
+//!   deltas. Git makes no longer chain.
 //! - An object that a pack holds twice is accepted, and both entries are in the index. Git does so
 //!   without `--strict`. A delta by id whose base comes twice is refused, as in Git 2.39; later
 //!   versions take it.
@@ -47,19 +50,20 @@
 //! # What the contracts do not rule out
 //!
 //! - Any call that allocates may fail with out of memory; the contracts do not say when.
-//! - [`PackIndex::read`] might refuse the text of an index, also one that
-//!   [`IndexedPack::write_index`] wrote.
 //! - [`DeltaBase::make_delta`] might never find a delta, or find a longer one than need be. The search
 //!   for it is proved safe only: what it finds is applied, and answered if it makes the target.
 //! - [`IncomingPack`] and [`index_pack`] might refuse a good pack. They might leave out any object, list
 //!   one that was not shown, or list one with another type. They might give an object a wrong offset or a
 //!   wrong CRC-32, or apply a delta to a wrong base. They might accept a pack with bytes after its last
-//!   entry, a thin pack, or one in which the base of a delta comes twice. Their contracts say nothing of
-//!   limits and faults, and of when an object is shown.
+//!   entry, a thin pack, or one in which the base of a delta comes twice. They might accept a pack of
+//!   which the visitor refuses an object, or show it an object that the pack does not hold. Their
+//!   contracts say nothing of limits and faults, and of when an object is shown.
 //! - [`IndexedPack::find`] answers an object with the id, but no clause says that it is one of
 //!   [`IndexedPack::entries`].
-//! - [`PackWriter`] and [`put_entry`] might refuse an entry. The number of entries is not compared with the count,
-//!   and no clause bounds the bytes of the pack.
+//! - [`PackWriter`] and [`put_entry`] might refuse an entry, with any fault. After one, [`put_entry`] and
+//!   [`put_header`] might leave any bytes in the text.
+//! - The number of entries is not compared with the count, and no clause bounds the bytes of the pack or
+//!   of a head ([`MAX_HEAD`]).
 //! - The contracts say nothing of time, or of how much memory a call takes.
 //!
 //! # Stands on

@@ -1,6 +1,9 @@
 //! Deltas, applied to their bases: depth first, so that only the objects of one chain are held at
 //! a time.
 
+ghost use Rattle.std.specs.Prelude.{All, IfOk};
+ghost use Rattle.gitpack.specs.Indexes.{IsLine, line_of};
+
 use crate::children::{Children, Cursor};
 use crate::delta::{apply_delta, made_size};
 use crate::entry::EntryForm;
@@ -13,11 +16,17 @@ use gitobject::{ObjectType, id_of};
 use gzlib::Inflater;
 use std::alloc::{AllocError, Allocator};
 
+// The most deltas of a chain, as in git-pack-objects(1), "--depth". Whoever reads the last object of a
+// chain reads all of it.
+const MAX_DEPTH: usize = 4_095;
+
 // An object to which deltas are applied.
 #[derive(Drop)]
 struct Base<A: Allocator + Copy> {
     kind: ObjectType,
     body: Vec<u8, A>,
+    // How many deltas made it, one of the other.
+    depth: usize,
     // Its deltas that are still to be applied.
     left: Cursor,
 }
@@ -93,8 +102,12 @@ impl<'a, A: Allocator + Copy> Resolver<'a, A> {
             return Ok(());
         }
         let body = self.text_of(place, &entry)?;
-        let kind = object.kind;
-        self.hold(Base { kind, body, left })
+        self.hold(Base {
+            kind: object.kind,
+            body,
+            depth: 0,
+            left,
+        })
     }
 
     // The bytes to which the stream of the entry at this place inflates. They are asked for once.
@@ -182,6 +195,7 @@ impl<'a, A: Allocator + Copy> Resolver<'a, A> {
         if entry.object.is_some() {
             return Err(PackFileFault::Entry(place));
         }
+        let depth = self.next_depth()?;
         self.check_held(entry.size)?;
         let delta = self.text_of(place, &entry)?;
         self.check_size(delta.as_slice())?;
@@ -197,12 +211,26 @@ impl<'a, A: Allocator + Copy> Resolver<'a, A> {
         }
         let left = self.children.of(entry.start, id);
         if self.children.peek(&left).is_some() {
-            self.hold(Base { kind, body, left })?;
+            self.hold(Base {
+                kind,
+                body,
+                depth,
+                left,
+            })?;
         }
         Ok(())
     }
 
-    // Whether so many bytes more may be held.
+    // How many deltas make the next object. It fails with `TooLarge` if they are too many.
+    fn next_depth(&self) -> Result<usize, PackFileFault> {
+        match self.bases.last() {
+            Some(base) if base.depth >= MAX_DEPTH => Err(PackFileFault::TooLarge),
+            Some(base) => Ok(base.depth.saturating_add(1)),
+            None => Ok(1),
+        }
+    }
+
+    // Fails with `TooLarge` unless so many bytes more may be held.
     fn check_held(&self, more: usize) -> Result<(), PackFileFault> {
         if self.held.saturating_add(more) > self.limits.held {
             return Err(PackFileFault::TooLarge);
@@ -243,7 +271,9 @@ impl<'a, A: Allocator + Copy> Resolver<'a, A> {
 
     /// The objects, if each entry is one. It fails with `Thin` if the base of a delta is not in
     /// the pack, and with `Memory`.
-    pub(crate) fn into_entries(self) -> Result<Vec<IndexedEntry, A>, PackFileFault> {
+    pub(crate) fn into_entries(self) -> Result<Vec<IndexedEntry, A>, PackFileFault>
+        ensures { IfOk result (λ objects. All (λ e. IsLine (line_of e)) objects.items) }
+    {
         let alloc = self.alloc;
         let entries = self.into_scanned();
         list_objects(alloc, entries.as_slice())
@@ -259,19 +289,28 @@ impl<'a, A: Allocator + Copy> Resolver<'a, A> {
 fn list_objects<A: Allocator + Copy>(
     alloc: A,
     entries: &[Scanned],
-) -> Result<Vec<IndexedEntry, A>, PackFileFault> {
+) -> Result<Vec<IndexedEntry, A>, PackFileFault>
+    ensures { IfOk result (λ objects. All (λ e. IsLine (line_of e)) objects.items) }
+{
     let mut objects = Vec::with_capacity(alloc, entries.len())?;
     for scanned in entries {
         let Some(object) = scanned.object else {
             return Err(PackFileFault::Thin);
         };
-        let entry = IndexEntry {
-            id: object.id,
-            crc: scanned.crc,
-            offset: scanned.start as u64,
-        };
         let kind = object.kind;
+        let entry = line_of(object, scanned.crc, scanned.start);
         objects.push(IndexedEntry { entry, kind })?;
     }
     Ok(objects)
+}
+
+// The line of this object, whose entry has this CRC-32 and begins here.
+fn line_of(object: Object, crc: u32, start: usize) -> IndexEntry
+    ensures { IsLine result }
+{
+    IndexEntry {
+        id: object.id,
+        crc,
+        offset: start as u64,
+    }
 }

@@ -1,5 +1,9 @@
 //! The entries of a pack, one after the other, as they come.
 
+ghost use Rattle.gname.specs.Ids.{IsIdOf};
+ghost use Rattle.gname.specs.declared.formats.Format.TheVariants as formats;
+ghost use Rattle.std.proofs.Props.{props};
+
 use crate::entry::{EntryForm, read_head};
 use crate::fault::PackFileFault;
 use crate::frame::{HEADER_BYTES, entry_count};
@@ -24,6 +28,7 @@ pub(crate) struct Object {
     pub id: Oid,
     /// Its type.
     pub kind: ObjectType,
+    ghost named: { IsIdOf formats.Sha1 id } by { Prim.hlevel props },
 }
 
 /// An entry of a pack.

@@ -13,7 +13,8 @@ use crate::remote::{Remote, tips_of};
 use crate::sentences::Sentence;
 use gclient::{Repo, Spec};
 use ggraph::{Head, Refs, Target};
-use gitrepository::{NewRepository, RepositoryFault};
+use gitrefs::{Cause, RefFault};
+use gitrepository::{NewRepository, RepositoryFault, Tips};
 use gitwords::CloneArgs;
 use glsreply::LsReply;
 use gname::{Prefix, RefName};
@@ -49,6 +50,13 @@ enum ServerHead {
     Detached,
 }
 
+// HEAD of a server, and the ids of its refs.
+#[derive(Drop)]
+struct Source {
+    head: ServerHead,
+    tips: Tips<Global>,
+}
+
 /// Clones a repository of a server into a new bare one. If it fails, nothing of it is left. A
 /// directory that is there and empty is filled.
 pub(crate) fn clone_remote<R, E>(rt: &R, asked: &CloneArgs<'_>, errors: &mut E) -> Result<(), Fault>
@@ -58,11 +66,20 @@ where
 {
     check_vacant(rt, asked.dir)?;
     let remote = Remote::new(rt.alloc(), &asked.url)?;
-    let listed = list(rt, &remote)?;
+    let source = source_of(rt, &remote)?;
     let mut progress = progress_of(rt.alloc(), asked.verbosity, errors);
-    let outcome = clone_listed(rt, asked.dir, &remote, &listed, &mut progress);
+    let outcome = clone_source(rt, asked.dir, &remote, &source, &mut progress);
     progress.finish();
     outcome
+}
+
+// The part of the server's refs that a clone keeps. The names, which may take much memory, come again.
+fn source_of<R: AllocGlobal + Net>(rt: &R, remote: &Remote) -> Result<Source, Fault> {
+    let alloc = rt.alloc();
+    let listed = list(rt, remote)?;
+    let head = head_of(alloc, &listed)?;
+    let tips = tips_of(alloc, &listed)?;
+    Ok(Source { head, tips })
 }
 
 // HEAD, the branches and the tags of the server.
@@ -202,12 +219,12 @@ fn default_target(alloc: Global) -> Result<Target<Global>, Fault>
     }
 }
 
-// Makes the repository of refs that were listed.
-fn clone_listed<R, E>(
+// Makes the repository of a server's refs.
+fn clone_source<R, E>(
     rt: &R,
     dir: &str,
     remote: &Remote,
-    listed: &LsReply<Global>,
+    source: &Source,
     progress: &mut Progress<'_, E>,
 ) -> Result<(), Fault>
 where
@@ -215,19 +232,31 @@ where
     E: Write,
 {
     let alloc = rt.alloc();
-    let head = head_of(alloc, listed)?;
-    let tips = tips_of(alloc, listed)?;
-    let specs = specs(alloc, &head)?;
+    let Source { head, tips } = source;
+    let specs = specs(alloc, head)?;
     let found = Directories::of_bare(alloc, dir)?;
     let wanted = Wanted {
         remote,
         specs: specs.as_slice(),
-        tips: &tips,
+        tips,
         head_ref: HEAD_REF,
     };
-    match make(rt, dir, remote, &head)? {
+    match make(rt, dir, remote, head)? {
         Ok(new) => fill(rt, &found, new, wanted, progress),
-        Err(fault) => Err(repository_fault(alloc, dir, &fault)),
+        Err(fault) => Err(make_fault(alloc, dir, &fault)),
+    }
+}
+
+// The fault of a repository that is not made. Another run may have made one there meanwhile.
+fn make_fault(alloc: Global, dir: &str, fault: &RepositoryFault<Global>) -> Fault {
+    match fault {
+        RepositoryFault::Refs(
+            RefFault::File {
+                cause: Cause::Exists,
+                ..
+            },
+        ) => Fault::of(alloc, Sentence::Occupied { path: dir }),
+        _ => repository_fault(alloc, dir, fault),
     }
 }
 
@@ -279,8 +308,8 @@ fn keep<R: Files>(
     }
 }
 
-// The branches and tags, and a HEAD that is detached: at the commit to which its tag leads, if it is
-// at a tag. Any other HEAD is there already.
+// The branches and tags, and a HEAD that is detached: at the commit to which its tag leads, if it
+// is at a tag. Any other HEAD is there already.
 fn kept_refs(alloc: Global, repo: &Repo<Global>) -> Result<(Refs<Global>, Head<Global>), Fault> {
     let mut kept = Refs::new(alloc);
     let mut head = Head::None;

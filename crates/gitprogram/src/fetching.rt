@@ -91,11 +91,13 @@ where
         is_quiet: asked.verbosity.quiet,
         is_terminal,
     };
-    let listed = list_sources(rt, &remote, asked.specs.as_slice())?;
-    if let Some(fetched) = find_current(rt, &found, asked.specs.as_slice(), &listed)? {
-        return report_unless(rt, report, &fetched);
-    }
-    let tips = tips_of(rt.alloc(), &listed)?;
+    let tips = {
+        let listed = list_sources(rt, &remote, asked.specs.as_slice())?;
+        if let Some(fetched) = find_current(rt, &found, asked.specs.as_slice(), &listed)? {
+            return report_unless(rt, report, &fetched);
+        }
+        tips_of(rt.alloc(), &listed)?
+    };
     let wanted = Wanted {
         remote: &remote,
         specs: asked.specs.as_slice(),
@@ -225,7 +227,7 @@ fn has_source(listed: &LsReply<Global>, spec: &Spec<Global>) -> bool {
     })
 }
 
-// Installs the pack, and then moves the refs.
+// Installs the pack, and then moves the refs. If refs can't be moved so, it installs nothing.
 fn keep<R: Files + AllocGlobal>(rt: &R, found: &Directories, fetch: &Fetch) -> Result<(), Fault> {
     let client = &fetch.client;
     let updates = updates_of(rt.alloc(), &client.before, client.repo.refs())?;
@@ -295,6 +297,7 @@ fn install_and_move<R: Files + AllocGlobal>(
     let alloc = rt.alloc();
     match received {
         Some(received) => {
+            found.refs(alloc, rt).check_updates(updates)?;
             let _kept = install_pack(alloc, rt, found.common.as_str(), received)?;
             found.refs(alloc, rt).update_refs(updates)?;
         }
@@ -478,8 +481,8 @@ fn check_commits<R: Files>(
     Ok(())
 }
 
-// Fails if HEAD of a clone, which is at this object or at the one to which this tag leads, would be at
-// no commit.
+// Fails if HEAD of a clone, which is at this object or at the one to which this tag leads, would be
+// at no commit.
 fn check_head_commit<R: Files>(
     alloc: Global,
     remote: &Remote,

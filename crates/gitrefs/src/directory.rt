@@ -4,9 +4,8 @@ use crate::fault::{Cause, RefFault};
 use crate::git_file::{GitFile, sync_directory};
 use crate::locked::LockedFile;
 use crate::packed_text::{packed_refs_text, peeled_refs_text};
-use crate::path::FilePath;
+use crate::path::{FilePath, is_absent};
 use crate::texts::{branch_text, ref_text};
-use crate::update::first_conflict;
 use gname::RefName;
 use grefs::{Head, Refs, Target};
 use std::alloc::{Allocator, Global};
@@ -25,9 +24,11 @@ pub struct GitDirectory<'r, R: Files, A: Allocator + Copy = Global> {
     head_path: &'r str,
 }
 
-// The directories of a new repository, each after the one in which it lies.
-const DIRECTORIES: [&str; 6] = [
-    "objects",
+// The first directory of a new repository: the run that makes it makes the repository.
+const OBJECTS: &str = "objects";
+
+// The other ones, each after the one in which it lies.
+const DIRECTORIES: [&str; 5] = [
     "objects/info",
     "objects/pack",
     "refs",
@@ -86,10 +87,15 @@ impl<'r, R: Files, A: Allocator + Copy> GitDirectory<'r, R, A> {
     /// of it is brought to the disk.
     ///
     /// If there is a file in the directory, or anything other has its name, it fails with `Exists`
-    /// and changes nothing. If a call of the system fails, it fails with `System`, and the repository
-    /// is removed again.
+    /// and changes nothing. So it does if another run makes a repository there at the same time, and
+    /// was first. If a call of the system fails, it fails with `System`, and the repository is removed
+    /// again.
     pub fn make(&self, config: &[u8], branch: &Target<A>) -> Result<Origin, RefFault<A>> {
         let origin = self.make_own()?;
+        if let Err(fault) = self.claim() {
+            self.leave(origin);
+            return Err(fault);
+        }
         match self.fill(config, branch) {
             Ok(()) => Ok(origin),
             Err(fault) => {
@@ -132,6 +138,26 @@ impl<'r, R: Files, A: Allocator + Copy> GitDirectory<'r, R, A> {
         }
     }
 
+    // Makes the first directory of a new repository. If two runs do so at the same time, one fails with
+    // `Exists`, and leaves all as it is.
+    fn claim(&self) -> Result<(), RefFault<A>> {
+        let path = self.path_below(OBJECTS)?;
+        match fs::create_dir(self.files, path.as_str()) {
+            Ok(()) => Ok(()),
+            Err(error) if error.kind() == ErrorKind::AlreadyExists => {
+                Err(RefFault::at(self.alloc, self.path, Cause::Exists))
+            }
+            Err(error) => Err(RefFault::system(self.alloc, path.as_str(), error)),
+        }
+    }
+
+    // Removes the directory that was made, if it is still empty.
+    fn leave(&self, origin: Origin) {
+        if origin == Origin::Made {
+            let _ = fs::remove_dir(self.files, self.path);
+        }
+    }
+
     // Whether the path is that of a directory without files.
     fn is_empty(&self) -> bool {
         match fs::read_dir(&(self.files, &self.alloc), self.path) {
@@ -164,6 +190,7 @@ impl<'r, R: Files, A: Allocator + Copy> GitDirectory<'r, R, A> {
     // Fills the directory of a new repository. HEAD comes last, since a directory without it is no
     // repository.
     fn fill(&self, config: &[u8], branch: &Target<A>) -> Result<(), RefFault<A>> {
+        self.sync_name(self.path_below(OBJECTS)?.as_str())?;
         for name in DIRECTORIES {
             self.make_directory(name)?;
         }
@@ -207,6 +234,18 @@ impl<'r, R: Files, A: Allocator + Copy> GitDirectory<'r, R, A> {
         self.lock(path)?.replace(text.as_slice())
     }
 
+    /// Tests whether these can be the refs of a repository. [`GitDirectory::write_packed_refs`] begins with
+    /// this test. A caller can make it before objects come.
+    ///
+    /// It fails with `Conflict` if one ref has the name of another's directory, and with `Memory`.
+    pub fn check_refs(&self, refs: &Refs<A>) -> Result<(), RefFault<A>> {
+        let mut names = Vec::new(self.alloc);
+        for pair in refs.as_slice() {
+            names.push(&pair.0)?;
+        }
+        self.check_apart(names.as_slice())
+    }
+
     /// Writes `packed-refs` of a repository that has none, as a clone does (git-pack-refs(1)). The
     /// peeled ids are those of the objects to which tags lead, by the names of the tags. Without
     /// them, the header does not say that they are there.
@@ -220,9 +259,7 @@ impl<'r, R: Files, A: Allocator + Copy> GitDirectory<'r, R, A> {
         peeled: Option<&Refs<A>>,
     ) -> Result<(), RefFault<A>> {
         self.check_repository()?;
-        if let Some(name) = first_conflict(self.alloc, refs)? {
-            return Err(self.fault_of(name, Cause::Conflict));
-        }
+        self.check_refs(refs)?;
         let text = match peeled {
             Some(peeled) => peeled_refs_text(self.alloc, refs, peeled)?,
             None => packed_refs_text(self.alloc, refs)?,
@@ -269,7 +306,7 @@ impl<'r, R: Files, A: Allocator + Copy> GitDirectory<'r, R, A> {
         let mut text = Vec::new(self.alloc);
         let mut file = match File::open(self.files, path.as_str()) {
             Ok(file) => file,
-            Err(error) if error.kind() == ErrorKind::NotFound => return Ok(None),
+            Err(error) if is_absent(error.kind()) => return Ok(None),
             Err(error) => return Err(RefFault::system(self.alloc, path.as_str(), error)),
         };
         match file.read_to_end(&mut text) {

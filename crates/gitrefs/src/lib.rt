@@ -71,6 +71,7 @@
 //! `memchr` for searches.
 #![tactic(auto)]
 
+mod conflicts;
 mod directory;
 mod fault;
 mod git_file;

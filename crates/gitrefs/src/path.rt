@@ -6,6 +6,7 @@ ghost use Rattle.gitrefs.specs.Paths.{PathIsBelow};
 use crate::fault::{Cause, RefFault};
 use gname::RefName;
 use std::alloc::{AllocError, Allocator, Global};
+use std::io::ErrorKind;
 use std::marker::Model;
 
 /// The path of a file of a git directory: a ref, `HEAD`, `packed-refs` or `config`.
@@ -69,4 +70,10 @@ fn join<A: Allocator + Copy>(alloc: A, git_dir: &str, name: &str) -> Result<File
     text.push_str("/")?;
     text.push_str(name)?;
     Ok(FilePath { text })
+}
+
+/// Whether an error says that nothing is at a path. A part of the path may be a file, or have become
+/// one.
+pub(crate) fn is_absent(kind: ErrorKind) -> bool {
+    matches!(kind, ErrorKind::NotFound | ErrorKind::NotADirectory)
 }

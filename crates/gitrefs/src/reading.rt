@@ -4,7 +4,7 @@ use crate::directory::GitDirectory;
 use crate::fault::{Cause, RefFault, TextFault};
 use crate::loose::{LooseRef, name_of, parse_loose_ref};
 use crate::packed::{PackedRef, parse_packed_refs};
-use crate::path::FilePath;
+use crate::path::{FilePath, is_absent};
 use crate::values::{Values, head_of, refs_of, unless_null};
 use gname::RefName;
 use grefs::{Head, Refs, RefsFault};
@@ -13,6 +13,9 @@ use std::collections::BTreeMap;
 use std::fs::{DirEntry, Files, Metadata};
 use std::io::ErrorKind;
 use std::{fs, io};
+
+// The directory of all loose refs.
+const REFS: &str = "refs";
 
 // The thing under the name of a ref.
 #[derive(Drop)]
@@ -111,8 +114,7 @@ impl<R: Files, A: Allocator + Copy> GitDirectory<'_, R, A> {
 
     // Reads the files below `refs`, directory by directory.
     fn read_loose(&self, walk: &mut Walk<A>) -> Result<(), RefFault<A>> {
-        walk.directories
-            .push(String::from_str(self.alloc, "refs")?)?;
+        walk.directories.push(String::from_str(self.alloc, REFS)?)?;
         for _ in 0..u64::MAX {
             let Some(directory) = walk.directories.pop() else {
                 break;
@@ -122,7 +124,8 @@ impl<R: Files, A: Allocator + Copy> GitDirectory<'_, R, A> {
         Ok(())
     }
 
-    // Reads the files of a directory. A file whose name is not UTF-8 is left out.
+    // Reads the files of a directory. A file whose name is not UTF-8 is left out. The directory may be a
+    // file by now, unless it is `refs` itself.
     fn read_directory(&self, directory: &str, walk: &mut Walk<A>) -> Result<(), RefFault<A>> {
         let mut path = String::from_str(self.alloc, self.path)?;
         path.push_str("/")?;
@@ -130,6 +133,7 @@ impl<R: Files, A: Allocator + Copy> GitDirectory<'_, R, A> {
         let entries = match fs::read_dir(&(self.files, &self.alloc), path.as_str()) {
             Ok(entries) => entries,
             Err(error) if error.kind() == ErrorKind::NotFound => return Ok(()),
+            Err(error) if is_absent(error.kind()) && directory != REFS => return Ok(()),
             Err(error) => return Err(RefFault::system(self.alloc, path.as_str(), error)),
         };
         for entry in entries {
@@ -205,7 +209,7 @@ impl<R: Files, A: Allocator + Copy> GitDirectory<'_, R, A> {
     ) -> Result<Option<Metadata>, RefFault<A>> {
         match metadata {
             Ok(metadata) => Ok(Some(metadata)),
-            Err(error) if error.kind() == ErrorKind::NotFound => Ok(None),
+            Err(error) if is_absent(error.kind()) => Ok(None),
             Err(error) => Err(RefFault::system(self.alloc, path.as_str(), error)),
         }
     }

@@ -1,11 +1,12 @@
 //! Refs are moved, all or none as far as it can be known before.
 
+use crate::conflicts::first_conflict;
 use crate::directory::GitDirectory;
 use crate::fault::{Cause, RefFault, TextFault};
 use crate::locked::LockedFile;
-use crate::loose::{LooseRef, name_of, parse_loose_ref};
+use crate::loose::{LooseRef, parse_loose_ref};
 use gname::{Format, Oid, RefName};
-use grefs::{Refs, RefsFault};
+use grefs::{MAX_REFS, Refs, RefsFault};
 use std::alloc::{Allocator, Global};
 use std::fs::Files;
 
@@ -30,9 +31,7 @@ impl<R: Files, A: Allocator + Copy> GitDirectory<'_, R, A> {
     /// `Utf8`; no ref has moved then. It fails with `System` or `Memory`; no ref has moved then either,
     /// unless the system refuses to rename a file. Each is where it was, or where it is to be. The locks that it made are removed; directories that it made for them may stay.
     pub fn update_refs(&self, updates: &[RefUpdate<A>]) -> Result<(), RefFault<A>> {
-        self.check_repository()?;
-        self.check_formats(updates)?;
-        self.check_conflicts(updates)?;
+        self.check_updates(updates)?;
         let mut locked = Vec::new(self.alloc);
         for update in updates {
             let path = self.path_of(&update.name)?;
@@ -43,6 +42,18 @@ impl<R: Files, A: Allocator + Copy> GitDirectory<'_, R, A> {
             self.check_unmoved(file, &packed, update)?;
         }
         self.move_all(locked, updates)
+    }
+
+    /// Tests whether refs can be moved so, before anything is locked: [`GitDirectory::update_refs`] begins
+    /// with this test. A caller can make it before objects come.
+    ///
+    /// It fails with `Missing`, `Format`, `Conflict`, `Refs`, `Malformed`, `Utf8`, `System` or `Memory`.
+    pub fn check_updates(&self, updates: &[RefUpdate<A>]) -> Result<(), RefFault<A>> {
+        self.check_repository()?;
+        self.check_formats(updates)?;
+        let (refs, _) = self.read_refs()?;
+        self.check_count(&refs, updates)?;
+        self.check_conflicts(&refs, updates)
     }
 
     // Replaces the files of refs. All new texts are on the disk before the first file is replaced, so a
@@ -72,17 +83,37 @@ impl<R: Files, A: Allocator + Copy> GitDirectory<'_, R, A> {
         Ok(())
     }
 
-    // Two of the refs that there will be are not a file and its directory.
-    fn check_conflicts(&self, updates: &[RefUpdate<A>]) -> Result<(), RefFault<A>> {
-        let (mut refs, _) = self.read_refs()?;
+    // There are not too many refs afterwards, and HEAD is none of those that are moved.
+    fn check_count(&self, refs: &Refs<A>, updates: &[RefUpdate<A>]) -> Result<(), RefFault<A>> {
+        let mut count = refs.len();
         for update in updates {
-            match refs.set(update.name.copy_in(self.alloc)?, update.new) {
-                Ok(()) => {}
-                Err(RefsFault::Memory) => return Err(RefFault::Memory),
-                Err(RefsFault::Refs) => return Err(self.fault_of(&update.name, Cause::Refs)),
+            if refs.get(&update.name).is_none() {
+                count = count.saturating_add(1);
+            }
+            if update.name.is_head() || count > MAX_REFS {
+                return Err(self.fault_of(&update.name, Cause::Refs));
             }
         }
-        match first_conflict(self.alloc, &refs)? {
+        Ok(())
+    }
+
+    // Two of the refs that there will be are not a file and its directory.
+    fn check_conflicts(&self, refs: &Refs<A>, updates: &[RefUpdate<A>]) -> Result<(), RefFault<A>> {
+        let mut names = Vec::new(self.alloc);
+        for pair in refs.as_slice() {
+            names.push(&pair.0)?;
+        }
+        for update in updates {
+            names.push(&update.name)?;
+        }
+        names.sort_unstable_by(|one, other| (*one).cmp(*other));
+        self.check_apart(names.as_slice())
+    }
+
+    /// None of the names, which are in order, is that of another's directory. It fails with `Conflict`
+    /// or `Memory`.
+    pub(crate) fn check_apart(&self, names: &[&RefName<A>]) -> Result<(), RefFault<A>> {
+        match first_conflict(self.alloc, names)? {
             Some(name) => Err(self.fault_of(name, Cause::Conflict)),
             None => Ok(()),
         }
@@ -139,36 +170,4 @@ impl<R: Files, A: Allocator + Copy> GitDirectory<'_, R, A> {
             LooseRef::Symref(_) => Err(RefFault::at(self.alloc, file.path(), Cause::Symbolic)),
         }
     }
-}
-
-/// The first ref whose directory, or one above it, has the name of another ref.
-pub(crate) fn first_conflict<A: Allocator + Copy>(
-    alloc: A,
-    refs: &Refs<A>,
-) -> Result<Option<&RefName<A>>, RefFault<A>> {
-    for pair in refs.as_slice() {
-        if lies_in_ref(alloc, refs, &pair.0)? {
-            return Ok(Some(&pair.0));
-        }
-    }
-    Ok(None)
-}
-
-// Whether a directory in which the ref lies has the name of a ref.
-fn lies_in_ref<A: Allocator + Copy>(
-    alloc: A,
-    refs: &Refs<A>,
-    name: &RefName<A>,
-) -> Result<bool, RefFault<A>> {
-    let text = name.as_bytes();
-    for end in 0..text.len() {
-        if text[end] == b'/' {
-            match name_of(alloc, &text[..end]) {
-                Ok(Some(upper)) if refs.get(&upper).is_some() => return Ok(true),
-                Ok(_) => {}
-                Err(_) => return Err(RefFault::Memory),
-            }
-        }
-    }
-    Ok(false)
 }

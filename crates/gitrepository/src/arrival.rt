@@ -10,8 +10,8 @@ ghost use Rattle.gobject.specs.declared.node.Entry.{Entry};
 use crate::fault::{ObjectCause, RepositoryFault};
 use crate::nodes::{entry_of, leaf};
 use crate::tips::Tips;
-use ggraph::{Entry, IdHasher};
-use gitobject::{Link, ObjectType, links_of, tag_link};
+use ggraph::{Entry, IdHasher, MAX_PARENTS};
+use gitobject::{Link, ObjectType, links_of, split_entry, tag_link};
 use gitobjects::{Found, LooseFolders, ObjectFiles, ObjectReader, ObjectStore, StoreFault};
 use gitpack::{IndexedPack, ObjectVisitor, PackFileFault};
 use gname::Oid;
@@ -20,12 +20,24 @@ use std::alloc::Allocator;
 use std::hash::BuildHasherDefault;
 use std::marker::Model;
 
-// The most ids that the objects of a pack may name. Deltas make many objects from few bytes, and
-// each id is kept: a map of so many takes some hundred MiB.
-const MAX_NEEDS: usize = 4_194_304;
+// The most bytes that may be kept of what the objects of a pack name, and of its commits and tags:
+// 112 MiB. Deltas make many objects from few bytes.
+const MAX_KEPT: usize = 117_440_512;
 
-// The most bytes of a commit, a tree or a tag, of which a list of all links is made: 64 MiB. A tree of
-// so many has two million entries.
+// The bytes that are kept at most of an id that is named, of a commit or a tag, and of each of its
+// parents. The spare room of tables counts, and so does what memory takes for itself.
+const NEED_BYTES: usize = 56;
+
+const ENTRY_BYTES: usize = 96;
+
+const PARENT_BYTES: usize = 34;
+
+// The line of the tree of a commit, and that of a parent.
+const TREE_LINE: usize = 46;
+
+const PARENT_LINE: usize = 48;
+
+// The most bytes of a commit, a tree or a tag: 64 MiB. A tree of so many has two million entries.
 const MAX_LINKING: usize = 67_108_864;
 
 /// All that is known of the objects of a pack that comes. Contracts see the entries of its commits
@@ -36,6 +48,8 @@ pub(crate) struct Arrival<A: Allocator + Copy> {
     entries: Vec<Entry<A>, A>,
     // The types of the objects that are named.
     needs: IndexMap<Oid, ObjectType, IdHasher, A>,
+    // The bytes that may still be kept.
+    room: usize,
     folders: LooseFolders,
     fault: Option<RepositoryFault<A>>,
 }
@@ -71,6 +85,7 @@ impl<A: Allocator + Copy> Arrival<A> {
             alloc,
             entries: Vec::new(alloc),
             needs: IndexMap::with_hasher(alloc, BuildHasherDefault::new()),
+            room: MAX_KEPT,
             folders: LooseFolders::new(),
             fault: None,
         }
@@ -150,8 +165,8 @@ impl<A: Allocator + Copy> Arrival<A> {
         }
     }
 
-    // Notes the objects to which an object links. It fails with `TooLarge` if a commit, a tree or a tag
-    // has too many bytes.
+    // Notes the objects to which an object links. It fails with `TooLarge` if a commit, a tree or a
+    // tag has too many bytes, and with `Parents` if a commit has too many parents.
     fn need_links(
         &mut self,
         id: &Oid,
@@ -161,12 +176,49 @@ impl<A: Allocator + Copy> Arrival<A> {
         if kind != ObjectType::Blob && body.len() > MAX_LINKING {
             return Err(RepositoryFault::Pack(PackFileFault::TooLarge));
         }
+        match kind {
+            ObjectType::Blob => Ok(()),
+            ObjectType::Tree => self.need_entries(id, body),
+            ObjectType::Commit if has_many_parents(body) => {
+                Err(RepositoryFault::refused(id, ObjectCause::Parents))
+            }
+            ObjectType::Commit | ObjectType::Tag => self.need_all(id, kind, body),
+        }
+    }
+
+    // Notes the objects to which a commit or a tag links, and that it is kept itself.
+    fn need_all(
+        &mut self,
+        id: &Oid,
+        kind: ObjectType,
+        body: &[u8],
+    ) -> Result<(), RepositoryFault<A>> {
         let links = match links_of(self.alloc, kind, body) {
             Ok(links) => links,
             Err(fault) => return Err(RepositoryFault::of_object(id, fault)),
         };
+        self.take_room(bytes_of(kind, links.len()))?;
         for link in &links {
             self.need(*link)?;
+        }
+        Ok(())
+    }
+
+    // Notes the objects of a tree's entries, one after the other: a list of all would take more
+    // than the tree.
+    fn need_entries(&mut self, id: &Oid, body: &[u8]) -> Result<(), RepositoryFault<A>> {
+        let mut rest = body;
+        for _entry in 0..body.len() {
+            if rest.is_empty() {
+                break;
+            }
+            let Some((entry, after)) = split_entry(rest) else {
+                return Err(RepositoryFault::refused(id, ObjectCause::Malformed));
+            };
+            if let Some(link) = entry.link() {
+                self.need(link)?;
+            }
+            rest = after;
         }
         Ok(())
     }
@@ -176,13 +228,22 @@ impl<A: Allocator + Copy> Arrival<A> {
         match self.needs.get(&link.id).copied() {
             Some(kind) if kind == link.kind => Ok(()),
             Some(_) => Err(RepositoryFault::refused(&link.id, ObjectCause::Type)),
-            None if self.needs.len() >= MAX_NEEDS => {
-                Err(RepositoryFault::Pack(PackFileFault::TooLarge))
-            }
             None => {
+                self.take_room(NEED_BYTES)?;
                 self.needs.insert(link.id, link.kind)?;
                 Ok(())
             }
+        }
+    }
+
+    // Takes room for so many bytes more. It fails with `TooLarge` if there is too little.
+    fn take_room(&mut self, bytes: usize) -> Result<(), RepositoryFault<A>> {
+        match self.room.checked_sub(bytes) {
+            Some(room) => {
+                self.room = room;
+                Ok(())
+            }
+            None => Err(RepositoryFault::Pack(PackFileFault::TooLarge)),
         }
     }
 
@@ -211,6 +272,24 @@ impl<A: Allocator + Copy> Arrival<A> {
             Ok(()) => Ok(()),
             Err(_) => Err(RepositoryFault::Memory),
         }
+    }
+}
+
+// The bytes that are kept of a commit or a tag with so many links. With a tag there may be a leaf.
+// The first link of a commit is its tree, which is no parent.
+fn bytes_of(kind: ObjectType, links: usize) -> usize {
+    let (entries, parents) = match kind {
+        ObjectType::Tag => (2 * ENTRY_BYTES, links),
+        _ => (ENTRY_BYTES, links.saturating_sub(1)),
+    };
+    PARENT_BYTES.saturating_mul(parents).saturating_add(entries)
+}
+
+// Whether the line of another parent comes after those of as many as a commit of a graph has.
+fn has_many_parents(commit: &[u8]) -> bool {
+    match commit.get(TREE_LINE + MAX_PARENTS * PARENT_LINE..) {
+        Some(rest) => rest.starts_with(b"parent "),
+        None => false,
     }
 }
 

@@ -6,22 +6,13 @@ ghost use Rattle.gitrepository.specs.Packs.{IsIndexed};
 
 use crate::arrival::{Arrival, Inspector};
 use crate::fault::RepositoryFault;
+use crate::limited::LimitedPack;
 use crate::tips::Tips;
 use ggraph::Entry;
 use gitobjects::{ObjectFiles, ObjectReader};
-use gitpack::{IncomingPack, IndexLimits, IndexedPack, PackFileFault};
+use gitpack::{IndexedPack, PackFileFault};
 use std::alloc::{AllocError, Allocator};
 use std::marker::Model;
-
-// How much a pack may ask for. There are at most 1,048,576 objects, which take 160 MiB of memory, and
-// each has at most 256 MiB. A delta, its bases that are held and what it makes have 256 MiB together,
-// and all objects have 4 GiB.
-const LIMITS: IndexLimits = IndexLimits {
-    objects: 1_048_576,
-    object: 268_435_456,
-    held: 268_435_456,
-    total: 4_294_967_296,
-};
 
 /// A pack that came, and its index.
 #[derive(Drop)]
@@ -32,10 +23,11 @@ pub struct Received<A: Allocator + Copy> {
     pub index: IndexedPack<A>,
 }
 
-/// A pack of which a part came, and what is known of its objects. Contracts see the bytes that came.
+/// A pack of which a part came, and what is known of its objects. Contracts see the bytes that
+/// came.
 #[derive(Drop)]
 pub struct StoreFeed<A: Allocator + Copy> {
-    pack: IncomingPack<A>,
+    pack: LimitedPack<A>,
     arrival: Arrival<A>,
 }
 
@@ -53,7 +45,7 @@ impl<A: Allocator + Copy> StoreFeed<A> {
         ensures { result ≡ [] }
     {
         StoreFeed {
-            pack: IncomingPack::new(alloc, LIMITS),
+            pack: LimitedPack::new(alloc),
             arrival: Arrival::new(alloc),
         }
     }
@@ -91,7 +83,7 @@ impl<A: Allocator + Copy> StoreFeed<A> {
 
 // Gives a pack its next bytes. It fails only out of memory.
 fn feed_pack<F: ObjectFiles, A: Allocator + Copy>(
-    pack: &mut IncomingPack<A>,
+    pack: &mut LimitedPack<A>,
     piece: &[u8],
     inspector: &mut Inspector<'_, '_, '_, '_, F, A>,
 ) -> Result<(), AllocError>
@@ -103,7 +95,7 @@ fn feed_pack<F: ObjectFiles, A: Allocator + Copy>(
 // Indexes a pack that came whole. The fault is that for which an object was refused, if there is
 // one.
 fn finish_pack<F: ObjectFiles, A: Allocator + Copy>(
-    pack: IncomingPack<A>,
+    pack: LimitedPack<A>,
     inspector: &mut Inspector<'_, '_, '_, '_, F, A>,
 ) -> Result<Received<A>, RepositoryFault<A>>
     ensures { IfOk result (λ received. (count : ℕ)

@@ -19,9 +19,11 @@ use std::cell::RefCell;
 /// in the pack or in the store, with the type by which it is named. An object that the store has
 /// too has the same bytes there.
 ///
-/// A pack is too large if it has more than 1,048,576 objects, or if they name more than 4,194,304
-/// ids. An object may have 256 MiB, and a commit, a tree or a tag 64 MiB. A delta, its bases that are
-/// held and what it makes may have 256 MiB together, and all objects and deltas 4 GiB.
+/// A pack is too large if it has more than 1,048,576 objects. An object may have 256 MiB, less 224
+/// bytes for each object of the pack, and so may a delta with its bases that are held and what it
+/// makes. A commit, a tree or a tag may have 64 MiB, all objects and deltas 4 GiB, and a chain
+/// 4,095 deltas. At most 112 MiB are kept of the ids that objects name and of commits: some two
+/// million ids, or 600,000 commits.
 #[derive(Drop)]
 pub struct StoreIndexer<'t, 'f, F: ObjectFiles, A: Allocator + Copy> {
     reader: RefCell<ObjectReader<'f, F, A>>,

@@ -113,6 +113,7 @@ mod indexer;
 mod install;
 mod kept;
 mod leaves;
+mod limited;
 mod memory_folder;
 mod new_repository;
 mod newest;

@@ -39,8 +39,9 @@ impl<'r, R: Files, A: Allocator + Copy> NewRepository<'r, R, A> {
     /// Makes a bare repository in a new directory, or in one that is empty. It has neither objects
     /// nor refs, its remote `origin` is at this URL, and HEAD points at this branch.
     ///
-    /// It fails with `Refs` if the directory is not empty or the system refuses a call, and with
-    /// `Memory`. Then nothing new is there, as far as the system removes it.
+    /// It fails with `Refs` if the directory is not empty, if another run makes a repository there
+    /// at the same time, or if the system refuses a call. It fails with `Memory`, too. Then nothing
+    /// new is there, as far as the system removes it.
     pub fn make(
         alloc: A,
         files: &'r R,
@@ -62,7 +63,8 @@ impl<'r, R: Files, A: Allocator + Copy> NewRepository<'r, R, A> {
     /// refs as `packed-refs`, and then HEAD. The graph says to which objects tags lead.
     ///
     /// It fails with `File` and `Refs` if the system refuses a call, with `Refs` if one ref has the
-    /// name of another's directory, and with `Memory`. Then the repository is removed.
+    /// name of another's directory, and with `Memory`. Then the repository is removed. The names
+    /// are judged before the pack is written.
     pub fn finish(
         self,
         received: Option<&Received<A>>,
@@ -71,9 +73,16 @@ impl<'r, R: Files, A: Allocator + Copy> NewRepository<'r, R, A> {
         head: &Head<A>,
     ) -> Result<(), RepositoryFault<A>> {
         let mut new = self;
+        new.check_refs(refs)?;
         let _kept = new.install(received)?;
         new.write_refs(graph, refs, head)?;
         new.origin = None;
+        Ok(())
+    }
+
+    // Tests the names of the refs, before anything is written.
+    fn check_refs(&self, refs: &Refs<A>) -> Result<(), RepositoryFault<A>> {
+        GitDirectory::new(self.alloc, self.files, self.path).check_refs(refs)?;
         Ok(())
     }
 

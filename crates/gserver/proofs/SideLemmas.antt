@@ -1,15 +1,19 @@
 -- A server's answers to messages.
-use Rattle.std.proofs.Common.{◌≡◌, [], ◌∷◌, codes, is_some, not, ◌<◌, ◌+◌, ◌⊎◌, inl, inr, ℕ, Bool, true, false, List, Option, Some, None, Result, Ok, Err, IfOk, IsSome, refl, sym, ap, ◌∙◌, subst, arith}
+use Rattle.std.proofs.Common.{◌≡◌, [], ◌∷◌, codes, is_some, ◌<◌, ◌+◌, ◌⊎◌, inl, inr, min, ℕ, Bool, true, false, List, Option, Some, None, Result, Ok, Err, IfOk, IsSome, MatchResult, OnOk, refl, sym, ap, ◌∙◌, subst, arith}
 use Rattle.std.proofs.lemmas.Bool.{ltb-true}
 use Rattle.gobject.specs.Packs.{PackFails, Packs}
 use Rattle.gparts.specs.Parts.{Gives}
-use Rattle.gpkt.specs.Packets.{Packet}
+use Rattle.gpkt.specs.Packets.{Bytes, Packet}
 use Rattle.ggrammar.specs.declared.ends.Ends.{Ends}
 use Rattle.gpkt.specs.Packets.{Data, Flush}
 use Rattle.gname.specs.declared.formats.Format.{Format}
 use Rattle.gname.specs.declared.formats.Format.TheVariants.{Sha1, Sha256}
 use Rattle.ggrammar.specs.Grammar.{IsWhole, Judge, Refused, Whole}
 use Rattle.ggrammar.specs.declared.fault.Why.TheVariants as why
+use Rattle.ghello.specs.Hello.{Hello}
+use Rattle.ghello.specs.Hello as hello
+use Rattle.ghello.specs.steps.HelloReading.{hello_in}
+use Rattle.ghello.proofs.HelloLemmas.{never_open, packet_says, whole_list}
 use Rattle.grequest.specs.Asked.{Asked, FetchAsked, LsRefsAsked}
 use Rattle.grequest.specs.Arguments.{command_form}
 use Rattle.ggrammar.specs.PeerErrors.{after_word}
@@ -17,19 +21,22 @@ use Rattle.grequest.specs.RequestLines.{asked_by_lines, capability_texts}
 use Rattle.grequest.specs.Requests.{judge_at}
 use Rattle.grequest.specs.Requests as request
 use Rattle.ganswer.specs.Servers.{Server}
+use Rattle.ganswer.specs.declared.fault.ServeFault.{ServeFault}
 use Rattle.gdialogue.specs.Sides.{MayAnswer}
 use Rattle.gdialogue.specs.declared.side.Answer.{Answer}
 use Rattle.gdialogue.specs.declared.side.Answer.TheVariants as answer
 use Rattle.gserver.specs.Fetching.{SaysFetch}
 use Rattle.gserver.specs.Listings.{SaysLsAnswer}
 use Rattle.gserver.specs.Replying.{may_of}
-use Rattle.gserver.specs.Serving.{AnswersAsked, AnswersHello, AnswersMessage, AnswersRequest, Greets, Refuses, SendsFrom, goes_on_after, side_judge, max_requests, messages_of}
+use Rattle.gserver.specs.Serving.{AnswersAsked, AnswersBy, AnswersHello, CannotAnswer, Greets, Refuses, SendsFrom, counted, goes_on_after, side_judge, max_requests, messages_of}
+use Rattle.gserver.specs.declared.side.ServerSide.{ServerSide}
 use Rattle.gserver.specs.declared.reply.ServerReply.{ServerReply}
-use Rattle.gserver.specs.steps.Answering.{AnswersOf}
+use Rattle.gserver.specs.steps.Answering.{AnswersOf, IsRefusal}
 
 -- ---- how many messages are left
 
-pub fewer_left : {R : Type 0} (old new : Option R) (before after : ℕ) → IsSome old → IsSome new → after ≡ before + 1
+pub fewer_left : {R : Type 0} (old new : Option R) (before after : ℕ) → IsSome old → IsSome new
+    → after ≡ min (before + 1) max_requests
     → goes_on_after before ≡ true → messages_of new after < messages_of old before
 fewer_left None new before after has_old has_new counts goes = absurd (cc has_old)
 fewer_left (Some one) None before after has_old has_new counts goes = absurd (cc has_new)
@@ -42,24 +49,18 @@ fewer_first (Some one) new before after none has_new = absurd (cc none)
 fewer_first None None before after none has_new = absurd (cc has_new)
 fewer_first None (Some other) before after none has_new = omega arith
 
-pub has_some : {R : Type 0} (old : Option R) (repo : R) → old ≡ Some repo → IsSome old
-has_some old repo is = subst IsSome (sym is) refl
+pub no_value : {R : Type 0} (old : Option R) → is_some old ≡ false → old ≡ None
+no_value None h = refl
+no_value (Some one) h = absurd (cc h)
 
-pub is_none_so : {R : Type 0} (old : Option R) (result : Bool) → is_some old ≡ not result → result ≡ true → old ≡ None
-is_none_so None result is h = refl
-is_none_so (Some one) result is h = absurd (cc (is ∙ ap not h))
+pub some_same : {T : Type 0} (x y : T) → Some x ≡ Some y → x ≡ y
+some_same x y h = cc h
 
-pub not_some : {R : Type 0} (old : Option R) → old ≡ None → ¬ (IsSome old)
-not_some None none h = absurd (cc h)
-not_some (Some one) none h = absurd (cc none)
-
-pub if_ok : {T E : Type 0} {P Q : T → Type 0} (result : Result T E) → ((x : T) → P x → Q x) → IfOk result P → IfOk result Q
-if_ok (Ok x) follows h = follows x h
-if_ok (Err x) follows h = h
-
-pub on_left : {P Q R : Type 0} → (P → Q) → P ⊎ R → Q ⊎ R
-on_left follows (inl h) = inl (follows h)
-on_left follows (inr h) = inr h
+-- an answer, or the packet of an error for another reason
+pub either_so : {Says Other : Type 0} {Why Because : Bytes → Type 0} (said : List Packet) (goes : Bool)
+    → (Says → Other) → ((text : Bytes) → Why text → Because text) → Says ⊎ Refuses Why said goes → Other ⊎ Refuses Because said goes
+either_so said goes follows reason (inl h) = inl (follows h)
+either_so said goes follows reason (inr h) = inr (record { text = h.text; why = reason h.text h.why; all = h.all; ended = h.ended })
 
 -- a pack that is not followed by a request is the last
 pub fetch_is_last : {A : Type 0} (server : Server A) (packs : Packs A) (fails : PackFails A) (asked : FetchAsked) (ends : Ends) (goes_on : Bool)
@@ -74,28 +75,33 @@ module _ {A R P : Type 0} (server_of : R → Server A) (gives : R → P → Give
   abbrev EndsWhereItMay : Bool → (List Packet → Bool → Type 0) → Type 0
   EndsWhereItMay goes_on Says = goes_on ≡ false → (said : List Packet) (goes : Bool) → Says said goes → Says said false
 
-  pub answered_so : {T : Type 0} (Says : List Packet → Bool → Type 0) (answered : Result (ServerReply A R P) T) (goes_on : Bool)
-      (result : Answer (ServerReply A R P))
-      → IfOk answered (λ reply. (said : List Packet) (goes : Bool) → may_of server_of gives reply said goes → Says said goes)
+  pub answered_so : (Says : List Packet → Bool → Type 0) (Why : Bytes → Type 0) (answered : Result (ServerReply A R P) Bytes)
+      (goes_on : Bool) (result : Answer (ServerReply A R P))
+      → MatchResult answered (λ reply. (said : List Packet) (goes : Bool) → may_of server_of gives reply said goes → Says said goes) Why
       → AnswersOf server_of gives answered goes_on result → EndsWhereItMay goes_on Says
-      → (said : List Packet) (goes : Bool) → MayAnswer (may_of server_of gives) result said goes → Says said goes ⊎ Refuses said goes
-  answered_so Says (Ok reply) true result ok is ends said goes may =
+      → (said : List Packet) (goes : Bool) → MayAnswer (may_of server_of gives) result said goes → Says said goes ⊎ Refuses Why said goes
+  answered_so Says Why (Ok reply) true result ok is ends said goes may =
       inl (ok said goes (subst (λ a. MayAnswer (may_of server_of gives) a said goes) is may))
-  answered_so Says (Ok reply) false result ok is ends said goes may =
+  answered_so Says Why (Ok reply) false result ok is ends said goes may =
       let m = subst (λ a. MayAnswer (may_of server_of gives) a said goes) is may in
       inl (subst (Says said) (sym m.0) (ends refl said m.1.0 (ok said m.1.0 m.1.1)))
-  answered_so Says (Err text) goes_on result ok is ends said goes may = inr (is.refuses said goes may)
+  answered_so Says Why (Err text) goes_on result why is ends said goes may =
+      let r = is.refuses said goes may in inr (record { text = text; why = why; all = r.0; ended = r.1 })
 
-  -- there is no reply where this is not so
-  pub refused_so : {T : Type 0} (Holds : Type 0) (answered : Result (ServerReply A R P) T) (goes_on : Bool) (result : Answer (ServerReply A R P))
-      → IfOk answered (λ reply. Holds) → ¬ Holds → AnswersOf server_of gives answered goes_on result
-      → (said : List Packet) (goes : Bool) → MayAnswer (may_of server_of gives) result said goes → Refuses said goes
-  refused_so Holds (Ok reply) goes_on result ok off is said goes may = absurd (off ok)
-  refused_so Holds (Err text) goes_on result ok off is said goes may = is.refuses said goes may
+  -- where a fault is kept nothing more is heard
+  pub quiet_so : (Quiet : Type 0) (answered : Result (ServerReply A R P) Bytes) (goes_on : Bool) (result : Answer (ServerReply A R P))
+      → OnOk answered Quiet → AnswersOf server_of gives answered goes_on result
+      → (said : List Packet) (goes : Bool) → MayAnswer (may_of server_of gives) result said goes → Quiet ⊎ (goes ≡ false)
+  quiet_so Quiet (Ok reply) goes_on result quiet is said goes may = inl quiet
+  quiet_so Quiet (Err text) goes_on result quiet is said goes may = inr (is.refuses said goes may).1
+
+  pub refused_quietly : (Quiet : Type 0) (text : Bytes) (result : Answer (ServerReply A R P)) → IsRefusal server_of gives text result
+      → (said : List Packet) (goes : Bool) → MayAnswer (may_of server_of gives) result said goes → Quiet ⊎ (goes ≡ false)
+  refused_quietly Quiet text result is said goes may = inr (is.refuses said goes may).1
 
   -- ---- where a dialogue goes on
 
-  pub went_on : {T : Type 0} (Holds : Type 0) (answered : Result (ServerReply A R P) T) (goes_on : Bool) (result : Answer (ServerReply A R P))
+  pub went_on : (Holds : Type 0) (answered : Result (ServerReply A R P) Bytes) (goes_on : Bool) (result : Answer (ServerReply A R P))
       (reply : ServerReply A R P) → IfOk answered (λ reply. Holds) → AnswersOf server_of gives answered goes_on result
       → result ≡ answer.GoesOn reply → (goes_on ≡ true) × Holds
   went_on Holds (Ok made) true result reply ok is same = (refl, ok)
@@ -104,23 +110,25 @@ module _ {A R P : Type 0} (server_of : R → Server A) (gives : R → P → Give
 
   -- ---- the replies
 
-  pub greets_on : (new : Option R) → EndsWhereItMay true (Greets server_of new)
-  greets_on new off said goes says = absurd (cc off)
+  pub greets_on : (Finds : Result R Bytes → Type 0) (new : Option R) → EndsWhereItMay true (Greets server_of Finds new)
+  greets_on Finds new off said goes says = absurd (cc off)
 
   pub list_ends : (server : Server A) (asked : LsRefsAsked) (ends : Ends) (goes_on : Bool) → EndsWhereItMay goes_on (SaysLsAnswer server asked ends goes_on)
   list_ends server asked ends goes_on off said goes says =
       record { reply = says.reply; answers = says.answers; all = says.all; goes_so = sym off }
 
-  module _ (packs_of : R → Packs A) (fails_of : R → PackFails A) where
+  module _ {H : Type 0} (host_says : H → ServeFault → Bytes → Type 0) (host : H) (packs_of : R → Packs A) (fails_of : R → PackFails A)
+      (Opens : Result R Bytes → Type 0) where
     pub fetch_ends : (ends : Ends) (asked : FetchAsked) (goes_on : Bool) (new : Option R)
-        → EndsWhereItMay goes_on (SendsFrom server_of packs_of fails_of ends asked goes_on new)
+        → EndsWhereItMay goes_on (SendsFrom server_of host_says host packs_of fails_of Opens ends asked goes_on new)
     fetch_ends ends asked goes_on new off said goes says = record {
       found = says.found;
       packer = says.packer;
+      opens = says.opens;
       served = says.served;
       same = says.same;
-      says = subst (λ g. SaysFetch (server_of says.found) (packs_of says.packer) (fails_of says.packer) asked ends goes_on said g)
-          (fetch_is_last (server_of says.found) (packs_of says.packer) (fails_of says.packer) asked ends goes_on said goes off says.says) says.says;
+      sends = subst (λ g. SaysFetch (server_of says.found) (packs_of says.packer) (fails_of says.packer) asked ends goes_on said g)
+          (fetch_is_last (server_of says.found) (packs_of says.packer) (fails_of says.packer) asked ends goes_on said goes off says.sends) says.sends;
     }
 
 -- ---- the answers to messages
@@ -139,29 +147,49 @@ judged_format Sha256 Sha256 h = refl
 judged_format Sha1 Sha256 h = absurd (formats_differ h)
 judged_format Sha256 Sha1 h = absurd (formats_differ (sym h))
 
-module _ {A R : Type 0} (server_of : R → Server A) (packs_of : R → Packs A) (fails_of : R → PackFails A) (ends : Ends) where
-  pub hello_answered : (old new : Option R) (requests : ℕ) (lines said : List Packet) (goes : Bool)
-      → (old ≡ None → AnswersHello server_of new said goes) → (IsSome old → Refuses said goes)
-      → AnswersMessage server_of packs_of fails_of ends old requests new lines said goes
-  hello_answered None new requests lines said goes first other = first refl
-  hello_answered (Some repo) new requests lines said goes first other = inr (other refl)
+-- a first line is not judged as a request
+first_is_no_request : (format : Format) → ¬ (hello.judge ≡ request.judge format)
+unfolding judge_at capability_texts command_form after_word
+first_is_no_request Sha1 h = never_open [] (Data (codes "command=fetch")) (ap (λ (judge : Judge). judge [] (Data (codes "command=fetch"))) h)
+first_is_no_request Sha256 h = never_open [] (Data (codes "command=fetch")) (ap (λ (judge : Judge). judge [] (Data (codes "command=fetch"))) h)
 
-  asked_so : (repo : R) (requests : ℕ) (new : Option R) (lines said : List Packet) (goes : Bool) (asked : Asked)
-      → request.Says (server_of repo).graph.format lines asked
-      → AnswersAsked server_of packs_of fails_of ends repo asked (goes_on_after requests) new said goes ⊎ Refuses said goes
-      → AnswersRequest server_of packs_of fails_of ends repo requests new lines said goes ⊎ Refuses said goes
-  asked_so repo requests new lines said goes asked says (inl answers) = inl (record { asked = asked; says = says; answers = answers })
-  asked_so repo requests new lines said goes asked says (inr refuses) = inr refuses
+module _ {A H R : Type 0} (server_of : R → Server A) (packs_of : R → Packs A) (fails_of : R → PackFails A)
+    (finds : H → Hello → Result R Bytes → Type 0) (opens : H → R → Result R Bytes → Type 0)
+    (says : H → ServeFault → Bytes → Type 0) (old new : ServerSide A H R) where
+  pub hello_answered : (repo : Option R) (lines said : List Packet) (goes : Bool) (kept : Option Hello)
+      → hello.judge ≡ side_judge server_of repo → IsWhole (side_judge server_of repo) lines → kept ≡ hello_in lines
+      → ((asked : Hello) → kept ≡ Some asked → repo ≡ None
+      → AnswersHello server_of says old.host.now (finds old.host.now asked) new.repo new.fault said goes)
+      → new.requests ≡ old.requests
+      → AnswersBy server_of packs_of fails_of finds opens says repo old new lines said goes
+  hello_answered None lines said goes kept judged whole is answers requests =
+      let heard = whole_list lines whole in record {
+        asked = heard.0;
+        says_so = packet_says lines heard.0 heard.1;
+        answers = answers heard.0 (is ∙ heard.1) refl;
+        requests = requests;
+      }
+  hello_answered (Some repo) lines said goes kept judged whole is answers requests =
+      absurd (first_is_no_request (server_of repo).graph.format judged)
 
-  pub request_answered : (old new : Option R) (requests : ℕ) (lines said : List Packet) (goes : Bool) (format : Format) (asked : Asked)
-      → request.judge format ≡ side_judge server_of old → IsWhole (side_judge server_of old) lines
+  pub request_answered : (repo : Option R) (lines said : List Packet) (goes : Bool) (format : Format) (asked : Asked)
+      → request.judge format ≡ side_judge server_of repo → IsWhole (side_judge server_of repo) lines
       → asked ≡ asked_by_lines format lines
-      → ((repo : R) → old ≡ Some repo
-      → AnswersAsked server_of packs_of fails_of ends repo asked (goes_on_after requests) new said goes ⊎ Refuses said goes)
-      → (old ≡ None → Refuses said goes)
-      → AnswersMessage server_of packs_of fails_of ends old requests new lines said goes
-  request_answered None new requests lines said goes format asked judged whole asks answers other = inr (other refl)
-  request_answered (Some repo) new requests lines said goes format asked judged whole asks answers other =
-      asked_so repo requests new lines said goes asked
-      (record { whole = whole; asks = asks ∙ ap (λ f. asked_by_lines f lines) (judged_format format (server_of repo).graph.format judged) })
-      (answers repo refl)
+      → ((one : R) → repo ≡ Some one
+      → AnswersAsked server_of says old.host.now packs_of fails_of (opens old.host.now one) old.ends one asked
+      (goes_on_after old.requests) new.repo said goes
+      ⊎ Refuses (CannotAnswer server_of says old.host.now packs_of fails_of (opens old.host.now one) old.ends one asked
+      new.repo new.fault) said goes)
+      → new.requests ≡ counted asked old.requests
+      → AnswersBy server_of packs_of fails_of finds opens says repo old new lines said goes
+  request_answered None lines said goes format asked judged whole asks answers requests =
+      absurd (first_is_no_request format (sym judged))
+  request_answered (Some repo) lines said goes format asked judged whole asks answers requests = record {
+    asked = asked;
+    says_so = record {
+      whole = whole;
+      asks = asks ∙ ap (λ f. asked_by_lines f lines) (judged_format format (server_of repo).graph.format judged);
+    };
+    answers = answers repo refl;
+    requests = requests;
+  }

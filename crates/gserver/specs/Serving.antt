@@ -1,19 +1,27 @@
 -- What a server answers to a first line and to requests (gitprotocol-v2(5), "Initial Client Request", "Command
 -- Request").
-use Rattle.std.specs.Prelude.{◌≡◌, ◌⊎◌, ℕ, ◌+◌, ◌-◌, Bool, true, false, nat_lt, List, [], Option, Some, None}
+use Rattle.std.specs.Prelude.{◌≡◌, ◌⊎◌, ℕ, ◌+◌, ◌-◌, Bool, true, false, min, nat_lt, List, [], Option, Some, None}
+use Rattle.std.specs.Prelude.{Result, Ok, Err}
 use Rattle.gobject.specs.Packs.{PackFails, Packs}
 use Rattle.gpkt.specs.Packets.{Bytes, Packet}
 use Rattle.ggrammar.specs.Grammar.{Judge}
 use Rattle.ggrammar.specs.declared.ends.Ends.{Ends}
+use Rattle.ggrammar.specs.declared.fault.MessageFault.{MessageFault}
 use Rattle.ghello.specs.Adverts.{canonical_advert}
+use Rattle.ghello.specs.Hello.{Hello}
 use Rattle.ghello.specs.Hello as hello
 use Rattle.grequest.specs.Asked.{Asked, Empty, Ls, Fetches, FetchAsked}
 use Rattle.grequest.specs.Requests as request
 use Rattle.ganswer.specs.Adverts.{advertised}
+use Rattle.ganswer.specs.Answers.{FetchRefuses}
 use Rattle.ganswer.specs.Servers.{Server}
+use Rattle.ganswer.specs.declared.fault.ServeFault.{ServeFault}
+use Rattle.ganswer.specs.declared.fault.ServeFault.TheVariants as serve
+use Rattle.gdialogue.specs.Sides.{SaysNothing}
 use Rattle.gserver.specs.ErrTexts.{text_packets}
 use Rattle.gserver.specs.Fetching.{SaysFetch}
 use Rattle.gserver.specs.Listings.{SaysLsAnswer}
+use Rattle.gserver.specs.declared.side.ServerSide.{ServerSide}
 
 -- the most requests of a connection after which another is heard
 abbrev pub max_requests : ℕ
@@ -28,15 +36,30 @@ abbrev pub messages_of : {R : Type 0} → Option R → ℕ → ℕ
 messages_of None requests = max_requests + 1
 messages_of (Some repo) requests = max_requests - requests
 
--- the packet of an error
-pub record IsErrPacket (said : List Packet) : Type 0 where
+-- the packet of an error is said, with words for which there is this reason, and nothing more is heard
+pub record Refuses (Why : Bytes → Type 0) (said : List Packet) (goes : Bool) : Type 0 where
   pub text : Bytes
+  pub why : Why text
   pub all : said ≡ text_packets text
-
--- it is said, and nothing more is heard
-pub record Refuses (said : List Packet) (goes : Bool) : Type 0 where
-  pub error : IsErrPacket said
   pub ended : goes ≡ false
+
+-- how many requests were answered with this one
+abbrev pub counted : Asked → ℕ → ℕ
+counted Empty requests = requests
+counted (Ls asked) requests = min (requests + 1) max_requests
+counted (Fetches asked) requests = min (requests + 1) max_requests
+
+-- the words of a host for a fault, which is kept
+module _ {H : Type 0} (says : H → ServeFault → Bytes → Type 0) (host : H) where
+  pub record IsFault (Can : ServeFault → Type 0) (kept : Option ServeFault) (text : Bytes) : Type 0 where
+    pub fault : ServeFault
+    pub can : Can fault
+    pub keeps : kept ≡ Some fault
+    pub words : says host fault text
+
+  -- out of memory for the answer
+  abbrev pub LacksMemory : Option ServeFault → Bytes → Type 0
+  LacksMemory = IsFault (λ fault. fault ≡ serve.Memory)
 
 module _ {A R : Type 0} (server_of : R → Server A) where
   -- the grammar of the next message: the first line, and then requests with ids of the repository's format
@@ -44,46 +67,119 @@ module _ {A R : Type 0} (server_of : R → Server A) where
   side_judge None = hello.judge
   side_judge (Some repo) = request.judge (server_of repo).graph.format
 
-  -- a repository is found, and its advertisement is said
-  pub record Greets (new : Option R) (said : List Packet) (goes : Bool) : Type 0 where
+  -- The host finds a repository for the first line, and its advertisement is said. It is served from then on.
+  pub record Greets (Finds : Result R Bytes → Type 0) (new : Option R) (said : List Packet) (goes : Bool) : Type 0 where
     pub found : R
+    pub finds : Finds (Ok found)
     pub served : new ≡ Some found
     pub all : said ≡ canonical_advert (advertised (server_of found).graph.format)
     pub goes_on : goes ≡ true
 
-  -- the first line is answered
-  abbrev pub AnswersHello : Option R → List Packet → Bool → Type 0
-  AnswersHello new said goes = Greets new said goes ⊎ Refuses said goes
+  module _ {H : Type 0} (says : H → ServeFault → Bytes → Type 0) (host : H) where
+    -- why a first line is not answered: the host finds no repository for it, and has these words; or out of memory
+    abbrev pub CannotGreet : (Result R Bytes → Type 0) → Option R → Option ServeFault → Bytes → Type 0
+    CannotGreet Finds new kept text = (new ≡ None) × (Finds (Err text) ⊎ LacksMemory says host kept text)
 
-  module _ (packs_of : R → Packs A) (fails_of : R → PackFails A) (ends : Ends) where
-    -- objects are sent from the repository as it is then, which is served from then on
-    pub record SendsFrom (asked : FetchAsked) (goes_on : Bool) (new : Option R) (said : List Packet)
-        (goes : Bool) : Type 0 where
-      pub found : R
-      pub packer : R
-      pub served : new ≡ Some found
-      pub same : server_of packer ≡ server_of found
-      pub says : SaysFetch (server_of found) (packs_of packer) (fails_of packer) asked ends goes_on said goes
+    -- the first line is answered
+    abbrev pub AnswersHello : (Result R Bytes → Type 0) → Option R → Option ServeFault → List Packet → Bool → Type 0
+    AnswersHello Finds new kept said goes = Greets Finds new said goes ⊎ Refuses (CannotGreet Finds new kept) said goes
 
-    -- what is asked of a repository is answered
-    abbrev pub AnswersAsked : R → Asked → Bool → Option R → List Packet → Bool → Type 0
-    AnswersAsked repo Empty goes_on new said goes = (said ≡ []) × (goes ≡ false)
-    AnswersAsked repo (Ls asked) goes_on new said goes =
-        (new ≡ Some repo) × SaysLsAnswer (server_of repo) asked ends goes_on said goes
-    AnswersAsked repo (Fetches asked) goes_on new said goes = SendsFrom asked goes_on new said goes
+    module _ (packs_of : R → Packs A) (fails_of : R → PackFails A) (Opens : Result R Bytes → Type 0) (ends : Ends) where
+      -- objects are sent from the repository as the host then opens it, which is served from then on
+      pub record SendsFrom (asked : FetchAsked) (goes_on : Bool) (new : Option R) (said : List Packet)
+          (goes : Bool) : Type 0 where
+        pub found : R
+        pub packer : R
+        pub opens : Opens (Ok found)
+        pub served : new ≡ Some found
+        pub same : server_of packer ≡ server_of found
+        pub sends : SaysFetch (server_of found) (packs_of packer) (fails_of packer) asked ends goes_on said goes
 
-    -- the packets of a request are answered
-    pub record AnswersRequest (repo : R) (requests : ℕ) (new : Option R) (lines said : List Packet)
-        (goes : Bool) : Type 0 where
-      pub asked : Asked
-      pub says : request.Says (server_of repo).graph.format lines asked
-      pub answers : AnswersAsked repo asked (goes_on_after requests) new said goes
+      -- the repository that the host opens does not answer it
+      pub record CannotSendFrom (asked : FetchAsked) (new : Option R) (kept : Option ServeFault)
+          (text : Bytes) : Type 0 where
+        pub found : R
+        pub packer : R
+        pub opens : Opens (Ok found)
+        pub served : new ≡ Some found
+        pub same : server_of packer ≡ server_of found
+        pub fault : IsFault says host (FetchRefuses (server_of found) (fails_of packer) asked) kept text
 
-    -- the packets of a message are answered, after so many requests; or the packet of an error is said
-    abbrev pub AnswersMessage : Option R → ℕ → Option R → List Packet → List Packet → Bool → Type 0
-    AnswersMessage None requests new lines said goes = AnswersHello new said goes
-    AnswersMessage (Some repo) requests new lines said goes =
-        AnswersRequest repo requests new lines said goes ⊎ Refuses said goes
+      -- why objects are not sent: the host does not open the repository and has these words; out of memory; or what it
+      -- opens does not answer
+      abbrev pub CannotSend : R → FetchAsked → Option R → Option ServeFault → Bytes → Type 0
+      CannotSend repo asked new kept text =
+          ((new ≡ Some repo) × (Opens (Err text) ⊎ LacksMemory says host kept text))
+          ⊎ CannotSendFrom asked new kept text
+
+      -- what is asked of a repository is answered
+      abbrev pub AnswersAsked : R → Asked → Bool → Option R → List Packet → Bool → Type 0
+      AnswersAsked repo Empty goes_on new said goes = (new ≡ Some repo) × (said ≡ []) × (goes ≡ false)
+      AnswersAsked repo (Ls asked) goes_on new said goes =
+          (new ≡ Some repo) × SaysLsAnswer (server_of repo) asked ends goes_on said goes
+      AnswersAsked repo (Fetches asked) goes_on new said goes = SendsFrom asked goes_on new said goes
+
+      -- why it is not answered
+      abbrev pub CannotAnswer : R → Asked → Option R → Option ServeFault → Bytes → Type 0
+      CannotAnswer repo Empty new kept text = ⊥
+      CannotAnswer repo (Ls asked) new kept text = (new ≡ Some repo) × LacksMemory says host kept text
+      CannotAnswer repo (Fetches asked) new kept text = CannotSend repo asked new kept text
+
+-- what stays of a side: its host, and how its replies end
+pub record Stays {A H R : Type 0} (old new : ServerSide A H R) : Type 0 where
+  pub host : new.host ≡ old.host
+  pub ends : new.ends ≡ old.ends
+
+-- a side that has heard nothing
+pub record IsFresh {A H R : Type 0} (side : ServerSide A H R) : Type 0 where
+  pub repo : side.repo ≡ None
+  pub requests : side.requests ≡ 0
+  pub fault : side.fault ≡ None
+
+-- before the first line nothing is said
+abbrev pub OpensFresh : {A H R : Type 0} → ServerSide A H R → List Packet → Bool → Type 0
+OpensFresh side said goes = IsFresh side × SaysNothing said goes
+
+module _ {A H R : Type 0} (server_of : R → Server A) (packs_of : R → Packs A) (fails_of : R → PackFails A)
+    (finds : H → Hello → Result R Bytes → Type 0) (opens : H → R → Result R Bytes → Type 0)
+    (says : H → ServeFault → Bytes → Type 0) where
+  -- the packets of a first line are answered by what the host finds for it
+  pub record AnswersFirst (old new : ServerSide A H R) (lines said : List Packet) (goes : Bool) : Type 0 where
+    pub asked : Hello
+    pub says_so : hello.Says lines asked
+    pub answers : AnswersHello server_of says old.host.now (finds old.host.now asked) new.repo new.fault said goes
+    pub requests : new.requests ≡ old.requests
+
+  -- the packets of a request are answered; or the packet of an error is said
+  pub record AnswersRequest (repo : R) (old new : ServerSide A H R) (lines said : List Packet)
+      (goes : Bool) : Type 0 where
+    pub asked : Asked
+    pub says_so : request.Says (server_of repo).graph.format lines asked
+    pub answers : AnswersAsked server_of says old.host.now packs_of fails_of (opens old.host.now repo) old.ends
+        repo asked (goes_on_after old.requests) new.repo said goes
+        ⊎ Refuses (CannotAnswer server_of says old.host.now packs_of fails_of (opens old.host.now repo) old.ends
+        repo asked new.repo new.fault) said goes
+    pub requests : new.requests ≡ counted asked old.requests
+
+  -- the packets of a message are answered
+  abbrev pub AnswersBy : Option R → ServerSide A H R → ServerSide A H R → List Packet → List Packet → Bool → Type 0
+  AnswersBy None old new lines said goes = AnswersFirst old new lines said goes
+  AnswersBy (Some repo) old new lines said goes = AnswersRequest repo old new lines said goes
+
+  pub record AnswersMessage (old new : ServerSide A H R) (lines said : List Packet) (goes : Bool) : Type 0 where
+    pub stays : Stays old new
+    pub answers : AnswersBy old.repo old new lines said goes
+    pub quiet : (new.fault ≡ old.fault) ⊎ (goes ≡ false)
+
+-- a message is refused by its grammar: the host's words for that are said, and the fault is kept
+pub record RefusesMessage {A H R : Type 0} (says : H → ServeFault → Bytes → Type 0) (old : ServerSide A H R)
+    (fault : MessageFault) (said : List Packet) (new : ServerSide A H R) : Type 0 where
+  pub stays : Stays old new
+  pub repo : new.repo ≡ old.repo
+  pub requests : new.requests ≡ old.requests
+  pub text : Bytes
+  pub words : IsFault says old.host.now (λ it. it ≡ serve.Request fault) new.fault text
+  pub all : said ≡ text_packets text
 
 -- which packets of the next message bring something to keep
 abbrev pub side_brings : {R : Type 0} → Option R → List Packet → Packet → Bool

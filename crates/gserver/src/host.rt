@@ -24,13 +24,32 @@ pub trait Served<A: Allocator + Copy> {
 }
 
 /// The one who has the repositories, for all connections of a server.
+///
+/// `finds`, `opens` and `says` are what it may answer. A host that leaves them out may answer anything.
 pub trait Host<A: Allocator + Copy, R> {
+    ghost use Rattle.std.specs.Prelude.{Result, ⊤};
+    ghost use Rattle.gpkt.specs.Packets.{Bytes};
+    ghost use Rattle.ghello.specs.Hello.{Hello};
+    ghost use Rattle.ganswer.specs.declared.fault.ServeFault.{ServeFault};
+
+    // To this first line it may find this repository, or have these words.
+    ghost finds: { Self → Hello → Result R Bytes → Type 0 } = { λ _ _ _. ⊤ };
+
+    // For this repository it may open that one, or have these words.
+    ghost opens: { Self → R → Result R Bytes → Type 0 } = { λ _ _ _. ⊤ };
+
+    // For this fault it may have these words.
+    ghost says: { Self → ServeFault → Bytes → Type 0 } = { λ _ _ _. ⊤ };
+
     /// The repository that a first line asks for; or the words for the client if there is none.
-    fn find(&self, hello: &Hello<A>) -> Result<R, ErrText>;
+    fn find(&self, hello: &Hello<A>) -> Result<R, ErrText>
+        ensures { finds self.now hello.now result };
 
     /// The same repository, ready to pack its objects; or the words for the client if it cannot be read.
-    fn open(&self, repo: &R) -> Result<R, ErrText>;
+    fn open(&self, repo: &R) -> Result<R, ErrText>
+        ensures { opens self.now repo.now result };
 
     /// The words for a client whose message is refused so.
-    fn words(&self, fault: &ServeFault) -> ErrText;
+    fn words(&self, fault: &ServeFault) -> ErrText
+        ensures { says self.now fault.now result };
 }

@@ -6,18 +6,26 @@
 //!
 //! # Proved
 //!
-//! - To the first line the side says the advertisement of the repository that its host found, and serves that one from
-//!   then on (`Greets` in `specs/Serving.antt`).
+//! - To the first line the side says the advertisement of a repository, and serves that one from then on (`Greets` in
+//!   `specs/Serving.antt`). It is one that its host may find for this very line: for its path and its host name.
 //! - To a request for refs it says an answer that `ganswer` has to it, in its one list of packets (`SaysLsAnswer` in
 //!   `specs/Listings.antt`).
-//! - To a request for objects it says an answer of the repository as it is then (`SaysFetch` in `specs/Fetching.antt`).
-//!   The pack is one of its packer, cut into packets of the largest size.
+//! - To a request for objects it says an answer of the repository as its host may then open it (`SendsFrom`, and
+//!   `SaysFetch` in `specs/Fetching.antt`). The pack is one of its packer, cut into packets of the largest size.
 //! - A packer that fails in the middle of a pack has one packet of band 3 said for it, with the fault's words.
 //!   The fault is one that it may answer for the objects to send. Nothing is said after that, and nothing more
 //!   is heard.
 //! - To an empty request nothing is said, and nothing more is heard.
-//! - Instead of an answer the packet of an error may be said. Nothing more is heard then (`Refuses`). A message that is
-//!   refused by its grammar is answered so.
+//! - Instead of an answer the packet of an error may be said, with words of the host. Nothing more is heard then. A
+//!   first line is answered so only out of memory, or if the host may have these words for it (`CannotGreet`). A
+//!   request is answered so only out of memory, for a fault that it has with this repository, or if the host may
+//!   have these words as it opens it (`CannotAnswer`). A message that its grammar refuses gets the host's words for
+//!   that fault (`RefusesMessage`).
+//! - The side keeps the fault for which it said words ([`ServerSide::fault`]). While more is heard there is none.
+//! - A connection begins with no repository, no request and no fault (`OpensFresh`). Its host and the end of its
+//!   replies stay those that [`ServerSide::new`] took. Each request for refs or objects is counted. So only a refusal,
+//!   an empty request, a failed pack or the limit of requests ends a connection.
+//! - [`ServerSide::repo`], [`ServerSide::requests`] and [`ServerSide::fault`] tell what the side has.
 //! - Each call of [`Reply::say`](gdialogue::Reply) says something or nears the end, so a reply ends. A connection ends
 //!   after 4,294,967,296 requests at most.
 //! - An [`ErrText`] keeps as many bytes as there is room for.
@@ -25,20 +33,15 @@
 //!
 //! # What the contracts do not rule out
 //!
-//! - Any repository that the host finds, whatever path the first line has. A repository may be another one after a
-//!   request for objects: its host opens it.
-//! - A side that does not ask its host, or asks it for another path. No clause ties the answers of a [`Host`] to what is
-//!   served.
-//! - An end after the first request, and replies that end otherwise than [`ServerSide::new`] was told.
-//! - The packet of an error instead of any answer, with any words of the host.
+//! - Any repository that a host may find or open by its own `finds` and `opens`, and any words by its `says`. A host
+//!   that leaves these out may answer anything, and a side of it need not ask it.
+//! - Out of memory instead of any answer.
 //! - A call that says few packets, and one that takes as long as its packer or its host takes.
 //! - Any packets before the packet of band 3.
-//! - Any repository, any count of requests and any fault in what [`ServerSide::repo`], [`ServerSide::requests`] and
-//!   [`ServerSide::fault`] tell.
 //!
 //! # Only tested
 //!
-//! That it answers where it can: `examples/many-clients.py`, and the scripts that try `gitrepo` with git.
+//! Nothing yet: no program of this repository uses it.
 //!
 //! # Stands on
 //!

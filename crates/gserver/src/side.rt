@@ -1,12 +1,14 @@
 //! The server's end of a dialogue (gitprotocol-v2(5), "Initial Client Request" and "Command Request").
 
-ghost use Rattle.std.specs.Prelude.{◌≡◌, ◌<◌, ◌+◌, ◌⊎◌, Bool, IfOk, IsSome, IsTrue, List, None, Some};
+ghost use Rattle.std.specs.Prelude.{◌≡◌, ◌<◌, ◌+◌, ◌⊎◌, Bool, IfOk, IsSome, List, MatchResult, None, OnOk, Some, false, min};
+ghost use Rattle.std.specs.Option.{option_copied};
 ghost use Rattle.gpkt.specs.Packets.{Packet};
+ghost use Rattle.ghello.specs.Hello as first_line;
 ghost use Rattle.grequest.specs.RequestValues.{asked_by_request};
 ghost use Rattle.gdialogue.specs.Sides.{MayAnswer};
 ghost use Rattle.gserver.specs.Listings.{SaysLsAnswer};
 ghost use Rattle.gserver.specs.Replying.{may_of};
-ghost use Rattle.gserver.specs.Serving.{AnswersAsked, AnswersHello, Greets, Refuses, SendsFrom, goes_on_after, messages_of};
+ghost use Rattle.gserver.specs.Serving.{AnswersAsked, AnswersHello, CannotAnswer, CannotGreet, CannotSend, Greets, IsFresh, LacksMemory, Refuses, SendsFrom, Stays, counted, goes_on_after, max_requests, messages_of};
 ghost use Rattle.gserver.specs.steps.Answering.{AnswersOf, IsRefusal};
 
 use crate::err_text::ErrText;
@@ -47,7 +49,8 @@ pub struct ServerSide<'h, A: Allocator + Copy, H, R> {
 impl<'h, A: Allocator + Copy, H, R> ServerSide<'h, A, H, R> {
     /// A side that has heard nothing.
     pub fn new(host: &'h H, alloc: A, ends: Ends) -> ServerSide<'h, A, H, R>
-        ensures repo { result.repo ≡ None }
+        ensures fresh { IsFresh result }
+        ensures host { result.host.now ≡ host.now }
         ensures ends { result.ends ≡ ends }
     {
         ServerSide {
@@ -61,7 +64,9 @@ impl<'h, A: Allocator + Copy, H, R> ServerSide<'h, A, H, R> {
     }
 
     /// The repository that is served, if one is.
-    pub fn repo(&self) -> Option<&R> {
+    pub fn repo(&self) -> Option<&R>
+        ensures { option_copied result ≡ self.now.repo }
+    {
         self.repo.as_ref()
     }
 
@@ -73,7 +78,9 @@ impl<'h, A: Allocator + Copy, H, R> ServerSide<'h, A, H, R> {
     }
 
     /// Why a message was refused, if one was for a fault of this side.
-    pub fn fault(&self) -> Option<&ServeFault> {
+    pub fn fault(&self) -> Option<&ServeFault>
+        ensures { option_copied result ≡ self.now.fault }
+    {
         self.fault.as_ref()
     }
 }
@@ -84,32 +91,28 @@ where
     H: Host<A, R>,
     R: Served<A> + PartPacker<A> + Drop,
 {
-    // The words for a fault, which is kept.
-    fn words(&mut self, fault: ServeFault) -> ErrText
-        ensures repo { self.new.repo ≡ self.old.repo }
-        ensures requests { self.new.requests ≡ self.old.requests }
-        ensures ends { self.new.ends ≡ self.old.ends }
-    {
-        let words = self.host.words(&fault);
-        self.fault = Some(fault);
-        words
-    }
-
     // The words for a message that does not come here.
     fn unexpected(&mut self) -> ErrText
         ensures repo { self.new.repo ≡ self.old.repo }
         ensures requests { self.new.requests ≡ self.old.requests }
-        ensures ends { self.new.ends ≡ self.old.ends }
+        ensures stays { Stays self.old self.new }
     {
-        self.words(ServeFault::Request(MessageFault::of_value(Why::UnexpectedFrame)))
+        let fault = MessageFault::of_value(Why::UnexpectedFrame);
+        words::<A, H, R>(self.host, &mut self.fault, ServeFault::Request(fault))
     }
 
     // Finds the repository that the first line asks for.
     fn greet(&mut self, hello: &Hello<A>) -> Result<ServerReply<A, R, R::Parts>, ErrText>
-        ensures greets { IfOk result (λ reply. (said : List Packet) (goes : Bool)
-            → may_of R.server R.gives reply said goes → Greets R.server self.new.repo said goes) }
+        requires { self.old.repo ≡ None }
+        ensures greets { MatchResult result (λ reply. (said : List Packet) (goes : Bool)
+            → may_of R.server R.gives reply said goes
+            → Greets R.server (H.finds self.old.host.now hello.now) self.new.repo said goes)
+            (CannotGreet R.server H.says self.old.host.now (H.finds self.old.host.now hello.now)
+            self.new.repo self.new.fault) }
         ensures served { IfOk result (λ reply. IsSome self.new.repo) }
+        ensures quiet { OnOk result (self.new.fault ≡ self.old.fault) }
         ensures requests { self.new.requests ≡ self.old.requests }
+        ensures stays { Stays self.old self.new }
     {
         let repo = self.host.find(hello)?;
         match repo.server().advert() {
@@ -117,61 +120,63 @@ where
                 self.repo = Some(repo);
                 Ok(ServerReply::Greeting(Greeting::new(advert)))
             }
-            Err(fault) => Err(self.words(fault)),
+            Err(fault) => Err(words::<A, H, R>(self.host, &mut self.fault, fault)),
         }
     }
 
     // Answers the first line.
     fn answer_hello(&mut self, hello: Option<Hello<A>>) -> Answer<ServerReply<A, R, R::Parts>>
-        ensures answers { self.old.repo ≡ None → (said : List Packet) (goes : Bool)
+        ensures answers { (asked : first_line.Hello) → hello ≡ Some asked → self.old.repo ≡ None
+            → (said : List Packet) (goes : Bool) → MayAnswer (may_of R.server R.gives) result said goes
+            → AnswersHello R.server H.says self.old.host.now (H.finds self.old.host.now asked)
+            self.new.repo self.new.fault said goes }
+        ensures quiet { (said : List Packet) (goes : Bool)
             → MayAnswer (may_of R.server R.gives) result said goes
-            → AnswersHello R.server self.new.repo said goes }
-        ensures refuses { IsSome self.old.repo → (said : List Packet) (goes : Bool)
-            → MayAnswer (may_of R.server R.gives) result said goes → Refuses said goes }
+            → (self.new.fault ≡ self.old.fault) ⊎ (goes ≡ false) }
         ensures fewer { (reply : ServerReply A R R.Parts) → result ≡ Answer.GoesOn reply
             → messages_of self.new.repo self.new.requests < messages_of self.old.repo self.old.requests }
+        ensures requests { self.new.requests ≡ self.old.requests }
+        ensures stays { Stays self.old self.new }
     {
-        match hello {
-            Some(hello) if self.repo.is_none() => answer_of::<A, R>(self.greet(&hello), true),
-            _ => refusing::<A, R>(self.unexpected()),
+        let Some(hello) = hello else {
+            return refusing::<A, R>(self.unexpected());
+        };
+        if self.repo.is_some() {
+            return refusing::<A, R>(self.unexpected());
         }
-    }
-
-    // Counts a request, and answers whether there may be more after it.
-    fn count(&mut self) -> bool
-        ensures goes { result ≡ goes_on_after self.old.requests }
-        ensures counts { IsTrue result → self.new.requests ≡ self.old.requests + 1 }
-        ensures repo { self.new.repo ≡ self.old.repo }
-        ensures ends { self.new.ends ≡ self.old.ends }
-    {
-        let goes_on = self.requests < MAX_REQUESTS;
-        self.requests = self.requests.saturating_add(1);
-        goes_on
+        let greeted = self.greet(&hello);
+        answer_of::<A, R>(greeted, true)
     }
 
     // Answers a request.
     fn answer_request(&mut self, request: Request<A>) -> Answer<ServerReply<A, R, R::Parts>>
         ensures answers { (repo : R) → self.old.repo ≡ Some repo → (said : List Packet) (goes : Bool)
             → MayAnswer (may_of R.server R.gives) result said goes
-            → AnswersAsked R.server R.packs R.pack_fails self.old.ends repo (asked_by_request request)
-            (goes_on_after self.old.requests) self.new.repo said goes ⊎ Refuses said goes }
-        ensures refuses { self.old.repo ≡ None → (said : List Packet) (goes : Bool)
-            → MayAnswer (may_of R.server R.gives) result said goes → Refuses said goes }
+            → AnswersAsked R.server H.says self.old.host.now R.packs R.pack_fails
+            (H.opens self.old.host.now repo) self.old.ends repo (asked_by_request request)
+            (goes_on_after self.old.requests) self.new.repo said goes
+            ⊎ Refuses (CannotAnswer R.server H.says self.old.host.now R.packs R.pack_fails
+            (H.opens self.old.host.now repo) self.old.ends repo (asked_by_request request)
+            self.new.repo self.new.fault) said goes }
+        ensures quiet { (said : List Packet) (goes : Bool)
+            → MayAnswer (may_of R.server R.gives) result said goes
+            → (self.new.fault ≡ self.old.fault) ⊎ (goes ≡ false) }
         ensures fewer { (reply : ServerReply A R R.Parts) → result ≡ Answer.GoesOn reply
             → messages_of self.new.repo self.new.requests < messages_of self.old.repo self.old.requests }
+        ensures requests { self.new.requests ≡ counted (asked_by_request request) self.old.requests }
+        ensures stays { Stays self.old self.new }
     {
         match request {
-            Request::Empty if self.repo.is_some() => {
-                Answer::Last(ServerReply::Speech(Speech::silent()))
-            }
-            Request::Empty => refusing::<A, R>(self.unexpected()),
+            Request::Empty => Answer::Last(ServerReply::Speech(Speech::silent())),
             Request::Ls(asked) => {
-                let goes_on = self.count();
-                answer_of::<A, R>(self.list(asked, goes_on), goes_on)
+                let goes_on = count(&mut self.requests);
+                let listed = self.list(asked, goes_on);
+                answer_of::<A, R>(listed, goes_on)
             }
             Request::Fetch(asked) => {
-                let goes_on = self.count();
-                answer_of::<A, R>(self.send(&asked, goes_on), goes_on)
+                let goes_on = count(&mut self.requests);
+                let sent = self.send(&asked, goes_on);
+                answer_of::<A, R>(sent, goes_on)
             }
         }
     }
@@ -182,12 +187,16 @@ where
         asked: LsRefsRequest<A>,
         goes_on: bool,
     ) -> Result<ServerReply<A, R, R::Parts>, ErrText>
-        ensures lists { IfOk result (λ reply. (repo : R) → self.old.repo ≡ Some repo
-            → (said : List Packet) (goes : Bool) → may_of R.server R.gives reply said goes
-            → SaysLsAnswer (R.server repo) asked self.old.ends goes_on said goes) }
+        ensures lists { (repo : R) → self.old.repo ≡ Some repo
+            → MatchResult result (λ reply. (said : List Packet) (goes : Bool)
+            → may_of R.server R.gives reply said goes
+            → SaysLsAnswer (R.server repo) asked self.old.ends goes_on said goes)
+            (LacksMemory H.says self.old.host.now self.new.fault) }
         ensures served { IfOk result (λ reply. IsSome self.old.repo) }
+        ensures quiet { OnOk result (self.new.fault ≡ self.old.fault) }
         ensures repo { self.new.repo ≡ self.old.repo }
         ensures requests { self.new.requests ≡ self.old.requests }
+        ensures stays { Stays self.old self.new }
     {
         let handle = match &self.repo {
             Some(repo) => repo.handle(),
@@ -198,7 +207,7 @@ where
                 let listing = Listing::new(repo, asked, self.ends, goes_on);
                 Ok(ServerReply::Listing(listing))
             }
-            Err(_) => Err(self.words(ServeFault::Memory)),
+            Err(_) => Err(words::<A, H, R>(self.host, &mut self.fault, ServeFault::Memory)),
         }
     }
 
@@ -208,34 +217,64 @@ where
         asked: &FetchRequest<A>,
         goes_on: bool,
     ) -> Result<ServerReply<A, R, R::Parts>, ErrText>
-        ensures sends { IfOk result (λ reply. (said : List Packet) (goes : Bool)
+        ensures sends { (repo : R) → self.old.repo ≡ Some repo
+            → MatchResult result (λ reply. (said : List Packet) (goes : Bool)
             → may_of R.server R.gives reply said goes
-            → SendsFrom R.server R.packs R.pack_fails self.old.ends asked.now.asked goes_on self.new.repo
-            said goes) }
+            → SendsFrom R.server H.says self.old.host.now R.packs R.pack_fails
+            (H.opens self.old.host.now repo) self.old.ends asked.now.asked goes_on self.new.repo said goes)
+            (CannotSend R.server H.says self.old.host.now R.packs R.pack_fails
+            (H.opens self.old.host.now repo) self.old.ends repo asked.now.asked self.new.repo
+            self.new.fault) }
         ensures served { IfOk result (λ reply. IsSome self.old.repo × IsSome self.new.repo) }
+        ensures quiet { OnOk result (self.new.fault ≡ self.old.fault) }
         ensures requests { self.new.requests ≡ self.old.requests }
+        ensures stays { Stays self.old self.new }
     {
         let opened = match &self.repo {
             Some(repo) => self.host.open(repo)?,
             None => return Err(self.unexpected()),
         };
         let Ok(packer) = opened.handle() else {
-            return Err(self.words(ServeFault::Memory));
+            return Err(words::<A, H, R>(self.host, &mut self.fault, ServeFault::Memory));
         };
         let spoken = speak_fetch(opened.server(), packer, asked, self.ends, goes_on);
         self.repo = Some(opened);
         match spoken {
             Ok(speech) => Ok(ServerReply::Speech(speech)),
-            Err(fault) => Err(self.words(fault)),
+            Err(fault) => Err(words::<A, H, R>(self.host, &mut self.fault, fault)),
         }
     }
+}
+
+// The host's words for a fault, which is kept.
+fn words<A: Allocator + Copy, H: Host<A, R>, R>(
+    host: &H,
+    kept: &mut Option<ServeFault>,
+    fault: ServeFault,
+) -> ErrText
+    ensures kept { kept.new ≡ Some fault }
+    ensures words { H.says host.now fault result }
+{
+    let words = host.words(&fault);
+    *kept = Some(fault);
+    words
+}
+
+// Counts a request, and answers whether there may be more after it.
+fn count(requests: &mut u32) -> bool
+    ensures goes { result ≡ goes_on_after requests.old }
+    ensures counts { requests.new ≡ min (requests.old + 1) max_requests }
+{
+    let goes_on = *requests < MAX_REQUESTS;
+    *requests = requests.saturating_add(1);
+    goes_on
 }
 
 // The packet of an error, as the last answer.
 fn refusing<A: Allocator + Copy, R: Served<A> + PartPacker<A>>(
     text: ErrText,
 ) -> Answer<ServerReply<A, R, R::Parts>>
-    ensures { IsRefusal R.server R.gives result }
+    ensures { IsRefusal R.server R.gives text result }
 {
     Answer::Last(ServerReply::Speech(Speech::refusing(text)))
 }
@@ -260,19 +299,18 @@ where
     H: Host<A, R>,
     R: Served<A> + PartPacker<A> + Drop,
 {
-    ghost use Rattle.gdialogue.specs.Sides.{SaysNothing};
-    ghost use Rattle.gserver.specs.Serving.{AnswersMessage, IsErrPacket, messages_of, side_brings, side_judge};
+    ghost use Rattle.gserver.specs.Serving.{AnswersMessage, OpensFresh, RefusesMessage, messages_of, side_brings, side_judge};
 
     ghost judge = { λ side. side_judge R.server side.repo };
 
     ghost brings = { λ side. side_brings side.repo };
 
-    ghost opens = { λ _. SaysNothing };
+    ghost opens = { OpensFresh };
 
     ghost answers = { λ old lines said goes new.
-        AnswersMessage R.server R.packs R.pack_fails old.ends old.repo old.requests new.repo lines said goes };
+        AnswersMessage R.server R.packs R.pack_fails H.finds H.opens H.says old new lines said goes };
 
-    ghost refuses = { λ _ _ said _. IsErrPacket said };
+    ghost refuses = { RefusesMessage H.says };
 
     ghost messages = { λ side. messages_of side.repo side.requests };
 
@@ -294,7 +332,7 @@ where
     }
 
     fn refuse(&mut self, fault: MessageFault) -> ServerReply<A, R, R::Parts> {
-        let words = self.words(ServeFault::Request(fault));
+        let words = words::<A, H, R>(self.host, &mut self.fault, ServeFault::Request(fault));
         ServerReply::Speech(Speech::refusing(words))
     }
 }

@@ -1,24 +1,24 @@
 -- The steps of answering a message.
 use Rattle.std.specs.Prelude.{◌≡◌, ◌≢◌, Bool, true, false, List, Result, Ok, Err}
 use Rattle.gparts.specs.Parts.{Gives}
-use Rattle.gpkt.specs.Packets.{Packet}
+use Rattle.gpkt.specs.Packets.{Bytes, Packet}
 use Rattle.ganswer.specs.Servers.{Server}
 use Rattle.gdialogue.specs.Sides.{MayAnswer}
 use Rattle.gdialogue.specs.declared.side.Answer.{Answer}
 use Rattle.gdialogue.specs.declared.side.Answer.TheVariants as answer
 use Rattle.gserver.specs.Replying.{may_of}
-use Rattle.gserver.specs.Serving.{Refuses}
+use Rattle.gserver.specs.ErrTexts.{text_packets}
 use Rattle.gserver.specs.declared.reply.ServerReply.{ServerReply}
 
 module _ {A R P : Type 0} (server_of : R → Server A) (gives : R → P → Gives) where
-  -- an answer is a refusal and the last
-  pub record IsRefusal (result : Answer (ServerReply A R P)) : Type 0 where
+  -- an answer is the packet of an error with these words, and the last
+  pub record IsRefusal (text : Bytes) (result : Answer (ServerReply A R P)) : Type 0 where
     pub refuses : (said : List Packet) (goes : Bool) → MayAnswer (may_of server_of gives) result said goes
-        → Refuses said goes
+        → (said ≡ text_packets text) × (goes ≡ false)
     pub last : (reply : ServerReply A R P) → result ≢ answer.GoesOn reply
 
   -- a reply is the answer, after which the dialogue goes on or not; or there is none, and a refusal is
-  abbrev pub AnswersOf : {T : Type 0} → Result (ServerReply A R P) T → Bool → Answer (ServerReply A R P) → Type 0
+  abbrev pub AnswersOf : Result (ServerReply A R P) Bytes → Bool → Answer (ServerReply A R P) → Type 0
   AnswersOf (Ok reply) true result = result ≡ answer.GoesOn reply
   AnswersOf (Ok reply) false result = result ≡ answer.Last reply
-  AnswersOf (Err text) goes_on result = IsRefusal result
+  AnswersOf (Err text) goes_on result = IsRefusal text result

@@ -5,16 +5,26 @@ use Rattle.gserver.proofs.SideLemmas.{hello_answered, request_answered}
 use Rattle.gserver.proofs.side.ServerSideSideHeardServerReplyParts.answer.Goals as goal
 
 pub returns-in-Hello-clause-answers : goal.returns-in-Hello-clause-answers
-returns-in-Hello-clause-answers g c = λ lines said goes judged whole holds may.
-    hello_answered g.R.Served.server g.R.PartPacker.packs g.R.PartPacker.pack_fails c.args.self.now.ends c.args.self.now.repo c.answer_hello.new.self.repo
-    c.args.self.now.requests lines said goes
-    (λ none. c.answer_hello.ensures.answers none said goes may) (λ some. c.answer_hello.ensures.refuses some said goes may)
+returns-in-Hello-clause-answers g c = λ lines said goes judged whole holds may. record {
+  stays = c.answer_hello.ensures.stays;
+  answers = hello_answered g.R.Served.server g.R.PartPacker.packs g.R.PartPacker.pack_fails g.H.Host.finds g.H.Host.opens g.H.Host.says
+      c.args.self.now c.answer_hello.new.self c.args.self.now.repo lines said goes c.in-Hello.reader.hello
+      (subst (λ m. judge_of m ≡ side_judge g.R.Served.server c.args.self.now.repo) c.in-Hello.is judged) whole
+      (subst (λ m. holds_of m lines) c.in-Hello.is holds)
+      (λ asked same none. c.answer_hello.ensures.answers asked (c.finish.ensures ∙ same) none said goes may)
+      c.answer_hello.ensures.requests;
+  quiet = c.answer_hello.ensures.quiet said goes may;
+}
 
 pub returns-in-Request-clause-answers : goal.returns-in-Request-clause-answers
 returns-in-Request-clause-answers g c = λ lines said goes judged whole holds may.
-    let held = subst (λ m. holds_of m lines) c.in-Request.is holds in
-    request_answered g.R.Served.server g.R.PartPacker.packs g.R.PartPacker.pack_fails c.args.self.now.ends c.args.self.now.repo c.answer_request.new.self.repo
-    c.args.self.now.requests lines said goes c.in-Request.reader.format _
-    (subst (λ m. judge_of m ≡ side_judge g.R.Served.server c.args.self.now.repo) c.in-Request.is judged) whole
-    (c.finish-in-Request.ensures.asked ∙ ap (λ s. s.asked) held)
-    (λ repo some. c.answer_request.ensures.answers repo some said goes may) (λ none. c.answer_request.ensures.refuses none said goes may)
+    let held = subst (λ m. holds_of m lines) c.in-Request.is holds in record {
+      stays = c.answer_request.ensures.stays;
+      answers = request_answered g.R.Served.server g.R.PartPacker.packs g.R.PartPacker.pack_fails g.H.Host.finds g.H.Host.opens g.H.Host.says
+          c.args.self.now c.answer_request.new.self c.args.self.now.repo lines said goes c.in-Request.reader.format _
+          (subst (λ m. judge_of m ≡ side_judge g.R.Served.server c.args.self.now.repo) c.in-Request.is judged) whole
+          (c.finish-in-Request.ensures.asked ∙ ap (λ s. s.asked) held)
+          (λ repo some. c.answer_request.ensures.answers repo some said goes may)
+          c.answer_request.ensures.requests;
+      quiet = c.answer_request.ensures.quiet said goes may;
+    }

@@ -1,0 +1,69 @@
+-- What a turn of a peer leaves, and what is handed out where its connection ends.
+use Rattle.std.specs.Prelude.{◌≡◌, Option, Some, None}
+use Rattle.gtalk.specs.declared.connection.Connection.{Connection}
+use Rattle.gtalk.specs.declared.conversation.Conversation.{Ghosts}
+use Rattle.gtalk.specs.declared.conversation.Turn.{Turn}
+use Rattle.gevents.specs.Peers.{HasEnded}
+use Rattle.gevents.specs.declared.event.End.{End}
+use Rattle.gevents.specs.declared.event.End.TheVariants as end
+use Rattle.gevents.specs.declared.event.Ended.{Ended}
+use Rattle.gevents.specs.declared.event.Event.{Event}
+use Rattle.gevents.specs.declared.event.Event.TheVariants as event
+use Rattle.gevents.specs.declared.moving.After.{After}
+use Rattle.gevents.specs.declared.moving.After.TheVariants as after
+use Rattle.gevents.specs.declared.moving.Move.{Move}
+use Rattle.gevents.specs.declared.moving.Move.TheVariants as move
+use Rattle.gevents.specs.declared.peer.Peer.{Peer}
+use Rattle.gevents.specs.declared.slot.Slot.{Slot}
+use Rattle.gevents.specs.declared.slot.Slot.TheVariants as slot
+
+-- a move that ends the connection ends it as lost
+abbrev pub LosesAtMost : Move → Type 0
+LosesAtMost (move.Ended how) = how ≡ end.Lost
+LosesAtMost other = Unit {0}
+
+module _ {C A : Type 0} (turn : C → Turn) where
+  -- if a move ends the connection, it ends so
+  abbrev pub EndsByMove : Connection C A → Move → Type 0
+  EndsByMove connection (move.Ended how) = HasEnded turn connection how
+  EndsByMove connection other = Unit {0}
+
+  -- if a turn ends the connection, it ends so
+  abbrev pub EndsBy : Connection C A → After → Type 0
+  EndsBy connection (after.Ends how) = HasEnded turn connection how
+  EndsBy connection other = Unit {0}
+
+module _ {C A : Type 0} {ghosts : Ghosts C} (turn : C → Turn) where
+  -- if a turn ends the connection of a peer, it ends so
+  abbrev pub EndsSlot : Slot C A ghosts → After → Type 0
+  EndsSlot (slot.Talks peer) turned = EndsBy turn peer.connection turned
+  EndsSlot (slot.Leaves leaver) turned = Unit {0}
+
+  abbrev pub EndsAt : Option (Slot C A ghosts) → After → Type 0
+  EndsAt (Some one) turned = EndsSlot one turned
+  EndsAt None turned = Unit {0}
+
+module _ {C A : Type 0} {ghosts : Ghosts C} where
+  -- the connection of a peer is handed out, with its address, its count and its end
+  pub record IsEndOf (peer : Peer C A ghosts) (how : End) (ended : Ended C A ghosts) : Type 0 where
+    pub connection : ended.connection ≡ peer.connection
+    pub address : ended.address ≡ peer.address
+    pub sent : ended.sent ≡ peer.sent
+    pub how_it_ended : ended.end ≡ how
+
+  -- the peer at a key, if there is one, is handed out
+  abbrev pub HandsOut : Option (Slot C A ghosts) → End → Option (Ended C A ghosts) → Type 0
+  HandsOut (Some (slot.Talks peer)) how result =
+      (ended : Ended C A ghosts) × (result ≡ Some ended) × IsEndOf peer how ended
+  HandsOut (Some (slot.Leaves leaver)) how result = result ≡ None
+  HandsOut None how result = result ≡ None
+
+  -- a turn of the one at a key: if a connection ends with it, it is handed out
+  abbrev pub HandsOutAfter : Option (Slot C A ghosts) → After → Option (Ended C A ghosts) → Type 0
+  HandsOutAfter one (after.Ends how) result = HandsOut one how result
+  HandsOutAfter one turned result = Unit {0}
+
+  -- the connection that an event hands out
+  abbrev pub ended_in : Option (Event C A ghosts) → Option (Ended C A ghosts)
+  ended_in (Some (event.Ended ended)) = Some ended
+  ended_in other = None

@@ -1,0 +1,122 @@
+//! A pack that comes, within limits that its header sets.
+
+ghost use Rattle.std.specs.Prelude.{◌≡◌, ◌++◌, [], ℕ, IfOk, IfSome, OnOk};
+ghost use Rattle.gitpack.specs.Packs.{IsFramed};
+
+use gitpack::{IncomingPack, IndexLimits, IndexedPack, ObjectVisitor, PackFileFault};
+use std::alloc::{AllocError, Allocator};
+use std::marker::Model;
+
+// The most objects of a pack, and the most bytes of all its objects and deltas: 4 GiB.
+const MAX_OBJECTS: usize = 1_048_576;
+
+const MAX_TOTAL: usize = 4_294_967_296;
+
+// The most bytes of an object: 256 MiB, less what the tables of the pack's objects may take. A delta,
+// its bases that are held and what it makes may have as many together. So a pack of few objects may
+// have large ones, and one of the most objects may hold 32 MiB.
+const MAX_HELD: usize = 268_435_456;
+
+const TABLE_BYTES: usize = 224;
+
+// The bytes of the header before the number of objects.
+const BEFORE_COUNT: usize = 8;
+
+/// A pack that comes. How much is held of it at a time depends on the number of objects in its
+/// header. Contracts see the bytes that came.
+#[derive(Drop)]
+pub(crate) struct LimitedPack<A: Allocator + Copy> {
+    alloc: A,
+    // The bytes that came first, with which the header came whole.
+    head: Vec<u8, A>,
+    // The pack, once its header came whole.
+    pack: Option<IncomingPack<A>>,
+}
+
+impl<A: Allocator + Copy> Model for LimitedPack<A> {
+    ghost use Rattle.std.specs.Prelude.{ℕ, List};
+    ghost use Rattle.std.specs.Option.{unwrap_or};
+
+    ghost Value = { List ℕ };
+
+    ghost view = { λ it. unwrap_or it.pack it.head.items };
+}
+
+impl<A: Allocator + Copy> LimitedPack<A> {
+    /// A pack of which no byte came.
+    pub(crate) fn new(alloc: A) -> LimitedPack<A>
+        ensures { result ≡ [] }
+    {
+        LimitedPack {
+            alloc,
+            head: Vec::new(alloc),
+            pack: None,
+        }
+    }
+
+    /// Takes the next bytes, as [`IncomingPack::feed`] does. It fails only out of memory.
+    pub(crate) fn feed<V: ObjectVisitor>(
+        &mut self,
+        piece: &[u8],
+        visitor: &mut V,
+    ) -> Result<(), AllocError>
+        ensures { OnOk result (self.new ≡ self.old ++ piece.now) }
+    {
+        if let Some(pack) = &mut self.pack {
+            return pack.feed(piece, visitor);
+        }
+        self.head.extend_from_slice(piece)?;
+        self.pack = begin(self.alloc, self.head.as_slice(), visitor)?;
+        Ok(())
+    }
+
+    /// The pack as it came, and its objects, as [`IncomingPack::finish`] answers them.
+    pub(crate) fn finish<V: ObjectVisitor>(
+        self,
+        visitor: &mut V,
+    ) -> Result<(Vec<u8, A>, IndexedPack<A>), PackFileFault>
+        ensures { IfOk result (λ it. (count : ℕ) × IsFramed count it.1.checksum self) }
+    {
+        let LimitedPack { pack, .. } = self;
+        match pack {
+            Some(pack) => pack.finish(visitor),
+            None => Err(PackFileFault::Frame),
+        }
+    }
+}
+
+// The pack that begins with these bytes; `None` if they are no whole header yet. It fails only out
+// of memory.
+fn begin<A: Allocator + Copy, V: ObjectVisitor>(
+    alloc: A,
+    head: &[u8],
+    visitor: &mut V,
+) -> Result<Option<IncomingPack<A>>, AllocError>
+    ensures { IfOk result (λ found. IfSome found (λ pack. pack ≡ head.now)) }
+{
+    let Some(count) = count_in(head) else {
+        return Ok(None);
+    };
+    let mut pack = IncomingPack::new(alloc, limits_of(count));
+    pack.feed(head, visitor)?;
+    Ok(Some(pack))
+}
+
+// The number of objects that a header names; `None` if it is not whole.
+fn count_in(head: &[u8]) -> Option<u32> {
+    let after = head.get(BEFORE_COUNT..)?;
+    let count = after.first_chunk::<4>()?;
+    Some(u32::from_be_bytes(*count))
+}
+
+// How much a pack of so many objects may ask for.
+fn limits_of(count: u32) -> IndexLimits {
+    let tables = (count as usize).saturating_mul(TABLE_BYTES);
+    let held = MAX_HELD.saturating_sub(tables);
+    IndexLimits {
+        objects: MAX_OBJECTS,
+        object: held,
+        held,
+        total: MAX_TOTAL,
+    }
+}
