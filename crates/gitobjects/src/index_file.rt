@@ -5,7 +5,6 @@ use crate::files::{ObjectFiles, OpenPack};
 use gitobject::ID_BYTES;
 use gname::Oid;
 use std::alloc::Allocator;
-use std::cmp::Ordering;
 
 // The signature and the version of an index.
 const SIGNATURE: &[u8] = b"\xfftOc\0\0\0\x02";
@@ -20,9 +19,6 @@ const WORD: usize = 4;
 
 // The bytes after the tables: the checksums of the pack and of the index.
 const CHECKSUMS: usize = 40;
-
-// How many ids are read on either side of the place at which an id is looked for.
-const AROUND: usize = 64;
 
 // The most reads of one look-up. Each but the first halves what is left of at most 2^32 ids.
 const MAX_READS: usize = 34;
@@ -220,23 +216,24 @@ fn halfway(places: Places) -> usize {
     places.low.saturating_add(width / 2)
 }
 
-// The places around this one, among these.
+// The places around this one, among these. Ids are spread by chance, so that most lie as near to where
+// they are looked for.
 fn part_around(places: Places, middle: usize) -> Places {
+    let width = places.high.saturating_sub(places.low);
+    let around = width.isqrt().saturating_add(1);
     Places {
-        low: middle.saturating_sub(AROUND).max(places.low),
-        high: middle.saturating_add(AROUND).min(places.high),
+        low: middle.saturating_sub(around).max(places.low),
+        high: middle.saturating_add(around).min(places.high),
     }
 }
 
 // Looks for an id among some, which ascend.
 fn look_in(ids: &[u8], wanted: &[u8]) -> Look {
-    for (number, id) in ids.chunks_exact(ID_BYTES).enumerate() {
-        match id.cmp(wanted) {
-            Ordering::Less => {}
-            Ordering::Equal => return Look::At(number),
-            Ordering::Greater if number == 0 => return Look::Before,
-            Ordering::Greater => return Look::Absent,
-        }
+    let (ids, _rest) = ids.as_chunks::<ID_BYTES>();
+    match ids.binary_search_by(|id| id.as_slice().cmp(wanted)) {
+        Ok(number) => Look::At(number),
+        Err(0) => Look::Before,
+        Err(number) if number >= ids.len() => Look::After,
+        Err(_) => Look::Absent,
     }
-    Look::After
 }

@@ -32,6 +32,8 @@ pub struct PackIndex<A: Allocator + Copy> {
     entries: Vec<IndexEntry, A>,
     // For each byte, how many ids begin with it or a lower one.
     ends: [u32; 256],
+    // The first eight bytes of each id, as a number.
+    fronts: Vec<u64, A>,
     checksum: Oid,
 }
 
@@ -72,9 +74,11 @@ impl<A: Allocator + Copy> PackIndex<A> {
             return Ok(None);
         }
         let ends = ends_of(entries.as_slice());
+        let fronts = fronts_of(alloc, entries.as_slice())?;
         Ok(Some(PackIndex {
             entries,
             ends,
+            fronts,
             checksum,
         }))
     }
@@ -106,7 +110,8 @@ impl<A: Allocator + Copy> PackIndex<A> {
         ensures { MatchOption result (All (λ e. e.id ≢ id.now) self.now.entries)
             (HoldsAt (λ e. e.id ≡ id.now) self.now.entries) }
     {
-        match find_near(self.entries.as_slice(), &self.ends, id) {
+        let fronts = self.fronts.as_slice();
+        match find_front(self.entries.as_slice(), fronts, &self.ends, id) {
             Some(place) => Some(place),
             None => find(self.entries.as_slice(), id),
         }
@@ -153,9 +158,9 @@ impl<A: Allocator + Copy> PackIndex<A> {
     }
 }
 
-// The place of the line with this id, looked for among the ids that begin with the same byte. These
-// are few, so this is quick; but no clause says that they are all.
-fn find_near(entries: &[IndexEntry], ends: &[u32; 256], id: &Oid) -> Option<usize>
+// The place of the line with this id, looked for by its first bytes. This is quick, as few ids begin
+// with the same byte and numbers lie close together. But another id may begin with the same eight.
+fn find_front(entries: &[IndexEntry], fronts: &[u64], ends: &[u32; 256], id: &Oid) -> Option<usize>
     ensures { IfSome result (HoldsAt (λ e. e.id ≡ id.now) entries.now) }
 {
     let byte = first_byte(id);
@@ -163,12 +168,31 @@ fn find_near(entries: &[IndexEntry], ends: &[u32; 256], id: &Oid) -> Option<usiz
         Some(before) => ends[before] as usize,
         None => 0,
     };
-    let part = entries.get(start..ends[byte] as usize)?;
-    let near = part.binary_search_by(|entry| entry.id.cmp(id)).ok()?;
+    let part = fronts.get(start..ends[byte] as usize)?;
+    let near = part.binary_search(&front_of(id)).ok()?;
     let place = start.saturating_add(near);
     match entries.get(place) {
         Some(entry) if entry.id == *id => Some(place),
         _ => None,
+    }
+}
+
+// The first eight bytes of each id.
+fn fronts_of<A: Allocator + Copy>(
+    alloc: A,
+    entries: &[IndexEntry],
+) -> Result<Vec<u64, A>, AllocError> {
+    entries
+        .iter()
+        .map(|entry| front_of(&entry.id))
+        .collect(alloc)
+}
+
+// The first eight bytes of an id, as a number.
+fn front_of(id: &Oid) -> u64 {
+    match id.as_bytes().first_chunk::<8>() {
+        Some(front) => u64::from_be_bytes(*front),
+        None => 0,
     }
 }
 

@@ -25,9 +25,9 @@ fn is_null<A: Allocator + Copy>(value: &LooseRef<A>) -> bool {
     }
 }
 
-// The id to which a ref leads; `None` if it leads to none.
-fn resolve<A: Allocator + Copy>(values: &Values<A>, name: &RefName<A>) -> Option<Oid> {
-    let mut value = values.get(name)?;
+// The id to which a ref with this meaning leads; `None` if it leads to none.
+fn resolve<A: Allocator + Copy>(values: &Values<A>, meaning: &Option<LooseRef<A>>) -> Option<Oid> {
+    let mut value = meaning;
     for _ in 0..MAX_DEPTH {
         match value {
             Some(LooseRef::Id(id)) => return Some(*id),
@@ -44,11 +44,11 @@ pub(crate) fn refs_of<A: Allocator + Copy>(
     values: &Values<A>,
 ) -> Result<Refs<A>, RefsFault> {
     let mut refs = Refs::new(alloc);
-    for (name, _) in values.iter() {
+    for (name, meaning) in values.iter() {
         if name.is_head() {
             continue;
         }
-        if let Some(id) = resolve(values, name) {
+        if let Some(id) = resolve(values, meaning) {
             refs.set(name.copy_in(alloc)?, id)?;
         }
     }
