@@ -6,9 +6,11 @@ ghost use Rattle.std.specs.Prelude.{⊤};
 use crate::ahead::Ahead;
 use crate::directory::Directories;
 use crate::fault::Fault;
-use crate::kept::{Extent, KeptServers};
-use crate::opening::{NotOpened, Opened, open_shown, open_whole, repository_fault};
-use crate::refusals::send_error;
+use crate::opening::{
+    Extent, NotOpened, ObjectPacker, open_history, open_objects, open_shown, read_listed,
+    repository_fault,
+};
+use crate::refusals::{NOT_OPENED, send_error};
 use crate::sentences::{Sentence, form_text};
 use ganswer::{ServeFault, Server};
 use ggrammar::Ends;
@@ -20,9 +22,6 @@ use gpkt::{LineWriter, Sink, Source};
 use gserve::{End, ExchangeEnd, MAX_ERR_TEXT, MAX_REQUESTS, OnePack, err_text, serve_one};
 use std::alloc::{AllocError, Global};
 use std::rt::Files;
-
-// The error line for a client of a repository that is not opened.
-const NOT_OPENED: &[u8] = b"upload-pack: the repository cannot be read";
 
 /// A conversation with a client: how many of its requests were answered, and how it came out.
 #[derive(Drop)]
@@ -49,11 +48,10 @@ struct Answered {
     end: Option<End>,
 }
 
-/// Serves a repository from its advertisement on. The server that it has then is kept.
+/// Serves a repository from its advertisement on.
 pub(crate) fn serve_repository<R, S: Source, W: Sink>(
     rt: &R,
     found: &Directories,
-    kept: &mut KeptServers,
     source: &mut S,
     sink: &mut W,
 ) -> Conversation
@@ -62,30 +60,52 @@ where
 {
     let alloc = rt.alloc();
     let files = StoredFiles::new(rt);
-    let shown = match open_shown(alloc, rt, &files, found, kept) {
-        Ok(shown) => shown,
+    let extent = match open_extent(rt, &files, found) {
+        Ok(extent) => extent,
         Err(cause) => return refuse(alloc, cause, 0, sink),
     };
     let mut source = Ahead::new(source);
-    let Answered { requests, end } = show_refs(shown.server(), &mut source, sink);
+    let Answered { requests, end } = show_refs(extent.server(), &mut source, sink);
     if let Some(end) = end {
-        keep(alloc, found, kept, shown);
         return conversation_of(alloc, requests, end);
     }
-    match open_whole(alloc, &files, found, shown) {
-        Ok(opened) => {
-            let conversation = answer_all(alloc, found, &opened, requests, &mut source, sink);
-            let Opened { server, .. } = opened;
-            keep(alloc, found, kept, Extent::Whole(server));
-            conversation
-        }
+    match open_whole(alloc, &files, found, extent) {
+        Ok(opened) => answer_all(alloc, found, &opened, requests, &mut source, sink),
         Err(cause) => refuse(alloc, cause, requests, sink),
     }
 }
 
-// Keeps a server. One for which there is no memory is lost.
-fn keep(alloc: Global, found: &Directories, kept: &mut KeptServers, extent: Extent) {
-    let _ = kept.put(alloc, found.own.as_str(), extent);
+// Reads the refs of a repository, and opens as much of it as a request for them needs.
+fn open_extent<R: Files + AllocGlobal>(
+    rt: &R,
+    files: &StoredFiles<'_, R>,
+    found: &Directories,
+) -> Result<Extent, NotOpened> {
+    let listed = read_listed(rt.alloc(), rt, files, found)?;
+    open_shown(rt.alloc(), rt, files, found, listed)
+}
+
+// A repository that can be served. It shows the refs and HEAD that the Git directory had as it was opened.
+#[derive(Drop)]
+struct Opened<'f, 'r, R: Files> {
+    // The graph, the refs and HEAD.
+    server: Server<Global>,
+    // The packer of its objects.
+    packer: ObjectPacker<'f, 'r, R>,
+}
+
+// Opens the objects of a repository whose refs were shown, and reads its history unless it is known.
+fn open_whole<'f, 'r, R: Files>(
+    alloc: Global,
+    files: &'f StoredFiles<'r, R>,
+    found: &Directories,
+    shown: Extent,
+) -> Result<Opened<'f, 'r, R>, NotOpened> {
+    let (server, packer) = match shown {
+        Extent::Whole(server) => (server, open_objects(alloc, files, found)?),
+        Extent::Tips(tips) => open_history(alloc, files, found, &tips)?,
+    };
+    Ok(Opened { server, packer })
 }
 
 // Ends a conversation, since the repository is not opened.

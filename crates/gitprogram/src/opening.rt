@@ -1,8 +1,10 @@
 //! A repository that is opened.
 
+ghost use Rattle.std.specs.Prelude.{◌≡◌};
+ghost use Rattle.gitprogram.specs.Sharing.{server_in};
+
 use crate::directory::Directories;
 use crate::fault::Fault;
-use crate::kept::{Extent, KeptServers, has_refs};
 use crate::sentences::Sentence;
 use ganswer::Server;
 use ggraph::{Head, Refs, Repository};
@@ -12,21 +14,14 @@ use gitrepository::{
     FormFault, RepositoryFault, StorePacker, Tips, add_leaves, check_form, lead_with_newest,
     open_refs, open_repository, open_store, open_tips, read_commit_graph,
 };
-use std::alloc::Global;
+use std::alloc::{AllocError, Global};
 use std::rt::Files;
 
 /// A reader of the objects of a Git directory.
 pub(crate) type Reader<'f, 'r, R> = ObjectReader<'f, StoredFiles<'r, R>, Global>;
 
-/// A repository that can be served. It shows the refs and HEAD that the Git directory had as it was
-/// opened.
-#[derive(Drop)]
-pub(crate) struct Opened<'f, 'r, R: Files> {
-    /// The graph, the refs and HEAD.
-    pub(crate) server: Server<Global>,
-    /// The packer of its objects.
-    pub(crate) packer: StorePacker<'f, StoredFiles<'r, R>, Global>,
-}
+/// A packer of the objects of a Git directory.
+pub(crate) type ObjectPacker<'f, 'r, R> = StorePacker<'f, StoredFiles<'r, R>, Global>;
 
 /// Why a repository is not served.
 #[derive(Drop)]
@@ -37,18 +32,88 @@ pub(crate) struct NotOpened {
     pub(crate) form: Option<FormFault>,
 }
 
-/// Opens as much of a repository as a request for refs needs. A server that was kept serves again if the
-/// refs and HEAD are still those that it has. Otherwise it has the objects at which refs are; or the whole
+impl From<AllocError> for NotOpened {
+    fn from(_refused: AllocError) -> NotOpened {
+        NotOpened {
+            fault: Fault::Memory,
+            form: None,
+        }
+    }
+}
+
+/// How much of its repository a server has.
+#[derive(Drop)]
+pub(crate) enum Extent {
+    /// It has the whole history.
+    Whole(Server<Global>),
+    /// It has the objects at which refs are, and what tags among them lead to. It answers requests for
+    /// refs alone.
+    Tips(Server<Global>),
+}
+
+impl Extent {
+    /// The server.
+    pub(crate) fn server(&self) -> &Server<Global>
+        ensures { result.now ≡ server_in self.now }
+    {
+        match self {
+            Extent::Whole(server) | Extent::Tips(server) => server,
+        }
+    }
+}
+
+/// The refs and HEAD of a repository, as its Git directory has them.
+#[derive(Drop)]
+pub(crate) struct Listed {
+    refs: Refs<Global>,
+    head: Head<Global>,
+}
+
+impl Listed {
+    /// Whether a server has these refs and this HEAD. One that left out a ref has others.
+    pub(crate) fn is_of(&self, server: &Server<Global>) -> bool {
+        has_refs(server, &self.refs, &self.head)
+    }
+}
+
+/// Whether a server has these refs and this HEAD.
+pub(crate) fn has_refs(server: &Server<Global>, refs: &Refs<Global>, head: &Head<Global>) -> bool {
+    server.refs().as_slice() == refs.as_slice() && is_same_head(server.head(), head)
+}
+
+/// Reads the refs and HEAD of a repository.
+pub(crate) fn read_listed<R: Files>(
+    alloc: Global,
+    rt: &R,
+    files: &StoredFiles<'_, R>,
+    found: &Directories,
+) -> Result<Listed, NotOpened> {
+    match find_listed(alloc, rt, files, found) {
+        Ok((refs, head)) => Ok(Listed { refs, head }),
+        Err(fault) => Err(not_opened(alloc, found, &fault)),
+    }
+}
+
+fn find_listed<R: Files>(
+    alloc: Global,
+    rt: &R,
+    files: &StoredFiles<'_, R>,
+    found: &Directories,
+) -> Result<(Refs<Global>, Head<Global>), RepositoryFault<Global>> {
+    check_form(files, alloc, found.common.as_str())?;
+    Ok(found.refs(alloc, rt).read_refs()?)
+}
+
+/// Opens as much of a repository as a request for refs needs: the objects at which refs are; or the whole
 /// history, if one of them is not found at once.
 pub(crate) fn open_shown<R: Files>(
     alloc: Global,
     rt: &R,
     files: &StoredFiles<'_, R>,
     found: &Directories,
-    kept: &mut KeptServers,
+    listed: Listed,
 ) -> Result<Extent, NotOpened> {
-    match find_shown(alloc, rt, files, found, kept) {
-        Ok(Shown::Kept(extent)) => Ok(extent),
+    match find_shown(alloc, rt, files, found, listed) {
         Ok(Shown::Tips(tips)) => Ok(Extent::Tips(make_server(alloc, found, tips)?)),
         Ok(Shown::Whole(whole)) => Ok(Extent::Whole(make_server(alloc, found, whole)?)),
         Err(fault) => Err(not_opened(alloc, found, &fault)),
@@ -58,8 +123,6 @@ pub(crate) fn open_shown<R: Files>(
 // A repository before its refs are shown.
 #[derive(Drop)]
 enum Shown {
-    // Its server was kept.
-    Kept(Extent),
     // The objects at which refs are were looked at.
     Tips(Repository<Global>),
     // Its history was read.
@@ -71,24 +134,26 @@ fn find_shown<R: Files>(
     rt: &R,
     files: &StoredFiles<'_, R>,
     found: &Directories,
-    kept: &mut KeptServers,
+    listed: Listed,
 ) -> Result<Shown, RepositoryFault<Global>> {
     let path = found.common.as_str();
-    check_form(files, alloc, path)?;
-    let directory = found.refs(alloc, rt);
-    let (refs, head) = directory.read_refs()?;
-    if let Some(extent) = kept.take(found.own.as_str()) {
-        if has_refs(extent.server(), &refs, &head) {
-            return Ok(Shown::Kept(extent));
-        }
-    }
-    let peels = directory.packed_peels()?;
-    if let Some(tips) = find_tips(alloc, files, path, &peels, (&refs, &head))? {
+    let peels = found.refs(alloc, rt).packed_peels()?;
+    if let Some(tips) = find_tips(alloc, files, path, &peels, &listed)? {
         return Ok(Shown::Tips(tips));
     }
     let mut reader = open_reader(alloc, files, path)?;
+    let Listed { refs, head } = listed;
     let whole = read_history(alloc, files, path, &mut reader, &refs, head)?;
     Ok(Shown::Whole(whole))
+}
+
+fn is_same_head(one: &Head<Global>, other: &Head<Global>) -> bool {
+    match (one, other) {
+        (Head::None, Head::None) => true,
+        (Head::Id(one), Head::Id(other)) => one == other,
+        (Head::Symref(one), Head::Symref(other)) => one.name() == other.name(),
+        _ => false,
+    }
 }
 
 // The objects at which refs and HEAD are; `None` if one is not found at once. No pack stays open.
@@ -97,45 +162,33 @@ fn find_tips<R: Files>(
     files: &StoredFiles<'_, R>,
     path: &str,
     peels: &PackedPeels,
-    listed: (&Refs<Global>, &Head<Global>),
+    listed: &Listed,
 ) -> Result<Option<Repository<Global>>, RepositoryFault<Global>> {
     let mut reader = QuickReader::open(files, alloc, path)?;
-    let (refs, head) = listed;
-    open_tips(&mut reader, peels, refs, head)
+    open_tips(&mut reader, peels, &listed.refs, &listed.head)
 }
 
-/// Opens the objects of a repository whose refs were shown, and reads its history unless it is known.
-pub(crate) fn open_whole<'f, 'r, R: Files>(
+/// Opens the objects of a repository whose history is known.
+pub(crate) fn open_objects<'f, 'r, R: Files>(
     alloc: Global,
     files: &'f StoredFiles<'r, R>,
     found: &Directories,
-    shown: Extent,
-) -> Result<Opened<'f, 'r, R>, NotOpened> {
-    let tips = match shown {
-        Extent::Whole(server) => return open_objects(alloc, files, found, server),
-        Extent::Tips(tips) => tips,
-    };
-    match find_whole(alloc, files, found, &tips) {
-        Ok((whole, reader)) => Ok(Opened {
-            server: make_server(alloc, found, whole)?,
-            packer: StorePacker::new(reader),
-        }),
+) -> Result<ObjectPacker<'f, 'r, R>, NotOpened> {
+    match open_reader(alloc, files, found.common.as_str()) {
+        Ok(reader) => Ok(StorePacker::new(reader)),
         Err(fault) => Err(not_opened(alloc, found, &fault)),
     }
 }
 
-// Opens the objects of a repository whose history is known.
-fn open_objects<'f, 'r, R: Files>(
+/// Opens the objects of a repository whose refs were shown, and reads its history.
+pub(crate) fn open_history<'f, 'r, R: Files>(
     alloc: Global,
     files: &'f StoredFiles<'r, R>,
     found: &Directories,
-    server: Server<Global>,
-) -> Result<Opened<'f, 'r, R>, NotOpened> {
-    match open_reader(alloc, files, found.common.as_str()) {
-        Ok(reader) => Ok(Opened {
-            server,
-            packer: StorePacker::new(reader),
-        }),
+    tips: &Server<Global>,
+) -> Result<(Server<Global>, ObjectPacker<'f, 'r, R>), NotOpened> {
+    match find_whole(alloc, files, found, tips) {
+        Ok((whole, reader)) => Ok((make_server(alloc, found, whole)?, StorePacker::new(reader))),
         Err(fault) => Err(not_opened(alloc, found, &fault)),
     }
 }
