@@ -1,10 +1,10 @@
 //! `gitrepo serve`: repositories served to those who connect.
 
 use crate::directory::{Exports, open_fault};
-use crate::fault::Fault;
-use crate::output::print;
 use crate::disk::Disk;
+use crate::fault::Fault;
 use crate::notes::Notes;
+use crate::output::print;
 use crate::refusals::{FULL, FULL_OF_ADDRESS};
 use crate::repositories::{Closes, Repositories};
 use crate::sentences::Sentence;
@@ -70,7 +70,13 @@ where
     let notes = Notes::new(rt.alloc());
     let repositories = Repositories::new(rt.alloc(), disk, &notes);
     let clients = EventLoop::new(rt, rt.alloc(), listener, limits)?;
-    serve_all::<R, Repositories<'_, D>, Shared<'_, D>, E>(rt, &repositories, &notes, clients, errors)
+    serve_all::<R, Repositories<'_, D>, Shared<'_, D>, E>(
+        rt,
+        &repositories,
+        &notes,
+        clients,
+        errors,
+    )
 }
 
 // Serves all whom a loop accepts.

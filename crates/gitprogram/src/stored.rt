@@ -70,11 +70,14 @@ impl<'f, 'r, R: Files + AllocGlobal> Stored<'f, 'r, R> {
         };
         let tickets = Rc::downgrade(&ticket)?;
         match self.opened.try_borrow_mut() {
-            Ok(mut opened) => add(&mut opened, Opened {
-                number,
-                tickets,
-                packer,
-            })?,
+            Ok(mut opened) => add(
+                &mut opened,
+                Opened {
+                    number,
+                    tickets,
+                    packer,
+                },
+            )?,
             Err(_) => return Err(AllocError),
         }
         Ok(ticket)

@@ -41,7 +41,8 @@ pub(crate) fn log_ended<H, K, E>(
     alloc: Global,
     ended: Ended<Held<'_, H, K>, Global>,
     errors: &mut E,
-) where
+)
+where
     H: Host<Global, K>,
     K: Served<Global> + PartPacker<Global> + Blames + Drop,
     E: Write,

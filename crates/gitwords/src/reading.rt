@@ -178,10 +178,7 @@ fn listen<'a>(words: &ArgMatches<'a>) -> Result<&'a str, WordFault<'a>>
 }
 
 // The number of connections that an option says, if it is there.
-fn connections<'a>(
-    words: &ArgMatches<'a>,
-    name: &'static str,
-) -> Result<Option<u32>, WordFault<'a>>
+fn connections<'a>(words: &ArgMatches<'a>, name: &'static str) -> Result<Option<u32>, WordFault<'a>>
     ensures { IfOk result (λ count. IfSome count IsServed) }
 {
     let Some(text) = words.get_str(name) else {
