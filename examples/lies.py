@@ -12,7 +12,7 @@ from both_ends import packet
 KINDS = {"commit": 1, "tree": 2, "blob": 3, "tag": 4}
 MEGABYTE = 1 << 20
 # The most deltas of a chain.
-LONGEST = 4_095
+LONGEST = 8_191
 # How many places of a pack are changed by chance.
 CHANGES = 60
 

@@ -5,6 +5,7 @@ the sentence on standard error, of what is in the directory afterwards, of memor
 """
 
 import itertools
+import json
 import os
 import pty
 import shutil
@@ -14,7 +15,7 @@ import sys
 import tempfile
 import threading
 import time
-from concurrent.futures import ProcessPoolExecutor
+from concurrent.futures import ThreadPoolExecutor
 
 from bare import MAIN, OLD, History, faults_of, files_of, make, pack_of, put_loose, put_pack, put_packed, put_ref, refs_of, write
 from both_ends import Gitrepo, answer_to, hello, packet
@@ -394,7 +395,7 @@ def small_disks(folder):
                 ran = run(*clone_words(path, server.url()))
                 judge_full(f"a disk of {size} KiB, clone", ran, os.listdir(disk) == [], path, 1)
             finally:
-                subprocess.run(["umount", disk], check=True)
+                subprocess.run(["umount", disk])
 
 
 def kills(folder):
@@ -575,8 +576,21 @@ def on_terminal(*words):
     return process.wait(60), shown
 
 
+def has_terminals():
+    """Whether this machine gives out terminals."""
+    try:
+        for end in pty.openpty():
+            os.close(end)
+    except OSError:
+        return False
+    return True
+
+
 def terminals(folder):
     """What a server says comes to a terminal as printable text: progress, errors, and the names of refs."""
+    if not has_terminals():
+        print("terminals: left out, since there are none here")
+        return
     escape = b"\x1b]0;title\x07\x1b[31mred\x9b2J\xc2\x9b31m\x7f\x08\x00\xff"
     with progress() as server:
         status, shown = on_terminal("clone", server.url(), f"{folder}/shown")
@@ -618,23 +632,51 @@ SLOW = {"deadline": deadline}
 
 
 def take(name, folder):
-    """Takes a step to its end, and answers what was checked."""
-    began = time.monotonic()
+    """Takes a step in this process, and prints what was checked as its last line."""
     os.mkdir(folder)
     try:
         (STEPS | SLOW)[name](folder)
-    except (OSError, ValueError, subprocess.SubprocessError) as error:
+    except Exception as error:
         check(f"{name}: it comes to its end", False, repr(error))
-    print(f"{name}: {time.monotonic() - began:.1f} s", flush=True)
-    return checks.take()
+    print(json.dumps(checks.take()), flush=True)
+
+
+def take_apart(name, folder):
+    """Takes a step in a process of its own. It answers what was checked, and what the step printed."""
+    began = time.monotonic()
+    ran = subprocess.run([sys.executable, "-B", os.path.abspath(__file__), PROGRAM, "--in", folder, name], stdout=subprocess.PIPE)
+    *lines, last = ran.stdout.decode(errors="backslashreplace").splitlines() or [""]
+    lines.append(f"{name}: {time.monotonic() - began:.1f} s")
+    try:
+        tried, wrong, most = json.loads(last)
+    except ValueError:
+        tried, wrong, most = 1, [f"{name}: it comes to its end"], (0, "")
+        lines.append(f"WRONG {name}: it comes to its end: status {ran.returncode}, {last[-400:]}")
+    return (tried, wrong, tuple(most)), lines
+
+
+def take_all(asked, room):
+    """Takes steps, some at a time. One with a wrong check is taken once more alone, as the others may have held it up."""
+    with ThreadPoolExecutor(AT_A_TIME) as pool:
+        taken = pool.map(take_apart, asked, [f"{room}/{name.replace(' ', '-')}" for name in asked])
+        for name, (counts, lines) in zip(asked, taken):
+            print(*lines, sep="\n", flush=True)
+            yield name, counts
 
 
 def main():
-    began = time.monotonic()
-    asked = sys.argv[2:] or list(STEPS)
-    with tempfile.TemporaryDirectory(prefix="trouble-") as folder, ProcessPoolExecutor(AT_A_TIME) as pool:
-        folders = [f"{folder}/{name.replace(' ', '-')}" for name in asked]
-        for counts in pool.map(take, asked, folders):
+    if sys.argv[2:3] == ["--in"]:
+        return take(sys.argv[4], sys.argv[3])
+    began, again = time.monotonic(), []
+    with tempfile.TemporaryDirectory(prefix="trouble-", ignore_cleanup_errors=True) as room:
+        for name, counts in take_all(sys.argv[2:] or list(STEPS), room):
+            if counts[1]:
+                again.append(name)
+            else:
+                checks.add(*counts)
+        for name in again:
+            counts, lines = take_apart(name, f"{room}/{name.replace(' ', '-')}-again")
+            print("taken again, alone:", *lines, sep="\n", flush=True)
             checks.add(*counts)
     return checks.end(f"{time.monotonic() - began:.0f} s")
 

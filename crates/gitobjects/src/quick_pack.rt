@@ -17,8 +17,8 @@ const TRAILER: usize = 20;
 // The most bytes of an object that is read.
 const MAX_TEXT: usize = 131_072;
 
-// The most entries of a chain of deltas. Git makes none that is longer.
-const MAX_CHAIN: usize = 4_096;
+// The most entries of a chain: a whole object, and as many deltas as git-fast-import(1) makes.
+const MAX_CHAIN: usize = 8_192;
 
 // How many bytes of an entry are read at first, and how many if these do not have its whole stream.
 const FRONTS: [usize; 2] = [4_096, MAX_TEXT];

@@ -17,7 +17,7 @@ pub enum PackFileFault {
     Entry(usize),
     /// The base of a delta is not in the pack: the pack is thin, or an offset is wrong.
     Thin,
-    /// There are more objects than the limits allow, or more than 4,095 deltas in a chain. Or an object
+    /// There are more objects than the limits allow, or more than 8,191 deltas in a chain. Or an object
     /// has more bytes than the limits allow, or so have all objects, what is held at a time, or a pack
     /// that is written. Or a size or an offset does not go into the head of an entry.
     TooLarge,

@@ -144,9 +144,9 @@ fn lines_of<A: Allocator + Copy>(
 ///
 /// It fails with `Frame` if the header or the trailer is wrong, or if bytes come after the last
 /// entry. It fails with `Entry` at an entry that is wrong or missing, and with `Thin` if a base is
-/// not in the pack. It fails with `TooLarge` past a limit, or if there are 2^31 objects or more.
-/// Otherwise it fails with the visitor's fault, and with `Memory`. The visitor may have seen some
-/// objects by then.
+/// not in the pack. It fails with `TooLarge` past one of the limits, and if a chain has more than
+/// 8,191 deltas or there are 2^31 objects or more. Otherwise it fails with the visitor's fault, and
+/// with `Memory`. The visitor may have seen some objects by then.
 pub fn index_pack<A: Allocator + Copy, V: ObjectVisitor>(
     alloc: A,
     pack: &[u8],

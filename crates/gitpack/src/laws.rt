@@ -8,7 +8,7 @@ pub fn heads_are_one()
     ensures { HeadsAreOne }
 {}
 
-/// A text is the text of one pack index.
+/// A text is that of at most one pack index.
 pub fn indexes_are_one()
     ensures { IndexesAreOne }
 {}

@@ -13,9 +13,10 @@
 //!   answers the size of that body.
 //! - [`DeltaBase::make_delta`] answers only a delta of the base that makes the target, with at most
 //!   as many bytes as the limit says.
-//! - [`PackIndex::read`] answers an index exactly if the text is one of version 2 (`IsIndex` in
-//!   `specs/Indexes.antt`). The lines are sorted by their ids, and the fan-out table and both tables
-//!   of offsets are theirs. A text is the text of one index ([`laws`]).
+//! - [`PackIndex::read`] answers an index exactly if the text is one of version 2 (`ReadsIndex` in
+//!   `specs/Indexes.antt`), whatever its own checksum. The lines are sorted by their ids, and the
+//!   fan-out table and both tables of offsets are theirs. A text is that of at most one index
+//!   ([`laws`]).
 //! - [`PackIndex::find`] finds an id exactly if it is in the index. [`PackIndex::id`],
 //!   [`PackIndex::crc`] and [`PackIndex::offset`] answer what the line at a place has.
 //! - [`IndexedPack::write_index`] writes the text of version 2, with its own checksum.
@@ -39,10 +40,10 @@
 //! - A size in a delta and an offset of a base have eight bytes at most.
 //! - A pack of version 3 is refused; Git reads it. All ids are SHA-1.
 //! - An index of version 1 is not read. One of version 2 is read only as Git writes it: no offset
-//!   below 2^31 lies in the table of 64-bit offsets. The checksum of the index itself is not
-//!   tested.
-//! - A pack of 2^31 objects or more is refused, and so is a thin pack, and a chain of more than 4,095
-//!   deltas. Git makes no longer chain.
+//!   below 2^31 lies in the table of 64-bit offsets. Those that lie there are in the order of the
+//!   lines, one for each. The checksum of the index itself is not tested.
+//! - A pack of 2^31 objects or more is refused, and so is a thin pack, and a chain of more than 8,191
+//!   deltas. No command of Git makes a longer chain; Git would read one.
 //! - An object that a pack holds twice is accepted, and both entries are in the index. Git does so
 //!   without `--strict`. A delta by id whose base comes twice is refused, as in Git 2.39; later
 //!   versions take it.

@@ -16,9 +16,9 @@ use gitobject::{ObjectType, id_of};
 use gzlib::Inflater;
 use std::alloc::{AllocError, Allocator};
 
-// The most deltas of a chain, as in git-pack-objects(1), "--depth". Whoever reads the last object of a
-// chain reads all of it.
-const MAX_DEPTH: usize = 4_095;
+// The most deltas of a chain: as many as git-fast-import(1) makes, "--depth". Whoever reads the last
+// object of a chain reads all of it.
+const MAX_DEPTH: usize = 8_191;
 
 // An object to which deltas are applied.
 #[derive(Drop)]

@@ -227,7 +227,8 @@ fn has_source(listed: &LsReply<Global>, spec: &Spec<Global>) -> bool {
     })
 }
 
-// Installs the pack, and then moves the refs. If refs can't be moved so, it installs nothing.
+// Installs the pack, and then moves the refs. If their names are in each other's way, or are too many,
+// it installs nothing.
 fn keep<R: Files + AllocGlobal>(rt: &R, found: &Directories, fetch: &Fetch) -> Result<(), Fault> {
     let client = &fetch.client;
     let updates = updates_of(rt.alloc(), &client.before, client.repo.refs())?;

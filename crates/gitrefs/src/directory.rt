@@ -40,7 +40,9 @@ const DIRECTORIES: [&str; 5] = [
 // repository.
 const FILES: [&str; 3] = ["HEAD", "config", "packed-refs"];
 
-const FOLDERS: [&str; 2] = ["objects", "refs"];
+// What is removed of a new repository besides. Objects go last: until then no other run can make a
+// repository here.
+const FOLDERS: [&str; 2] = ["refs", OBJECTS];
 
 /// Whether the directory of a new repository was made with it.
 #[derive(Clone, Copy, Debug, PartialEq, Eq, Drop)]

@@ -29,7 +29,8 @@ impl<R: Files, A: Allocator + Copy> GitDirectory<'_, R, A> {
     /// It fails with `Missing`, with `Format` if a new id is none of SHA-1, with `Conflict` if one ref
     /// has the name of another's directory, with `Refs`, `Locked`, `Moved`, `Symbolic`, `Malformed` or
     /// `Utf8`; no ref has moved then. It fails with `System` or `Memory`; no ref has moved then either,
-    /// unless the system refuses to rename a file. Each is where it was, or where it is to be. The locks that it made are removed; directories that it made for them may stay.
+    /// unless the system refuses to rename a file. Each is where it was, or where it is to be. The locks
+    /// that it made are removed; directories that it made for them may stay.
     pub fn update_refs(&self, updates: &[RefUpdate<A>]) -> Result<(), RefFault<A>> {
         self.check_updates(updates)?;
         let mut locked = Vec::new(self.alloc);
@@ -44,8 +45,9 @@ impl<R: Files, A: Allocator + Copy> GitDirectory<'_, R, A> {
         self.move_all(locked, updates)
     }
 
-    /// Tests whether refs can be moved so, before anything is locked: [`GitDirectory::update_refs`] begins
-    /// with this test. A caller can make it before objects come.
+    /// Tests the names of refs that are to be moved, before anything is locked:
+    /// [`GitDirectory::update_refs`] begins with this test. A caller can make it before objects come. Old
+    /// ids, links and locks are not tested.
     ///
     /// It fails with `Missing`, `Format`, `Conflict`, `Refs`, `Malformed`, `Utf8`, `System` or `Memory`.
     pub fn check_updates(&self, updates: &[RefUpdate<A>]) -> Result<(), RefFault<A>> {

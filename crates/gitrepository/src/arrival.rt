@@ -285,9 +285,16 @@ fn bytes_of(kind: ObjectType, links: usize) -> usize {
     PARENT_BYTES.saturating_mul(parents).saturating_add(entries)
 }
 
-// Whether the line of another parent comes after those of as many as a commit of a graph has.
+// Whether a commit has the lines of more parents than one of a graph may have. Its message does not
+// count.
 fn has_many_parents(commit: &[u8]) -> bool {
-    match commit.get(TREE_LINE + MAX_PARENTS * PARENT_LINE..) {
+    (0..MAX_PARENTS.saturating_add(1)).all(|number| is_parent_line(commit, number))
+}
+
+// Whether the line with this number after that of the tree names a parent.
+fn is_parent_line(commit: &[u8], number: usize) -> bool {
+    let start = number.saturating_mul(PARENT_LINE).saturating_add(TREE_LINE);
+    match commit.get(start..) {
         Some(rest) => rest.starts_with(b"parent "),
         None => false,
     }

@@ -255,7 +255,7 @@ fn write_pack<W: fmt::Write>(fault: PackFileFault, f: &mut fmt::Formatter<W>) ->
         ),
         PackFileFault::Thin => f.write_str("the base of a delta is not in the pack"),
         PackFileFault::TooLarge => f.write_str(
-            "the pack is too large to index: an object may have 256 MiB, or 32 MiB among a million; all of them may have 4 GiB, and name two million ids; a chain may have 4,095 deltas",
+            "the pack is too large to index: it may have 1,048,576 objects, of which 485,000 are commits; they may have 4 GiB and name two million ids; an object may have 256 MiB, or 32 MiB among a million; a chain may have 8,191 deltas",
         ),
         PackFileFault::Format => f.write_str("the base of a delta has no SHA-1 id"),
         PackFileFault::Refused => f.write_str("an object of the pack is refused"),

@@ -22,8 +22,8 @@ use std::cell::RefCell;
 /// A pack is too large if it has more than 1,048,576 objects. An object may have 256 MiB, less 224
 /// bytes for each object of the pack, and so may a delta with its bases that are held and what it
 /// makes. A commit, a tree or a tag may have 64 MiB, all objects and deltas 4 GiB, and a chain
-/// 4,095 deltas. At most 112 MiB are kept of the ids that objects name and of commits: some two
-/// million ids, or 600,000 commits.
+/// 8,191 deltas. At most 112 MiB are kept of the ids that objects name and of commits: some two
+/// million ids, or 485,000 commits with a tree each.
 #[derive(Drop)]
 pub struct StoreIndexer<'t, 'f, F: ObjectFiles, A: Allocator + Copy> {
     reader: RefCell<ObjectReader<'f, F, A>>,

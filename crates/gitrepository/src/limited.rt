@@ -19,7 +19,9 @@ const MAX_HELD: usize = 268_435_456;
 
 const TABLE_BYTES: usize = 224;
 
-// The bytes of the header before the number of objects.
+// The bytes of the header, and those before the number of objects.
+const HEADER: usize = 12;
+
 const BEFORE_COUNT: usize = 8;
 
 /// A pack that comes. How much is held of it at a time depends on the number of objects in its
@@ -27,7 +29,7 @@ const BEFORE_COUNT: usize = 8;
 #[derive(Drop)]
 pub(crate) struct LimitedPack<A: Allocator + Copy> {
     alloc: A,
-    // The bytes that came first, with which the header came whole.
+    // The bytes of the header that came.
     head: Vec<u8, A>,
     // The pack, once its header came whole.
     pack: Option<IncomingPack<A>>,
@@ -65,9 +67,17 @@ impl<A: Allocator + Copy> LimitedPack<A> {
         if let Some(pack) = &mut self.pack {
             return pack.feed(piece, visitor);
         }
-        self.head.extend_from_slice(piece)?;
-        self.pack = begin(self.alloc, self.head.as_slice(), visitor)?;
-        Ok(())
+        let missing = HEADER.saturating_sub(self.head.len());
+        let (front, rest) = piece.split_at(missing.min(piece.len()));
+        self.head.extend_from_slice(front)?;
+        match begin(self.alloc, self.head.as_slice(), visitor)? {
+            Some(mut pack) => {
+                pack.feed(rest, visitor)?;
+                self.pack = Some(pack);
+                Ok(())
+            }
+            None => Ok(self.head.extend_from_slice(rest)?),
+        }
     }
 
     /// The pack as it came, and its objects, as [`IncomingPack::finish`] answers them.
