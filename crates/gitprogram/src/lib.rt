@@ -22,12 +22,14 @@
 //! - The text of a listing is that of git-ls-remote(1) (`specs/Listing.antt`). A private part reads
 //!   from the server's answer at which branch HEAD of a clone is to be (`specs/Heads.antt`). Another
 //!   finds version 2 among the keys of `GIT_PROTOCOL` (`specs/Versions.antt`).
+//! - A connection of `serve` is a dialogue of `gserver` over a loop of `gevents`, so what these crates prove
+//!   holds of it. A pack that it gives to the end is a whole one.
 //!
 //! # Only tested
 //!
-//! All else, against Git at the other end (`examples/with-git.sh`). So are the repository to which a path
-//! leads, what goes out and what is kept, progress, the lines of connections, and each sentence. Many
-//! clients at once, and their deadlines, are tried by `examples/many-clients.py`.
+//! All else, against Git at the other end (`examples/with-git.sh`): which repository a path leads to,
+//! what goes out and what is kept, progress, the lines of connections, and each sentence. Many clients at
+//! once, and their deadlines, are tried by `examples/many-clients.py`.
 //!
 //! # Differences from Git
 //!
@@ -55,14 +57,14 @@
 //! # What the contracts do not rule out
 //!
 //! Anything else. Most of it is what files, streams and sockets give or take, and no contract can
-//! speak of that. No clause says how many repositories are kept, either. One that is kept lists
-//! its refs though their objects may have gone since.
+//! speak of that. No clause says how many repositories are kept, or that a packer is closed. A
+//! repository that is kept lists its refs though their objects may have gone since.
 //!
 //! # Stands on
 //!
 //! `gitwords` for arguments and paths. `gitrepository` with `gitobjects` and `gitrefs` for
-//! repositories. `gevents`, `gserver`, `gdialogue`, `gparts` and `gtalk` for the connections of `serve`;
-//! `gtcp`, `gconnect`, `gserve`, `ganswer` and `gclient` for the other conversations. `gcmd` for the
+//! repositories. `gevents`, `gserver`, `gdialogue`, `gparts`, `gtalk` and `mio` for the connections of
+//! `serve`; `gtcp`, `gconnect`, `gserve`, `ganswer` and `gclient` for the other conversations. `gcmd` for the
 //! report of a fetch. `ghello`, `glsreply`, `grequest`, `ggrammar` and `gpkt` for messages,
 //! `ggraph` for graphs, `gname` for names and ids.
 #![tactic(auto)]
