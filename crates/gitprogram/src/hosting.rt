@@ -16,8 +16,8 @@ use ganswer::{ServeFault, Server};
 use ggrammar::Ends;
 use ggraph::{Entry, PackFault, Packer};
 use ghello::write_advert;
-use gitobjects::StoredFiles;
-use gitrepository::{FormFault, StorePacker};
+use gitobjects::{ObjectFiles, StoredFiles};
+use gitrepository::FormFault;
 use gpkt::{LineWriter, Sink, Source};
 use gserve::{End, ExchangeEnd, MAX_ERR_TEXT, MAX_REQUESTS, OnePack, err_text, serve_one};
 use std::alloc::{AllocError, Global};
@@ -76,9 +76,9 @@ where
 }
 
 // Reads the refs of a repository, and opens as much of it as a request for them needs.
-fn open_extent<R: Files + AllocGlobal>(
+fn open_extent<R: Files + AllocGlobal, F: ObjectFiles>(
     rt: &R,
-    files: &StoredFiles<'_, R>,
+    files: &F,
     found: &Directories,
 ) -> Result<Extent, NotOpened> {
     let listed = read_listed(rt.alloc(), rt, files, found)?;
@@ -87,20 +87,20 @@ fn open_extent<R: Files + AllocGlobal>(
 
 // A repository that can be served. It shows the refs and HEAD that the Git directory had as it was opened.
 #[derive(Drop)]
-struct Opened<'f, 'r, R: Files> {
+struct Opened<'f, F: ObjectFiles> {
     // The graph, the refs and HEAD.
     server: Server<Global>,
     // The packer of its objects.
-    packer: ObjectPacker<'f, 'r, R>,
+    packer: ObjectPacker<'f, F>,
 }
 
 // Opens the objects of a repository whose refs were shown, and reads its history unless it is known.
-fn open_whole<'f, 'r, R: Files>(
+fn open_whole<'f, F: ObjectFiles>(
     alloc: Global,
-    files: &'f StoredFiles<'r, R>,
+    files: &'f F,
     found: &Directories,
     shown: Extent,
-) -> Result<Opened<'f, 'r, R>, NotOpened> {
+) -> Result<Opened<'f, F>, NotOpened> {
     let (server, packer) = match shown {
         Extent::Whole(server) => (server, open_objects(alloc, files, found)?),
         Extent::Tips(tips) => open_history(alloc, files, found, &tips)?,
@@ -173,10 +173,10 @@ fn advertise<W: Sink>(server: &Server<Global>, sink: &mut W) -> Result<(), End> 
 }
 
 // Answers all requests from the one with this number on.
-fn answer_all<R: Files, S: Source, W: Sink>(
+fn answer_all<F: ObjectFiles, S: Source, W: Sink>(
     alloc: Global,
     found: &Directories,
-    opened: &Opened<'_, '_, R>,
+    opened: &Opened<'_, F>,
     first: u32,
     source: &mut S,
     sink: &mut W,
@@ -253,10 +253,10 @@ fn send_not_opened<W: Sink>(
 }
 
 // The fault of a request that was refused. The packer knows more of its own.
-fn request_fault<R: Files>(
+fn request_fault<F: ObjectFiles>(
     alloc: Global,
     found: &Directories,
-    packer: &StorePacker<'_, StoredFiles<'_, R>, Global>,
+    packer: &ObjectPacker<'_, F>,
     fault: &ServeFault,
 ) -> Fault {
     if let ServeFault::Pack(PackFault::Other) = fault {

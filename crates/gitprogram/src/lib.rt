@@ -92,6 +92,7 @@ mod repositories;
 mod sentences;
 mod serving;
 mod shared;
+mod slots;
 mod stored;
 mod uploading;
 mod visitor;

@@ -8,7 +8,7 @@ use crate::fault::Fault;
 use crate::sentences::Sentence;
 use ganswer::Server;
 use ggraph::{Head, Refs, Repository};
-use gitobjects::{ObjectReader, QuickReader, StoredFiles};
+use gitobjects::{ObjectFiles, ObjectReader, QuickReader};
 use gitrefs::PackedPeels;
 use gitrepository::{
     FormFault, RepositoryFault, StorePacker, Tips, add_leaves, check_form, lead_with_newest,
@@ -18,10 +18,10 @@ use std::alloc::{AllocError, Global};
 use std::rt::Files;
 
 /// A reader of the objects of a Git directory.
-pub(crate) type Reader<'f, 'r, R> = ObjectReader<'f, StoredFiles<'r, R>, Global>;
+pub(crate) type Reader<'f, F> = ObjectReader<'f, F, Global>;
 
 /// A packer of the objects of a Git directory.
-pub(crate) type ObjectPacker<'f, 'r, R> = StorePacker<'f, StoredFiles<'r, R>, Global>;
+pub(crate) type ObjectPacker<'f, F> = StorePacker<'f, F, Global>;
 
 /// Why a repository is not served.
 #[derive(Drop)]
@@ -30,6 +30,19 @@ pub(crate) struct NotOpened {
     pub(crate) fault: Fault,
     /// The form of the repository, if that is why it is not read.
     pub(crate) form: Option<FormFault>,
+    /// Whether the objects of too many others are open.
+    pub(crate) is_busy: bool,
+}
+
+impl NotOpened {
+    /// The objects of too many others are open.
+    pub(crate) fn busy(alloc: Global) -> NotOpened {
+        NotOpened {
+            fault: Fault::of(alloc, Sentence::Busy),
+            form: None,
+            is_busy: true,
+        }
+    }
 }
 
 impl From<AllocError> for NotOpened {
@@ -37,6 +50,7 @@ impl From<AllocError> for NotOpened {
         NotOpened {
             fault: Fault::Memory,
             form: None,
+            is_busy: false,
         }
     }
 }
@@ -82,10 +96,10 @@ pub(crate) fn has_refs(server: &Server<Global>, refs: &Refs<Global>, head: &Head
 }
 
 /// Reads the refs and HEAD of a repository.
-pub(crate) fn read_listed<R: Files>(
+pub(crate) fn read_listed<R: Files, F: ObjectFiles>(
     alloc: Global,
     rt: &R,
-    files: &StoredFiles<'_, R>,
+    files: &F,
     found: &Directories,
 ) -> Result<Listed, NotOpened> {
     match find_listed(alloc, rt, files, found) {
@@ -94,10 +108,10 @@ pub(crate) fn read_listed<R: Files>(
     }
 }
 
-fn find_listed<R: Files>(
+fn find_listed<R: Files, F: ObjectFiles>(
     alloc: Global,
     rt: &R,
-    files: &StoredFiles<'_, R>,
+    files: &F,
     found: &Directories,
 ) -> Result<(Refs<Global>, Head<Global>), RepositoryFault<Global>> {
     check_form(files, alloc, found.common.as_str())?;
@@ -106,10 +120,10 @@ fn find_listed<R: Files>(
 
 /// Opens as much of a repository as a request for refs needs: the objects at which refs are; or the whole
 /// history, if one of them is not found at once.
-pub(crate) fn open_shown<R: Files>(
+pub(crate) fn open_shown<R: Files, F: ObjectFiles>(
     alloc: Global,
     rt: &R,
-    files: &StoredFiles<'_, R>,
+    files: &F,
     found: &Directories,
     listed: Listed,
 ) -> Result<Extent, NotOpened> {
@@ -129,10 +143,10 @@ enum Shown {
     Whole(Repository<Global>),
 }
 
-fn find_shown<R: Files>(
+fn find_shown<R: Files, F: ObjectFiles>(
     alloc: Global,
     rt: &R,
-    files: &StoredFiles<'_, R>,
+    files: &F,
     found: &Directories,
     listed: Listed,
 ) -> Result<Shown, RepositoryFault<Global>> {
@@ -157,9 +171,9 @@ fn is_same_head(one: &Head<Global>, other: &Head<Global>) -> bool {
 }
 
 // The objects at which refs and HEAD are; `None` if one is not found at once. No pack stays open.
-fn find_tips<R: Files>(
+fn find_tips<F: ObjectFiles>(
     alloc: Global,
-    files: &StoredFiles<'_, R>,
+    files: &F,
     path: &str,
     peels: &PackedPeels,
     listed: &Listed,
@@ -169,11 +183,11 @@ fn find_tips<R: Files>(
 }
 
 /// Opens the objects of a repository whose history is known.
-pub(crate) fn open_objects<'f, 'r, R: Files>(
+pub(crate) fn open_objects<'f, F: ObjectFiles>(
     alloc: Global,
-    files: &'f StoredFiles<'r, R>,
+    files: &'f F,
     found: &Directories,
-) -> Result<ObjectPacker<'f, 'r, R>, NotOpened> {
+) -> Result<ObjectPacker<'f, F>, NotOpened> {
     match open_reader(alloc, files, found.common.as_str()) {
         Ok(reader) => Ok(StorePacker::new(reader)),
         Err(fault) => Err(not_opened(alloc, found, &fault)),
@@ -181,12 +195,12 @@ pub(crate) fn open_objects<'f, 'r, R: Files>(
 }
 
 /// Opens the objects of a repository whose refs were shown, and reads its history.
-pub(crate) fn open_history<'f, 'r, R: Files>(
+pub(crate) fn open_history<'f, F: ObjectFiles>(
     alloc: Global,
-    files: &'f StoredFiles<'r, R>,
+    files: &'f F,
     found: &Directories,
     tips: &Server<Global>,
-) -> Result<(Server<Global>, ObjectPacker<'f, 'r, R>), NotOpened> {
+) -> Result<(Server<Global>, ObjectPacker<'f, F>), NotOpened> {
     match find_whole(alloc, files, found, tips) {
         Ok((whole, reader)) => Ok((make_server(alloc, found, whole)?, StorePacker::new(reader))),
         Err(fault) => Err(not_opened(alloc, found, &fault)),
@@ -194,12 +208,12 @@ pub(crate) fn open_history<'f, 'r, R: Files>(
 }
 
 // The history of the refs and HEAD that were shown, and a reader of its objects.
-fn find_whole<'f, 'r, R: Files>(
+fn find_whole<'f, F: ObjectFiles>(
     alloc: Global,
-    files: &'f StoredFiles<'r, R>,
+    files: &'f F,
     found: &Directories,
     tips: &Server<Global>,
-) -> Result<(Repository<Global>, Reader<'f, 'r, R>), RepositoryFault<Global>> {
+) -> Result<(Repository<Global>, Reader<'f, F>), RepositoryFault<Global>> {
     let path = found.common.as_str();
     let mut reader = open_reader(alloc, files, path)?;
     let head = tips.head().copy_in(alloc)?;
@@ -208,11 +222,11 @@ fn find_whole<'f, 'r, R: Files>(
 }
 
 // The history that refs and HEAD reach.
-fn read_history<R: Files>(
+fn read_history<F: ObjectFiles>(
     alloc: Global,
-    files: &StoredFiles<'_, R>,
+    files: &F,
     path: &str,
-    reader: &mut Reader<'_, '_, R>,
+    reader: &mut Reader<'_, F>,
     refs: &Refs<Global>,
     head: Head<Global>,
 ) -> Result<Repository<Global>, RepositoryFault<Global>> {
@@ -224,6 +238,7 @@ fn not_opened(alloc: Global, found: &Directories, fault: &RepositoryFault<Global
     NotOpened {
         form: form_of(fault),
         fault: repository_fault(alloc, found.common.as_str(), fault),
+        is_busy: false,
     }
 }
 
@@ -236,6 +251,7 @@ fn make_server(
         Ok(server) => Ok(server),
         Err(fault) => Err(NotOpened {
             form: None,
+            is_busy: false,
             fault: Fault::of(
                 alloc,
                 Sentence::Build {
@@ -249,26 +265,26 @@ fn make_server(
 
 /// Opens a repository to fetch into it from a server whose refs are at these ids. Its refs have others in
 /// front of them, so that its newest objects are offered first.
-pub(crate) fn open_client<'f, 'r, R: Files>(
+pub(crate) fn open_client<'f, R: Files, F: ObjectFiles>(
     alloc: Global,
     rt: &R,
-    files: &'f StoredFiles<'r, R>,
+    files: &'f F,
     found: &Directories,
     tips: &Tips<Global>,
-) -> Result<(Repository<Global>, Reader<'f, 'r, R>), Fault> {
+) -> Result<(Repository<Global>, Reader<'f, F>), Fault> {
     match open_with_leaves(alloc, rt, files, found, tips) {
         Ok(opened) => Ok(opened),
         Err(fault) => Err(repository_fault(alloc, found.common.as_str(), &fault)),
     }
 }
 
-fn open_with_leaves<'f, 'r, R: Files>(
+fn open_with_leaves<'f, R: Files, F: ObjectFiles>(
     alloc: Global,
     rt: &R,
-    files: &'f StoredFiles<'r, R>,
+    files: &'f F,
     found: &Directories,
     tips: &Tips<Global>,
-) -> Result<(Repository<Global>, Reader<'f, 'r, R>), RepositoryFault<Global>> {
+) -> Result<(Repository<Global>, Reader<'f, F>), RepositoryFault<Global>> {
     let (mut repository, mut reader) = open(alloc, rt, files, found)?;
     add_leaves(&mut reader, &mut repository.graph, tips)?;
     let more = tips.as_slice().len();
@@ -277,12 +293,12 @@ fn open_with_leaves<'f, 'r, R: Files>(
 }
 
 // Opens a repository: its graph with refs and HEAD, and a reader of its objects.
-fn open<'f, 'r, R: Files>(
+fn open<'f, R: Files, F: ObjectFiles>(
     alloc: Global,
     rt: &R,
-    files: &'f StoredFiles<'r, R>,
+    files: &'f F,
     found: &Directories,
-) -> Result<(Repository<Global>, Reader<'f, 'r, R>), RepositoryFault<Global>> {
+) -> Result<(Repository<Global>, Reader<'f, F>), RepositoryFault<Global>> {
     let path = found.common.as_str();
     let mut reader = open_reader(alloc, files, path)?;
     let commits = read_commit_graph(files, alloc, path)?;
@@ -291,11 +307,11 @@ fn open<'f, 'r, R: Files>(
 }
 
 /// Opens the objects of a repository.
-pub(crate) fn open_reader<'f, 'r, R: Files>(
+pub(crate) fn open_reader<'f, F: ObjectFiles>(
     alloc: Global,
-    files: &'f StoredFiles<'r, R>,
+    files: &'f F,
     path: &str,
-) -> Result<Reader<'f, 'r, R>, RepositoryFault<Global>> {
+) -> Result<Reader<'f, F>, RepositoryFault<Global>> {
     let store = open_store(files, alloc, path)?;
     Ok(ObjectReader::new(store)?)
 }

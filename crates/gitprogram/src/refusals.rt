@@ -27,6 +27,10 @@ pub(crate) const BAD_FIRST_LINE: &[u8] =
 /// The error line for a client of a repository that is not opened.
 pub(crate) const NOT_OPENED: &[u8] = b"upload-pack: the repository cannot be read";
 
+/// The error line for a client of a repository that is not opened because too many others are.
+pub(crate) const BUSY: &[u8] =
+    b"upload-pack: the server has too many repositories open: try again later";
+
 /// The error line for a client whose request is over a limit.
 pub(crate) const LIMITS: &[u8] =
     b"upload-pack: a request has at most 1,024 wants, 4,096 haves and 64 prefixes of ref names";

@@ -6,7 +6,7 @@ use crate::fault::Fault;
 use crate::kept::KeptRepositories;
 use crate::notes::Notes;
 use crate::opening::{Extent, NotOpened, has_refs};
-use crate::refusals::{BAD_FIRST_LINE, LIMITS, NOT_OPENED, NOT_SERVED, PACK_FAILED};
+use crate::refusals::{BAD_FIRST_LINE, BUSY, LIMITS, NOT_OPENED, NOT_SERVED, PACK_FAILED};
 use crate::sentences::{Sentence, form_text};
 use crate::shared::{Shared, Shown, share};
 use ganswer::ServeFault;
@@ -78,6 +78,7 @@ impl<'d, D> Repositories<'d, D> {
                 words.add(b"upload-pack: the repository ");
                 words.add(form_text(form).as_bytes());
             }
+            None if cause.is_busy => words.add(BUSY),
             None => words.add(NOT_OPENED),
         }
         self.notes.note_fault(cause.fault);

@@ -115,6 +115,8 @@ pub(crate) enum Sentence<'a> {
     Request(&'a ServeFault),
     /// The client is gone.
     ClientLost,
+    /// The objects of too many repositories are open.
+    Busy,
     /// The client did not send its first line, or a request, in its time.
     ClientSilent,
     /// The client took no byte in its time.
@@ -184,6 +186,7 @@ impl fmt::Display for Sentence<'_> {
             Sentence::NotServed => f.write_str("no repository is served at this path"),
             Sentence::Request(fault) => write_request(fault, f),
             Sentence::ClientLost => f.write_str("the connection to the client was lost"),
+            Sentence::Busy => f.write_str("the objects of too many repositories are open"),
             Sentence::ClientSilent => f.write_str("the client sent no request in its time"),
             Sentence::ClientStalled => f.write_str("the client took nothing in its time"),
             Sentence::ClientSlow => f.write_str("the connection took too long"),

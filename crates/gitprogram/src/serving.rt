@@ -12,7 +12,7 @@ use crate::shared::{Blames, Shared};
 use crate::stored::Stored;
 use crate::visits::{Held, begin, log_ended};
 use gevents::{Event, EventLoop, Limits, Refusal};
-use gitobjects::StoredFiles;
+use gitobjects::{ObjectFiles, StoredFiles};
 use gitwords::ServeArgs;
 use gparts::PartPacker;
 use gserver::{Host, Served};
@@ -42,16 +42,32 @@ where
         )),
     };
     announce(rt, &listener)?;
+    let files = StoredFiles::new(rt);
+    match serve_files(rt, &files, asked, listener, errors) {
+        Ok(()) => Ok(()),
+        Err(error) => Err(Fault::of(rt.alloc(), Sentence::Accept { error: &error })),
+    }
+}
+
+// Serves the repositories of files to those who connect.
+fn serve_files<R, F, E>(
+    rt: &R,
+    files: &F,
+    asked: &ServeArgs<'_>,
+    listener: TcpListener,
+    errors: &mut E,
+) -> io::Result<()>
+where
+    R: Files + AllocGlobal + Clock + Net,
+    F: ObjectFiles,
+    E: Write,
+{
     let exports = Exports {
         base: asked.base,
         all: asked.export_all,
     };
-    let files = StoredFiles::new(rt);
-    let stored = Stored::new(rt, &files, exports);
-    match serve_disk(rt, &stored, listener, &limits_of(asked), errors) {
-        Ok(()) => Ok(()),
-        Err(error) => Err(Fault::of(rt.alloc(), Sentence::Accept { error: &error })),
-    }
+    let stored = Stored::new(rt, files, exports);
+    serve_disk(rt, &stored, listener, &limits_of(asked), errors)
 }
 
 // Serves the repositories on a disk to those who connect.

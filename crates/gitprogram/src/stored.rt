@@ -7,109 +7,60 @@ use crate::opening::{
     Extent, Listed, NotOpened, ObjectPacker, open_history, open_objects, open_shown, read_listed,
     repository_fault,
 };
+use crate::slots::{MAX_OPEN, Slots};
 use ganswer::Server;
 use ggraph::{Entry, PackFault};
-use gitobjects::StoredFiles;
+use gitobjects::ObjectFiles;
 use gitrepository::StoreParts;
-use gparts::PartPacker;
 use std::alloc::{AllocError, Global};
-use std::cell::{Cell, RefCell};
-use std::rc::{Rc, Weak};
+use std::rc::Rc;
 use std::rt::Files;
 use std::time::SystemTime;
-
-// Objects that are open, under the number of their tickets.
-#[derive(Drop)]
-struct Opened<'f, 'r, R: Files> {
-    number: u64,
-    tickets: Weak<u64, Global>,
-    packer: ObjectPacker<'f, 'r, R>,
-}
-
-impl<'f, 'r, R: Files> Opened<'f, 'r, R> {
-    // Whether there is a ticket.
-    fn is_used(&self) -> bool {
-        self.tickets.strong_count() > 0
-    }
-}
 
 /// The repositories below a directory. Each pack that is open takes a descriptor, so objects are open as long
 /// as there is a ticket for them.
 #[derive(Drop)]
-pub(crate) struct Stored<'f, 'r, R: Files> {
+pub(crate) struct Stored<'f, 'r, R: Files, F: ObjectFiles> {
     rt: &'r R,
-    files: &'f StoredFiles<'r, R>,
+    files: &'f F,
     exports: Exports<'f>,
-    opened: RefCell<Vec<Opened<'f, 'r, R>>>,
-    // How many were opened. It is the number of the next.
-    count: Cell<u64>,
+    slots: Slots<'f, F>,
 }
 
-impl<'f, 'r, R: Files + AllocGlobal> Stored<'f, 'r, R> {
+impl<'f, 'r, R: Files + AllocGlobal, F: ObjectFiles> Stored<'f, 'r, R, F> {
     /// Those that `exports` names. None is open.
-    pub(crate) fn new(
-        rt: &'r R,
-        files: &'f StoredFiles<'r, R>,
-        exports: Exports<'f>,
-    ) -> Stored<'f, 'r, R> {
+    pub(crate) fn new(rt: &'r R, files: &'f F, exports: Exports<'f>) -> Stored<'f, 'r, R, F> {
         Stored {
             rt,
             files,
             exports,
-            opened: RefCell::new(Vec::new(rt.alloc())),
-            count: Cell::new(0),
+            slots: Slots::vacant(),
         }
     }
 
-    // Keeps a packer, and answers a ticket for it.
-    fn keep(&self, packer: ObjectPacker<'f, 'r, R>) -> Result<Ticket, AllocError> {
-        let number = self.count.get();
-        self.count.set(number.saturating_add(1));
+    // The number of a slot for other objects.
+    fn free(&self) -> Result<u64, NotOpened> {
+        match (0..MAX_OPEN).find(|number| self.slots.at(*number).is_free()) {
+            Some(number) => Ok(number),
+            None => Err(NotOpened::busy(self.rt.alloc())),
+        }
+    }
+
+    // Keeps a packer in a slot, and answers a ticket for it.
+    fn keep(&self, number: u64, packer: ObjectPacker<'f, F>) -> Result<Ticket, AllocError> {
         let Ok(ticket) = Rc::new(self.rt.alloc(), number) else {
             return Err(AllocError);
         };
         let tickets = Rc::downgrade(&ticket)?;
-        match self.opened.try_borrow_mut() {
-            Ok(mut opened) => add(
-                &mut opened,
-                Opened {
-                    number,
-                    tickets,
-                    packer,
-                },
-            )?,
-            Err(_) => return Err(AllocError),
+        if self.slots.at(number).fill(tickets, packer) {
+            Ok(ticket)
+        } else {
+            Err(AllocError)
         }
-        Ok(ticket)
     }
 }
 
-fn add<'f, 'r, R: Files>(
-    opened: &mut Vec<Opened<'f, 'r, R>>,
-    one: Opened<'f, 'r, R>,
-) -> Result<(), AllocError> {
-    match opened.push(one) {
-        Ok(()) => Ok(()),
-        Err(_) => Err(AllocError),
-    }
-}
-
-// The packer under a number.
-fn packer_under<'a, 'f, 'r, R: Files>(
-    opened: &'a [Opened<'f, 'r, R>],
-    number: u64,
-) -> Option<&'a ObjectPacker<'f, 'r, R>> {
-    match opened.iter().find(|one| one.number == number) {
-        Some(one) => Some(&one.packer),
-        None => None,
-    }
-}
-
-fn close_unused<R: Files>(opened: &mut Vec<Opened<'_, '_, R>>) {
-    opened.retain(|one| one.is_used());
-}
-
-impl<R: Files + AllocGlobal> Disk for Stored<'_, '_, R> {
+impl<R: Files + AllocGlobal, F: ObjectFiles> Disk for Stored<'_, '_, R, F> {
     fn find(&self, path: &[u8]) -> Result<Option<Directories>, Fault> {
         find_served(self.rt, self.exports, path)
     }
@@ -129,9 +80,9 @@ impl<R: Files + AllocGlobal> Disk for Stored<'_, '_, R> {
     }
 
     fn open_objects(&self, found: &Directories) -> Result<Ticket, NotOpened> {
-        self.close_unused();
+        let number = self.free()?;
         let packer = open_objects(self.rt.alloc(), self.files, found)?;
-        Ok(self.keep(packer)?)
+        Ok(self.keep(number, packer)?)
     }
 
     fn open_history(
@@ -139,14 +90,14 @@ impl<R: Files + AllocGlobal> Disk for Stored<'_, '_, R> {
         found: &Directories,
         tips: &Server<Global>,
     ) -> Result<(Server<Global>, Ticket), NotOpened> {
-        self.close_unused();
+        let number = self.free()?;
         let (server, packer) = open_history(self.rt.alloc(), self.files, found, tips)?;
-        Ok((server, self.keep(packer)?))
+        Ok((server, self.keep(number, packer)?))
     }
 
     fn close_unused(&self) {
-        if let Ok(mut opened) = self.opened.try_borrow_mut() {
-            close_unused(&mut opened);
+        for number in 0..MAX_OPEN {
+            self.slots.at(number).close_unused();
         }
     }
 
@@ -156,13 +107,7 @@ impl<R: Files + AllocGlobal> Disk for Stored<'_, '_, R> {
         alloc: Global,
         entries: &[Entry<Global>],
     ) -> Result<StoreParts<Global>, PackFault> {
-        let Ok(opened) = self.opened.try_borrow() else {
-            return Err(PackFault::Other);
-        };
-        match packer_under(opened.as_slice(), **ticket) {
-            Some(packer) => packer.begin(alloc, entries),
-            None => Err(PackFault::Other),
-        }
+        self.slots.at(**ticket).begin(alloc, entries)
     }
 
     fn part(
@@ -171,18 +116,11 @@ impl<R: Files + AllocGlobal> Disk for Stored<'_, '_, R> {
         parts: &mut StoreParts<Global>,
         out: &mut [u8],
     ) -> Result<usize, PackFault> {
-        let Ok(opened) = self.opened.try_borrow() else {
-            return Err(PackFault::Other);
-        };
-        match packer_under(opened.as_slice(), **ticket) {
-            Some(packer) => packer.part(parts, out),
-            None => Err(PackFault::Other),
-        }
+        self.slots.at(**ticket).part(parts, out)
     }
 
     fn take_fault(&self, ticket: &Ticket, found: &Directories) -> Option<Fault> {
-        let opened = self.opened.try_borrow().ok()?;
-        let cause = packer_under(opened.as_slice(), **ticket)?.take_fault()?;
+        let cause = self.slots.at(**ticket).take_fault()?;
         Some(repository_fault(self.rt.alloc(), found.common.as_str(), &cause))
     }
 }
