@@ -14,10 +14,10 @@ use std::cell::RefCell;
 use std::rc::Weak;
 
 // How many slots a row has, and how many rows there are.
-const ROW: u64 = 8;
+const ROW: u64 = 4;
 
 /// The most repositories whose objects are open at once.
-pub(crate) const MAX_OPEN: u64 = 64;
+pub(crate) const MAX_OPEN: u64 = 16;
 
 // What is open at a place: nothing, or objects with these tickets.
 #[derive(Drop)]
@@ -139,10 +139,6 @@ struct Row<'f, F: ObjectFiles> {
     b: Slot<'f, F>,
     c: Slot<'f, F>,
     d: Slot<'f, F>,
-    e: Slot<'f, F>,
-    f: Slot<'f, F>,
-    g: Slot<'f, F>,
-    h: Slot<'f, F>,
 }
 
 impl<'f, F: ObjectFiles> Row<'f, F> {
@@ -152,10 +148,6 @@ impl<'f, F: ObjectFiles> Row<'f, F> {
             b: Slot::vacant(),
             c: Slot::vacant(),
             d: Slot::vacant(),
-            e: Slot::vacant(),
-            f: Slot::vacant(),
-            g: Slot::vacant(),
-            h: Slot::vacant(),
         }
     }
 
@@ -164,11 +156,7 @@ impl<'f, F: ObjectFiles> Row<'f, F> {
             0 => &self.a,
             1 => &self.b,
             2 => &self.c,
-            3 => &self.d,
-            4 => &self.e,
-            5 => &self.f,
-            6 => &self.g,
-            _ => &self.h,
+            _ => &self.d,
         }
     }
 }
@@ -180,10 +168,6 @@ pub(crate) struct Slots<'f, F: ObjectFiles> {
     b: Row<'f, F>,
     c: Row<'f, F>,
     d: Row<'f, F>,
-    e: Row<'f, F>,
-    f: Row<'f, F>,
-    g: Row<'f, F>,
-    h: Row<'f, F>,
 }
 
 impl<'f, F: ObjectFiles> Slots<'f, F> {
@@ -194,10 +178,6 @@ impl<'f, F: ObjectFiles> Slots<'f, F> {
             b: Row::vacant(),
             c: Row::vacant(),
             d: Row::vacant(),
-            e: Row::vacant(),
-            f: Row::vacant(),
-            g: Row::vacant(),
-            h: Row::vacant(),
         }
     }
 
@@ -207,11 +187,7 @@ impl<'f, F: ObjectFiles> Slots<'f, F> {
             0 => &self.a,
             1 => &self.b,
             2 => &self.c,
-            3 => &self.d,
-            4 => &self.e,
-            5 => &self.f,
-            6 => &self.g,
-            _ => &self.h,
+            _ => &self.d,
         };
         row.at(number % ROW)
     }

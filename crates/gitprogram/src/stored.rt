@@ -40,10 +40,12 @@ impl<'f, 'r, R: Files + AllocGlobal, F: ObjectFiles> Stored<'f, 'r, R, F> {
 
     // The number of a slot for other objects.
     fn free(&self) -> Result<u64, NotOpened> {
-        match (0..MAX_OPEN).find(|number| self.slots.at(*number).is_free()) {
-            Some(number) => Ok(number),
-            None => Err(NotOpened::busy(self.rt.alloc())),
+        for number in 0..MAX_OPEN {
+            if self.slots.at(number).is_free() {
+                return Ok(number);
+            }
         }
+        Err(NotOpened::busy(self.rt.alloc()))
     }
 
     // Keeps a packer in a slot, and answers a ticket for it.
