@@ -203,11 +203,11 @@ class Gitrepo(Server):
 class GitDaemon(Server):
     """`git daemon`."""
 
-    def __init__(self, base):
+    def __init__(self, base, *more):
         with socket.create_server(("127.0.0.1", 0)) as free:
             self.port = free.getsockname()[1]
         words = ["git", "daemon", "--listen=127.0.0.1", f"--port={self.port}", "--reuseaddr", "--export-all"]
-        words += ["--informative-errors", f"--base-path={base}", base]
+        words += ["--informative-errors", f"--base-path={base}", *more, base]
         self.process = subprocess.Popen(words, stderr=subprocess.DEVNULL, env=ENV)
         wait_for(self.port)
 

@@ -39,7 +39,8 @@
 //! # Only tested
 //!
 //! All that sockets and the clock do: who is accepted and who is refused, that each ready peer has its
-//! turn, and when a peer is given up. No program of this repository uses the loop yet.
+//! turn, and when a peer is given up. It is tried as the loop of `gitrepo serve`
+//! (`examples/many-clients.py`, `examples/trouble.py`).
 //!
 //! # What the contracts do not rule out
 //!

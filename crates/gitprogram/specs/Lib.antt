@@ -1,3 +1,4 @@
 pub mod Heads
 pub mod Listing
+pub mod Sharing
 pub mod Versions

@@ -39,6 +39,20 @@ impl Directories {
         })
     }
 
+    /// The same directories.
+    pub(crate) fn copy_in(&self, alloc: Global) -> Result<Directories, AllocError> {
+        Ok(Directories {
+            own: String::from_str(alloc, self.own.as_str())?,
+            common: String::from_str(alloc, self.common.as_str())?,
+            is_linked: self.is_linked,
+        })
+    }
+
+    /// The directory of packs.
+    pub(crate) fn packs(&self, alloc: Global) -> Result<String, AllocError> {
+        below(alloc, self.common.as_str(), "objects/pack")
+    }
+
     /// Whether there is a work tree: a file `.git` leads to the repository, or its configuration says
     /// that it is not bare (git-config(1), "core.bare"). If that is not said, its name is `.git`.
     pub(crate) fn has_work_tree<R>(&self, rt: &R) -> Result<bool, Fault>

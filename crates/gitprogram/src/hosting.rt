@@ -6,23 +6,22 @@ ghost use Rattle.std.specs.Prelude.{⊤};
 use crate::ahead::Ahead;
 use crate::directory::Directories;
 use crate::fault::Fault;
-use crate::kept::{Extent, KeptServers};
-use crate::opening::{NotOpened, Opened, open_shown, open_whole, repository_fault};
-use crate::refusals::send_error;
+use crate::opening::{
+    Extent, NotOpened, ObjectPacker, open_history, open_objects, open_shown, read_listed,
+    repository_fault,
+};
+use crate::refusals::{NOT_OPENED, send_error};
 use crate::sentences::{Sentence, form_text};
 use ganswer::{ServeFault, Server};
 use ggrammar::Ends;
 use ggraph::{Entry, PackFault, Packer};
 use ghello::write_advert;
-use gitobjects::StoredFiles;
-use gitrepository::{FormFault, StorePacker};
+use gitobjects::{ObjectFiles, StoredFiles};
+use gitrepository::FormFault;
 use gpkt::{LineWriter, Sink, Source};
 use gserve::{End, ExchangeEnd, MAX_ERR_TEXT, MAX_REQUESTS, OnePack, err_text, serve_one};
 use std::alloc::{AllocError, Global};
 use std::rt::Files;
-
-// The error line for a client of a repository that is not opened.
-const NOT_OPENED: &[u8] = b"upload-pack: the repository cannot be read";
 
 /// A conversation with a client: how many of its requests were answered, and how it came out.
 #[derive(Drop)]
@@ -49,11 +48,10 @@ struct Answered {
     end: Option<End>,
 }
 
-/// Serves a repository from its advertisement on. The server that it has then is kept.
+/// Serves a repository from its advertisement on.
 pub(crate) fn serve_repository<R, S: Source, W: Sink>(
     rt: &R,
     found: &Directories,
-    kept: &mut KeptServers,
     source: &mut S,
     sink: &mut W,
 ) -> Conversation
@@ -62,30 +60,52 @@ where
 {
     let alloc = rt.alloc();
     let files = StoredFiles::new(rt);
-    let shown = match open_shown(alloc, rt, &files, found, kept) {
-        Ok(shown) => shown,
+    let extent = match open_extent(rt, &files, found) {
+        Ok(extent) => extent,
         Err(cause) => return refuse(alloc, cause, 0, sink),
     };
     let mut source = Ahead::new(source);
-    let Answered { requests, end } = show_refs(shown.server(), &mut source, sink);
+    let Answered { requests, end } = show_refs(extent.server(), &mut source, sink);
     if let Some(end) = end {
-        keep(alloc, found, kept, shown);
         return conversation_of(alloc, requests, end);
     }
-    match open_whole(alloc, &files, found, shown) {
-        Ok(opened) => {
-            let conversation = answer_all(alloc, found, &opened, requests, &mut source, sink);
-            let Opened { server, .. } = opened;
-            keep(alloc, found, kept, Extent::Whole(server));
-            conversation
-        }
+    match open_whole(alloc, &files, found, extent) {
+        Ok(opened) => answer_all(alloc, found, &opened, requests, &mut source, sink),
         Err(cause) => refuse(alloc, cause, requests, sink),
     }
 }
 
-// Keeps a server. One for which there is no memory is lost.
-fn keep(alloc: Global, found: &Directories, kept: &mut KeptServers, extent: Extent) {
-    let _ = kept.put(alloc, found.own.as_str(), extent);
+// Reads the refs of a repository, and opens as much of it as a request for them needs.
+fn open_extent<R: Files + AllocGlobal, F: ObjectFiles>(
+    rt: &R,
+    files: &F,
+    found: &Directories,
+) -> Result<Extent, NotOpened> {
+    let listed = read_listed(rt.alloc(), rt, files, found)?;
+    open_shown(rt.alloc(), rt, files, found, listed)
+}
+
+// A repository that can be served. It shows the refs and HEAD that the Git directory had as it was opened.
+#[derive(Drop)]
+struct Opened<'f, F: ObjectFiles> {
+    // The graph, the refs and HEAD.
+    server: Server<Global>,
+    // The packer of its objects.
+    packer: ObjectPacker<'f, F>,
+}
+
+// Opens the objects of a repository whose refs were shown, and reads its history unless it is known.
+fn open_whole<'f, F: ObjectFiles>(
+    alloc: Global,
+    files: &'f F,
+    found: &Directories,
+    shown: Extent,
+) -> Result<Opened<'f, F>, NotOpened> {
+    let (server, packer) = match shown {
+        Extent::Whole(server) => (server, open_objects(alloc, files, found)?),
+        Extent::Tips(tips) => open_history(alloc, files, found, &tips)?,
+    };
+    Ok(Opened { server, packer })
 }
 
 // Ends a conversation, since the repository is not opened.
@@ -153,10 +173,10 @@ fn advertise<W: Sink>(server: &Server<Global>, sink: &mut W) -> Result<(), End> 
 }
 
 // Answers all requests from the one with this number on.
-fn answer_all<R: Files, S: Source, W: Sink>(
+fn answer_all<F: ObjectFiles, S: Source, W: Sink>(
     alloc: Global,
     found: &Directories,
-    opened: &Opened<'_, '_, R>,
+    opened: &Opened<'_, F>,
     first: u32,
     source: &mut S,
     sink: &mut W,
@@ -233,10 +253,10 @@ fn send_not_opened<W: Sink>(
 }
 
 // The fault of a request that was refused. The packer knows more of its own.
-fn request_fault<R: Files>(
+fn request_fault<F: ObjectFiles>(
     alloc: Global,
     found: &Directories,
-    packer: &StorePacker<'_, StoredFiles<'_, R>, Global>,
+    packer: &ObjectPacker<'_, F>,
     fault: &ServeFault,
 ) -> Fault {
     if let ServeFault::Pack(PackFault::Other) = fault {

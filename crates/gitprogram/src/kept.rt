@@ -1,79 +1,90 @@
-//! Servers that are kept between connections.
+//! Repositories that are kept between connections.
 
-use ganswer::Server;
-use ggraph::{Head, MAX_NODES, Refs};
+use crate::shared::{Shared, Shown};
+use ggraph::MAX_NODES;
 use std::alloc::{AllocError, Global};
+use std::rc::{Rc, Weak};
+use std::time::SystemTime;
 
-// The most servers that are kept.
-const MAX_SERVERS: usize = 64;
+// The most repositories that are kept.
+const MAX_REPOSITORIES: usize = 64;
 
-/// A server, and how much of its repository it has.
-#[derive(Drop)]
-pub(crate) enum Extent {
-    /// It has the whole history.
-    Whole(Server<Global>),
-    /// It has the objects at which refs are, and what tags among them lead to. It answers requests for
-    /// refs alone.
-    Tips(Server<Global>),
-}
-
-impl Extent {
-    /// The server.
-    pub(crate) fn server(&self) -> &Server<Global> {
-        match self {
-            Extent::Whole(server) | Extent::Tips(server) => server,
-        }
-    }
-}
-
-// The server of the repository whose Git directory has this path.
+// A repository.
 #[derive(Drop)]
 struct Kept {
-    path: String,
-    extent: Extent,
+    shown: Rc<Shown, Global>,
+    // Tickets for its objects, if connections have some.
+    objects: Weak<u64, Global>,
+    // When the directory of packs was changed last, before they were opened; `None` if nobody knows.
+    changed: Option<SystemTime>,
 }
 
-/// The servers of repositories that were served last, the oldest first. They have at most 1,048,576
-/// commits and tags together.
+impl Kept {
+    fn path(&self) -> &str {
+        self.shown.found.own.as_str()
+    }
+
+    // Another owner of it.
+    fn share<'d, D>(&self, alloc: Global, disk: &'d D) -> Result<Shared<'d, D>, AllocError> {
+        let shown = self.shown.clone()?;
+        Shared::new(alloc, disk, shown, self.objects.upgrade(), self.changed)
+    }
+}
+
+/// The repositories that were served last, the oldest first. They have at most 1,048,576 commits and
+/// tags together. A connection may still use one that is no longer kept.
 #[derive(Drop)]
-pub(crate) struct KeptServers {
-    servers: Vec<Kept>,
+pub(crate) struct KeptRepositories {
+    kept: Vec<Kept>,
 }
 
-impl KeptServers {
-    /// No server.
-    pub(crate) fn new(alloc: Global) -> KeptServers {
-        KeptServers {
-            servers: Vec::new(alloc),
+impl KeptRepositories {
+    /// No repository.
+    pub(crate) fn new(alloc: Global) -> KeptRepositories {
+        KeptRepositories {
+            kept: Vec::new(alloc),
         }
     }
 
-    /// Takes out the server of the repository with this Git directory; `None` if none is kept.
-    pub(crate) fn take(&mut self, path: &str) -> Option<Extent> {
-        let place = self
-            .servers
-            .iter()
-            .position(|kept| kept.path.as_str() == path)?;
-        Some(self.servers.remove(place).extent)
-    }
-
-    /// Keeps a server of the repository with this Git directory. The oldest go if there are too many. It
-    /// fails out of memory, and the server is then lost.
-    pub(crate) fn put(
-        &mut self,
+    /// The repository with this Git directory, for another connection; `None` if it is not kept. It fails
+    /// only out of memory.
+    pub(crate) fn get<'d, D>(
+        &self,
         alloc: Global,
+        disk: &'d D,
         path: &str,
-        extent: Extent,
-    ) -> Result<(), AllocError> {
-        self.make_room(extent.server().graph().len());
-        let path = String::from_str(alloc, path)?;
-        self.servers.push(Kept { path, extent })?;
-        Ok(())
+    ) -> Result<Option<Shared<'d, D>>, AllocError> {
+        match self.kept.iter().find(|kept| kept.path() == path) {
+            Some(kept) => Ok(Some(kept.share(alloc, disk)?)),
+            None => Ok(None),
+        }
     }
 
-    // Lets the oldest servers go until there is room for one with so many commits and tags.
+    /// Keeps a repository in place of the one with the same Git directory. The oldest go if there are too
+    /// many. It fails out of memory, and keeps no repository of this Git directory then.
+    pub(crate) fn put<D>(&mut self, shared: &Shared<'_, D>) -> Result<(), AllocError> {
+        let path = shared.shown.found.own.as_str();
+        if let Some(place) = self.kept.iter().position(|kept| kept.path() == path) {
+            let _old = self.kept.remove(place);
+        }
+        self.make_room(nodes_of(&shared.shown));
+        let kept = Kept {
+            shown: shared.shown.clone()?,
+            objects: match &shared.objects {
+                Some(ticket) => Rc::downgrade(ticket)?,
+                None => Weak::new(),
+            },
+            changed: shared.changed,
+        };
+        match self.kept.push(kept) {
+            Ok(()) => Ok(()),
+            Err(_) => Err(AllocError),
+        }
+    }
+
+    // Lets the oldest repositories go until there is room for one with so many commits and tags.
     fn make_room(&mut self, nodes: usize) {
-        for _ in 0..MAX_SERVERS {
+        for _ in 0..MAX_REPOSITORIES {
             if self.has_room(nodes) {
                 break;
             }
@@ -83,35 +94,25 @@ impl KeptServers {
 
     fn has_room(&self, nodes: usize) -> bool {
         let kept = self.nodes().saturating_add(nodes);
-        self.servers.is_empty() || (self.servers.len() < MAX_SERVERS && kept <= MAX_NODES)
+        self.kept.is_empty() || (self.kept.len() < MAX_REPOSITORIES && kept <= MAX_NODES)
     }
 
     fn drop_oldest(&mut self) {
-        if !self.servers.is_empty() {
-            let _oldest = self.servers.remove(0);
+        if !self.kept.is_empty() {
+            let _oldest = self.kept.remove(0);
         }
     }
 
     // How many commits and tags all of them have.
     fn nodes(&self) -> usize {
         let mut nodes: usize = 0;
-        for kept in &self.servers {
-            nodes = nodes.saturating_add(kept.extent.server().graph().len());
+        for kept in &self.kept {
+            nodes = nodes.saturating_add(nodes_of(&kept.shown));
         }
         nodes
     }
 }
 
-/// Whether a server has these refs and this HEAD. One that left out a ref has others.
-pub(crate) fn has_refs(server: &Server<Global>, refs: &Refs<Global>, head: &Head<Global>) -> bool {
-    server.refs().as_slice() == refs.as_slice() && is_same_head(server.head(), head)
-}
-
-fn is_same_head(one: &Head<Global>, other: &Head<Global>) -> bool {
-    match (one, other) {
-        (Head::None, Head::None) => true,
-        (Head::Id(one), Head::Id(other)) => one == other,
-        (Head::Symref(one), Head::Symref(other)) => one.name() == other.name(),
-        _ => false,
-    }
+fn nodes_of(shown: &Shown) -> usize {
+    shown.extent.server().graph().len()
 }

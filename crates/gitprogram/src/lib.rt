@@ -1,10 +1,12 @@
 //! The program `gitrepo` as a function of the runtime. [`run`] reads the arguments, and serves, clones,
 //! fetches, lists or checks Git repositories as they are on disk.
 //!
-//! - `serve` serves every repository below a directory, one connection after the other
+//! - `serve` serves every repository below a directory, many connections at once on one thread
 //!   (git-daemon(1)). It reads the refs at each connection, so it shows what Git has changed meanwhile. It
 //!   keeps what it read of a repository while the refs and HEAD stay the same: the graphs of at most 64
-//!   repositories, with at most 1,048,576 commits and tags. It prints a line about each connection.
+//!   repositories, with at most 1,048,576 commits and tags. Connections share that, and the packs as long
+//!   as their directory does not change. A pack goes out in parts: one of its entries is in memory at a
+//!   time. It prints a line about each connection.
 //! - `upload-pack` serves one connection on standard input and output (git-upload-pack(1)).
 //! - Both answer requests for refs from the objects at which refs are. The history is read at the first
 //!   request that may ask for objects. One of which a part is missing is refused then, as by Git.
@@ -20,12 +22,14 @@
 //! - The text of a listing is that of git-ls-remote(1) (`specs/Listing.antt`). A private part reads
 //!   from the server's answer at which branch HEAD of a clone is to be (`specs/Heads.antt`). Another
 //!   finds version 2 among the keys of `GIT_PROTOCOL` (`specs/Versions.antt`).
+//! - A connection of `serve` is a dialogue of `gserver` over a loop of `gevents`, so what these crates prove
+//!   holds of it. A pack that it gives to the end is a whole one.
 //!
 //! # Only tested
 //!
 //! All else, against Git at the other end (`examples/with-git.sh`): which repository a path leads to,
-//! what goes out and what is kept, the deadlines of clients, progress, the lines of connections, and
-//! each sentence.
+//! what goes out and what is kept, progress, the lines of connections, and each sentence. Many clients at
+//! once, and their deadlines, are tried by `examples/many-clients.py`.
 //!
 //! # Differences from Git
 //!
@@ -34,8 +38,11 @@
 //! - `fetch` moves a tag forward without force, as any ref. It does not follow a symbolic ref that it
 //!   would move, and fails. It does not know of branches that other worktrees have checked out. There
 //!   is a work tree if `core.bare` is false in the file `config`; if it is not set, by the name `.git`.
-//! - `serve` serves one connection at a time. A client has 10 seconds for its first line and 60 for
-//!   each request, and may be silent for 60 seconds. It may hold others up as long as it asks.
+//! - `serve` has at most 1,024 connections at once, and 64 of one address, unless options say more. A
+//!   client has 10 seconds for its first line, 60 for the first byte of a request and 60 for the rest. It
+//!   may take nothing for 60 seconds, and has 10 minutes in all, and a second more for each 8,192 bytes
+//!   that it took. No client waits for what another one sends or takes. All wait while a history is read,
+//!   or the objects for a client are looked for.
 //!   `upload-pack` waits for its client without end.
 //! - `core.sharedRepository` and `core.logAllRefUpdates` are not read: files get the permissions of
 //!   the process, and reflogs are left alone.
@@ -50,14 +57,15 @@
 //! # What the contracts do not rule out
 //!
 //! Anything else. Most of it is what files, streams and sockets give or take, and no contract can
-//! speak of that. No clause says how many servers are kept, either. A server that is kept lists its
-//! refs though their objects may have gone since.
+//! speak of that. No clause says how many repositories are kept, or that a packer is closed. A
+//! repository that is kept lists its refs though their objects may have gone since.
 //!
 //! # Stands on
 //!
 //! `gitwords` for arguments and paths. `gitrepository` with `gitobjects` and `gitrefs` for
-//! repositories. `gtcp`, `gconnect`, `gserve`, `ganswer` and `gclient` for conversations, `gcmd` for
-//! the report of a fetch. `ghello`, `glsreply`, `grequest`, `ggrammar` and `gpkt` for messages,
+//! repositories. `gevents`, `gserver`, `gdialogue`, `gparts`, `gtalk` and `mio` for the connections of
+//! `serve`; `gtcp`, `gconnect`, `gserve`, `ganswer` and `gclient` for the other conversations. `gcmd` for the
+//! report of a fetch. `ghello`, `glsreply`, `grequest`, `ggrammar` and `gpkt` for messages,
 //! `ggraph` for graphs, `gname` for names and ids.
 #![tactic(auto)]
 
@@ -66,11 +74,13 @@ mod checking;
 mod cloning;
 mod current;
 mod directory;
+mod disk;
 mod fault;
 mod fetching;
 mod hosting;
 mod kept;
 mod listing;
+mod notes;
 mod opening;
 mod output;
 mod packets;
@@ -78,9 +88,14 @@ mod program;
 mod progress;
 mod refusals;
 mod remote;
+mod repositories;
 mod sentences;
 mod serving;
+mod shared;
+mod slots;
+mod stored;
 mod uploading;
-mod visit;
+mod visitor;
+mod visits;
 
 pub use crate::program::run;

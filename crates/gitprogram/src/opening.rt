@@ -1,32 +1,27 @@
 //! A repository that is opened.
 
+ghost use Rattle.std.specs.Prelude.{◌≡◌};
+ghost use Rattle.gitprogram.specs.Sharing.{server_in};
+
 use crate::directory::Directories;
 use crate::fault::Fault;
-use crate::kept::{Extent, KeptServers, has_refs};
 use crate::sentences::Sentence;
 use ganswer::Server;
 use ggraph::{Head, Refs, Repository};
-use gitobjects::{ObjectReader, QuickReader, StoredFiles};
+use gitobjects::{ObjectFiles, ObjectReader, QuickReader};
 use gitrefs::PackedPeels;
 use gitrepository::{
     FormFault, RepositoryFault, StorePacker, Tips, add_leaves, check_form, lead_with_newest,
     open_refs, open_repository, open_store, open_tips, read_commit_graph,
 };
-use std::alloc::Global;
+use std::alloc::{AllocError, Global};
 use std::rt::Files;
 
 /// A reader of the objects of a Git directory.
-pub(crate) type Reader<'f, 'r, R> = ObjectReader<'f, StoredFiles<'r, R>, Global>;
+pub(crate) type Reader<'f, F> = ObjectReader<'f, F, Global>;
 
-/// A repository that can be served. It shows the refs and HEAD that the Git directory had as it was
-/// opened.
-#[derive(Drop)]
-pub(crate) struct Opened<'f, 'r, R: Files> {
-    /// The graph, the refs and HEAD.
-    pub(crate) server: Server<Global>,
-    /// The packer of its objects.
-    pub(crate) packer: StorePacker<'f, StoredFiles<'r, R>, Global>,
-}
+/// A packer of the objects of a Git directory.
+pub(crate) type ObjectPacker<'f, F> = StorePacker<'f, F, Global>;
 
 /// Why a repository is not served.
 #[derive(Drop)]
@@ -35,20 +30,104 @@ pub(crate) struct NotOpened {
     pub(crate) fault: Fault,
     /// The form of the repository, if that is why it is not read.
     pub(crate) form: Option<FormFault>,
+    /// Whether the objects of too many others are open.
+    pub(crate) is_busy: bool,
 }
 
-/// Opens as much of a repository as a request for refs needs. A server that was kept serves again if the
-/// refs and HEAD are still those that it has. Otherwise it has the objects at which refs are; or the whole
-/// history, if one of them is not found at once.
-pub(crate) fn open_shown<R: Files>(
+impl NotOpened {
+    /// The objects of too many others are open.
+    pub(crate) fn busy(alloc: Global) -> NotOpened {
+        NotOpened {
+            fault: Fault::of(alloc, Sentence::Busy),
+            form: None,
+            is_busy: true,
+        }
+    }
+}
+
+impl From<AllocError> for NotOpened {
+    fn from(_refused: AllocError) -> NotOpened {
+        NotOpened {
+            fault: Fault::Memory,
+            form: None,
+            is_busy: false,
+        }
+    }
+}
+
+/// How much of its repository a server has.
+#[derive(Drop)]
+pub(crate) enum Extent {
+    /// It has the whole history.
+    Whole(Server<Global>),
+    /// It has the objects at which refs are, and what tags among them lead to. It answers requests for
+    /// refs alone.
+    Tips(Server<Global>),
+}
+
+impl Extent {
+    /// The server.
+    pub(crate) fn server(&self) -> &Server<Global>
+        ensures { result.now ≡ server_in self.now }
+    {
+        match self {
+            Extent::Whole(server) | Extent::Tips(server) => server,
+        }
+    }
+}
+
+/// The refs and HEAD of a repository, as its Git directory has them.
+#[derive(Drop)]
+pub(crate) struct Listed {
+    refs: Refs<Global>,
+    head: Head<Global>,
+}
+
+impl Listed {
+    /// Whether a server has these refs and this HEAD. One that left out a ref has others.
+    pub(crate) fn is_of(&self, server: &Server<Global>) -> bool {
+        has_refs(server, &self.refs, &self.head)
+    }
+}
+
+/// Whether a server has these refs and this HEAD.
+pub(crate) fn has_refs(server: &Server<Global>, refs: &Refs<Global>, head: &Head<Global>) -> bool {
+    server.refs().as_slice() == refs.as_slice() && is_same_head(server.head(), head)
+}
+
+/// Reads the refs and HEAD of a repository.
+pub(crate) fn read_listed<R: Files, F: ObjectFiles>(
     alloc: Global,
     rt: &R,
-    files: &StoredFiles<'_, R>,
+    files: &F,
     found: &Directories,
-    kept: &mut KeptServers,
+) -> Result<Listed, NotOpened> {
+    match find_listed(alloc, rt, files, found) {
+        Ok((refs, head)) => Ok(Listed { refs, head }),
+        Err(fault) => Err(not_opened(alloc, found, &fault)),
+    }
+}
+
+fn find_listed<R: Files, F: ObjectFiles>(
+    alloc: Global,
+    rt: &R,
+    files: &F,
+    found: &Directories,
+) -> Result<(Refs<Global>, Head<Global>), RepositoryFault<Global>> {
+    check_form(files, alloc, found.common.as_str())?;
+    Ok(found.refs(alloc, rt).read_refs()?)
+}
+
+/// Opens as much of a repository as a request for refs needs: the objects at which refs are; or the whole
+/// history, if one of them is not found at once.
+pub(crate) fn open_shown<R: Files, F: ObjectFiles>(
+    alloc: Global,
+    rt: &R,
+    files: &F,
+    found: &Directories,
+    listed: Listed,
 ) -> Result<Extent, NotOpened> {
-    match find_shown(alloc, rt, files, found, kept) {
-        Ok(Shown::Kept(extent)) => Ok(extent),
+    match find_shown(alloc, rt, files, found, listed) {
         Ok(Shown::Tips(tips)) => Ok(Extent::Tips(make_server(alloc, found, tips)?)),
         Ok(Shown::Whole(whole)) => Ok(Extent::Whole(make_server(alloc, found, whole)?)),
         Err(fault) => Err(not_opened(alloc, found, &fault)),
@@ -58,95 +137,83 @@ pub(crate) fn open_shown<R: Files>(
 // A repository before its refs are shown.
 #[derive(Drop)]
 enum Shown {
-    // Its server was kept.
-    Kept(Extent),
     // The objects at which refs are were looked at.
     Tips(Repository<Global>),
     // Its history was read.
     Whole(Repository<Global>),
 }
 
-fn find_shown<R: Files>(
+fn find_shown<R: Files, F: ObjectFiles>(
     alloc: Global,
     rt: &R,
-    files: &StoredFiles<'_, R>,
+    files: &F,
     found: &Directories,
-    kept: &mut KeptServers,
+    listed: Listed,
 ) -> Result<Shown, RepositoryFault<Global>> {
     let path = found.common.as_str();
-    check_form(files, alloc, path)?;
-    let directory = found.refs(alloc, rt);
-    let (refs, head) = directory.read_refs()?;
-    if let Some(extent) = kept.take(found.own.as_str()) {
-        if has_refs(extent.server(), &refs, &head) {
-            return Ok(Shown::Kept(extent));
-        }
-    }
-    let peels = directory.packed_peels()?;
-    if let Some(tips) = find_tips(alloc, files, path, &peels, (&refs, &head))? {
+    let peels = found.refs(alloc, rt).packed_peels()?;
+    if let Some(tips) = find_tips(alloc, files, path, &peels, &listed)? {
         return Ok(Shown::Tips(tips));
     }
     let mut reader = open_reader(alloc, files, path)?;
+    let Listed { refs, head } = listed;
     let whole = read_history(alloc, files, path, &mut reader, &refs, head)?;
     Ok(Shown::Whole(whole))
 }
 
-// The objects at which refs and HEAD are; `None` if one is not found at once. No pack stays open.
-fn find_tips<R: Files>(
-    alloc: Global,
-    files: &StoredFiles<'_, R>,
-    path: &str,
-    peels: &PackedPeels,
-    listed: (&Refs<Global>, &Head<Global>),
-) -> Result<Option<Repository<Global>>, RepositoryFault<Global>> {
-    let mut reader = QuickReader::open(files, alloc, path)?;
-    let (refs, head) = listed;
-    open_tips(&mut reader, peels, refs, head)
+fn is_same_head(one: &Head<Global>, other: &Head<Global>) -> bool {
+    match (one, other) {
+        (Head::None, Head::None) => true,
+        (Head::Id(one), Head::Id(other)) => one == other,
+        (Head::Symref(one), Head::Symref(other)) => one.name() == other.name(),
+        _ => false,
+    }
 }
 
-/// Opens the objects of a repository whose refs were shown, and reads its history unless it is known.
-pub(crate) fn open_whole<'f, 'r, R: Files>(
+// The objects at which refs and HEAD are; `None` if one is not found at once. No pack stays open.
+fn find_tips<F: ObjectFiles>(
     alloc: Global,
-    files: &'f StoredFiles<'r, R>,
+    files: &F,
+    path: &str,
+    peels: &PackedPeels,
+    listed: &Listed,
+) -> Result<Option<Repository<Global>>, RepositoryFault<Global>> {
+    let mut reader = QuickReader::open(files, alloc, path)?;
+    open_tips(&mut reader, peels, &listed.refs, &listed.head)
+}
+
+/// Opens the objects of a repository whose history is known.
+pub(crate) fn open_objects<'f, F: ObjectFiles>(
+    alloc: Global,
+    files: &'f F,
     found: &Directories,
-    shown: Extent,
-) -> Result<Opened<'f, 'r, R>, NotOpened> {
-    let tips = match shown {
-        Extent::Whole(server) => return open_objects(alloc, files, found, server),
-        Extent::Tips(tips) => tips,
-    };
-    match find_whole(alloc, files, found, &tips) {
-        Ok((whole, reader)) => Ok(Opened {
-            server: make_server(alloc, found, whole)?,
-            packer: StorePacker::new(reader),
-        }),
+) -> Result<ObjectPacker<'f, F>, NotOpened> {
+    match open_reader(alloc, files, found.common.as_str()) {
+        Ok(reader) => Ok(StorePacker::new(reader)),
         Err(fault) => Err(not_opened(alloc, found, &fault)),
     }
 }
 
-// Opens the objects of a repository whose history is known.
-fn open_objects<'f, 'r, R: Files>(
+/// Opens the objects of a repository whose refs were shown, and reads its history.
+pub(crate) fn open_history<'f, F: ObjectFiles>(
     alloc: Global,
-    files: &'f StoredFiles<'r, R>,
+    files: &'f F,
     found: &Directories,
-    server: Server<Global>,
-) -> Result<Opened<'f, 'r, R>, NotOpened> {
-    match open_reader(alloc, files, found.common.as_str()) {
-        Ok(reader) => Ok(Opened {
-            server,
-            packer: StorePacker::new(reader),
-        }),
+    tips: &Server<Global>,
+) -> Result<(Server<Global>, ObjectPacker<'f, F>), NotOpened> {
+    match find_whole(alloc, files, found, tips) {
+        Ok((whole, reader)) => Ok((make_server(alloc, found, whole)?, StorePacker::new(reader))),
         Err(fault) => Err(not_opened(alloc, found, &fault)),
     }
 }
 
 // The history of the refs and HEAD that were shown, and a reader of its objects.
-fn find_whole<'f, 'r, R: Files>(
+fn find_whole<'f, F: ObjectFiles>(
     alloc: Global,
-    files: &'f StoredFiles<'r, R>,
+    files: &'f F,
     found: &Directories,
     tips: &Server<Global>,
-) -> Result<(Repository<Global>, Reader<'f, 'r, R>), RepositoryFault<Global>> {
+) -> Result<(Repository<Global>, Reader<'f, F>), RepositoryFault<Global>> {
     let path = found.common.as_str();
     let mut reader = open_reader(alloc, files, path)?;
     let head = tips.head().copy_in(alloc)?;
@@ -155,11 +222,11 @@ fn find_whole<'f, 'r, R: Files>(
 }
 
 // The history that refs and HEAD reach.
-fn read_history<R: Files>(
+fn read_history<F: ObjectFiles>(
     alloc: Global,
-    files: &StoredFiles<'_, R>,
+    files: &F,
     path: &str,
-    reader: &mut Reader<'_, '_, R>,
+    reader: &mut Reader<'_, F>,
     refs: &Refs<Global>,
     head: Head<Global>,
 ) -> Result<Repository<Global>, RepositoryFault<Global>> {
@@ -171,6 +238,7 @@ fn not_opened(alloc: Global, found: &Directories, fault: &RepositoryFault<Global
     NotOpened {
         form: form_of(fault),
         fault: repository_fault(alloc, found.common.as_str(), fault),
+        is_busy: false,
     }
 }
 
@@ -183,6 +251,7 @@ fn make_server(
         Ok(server) => Ok(server),
         Err(fault) => Err(NotOpened {
             form: None,
+            is_busy: false,
             fault: Fault::of(
                 alloc,
                 Sentence::Build {
@@ -196,26 +265,26 @@ fn make_server(
 
 /// Opens a repository to fetch into it from a server whose refs are at these ids. Its refs have others in
 /// front of them, so that its newest objects are offered first.
-pub(crate) fn open_client<'f, 'r, R: Files>(
+pub(crate) fn open_client<'f, R: Files, F: ObjectFiles>(
     alloc: Global,
     rt: &R,
-    files: &'f StoredFiles<'r, R>,
+    files: &'f F,
     found: &Directories,
     tips: &Tips<Global>,
-) -> Result<(Repository<Global>, Reader<'f, 'r, R>), Fault> {
+) -> Result<(Repository<Global>, Reader<'f, F>), Fault> {
     match open_with_leaves(alloc, rt, files, found, tips) {
         Ok(opened) => Ok(opened),
         Err(fault) => Err(repository_fault(alloc, found.common.as_str(), &fault)),
     }
 }
 
-fn open_with_leaves<'f, 'r, R: Files>(
+fn open_with_leaves<'f, R: Files, F: ObjectFiles>(
     alloc: Global,
     rt: &R,
-    files: &'f StoredFiles<'r, R>,
+    files: &'f F,
     found: &Directories,
     tips: &Tips<Global>,
-) -> Result<(Repository<Global>, Reader<'f, 'r, R>), RepositoryFault<Global>> {
+) -> Result<(Repository<Global>, Reader<'f, F>), RepositoryFault<Global>> {
     let (mut repository, mut reader) = open(alloc, rt, files, found)?;
     add_leaves(&mut reader, &mut repository.graph, tips)?;
     let more = tips.as_slice().len();
@@ -224,12 +293,12 @@ fn open_with_leaves<'f, 'r, R: Files>(
 }
 
 // Opens a repository: its graph with refs and HEAD, and a reader of its objects.
-fn open<'f, 'r, R: Files>(
+fn open<'f, R: Files, F: ObjectFiles>(
     alloc: Global,
     rt: &R,
-    files: &'f StoredFiles<'r, R>,
+    files: &'f F,
     found: &Directories,
-) -> Result<(Repository<Global>, Reader<'f, 'r, R>), RepositoryFault<Global>> {
+) -> Result<(Repository<Global>, Reader<'f, F>), RepositoryFault<Global>> {
     let path = found.common.as_str();
     let mut reader = open_reader(alloc, files, path)?;
     let commits = read_commit_graph(files, alloc, path)?;
@@ -238,11 +307,11 @@ fn open<'f, 'r, R: Files>(
 }
 
 /// Opens the objects of a repository.
-pub(crate) fn open_reader<'f, 'r, R: Files>(
+pub(crate) fn open_reader<'f, F: ObjectFiles>(
     alloc: Global,
-    files: &'f StoredFiles<'r, R>,
+    files: &'f F,
     path: &str,
-) -> Result<Reader<'f, 'r, R>, RepositoryFault<Global>> {
+) -> Result<Reader<'f, F>, RepositoryFault<Global>> {
     let store = open_store(files, alloc, path)?;
     Ok(ObjectReader::new(store)?)
 }

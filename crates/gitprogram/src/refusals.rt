@@ -17,6 +17,36 @@ fn send_text<W: Sink>(text: &[u8], writer: &mut LineWriter<W>) -> Result<(), Wri
     writer.push()
 }
 
+/// The error line for a client whose path names no repository that is served, as git-daemon(1) has it.
+pub(crate) const NOT_SERVED: &[u8] = b"access denied or repository not exported: ";
+
+/// The error line for a client whose first line is malformed, as that of an older protocol is.
+pub(crate) const BAD_FIRST_LINE: &[u8] =
+    b"upload-pack: bad line: gitrepo serves protocol version 2 alone (git -c protocol.version=2)";
+
+/// The error line for a client of a repository that is not opened.
+pub(crate) const NOT_OPENED: &[u8] = b"upload-pack: the repository cannot be read";
+
+/// The error line for a client of a repository that is not opened because too many others are.
+pub(crate) const BUSY: &[u8] =
+    b"upload-pack: the server has too many repositories open: try again later";
+
+/// The error line for a client whose request is over a limit.
+pub(crate) const LIMITS: &[u8] =
+    b"upload-pack: a request has at most 1,024 wants, 4,096 haves and 64 prefixes of ref names";
+
+/// The packet for a client that connects while there are too many connections.
+pub(crate) const FULL: &[u8] =
+    b"004aERR upload-pack: the server has too many connections: try again later\n";
+
+/// The packet for a client that connects while there are too many connections from its address.
+pub(crate) const FULL_OF_ADDRESS: &[u8] =
+    b"0051ERR upload-pack: there are too many connections from your address: try later\n";
+
+/// The error line for a client whose pack is not made.
+pub(crate) const PACK_FAILED: &[u8] =
+    b"upload-pack: pack failed: it would have more than 64 MiB, or an object is missing or refused here";
+
 // A packet of the libraries that does not name a limit.
 #[derive(Clone, Copy)]
 enum Wording {

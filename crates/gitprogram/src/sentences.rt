@@ -115,6 +115,14 @@ pub(crate) enum Sentence<'a> {
     Request(&'a ServeFault),
     /// The client is gone.
     ClientLost,
+    /// The objects of too many repositories are open.
+    Busy,
+    /// The client did not send its first line, or a request, in its time.
+    ClientSilent,
+    /// The client took no byte in its time.
+    ClientStalled,
+    /// The connection took more than its time.
+    ClientSlow,
     /// The client of `upload-pack` does not ask for version 2.
     NoVersion2,
     /// Standard output failed.
@@ -178,6 +186,10 @@ impl fmt::Display for Sentence<'_> {
             Sentence::NotServed => f.write_str("no repository is served at this path"),
             Sentence::Request(fault) => write_request(fault, f),
             Sentence::ClientLost => f.write_str("the connection to the client was lost"),
+            Sentence::Busy => f.write_str("the objects of too many repositories are open"),
+            Sentence::ClientSilent => f.write_str("the client sent no request in its time"),
+            Sentence::ClientStalled => f.write_str("the client took nothing in its time"),
+            Sentence::ClientSlow => f.write_str("the connection took too long"),
             Sentence::NoVersion2 => f.write_str(
                 "GIT_PROTOCOL does not ask for version 2: use git -c protocol.version=2, \
                 and let sshd accept GIT_PROTOCOL",

@@ -6,7 +6,6 @@ ghost use Rattle.gitprogram.specs.Versions.{is_version_2, names_version_2};
 use crate::directory::{Directories, find_repository};
 use crate::fault::Fault;
 use crate::hosting::serve_repository;
-use crate::kept::KeptServers;
 use crate::refusals::{Worded, send_error};
 use crate::sentences::Sentence;
 use gpkt::{FromRead, Sink, Source, ToWrite};
@@ -62,10 +61,7 @@ where
     }
     let path = expand_home(rt, dir)?;
     match find_repository(rt, path.as_str()) {
-        Ok(found) => {
-            let mut kept = KeptServers::new(rt.alloc());
-            serve_repository(rt, &found, &mut kept, source, sink).outcome
-        }
+        Ok(found) => serve_repository(rt, &found, source, sink).outcome,
         Err(fault) => {
             let _ = send_error(NOT_THERE, sink);
             Err(fault)

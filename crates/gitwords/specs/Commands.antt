@@ -13,11 +13,14 @@ IsUrl url = (text : List ℕ) × IsGitUrl text url.host.now url.port url.path.no
 abbrev pub IsServed : ℕ → Type 0
 IsServed count = (1 ≤ count) × (count ≤ 1_000_000)
 
--- A URL is one, there is a refspec for a fetch, connections are accepted at HOST:PORT, and there is at least one.
+-- A URL is one, there is a refspec for a fetch, connections are accepted at HOST:PORT, and there is at least one, also at
+-- once, also from one address.
 abbrev pub IsCommand : Command → Type 0
 IsCommand (Check dir) = Unit {0}
 IsCommand (Clone asked) = IsUrl asked.url
 IsCommand (Fetch asked) = IsUrl asked.url × (1 ≤ length asked.specs.items)
 IsCommand (Ls asked) = IsUrl asked.url
-IsCommand (Serve asked) = IsListenAddress asked.listen.now × IfSome asked.connections IsServed
+IsCommand (Serve asked) =
+    IsListenAddress asked.listen.now × IfSome asked.connections IsServed × IfSome asked.max_connections IsServed
+    × IfSome asked.max_per_address IsServed
 IsCommand (UploadPack dir) = Unit {0}

@@ -20,7 +20,7 @@ pub enum Command<'a> {
     Fetch(FetchArgs<'a>),
     /// `ls URL [PREFIX]...`
     Ls(LsArgs<'a>),
-    /// `serve --listen ADDR [--connections N] [--export-all] BASE`
+    /// `serve --listen ADDR [--connections N] [--max-connections N] [--max-per-address N] [--export-all] BASE`
     Serve(ServeArgs<'a>),
     /// `upload-pack DIR`
     UploadPack {
@@ -87,6 +87,10 @@ pub struct ServeArgs<'a> {
     pub listen: &'a str,
     /// How many connections are served, from 1 to 1,000,000. `None` if there is no limit.
     pub connections: Option<u32>,
+    /// The most connections at once, from 1 to 1,000,000. `None` if nothing is said of it.
+    pub max_connections: Option<u32>,
+    /// The most connections at once from one address, from 1 to 1,000,000. `None` if nothing is said of it.
+    pub max_per_address: Option<u32>,
     /// Whether a repository needs no file `git-daemon-export-ok` (git-daemon(1), "--export-all").
     pub export_all: bool,
     /// The base directory.

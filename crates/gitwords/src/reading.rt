@@ -142,7 +142,9 @@ fn serve_command<'a>(words: &ArgMatches<'a>) -> Result<Command<'a>, WordFault<'a
 {
     Ok(Command::Serve(ServeArgs {
         listen: listen(words)?,
-        connections: connections(words)?,
+        connections: connections(words, "connections")?,
+        max_connections: connections(words, "max-connections")?,
+        max_per_address: connections(words, "max-per-address")?,
         export_all: words.get_flag("export-all"),
         base: word(words, "BASE")?,
     }))
@@ -175,10 +177,11 @@ fn listen<'a>(words: &ArgMatches<'a>) -> Result<&'a str, WordFault<'a>>
     }
 }
 
-fn connections<'a>(words: &ArgMatches<'a>) -> Result<Option<u32>, WordFault<'a>>
+// The number of connections that an option says, if it is there.
+fn connections<'a>(words: &ArgMatches<'a>, name: &'static str) -> Result<Option<u32>, WordFault<'a>>
     ensures { IfOk result (λ count. IfSome count IsServed) }
 {
-    let Some(text) = words.get_str("connections") else {
+    let Some(text) = words.get_str(name) else {
         return Ok(None);
     };
     match connections_of(text) {

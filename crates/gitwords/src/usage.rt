@@ -62,7 +62,7 @@ Limits:
   A clone or a fetch asks for at most 1,024 distinct objects: a repository whose branches
   and tags point at more cannot be cloned. A pack has at most 64 MiB. A repository has at
   most 65,536 refs, and 1,048,576 commits and tags. A client names at most 4,096 commits
-  that it has. A server serves one connection at a time.
+  that it has. A server has at most 1,024 connections at once, if no option says more.
   Version 2 of the protocol and SHA-1 only. No shallow, partial or reftable repository.
 
 'gitrepo COMMAND --help' describes a command.";
@@ -121,7 +121,7 @@ comes one whose name ends in ^{}, with the id of the object that the tag leads t
     Row {
         name: "serve",
         about: "Serve every repository below a directory over git://",
-        usage: "gitrepo serve --listen ADDR [--connections N] [--export-all] BASE",
+        usage: "gitrepo serve --listen ADDR [OPTION]... BASE",
         words: &[
             Word::Valued(
                 "listen",
@@ -132,6 +132,16 @@ comes one whose name ends in ^{}, with the id of the object that the tag leads t
                 "connections",
                 "N",
                 "End after N connections, from 1 to 1000000",
+            ),
+            Word::Optional(
+                "max-connections",
+                "N",
+                "Refuse more than N connections at once (1024 by default)",
+            ),
+            Word::Optional(
+                "max-per-address",
+                "N",
+                "Refuse more than N connections at once from one address (64 by default)",
             ),
             Word::Flag(
                 "export-all",

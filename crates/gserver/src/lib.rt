@@ -41,7 +41,8 @@
 //!
 //! # Only tested
 //!
-//! Nothing yet: no program of this repository uses it.
+//! The words of errors, and how a host's repositories are found and opened: `gitrepo serve` is tried with Git's clients
+//! (`examples/with-git.sh`) and with many at once (`examples/many-clients.py`).
 //!
 //! # Stands on
 //!

@@ -1,0 +1,203 @@
+//! The repositories below a directory, for all connections of a server.
+
+use crate::directory::Directories;
+use crate::disk::Disk;
+use crate::fault::Fault;
+use crate::kept::KeptRepositories;
+use crate::notes::Notes;
+use crate::opening::{Extent, NotOpened, has_refs};
+use crate::refusals::{BAD_FIRST_LINE, BUSY, LIMITS, NOT_OPENED, NOT_SERVED, PACK_FAILED};
+use crate::sentences::{Sentence, form_text};
+use crate::shared::{Shared, Shown, share};
+use ganswer::ServeFault;
+use ggrammar::{MessageFault, Why};
+use ghello::Hello;
+use gserve::{MAX_ERR_TEXT, err_text};
+use gserver::{ErrText, Host, Served};
+use std::alloc::{AllocError, Global};
+use std::cell::RefCell;
+use std::time::SystemTime;
+
+/// One who closes what no connection uses.
+pub(crate) trait Closes {
+    /// Closes what no connection uses.
+    fn close_unused(&self);
+}
+
+/// The repositories below a directory, which all connections of a server share.
+#[derive(Drop)]
+pub(crate) struct Repositories<'d, D> {
+    alloc: Global,
+    disk: &'d D,
+    notes: &'d Notes,
+    kept: RefCell<KeptRepositories>,
+}
+
+impl<'d, D> Repositories<'d, D> {
+    /// Those on a disk, of which none is read yet.
+    pub(crate) fn new(alloc: Global, disk: &'d D, notes: &'d Notes) -> Repositories<'d, D> {
+        Repositories {
+            alloc,
+            disk,
+            notes,
+            kept: RefCell::new(KeptRepositories::new(alloc)),
+        }
+    }
+
+    // The repository that is kept, for another connection.
+    fn find_kept(&self, found: &Directories) -> Result<Option<Shared<'d, D>>, AllocError> {
+        match self.kept.try_borrow() {
+            Ok(kept) => kept.get(self.alloc, self.disk, found.own.as_str()),
+            Err(_) => Ok(None),
+        }
+    }
+
+    // The repository that is kept, if it has the same refs; otherwise the same one.
+    fn find_same(&self, repo: &Shared<'d, D>) -> Result<Shared<'d, D>, AllocError> {
+        let server = repo.server();
+        if let Some(kept) = self.find_kept(&repo.shown.found)? {
+            if has_refs(kept.server(), server.refs(), server.head()) {
+                return Ok(kept);
+            }
+        }
+        repo.handle()
+    }
+
+    fn keep(&self, shared: &Shared<'d, D>) -> Result<(), AllocError> {
+        match self.kept.try_borrow_mut() {
+            Ok(mut kept) => kept.put(shared),
+            Err(_) => Ok(()),
+        }
+    }
+
+    // Notes why a repository is not opened, and answers the words for the client.
+    fn refuse(&self, cause: NotOpened) -> ErrText {
+        let mut words = ErrText::new();
+        match cause.form {
+            Some(form) => {
+                words.add(b"upload-pack: the repository ");
+                words.add(form_text(form).as_bytes());
+            }
+            None if cause.is_busy => words.add(BUSY),
+            None => words.add(NOT_OPENED),
+        }
+        self.notes.note_fault(cause.fault);
+        words
+    }
+}
+
+impl<'d, D: Disk> Repositories<'d, D> {
+    // The repository that a path names; or the words for the client if there is none.
+    fn find_path(&self, path: &[u8]) -> Result<Directories, ErrText> {
+        let fault = match self.disk.find(path) {
+            Ok(Some(found)) => return Ok(found),
+            Ok(None) => Fault::of(self.alloc, Sentence::NotServed),
+            Err(fault) => fault,
+        };
+        self.notes.note_fault(fault);
+        let mut words = ErrText::new();
+        words.add(NOT_SERVED);
+        words.add(path);
+        Err(words)
+    }
+
+    // The repository in these directories, with the refs that are there now.
+    fn find_shown(&self, found: Directories) -> Result<Shared<'d, D>, NotOpened> {
+        let listed = self.disk.list(&found)?;
+        if let Some(shared) = self.find_kept(&found)? {
+            if listed.is_of(shared.server()) {
+                return Ok(shared);
+            }
+        }
+        let extent = self.disk.show(&found, listed)?;
+        let shown = share(self.alloc, Shown { found, extent })?;
+        let shared = Shared::new(self.alloc, self.disk, shown, None, None)?;
+        self.keep(&shared)?;
+        Ok(shared)
+    }
+
+    // The repository with its history and its objects. Connections with the same refs share them while the
+    // directory of packs stays as it is.
+    fn open_shared(&self, repo: &Shared<'d, D>) -> Result<Shared<'d, D>, NotOpened> {
+        let changed = self.disk.changed(&repo.shown.found);
+        if repo.is_open_since(changed) {
+            return Ok(repo.handle()?);
+        }
+        let known = self.find_same(repo)?;
+        if known.is_open_since(changed) {
+            return Ok(known);
+        }
+        let opened = self.open_now(&known, changed)?;
+        self.keep(&opened)?;
+        Ok(opened)
+    }
+
+    // Opens the objects of a repository, and reads its history unless it is known.
+    fn open_now(
+        &self,
+        repo: &Shared<'d, D>,
+        changed: Option<SystemTime>,
+    ) -> Result<Shared<'d, D>, NotOpened> {
+        let found = &repo.shown.found;
+        let (shown, ticket) = match &repo.shown.extent {
+            Extent::Whole(_) => (repo.shown.clone()?, self.disk.open_objects(found)?),
+            Extent::Tips(tips) => {
+                let (server, ticket) = self.disk.open_history(found, tips)?;
+                let found = found.copy_in(self.alloc)?;
+                let extent = Extent::Whole(server);
+                (share(self.alloc, Shown { found, extent })?, ticket)
+            }
+        };
+        Ok(Shared::new(self.alloc, self.disk, shown, Some(ticket), changed)?)
+    }
+}
+
+impl<D: Disk> Closes for Repositories<'_, D> {
+    fn close_unused(&self) {
+        self.disk.close_unused();
+    }
+}
+
+impl<'d, D: Disk> Host<Global, Shared<'d, D>> for Repositories<'d, D> {
+    fn find(&self, hello: &Hello<Global>) -> Result<Shared<'d, D>, ErrText> {
+        if self.notes.note_path(hello.path()).is_err() {
+            self.notes.note_fault(Fault::Memory);
+        }
+        match self.find_shown(self.find_path(hello.path())?) {
+            Ok(shared) => Ok(shared),
+            Err(cause) => Err(self.refuse(cause)),
+        }
+    }
+
+    fn open(&self, repo: &Shared<'d, D>) -> Result<Shared<'d, D>, ErrText> {
+        match self.open_shared(repo) {
+            Ok(shared) => Ok(shared),
+            Err(cause) => Err(self.refuse(cause)),
+        }
+    }
+
+    fn words(&self, fault: &ServeFault) -> ErrText {
+        let mut words = ErrText::new();
+        match fault {
+            ServeFault::Request(
+                MessageFault {
+                    why: Why::Limit,
+                    ..
+                },
+            ) => words.add(LIMITS),
+            ServeFault::Pack(_) => words.add(PACK_FAILED),
+            ServeFault::Request(
+                MessageFault {
+                    why: Why::BadText,
+                    ..
+                },
+            ) if self.notes.is_first() => words.add(BAD_FIRST_LINE),
+            _ => {
+                let mut text = [0; MAX_ERR_TEXT];
+                let length = err_text(fault, &mut text);
+                words.add(&text[..length]);
+            }
+        }
+        words
+    }
+}

@@ -1,0 +1,168 @@
+//! A repository that several connections share.
+
+ghost use Rattle.std.specs.Prelude.{◌≡◌};
+
+use crate::directory::Directories;
+use crate::disk::{Disk, Ticket};
+use crate::fault::Fault;
+use crate::opening::Extent;
+use crate::sentences::Sentence;
+use ganswer::{ServeFault, Server};
+use ggraph::{Entry, PackFault};
+use gitrepository::StoreParts;
+use gparts::PartPacker;
+use gserver::Served;
+use std::alloc::{AllocError, Global};
+use std::cell::RefCell;
+use std::rc::Rc;
+use std::time::SystemTime;
+
+/// The refs, HEAD and as much of the history of a repository as was read.
+#[derive(Drop)]
+pub(crate) struct Shown {
+    /// Its directories.
+    pub(crate) found: Directories,
+    /// Its server.
+    pub(crate) extent: Extent,
+}
+
+/// One who knows why the last call failed.
+pub(crate) trait Blames {
+    /// Why it failed, which is given away.
+    fn take_fault(&self) -> Option<Fault>;
+}
+
+/// A repository that several connections share. Each connection has handles of its own.
+#[derive(Drop)]
+pub(crate) struct Shared<'d, D> {
+    alloc: Global,
+    disk: &'d D,
+    pub(crate) shown: Rc<Shown, Global>,
+    /// The ticket for its objects, once a connection asked for some.
+    pub(crate) objects: Option<Ticket>,
+    /// When the directory of packs was changed last, before they were opened; `None` if nobody knows.
+    pub(crate) changed: Option<SystemTime>,
+    // Why the packer failed, for all handles of one connection.
+    fault: Rc<RefCell<Option<Fault>>, Global>,
+}
+
+impl<'d, D> Shared<'d, D> {
+    /// The first handle of a connection. It fails only out of memory.
+    pub(crate) fn new(
+        alloc: Global,
+        disk: &'d D,
+        shown: Rc<Shown, Global>,
+        objects: Option<Ticket>,
+        changed: Option<SystemTime>,
+    ) -> Result<Shared<'d, D>, AllocError> {
+        Ok(Shared {
+            alloc,
+            disk,
+            shown,
+            objects,
+            changed,
+            fault: share(alloc, RefCell::new(None))?,
+        })
+    }
+
+    /// Whether its objects are open, and the directory of packs was changed last as it was opened.
+    pub(crate) fn is_open_since(&self, changed: Option<SystemTime>) -> bool {
+        self.objects.is_some() && changed.is_some() && self.changed == changed
+    }
+}
+
+impl<D: Disk> Shared<'_, D> {
+    // Notes why the packer failed. It knows more of its own faults.
+    fn note(&self, ticket: &Ticket, fault: PackFault) -> PackFault {
+        let cause = match fault {
+            PackFault::Other => self.disk.take_fault(ticket, &self.shown.found),
+            _ => None,
+        };
+        let said = match cause {
+            Some(cause) => cause,
+            None => Fault::of(self.alloc, Sentence::Request(&ServeFault::Pack(fault))),
+        };
+        let _ = self.fault.try_replace(Some(said));
+        fault
+    }
+}
+
+impl<D> Blames for Shared<'_, D> {
+    fn take_fault(&self) -> Option<Fault> {
+        match self.fault.try_replace(None) {
+            Ok(fault) => fault,
+            Err(_) => None,
+        }
+    }
+}
+
+/// A value to be shared. It fails only out of memory, and the value is then lost.
+pub(crate) fn share<T: Drop>(alloc: Global, value: T) -> Result<Rc<T, Global>, AllocError> {
+    match Rc::new(alloc, value) {
+        Ok(shared) => Ok(shared),
+        Err(_) => Err(AllocError),
+    }
+}
+
+impl<D: Disk> PartPacker<Global> for Shared<'_, D> {
+    ghost use Rattle.gitprogram.specs.Sharing.{fails_any, gives_rest, most_left, packs_any};
+
+    type Parts = StoreParts<Global>;
+
+    ghost packs = { λ _. packs_any };
+
+    ghost pack_fails = { λ _. fails_any };
+
+    ghost gives = { λ _. gives_rest };
+
+    ghost most = { λ _. most_left };
+
+    fn begin(
+        &self,
+        alloc: Global,
+        entries: &[Entry<Global>],
+    ) -> Result<StoreParts<Global>, PackFault> {
+        let Some(ticket) = &self.objects else {
+            return Err(PackFault::Other);
+        };
+        match self.disk.begin(ticket, alloc, entries) {
+            Ok(parts) => Ok(parts),
+            Err(fault) => Err(self.note(ticket, fault)),
+        }
+    }
+
+    fn part(&self, parts: &mut StoreParts<Global>, out: &mut [u8]) -> Result<usize, PackFault> {
+        let Some(ticket) = &self.objects else {
+            return Err(PackFault::Other);
+        };
+        match self.disk.part(ticket, parts, out) {
+            Ok(count) => Ok(count),
+            Err(fault) => Err(self.note(ticket, fault)),
+        }
+    }
+}
+
+impl<D> Served<Global> for Shared<'_, D> {
+    ghost use Rattle.gitprogram.specs.Sharing.{server_in};
+
+    ghost server = { λ shared. server_in shared.shown.value.extent };
+
+    fn server(&self) -> &Server<Global> {
+        self.shown.extent.server()
+    }
+
+    fn handle(&self) -> Result<Self, AllocError> {
+        let objects = match &self.objects {
+            Some(objects) => Some(objects.clone()?),
+            None => None,
+        };
+        Ok(Shared {
+            alloc: self.alloc,
+            disk: self.disk,
+            shown: self.shown.clone()?,
+            objects,
+            changed: self.changed,
+            fault: self.fault.clone()?,
+        })
+    }
+}

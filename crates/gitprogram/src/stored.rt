@@ -1,0 +1,128 @@
+//! The repositories below a directory, and the objects that are open.
+
+use crate::directory::{Directories, Exports, find_served};
+use crate::disk::{Disk, Ticket};
+use crate::fault::Fault;
+use crate::opening::{
+    Extent, Listed, NotOpened, ObjectPacker, open_history, open_objects, open_shown, read_listed,
+    repository_fault,
+};
+use crate::slots::{MAX_OPEN, Slots};
+use ganswer::Server;
+use ggraph::{Entry, PackFault};
+use gitobjects::ObjectFiles;
+use gitrepository::StoreParts;
+use std::alloc::{AllocError, Global};
+use std::rc::Rc;
+use std::rt::Files;
+use std::time::SystemTime;
+
+/// The repositories below a directory. Each pack that is open takes a descriptor, so objects are open as long
+/// as there is a ticket for them.
+#[derive(Drop)]
+pub(crate) struct Stored<'f, 'r, R: Files, F: ObjectFiles> {
+    rt: &'r R,
+    files: &'f F,
+    exports: Exports<'f>,
+    slots: Slots<'f, F>,
+}
+
+impl<'f, 'r, R: Files + AllocGlobal, F: ObjectFiles> Stored<'f, 'r, R, F> {
+    /// Those that `exports` names. None is open.
+    pub(crate) fn new(rt: &'r R, files: &'f F, exports: Exports<'f>) -> Stored<'f, 'r, R, F> {
+        Stored {
+            rt,
+            files,
+            exports,
+            slots: Slots::vacant(),
+        }
+    }
+
+    // The number of a slot for other objects.
+    fn free(&self) -> Result<u64, NotOpened> {
+        for number in 0..MAX_OPEN {
+            if self.slots.at(number).is_free() {
+                return Ok(number);
+            }
+        }
+        Err(NotOpened::busy(self.rt.alloc()))
+    }
+
+    // Keeps a packer in a slot, and answers a ticket for it.
+    fn keep(&self, number: u64, packer: ObjectPacker<'f, F>) -> Result<Ticket, AllocError> {
+        let Ok(ticket) = Rc::new(self.rt.alloc(), number) else {
+            return Err(AllocError);
+        };
+        let tickets = Rc::downgrade(&ticket)?;
+        if self.slots.at(number).fill(tickets, packer) {
+            Ok(ticket)
+        } else {
+            Err(AllocError)
+        }
+    }
+}
+
+impl<R: Files + AllocGlobal, F: ObjectFiles> Disk for Stored<'_, '_, R, F> {
+    fn find(&self, path: &[u8]) -> Result<Option<Directories>, Fault> {
+        find_served(self.rt, self.exports, path)
+    }
+
+    fn list(&self, found: &Directories) -> Result<Listed, NotOpened> {
+        read_listed(self.rt.alloc(), self.rt, self.files, found)
+    }
+
+    fn show(&self, found: &Directories, listed: Listed) -> Result<Extent, NotOpened> {
+        open_shown(self.rt.alloc(), self.rt, self.files, found, listed)
+    }
+
+    fn changed(&self, found: &Directories) -> Option<SystemTime> {
+        let path = found.packs(self.rt.alloc()).ok()?;
+        let metadata = self.rt.metadata(path.as_str()).ok()?;
+        metadata.modified().ok()
+    }
+
+    fn open_objects(&self, found: &Directories) -> Result<Ticket, NotOpened> {
+        let number = self.free()?;
+        let packer = open_objects(self.rt.alloc(), self.files, found)?;
+        Ok(self.keep(number, packer)?)
+    }
+
+    fn open_history(
+        &self,
+        found: &Directories,
+        tips: &Server<Global>,
+    ) -> Result<(Server<Global>, Ticket), NotOpened> {
+        let number = self.free()?;
+        let (server, packer) = open_history(self.rt.alloc(), self.files, found, tips)?;
+        Ok((server, self.keep(number, packer)?))
+    }
+
+    fn close_unused(&self) {
+        for number in 0..MAX_OPEN {
+            self.slots.at(number).close_unused();
+        }
+    }
+
+    fn begin(
+        &self,
+        ticket: &Ticket,
+        alloc: Global,
+        entries: &[Entry<Global>],
+    ) -> Result<StoreParts<Global>, PackFault> {
+        self.slots.at(**ticket).begin(alloc, entries)
+    }
+
+    fn part(
+        &self,
+        ticket: &Ticket,
+        parts: &mut StoreParts<Global>,
+        out: &mut [u8],
+    ) -> Result<usize, PackFault> {
+        self.slots.at(**ticket).part(parts, out)
+    }
+
+    fn take_fault(&self, ticket: &Ticket, found: &Directories) -> Option<Fault> {
+        let cause = self.slots.at(**ticket).take_fault()?;
+        Some(repository_fault(self.rt.alloc(), found.common.as_str(), &cause))
+    }
+}

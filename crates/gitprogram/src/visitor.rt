@@ -1,0 +1,105 @@
+//! One end of a connection of the server, with what is said of it in the log.
+
+ghost use Rattle.std.specs.Prelude.{◌≡◌, ◌⊎◌, []};
+
+use crate::fault::Fault;
+use crate::notes::Notes;
+use gdialogue::{Answer, Side};
+use ggrammar::{Message, MessageFault, Why};
+use gparts::PartPacker;
+use gserver::{Served, ServerReply, Speech};
+use std::alloc::Global;
+
+/// A server's side, and what is said of its connection in the log.
+#[derive(Drop)]
+pub(crate) struct Visitor<'n, S> {
+    side: S,
+    notes: &'n Notes,
+    // Whether a first line was heard.
+    has_path: bool,
+    path: Vec<u8>,
+    fault: Option<Fault>,
+}
+
+impl<'n, S> Visitor<'n, S> {
+    /// A side that has heard nothing.
+    pub(crate) fn new(side: S, notes: &'n Notes) -> Visitor<'n, S>
+        ensures { result.side ≡ side }
+    {
+        Visitor {
+            side,
+            notes,
+            has_path: false,
+            path: notes.take_path(),
+            fault: None,
+        }
+    }
+
+    /// The side, the path that the client asked for, which is empty if it asked for none, and why it was
+    /// refused by the repositories.
+    pub(crate) fn into_parts(self) -> (S, Vec<u8>, Option<Fault>)
+    where
+        S: Drop,
+    {
+        let Visitor {
+            side,
+            path,
+            fault,
+            ..
+        } = self;
+        (side, path, fault)
+    }
+
+    // Takes what the last call noted.
+    fn take_notes(&mut self)
+        ensures { self.new.side ≡ self.old.side }
+    {
+        if !self.has_path {
+            self.has_path = true;
+            self.path = self.notes.take_path();
+        }
+        if let Some(fault) = self.notes.take_fault() {
+            self.fault = Some(fault);
+        }
+    }
+}
+
+impl<S, M, K> Side<M, ServerReply<Global, K, K::Parts>> for Visitor<'_, S>
+where
+    S: Side<M, ServerReply<Global, K, K::Parts>>,
+    M: Message,
+    K: Served<Global> + PartPacker<Global> + Drop,
+{
+    ghost judge = { λ visitor. S.judge visitor.side };
+
+    ghost brings = { λ visitor. S.brings visitor.side };
+
+    ghost opens = { λ visitor. S.opens visitor.side };
+
+    ghost answers = { λ old heard said goes new. S.answers old.side heard said goes new.side };
+
+    ghost refuses = { λ old fault said new. (said ≡ []) ⊎ S.refuses old.side fault said new.side };
+
+    ghost messages = { λ visitor. S.messages visitor.side };
+
+    fn message(&self) -> M {
+        self.side.message()
+    }
+
+    fn answer(&mut self, message: M) -> Answer<ServerReply<Global, K, K::Parts>> {
+        let answer = self.side.answer(message);
+        self.take_notes();
+        answer
+    }
+
+    // A client may end the connection between two requests.
+    fn refuse(&mut self, fault: MessageFault) -> ServerReply<Global, K, K::Parts> {
+        if self.has_path && fault.frame == 0 && matches!(fault.why, Why::Ended) {
+            return ServerReply::Speech(Speech::silent());
+        }
+        self.notes.note_first(!self.has_path);
+        let said = self.side.refuse(fault);
+        self.take_notes();
+        said
+    }
+}

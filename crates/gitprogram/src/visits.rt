@@ -1,0 +1,142 @@
+//! The connections of the server, and the line of the log about each.
+
+ghost use Rattle.gtalk.specs.Talks.{no_talk};
+
+use crate::fault::Fault;
+use crate::notes::Notes;
+use crate::sentences::{Clean, Sentence};
+use crate::shared::Blames;
+use crate::visitor::Visitor;
+use gdialogue::Dialogue;
+use gevents::{End, Ended};
+use ggrammar::Ends;
+use gparts::PartPacker;
+use gserver::{Heard, Host, Served, ServerReply, ServerSide};
+use gtalk::Conversation;
+use std::alloc::Global;
+use std::io::Write;
+use std::net::SocketAddr;
+use std::{fmt, time};
+
+/// A connection, as the server holds it.
+pub(crate) type Held<'h, H, K> = Dialogue<
+    Visitor<'h, ServerSide<'h, Global, H, K>>,
+    Heard<Global>,
+    ServerReply<Global, K, <K as PartPacker<Global>>::Parts>,
+>;
+
+/// Begins a connection.
+pub(crate) fn begin<'h, H, K>(alloc: Global, host: &'h H, notes: &'h Notes) -> Held<'h, H, K>
+where
+    H: Host<Global, K>,
+    K: Served<Global> + PartPacker<Global> + Drop,
+    ensures { ⟦<Held<'h, H, K> as Conversation>⟧.holds result no_talk }
+{
+    let side = ServerSide::new(host, alloc, Ends::Plain);
+    Dialogue::new(Visitor::new(side, notes))
+}
+
+/// Writes the line about a connection that has ended.
+pub(crate) fn log_ended<H, K, E>(
+    alloc: Global,
+    ended: Ended<Held<'_, H, K>, Global>,
+    errors: &mut E,
+)
+where
+    H: Host<Global, K>,
+    K: Served<Global> + PartPacker<Global> + Blames + Drop,
+    E: Write,
+{
+    let Ended {
+        connection,
+        address,
+        end,
+        sent,
+        took,
+        ..
+    } = ended;
+    let visitor = connection.into_conversation().into_side();
+    let (side, path, refused) = visitor.into_parts();
+    let fault = fault_of(alloc, &side, refused, end);
+    let line = Line {
+        address,
+        path: path.as_slice(),
+        requests: side.requests(),
+        bytes: sent,
+        took,
+        fault: fault.as_ref(),
+    };
+    let _ = writeln!(errors, "{line}");
+}
+
+// Why a connection was not served to its end, if so.
+fn fault_of<H, K: Blames>(
+    alloc: Global,
+    side: &ServerSide<'_, Global, H, K>,
+    refused: Option<Fault>,
+    end: End,
+) -> Option<Fault> {
+    let said = match end {
+        End::Over => return match refused {
+            Some(fault) => Some(fault),
+            None => fault_of_side(alloc, side),
+        },
+        End::Silent => Sentence::ClientSilent,
+        End::Stalled => Sentence::ClientStalled,
+        End::Overdue => Sentence::ClientSlow,
+        End::Lost => Sentence::ClientLost,
+        End::Memory => return Some(Fault::Memory),
+    };
+    Some(Fault::of(alloc, said))
+}
+
+// Why a request was refused, if one was.
+fn fault_of_side<H, K: Blames>(
+    alloc: Global,
+    side: &ServerSide<'_, Global, H, K>,
+) -> Option<Fault> {
+    if let Some(repo) = side.repo() {
+        if let Some(fault) = repo.take_fault() {
+            return Some(fault);
+        }
+    }
+    let fault = side.fault()?;
+    Some(Fault::of(alloc, Sentence::Request(fault)))
+}
+
+// The line about a connection.
+#[derive(Clone, Copy)]
+struct Line<'p, 'f> {
+    address: SocketAddr,
+    // The path that the client asked for; empty if it asked for none.
+    path: &'p [u8],
+    // How many requests were answered.
+    requests: u32,
+    // How many bytes were sent.
+    bytes: u64,
+    took: time::Duration,
+    fault: Option<&'f Fault>,
+}
+
+impl fmt::Display for Line<'_, '_> {
+    fn fmt<W: fmt::Write>(&self, f: &mut fmt::Formatter<W>) -> fmt::Result {
+        let address = self.address;
+        let path = Clean(path_shown(self.path));
+        let requests = self.requests;
+        let bytes = self.bytes;
+        let seconds = self.took.as_secs();
+        let milliseconds = self.took.subsec_millis();
+        write!(
+            f,
+            "{address} {path} {requests} requests {bytes} bytes {seconds}.{milliseconds:03} s"
+        )?;
+        match self.fault {
+            None => Ok(()),
+            Some(fault) => write!(f, ": {fault}"),
+        }
+    }
+}
+
+fn path_shown(path: &[u8]) -> &[u8] {
+    if path.is_empty() { b"-" } else { path }
+}
