@@ -463,6 +463,8 @@ def pages():
         t = n = read(f)
         n = n.replace("`gtopowalk`, `gwalk`", "`gwalk`").replace("`gtopowalk`", "`gwalk`").replace("`grefspec`", "`grefs`").replace("`scarce`", "`case_text`")
         if n != t: write(f, n)
+    edit("docs/ARCHITECTURE.md", ("`gprogram::run`", "`gprogram::run_gitv2`"), ("makes a `Command` of", "makes a `Gitv2Command` of"))
+    edit("docs/PROOFS.md", ("`gsession::asks::add_line`", "`gsession::asks::ask_of_line`"), ("an `Outcome`", "a `ProgramOutcome`"))
     f = "README.md"
     edit(f, ("| A written message reads back | `gmsg::laws` |", "| A written message reads back | `reads_back` in the `laws` of `ghello`, `grequest`, `glsreply`, `gfetchreply` |"))
     f = "docs/PROMISES.md"

@@ -339,6 +339,7 @@ def page_sites(row, text):
             for a, b in sites_of(row, shown[1], text[body:t.end() - 3]): got.add((body + a, body + b))
     if row.kind in ("def", "text") and is_plain(row.old) or row.kind == "text" or not row.wide and is_plain(row.old): return got
     if row.kind in ("fn", "method", "free", "code") and is_plain(row.old): return got
+    if any(r.old == row.old and r.new != row.new for r in ROWS): return got
     for t in PAGE_CODE.finditer(text):
         if re.match(r"```\w+ crates/", t[0]): continue
         for m in tokens(t[0], row.old):
