@@ -102,31 +102,36 @@ def flags():
         write("crates/grequest/src/write.rt", t[:m.start()] + f"use crate::flag::{{{', '.join(names)}}};" + t[m.end():])
     edit("crates/grequest/proofs/write/write_fetch/Answers.antt", ("c.done.ensures", "c.has.ensures", 2))
     for f in ("fetch", "ls_refs"): prune(f"crates/grequest/src/{f}.rt")
-    users = [("ganswer/src/fetch.rt", "asked.include_tag()", "asked.has(FetchFlag::IncludeTag)"),
-             ("ganswer/src/ls.rt", "asked.peel()", "asked.has(LsRefsFlag::Peel)"),
-             ("ganswer/src/ls.rt", "asked.symrefs()", "asked.has(LsRefsFlag::Symrefs)"),
-             ("ganswer/src/ls.rt", "asked.unborn()", "asked.has(LsRefsFlag::Unborn)"),
-             ("gconnect/src/listing.rt", "asked.set_unborn(", "asked.set(LsRefsFlag::Unborn, "),
-             ("gsession/src/requests.rt", "request.set_unborn(", "request.set(LsRefsFlag::Unborn, "),
-             ("gsession/src/requests.rt", "request.set_no_progress(", "request.set(FetchFlag::NoProgress, "),
-             ("gsession/src/requests.rt", "request.set_include_tag(", "request.set(FetchFlag::IncludeTag, "),
-             ("gsession/src/requests.rt", "request.set_done(", "request.set(FetchFlag::Done, "),
-             ("gtcp/src/fetching.rt", "asked.set_symrefs(", "asked.set(LsRefsFlag::Symrefs, "),
-             ("gtcp/src/fetching.rt", "asked.set_peel(", "asked.set(LsRefsFlag::Peel, "),
-             ("runs/src/connected.rt", "asked.set_symrefs(", "asked.set(LsRefsFlag::Symrefs, "),
-             ("runs/src/connected.rt", "asked.set_peel(", "asked.set(LsRefsFlag::Peel, ")]
-    for f, old, new in users:
-        if not os.path.isfile(f"crates/{f}"):
-            print(f"merge: no {f}; it is left out"); continue
-        edit(f"crates/{f}", (old, new))
-        add_use(f"crates/{f}", "grequest", re.search(r"\w+Flag", new)[0])
-        for e in listed(f"crates/{f.split('/')[0]}/must-fail"):
-            if f"file: {f.split('/', 1)[1]}" in read(e): write(e, read(e).replace(old, new))
-    if os.path.isdir("crates/gconnect/proofs/listing"):
-        for f in listed("crates/gconnect/proofs/listing"):
+    # callers: a request is `asked` or `request` in each of them
+    where = {**{n: ("FetchFlag", v) for n, v in FETCH.items()}, **{n: ("LsRefsFlag", v) for n, v in LS.items()}}
+    every = "|".join(where)
+    seen = set()
+    for f in listed("crates"):
+        if not f.endswith((".rt", ".edit")) or f.startswith("crates/grequest/src"): continue
+        t = read(f)
+        flags = set()
+        def put(m):
+            flags.add(where[m[3]][0])
+            flag = "::".join(where[m[3]])
+            return f"{m[1]}.set({flag}, " if m[2] else f"{m[1]}.has({flag})"
+        new = re.sub(rf"(?<![\w.])(asked|request)\.(set_)?({every})\(", lambda m: put(m) if m[2] else m[0], t)
+        new = re.sub(rf"(?<![\w.])(asked|request)\.()({every})\(\)", put, new)
+        if new == t: continue
+        write(f, new)
+        seen.add(f)
+        if f.endswith(".rt"):
+            for flag in sorted(flags): add_use(f, "grequest", flag)
+    if len(seen) < 4: sys.exit(f"flags: few callers, {seen}")
+    # proofs that name such a call: only of requests that a listing makes
+    for f in listed("crates"):
+        m = re.match(r"crates/(\w+)/proofs/(.+)/\w+\.antt$", f)
+        if m and m[1] != "ganswer" and any(s.startswith(f"crates/{m[1]}/src/") for s in seen):
             t = read(f)
-            write(f, t.replace("c.set_unborn.", "c.set."))
-    names = "|".join([f"set_{n}" for n in [*FETCH, *LS]])
+            new = re.sub(rf"(?<=\bc\.)set_({every})(?=\.)", "set", t)
+            if new != t:
+                if len(set(re.findall(rf"\bc\.(set_(?:{every})|set)(?=\.)", t))) > 1: sys.exit(f"{f}: two calls would be one name")
+                write(f, new)
+    names = "|".join([f"set_{n}" for n in where])
     for f in listed("crates"):
         if f.endswith((".rt", ".antt", ".edit")):
             for m in re.finditer(rf"(?<![\w.])(?:asked|request)\.(?:{names}|done|thin_pack|no_progress|include_tag|ofs_delta|symrefs|peel)\(", read(f)):
