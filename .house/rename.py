@@ -246,7 +246,8 @@ def sites_of(row, f, text):
         ghost = any(path.startswith(f"Rattle.{home}.specs.declared") and ((names and row.old in names) or f".{row.old}." in path + ".")
                     for path, names, alias in IMPORTS[f])
         qualified = re.search(rf"\b({'|'.join(map(re.escape, row.givers))})::(\w+::)*{row.old}\b", text)
-        if not (seen or ghost or qualified): return got
+        bound = row.is_trait and (crate_of(f) == home or home in below(crate_of(f))) and re.search(rf"(?<![\w-])[A-Z]\w*\.{row.old}\.", text)
+        if not (seen or ghost or qualified or bound): return got
         ghost = ghost or antt and seen and re.search(rf"Rattle\.{home}\.proofs\.\w[\w.]*\.{row.old}\.", text) and False
     goals = None
     if row.kind in ("fn", "method", "free") and antt:
@@ -279,6 +280,9 @@ def sites_of(row, f, text):
             for m in tokens(seg, row.old):
                 before, after = seg[:m.start()], seg[m.end():]
                 if re.search(r"\b[A-Z]\w*::$", before): continue   # a variant
+                if row.is_trait and re.search(r"(?<![\w-])[A-Z]\w*\.$", before) and after.startswith("."):   # a bound, as in `g.R.Served.server`
+                    put(m)
+                    continue
                 if re.search(r"TheVariants\.(\{[^}]*)?$", before): continue
                 if antt or before.endswith("."):
                     # in ghost text only the declared module and what is imported from it
@@ -370,6 +374,7 @@ for row in ROWS:
                 for path, name, alias in rust_uses("\n".join(re.findall(r"(?s)pub use [^;]+;", t))):
                     if name == row.old and path and path[0] == home: givers.add(crate_of(f))
         row.givers = sorted(givers)
+        row.is_trait = any(f.startswith(f"crates/{home}/src/") and re.search(rf"\btrait {row.old}\b", t) for f, t in FILES.items())
         row.scope = "*" if row.scope.endswith("+") else row.scope
         row.wide = True
         row.home = lambda h=home: h
