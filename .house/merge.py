@@ -374,36 +374,53 @@ def gmsg():
     write(f, t)
 
 # ---- compat
-def new_module(crate, text, after=None):
+HEAD = "//! Other names of what this library has.\n\n"
+def new_module(crate, text):
     write(f"crates/{crate}/src/compat.rt", text)
     f = f"crates/{crate}/src/lib.rt"
     t = read(f)
-    m = re.search(r"(?m)^(pub )?mod \w+;\n", t)
     mods = re.search(r"(?m)(?:^(?:pub )?mod \w+;\n)+", t)
     if not mods: sys.exit(f"{f}: no modules")
     lines = sorted([*mods[0].strip("\n").split("\n"), "pub mod compat;"], key=lambda l: l.split("mod ")[1])
     write(f, t[:mods.start()] + "\n".join(lines) + "\n" + t[mods.end():])
+def alias_method(crate, module, type_, new, old):
+    """The text of a module with a method that is another by another name: the same clauses, and a call."""
+    t = read(f"crates/{crate}/src/{module}.rt")
+    m = re.search(rf"(?ms)^    pub fn {new}\((&self[^)]*)\)( -> [^\n{{]*)?\n((?:        (?:ensures|requires) .*?\n)*)    \{{", t)
+    if not m or "requires" in m[3]: sys.exit(f"{crate}: {new} is not as expected")
+    head = list(re.finditer(r"(?m)^impl[^\n]* \{$", t[:m.start()]))[-1][0]
+    if not re.search(rf"\b{type_}\b", head): sys.exit(f"{crate}: {new} is in {head}")
+    given = ", ".join(re.findall(r"(\w+):", m[1]))
+    body = f"{head}\n    /// [`{type_}::{new}`] by another name.\n    pub fn {old}({m[1]}){m[2] or ''}\n{m[3]}    {{\n        self.{new}({given})\n    }}\n}}\n"
+    said = set(re.findall(r"[A-Za-z_]\w*", body))
+    ghost, uses = [], []
+    for l in [l.strip() for l in re.findall(r"(?m)^[ ]*ghost use [^;]*;$", t)]:
+        g = re.match(r"ghost use (.*?)\.\{(.*)\};$", l, re.S)
+        if g:
+            keep = [n.strip() for n in g[2].replace("\n", " ").split(",")]
+            keep = [n for n in keep if (n in said if re.fullmatch(r"\w+", n) and n.isascii() else all(x in m[3] for x in n.split("◌") if x))]
+            keep = [n for n in keep if not any(re.search(rf"[{{ ]{re.escape(n)}[,}}]", o) for o in ghost)]
+            if keep: ghost.append(f"ghost use {g[1]}.{{{', '.join(keep)}}};")
+        elif re.search(r" as (\w+);", l) and re.search(r" as (\w+);", l)[1] in said: ghost.append(l)
+    for l in re.findall(r"(?m)^use [^;]*;$", t):
+        g = re.match(r"use (.*)::\{(.*)\};$", l, re.S)
+        names = [n.strip() for n in g[2].replace("\n", " ").split(",") if n.strip()] if g else [l[:-1].split("::")[-1]]
+        path = g[1] if g else l[4:-1].rsplit("::", 1)[0]
+        keep = [n for n in names if n in said]
+        if len(keep) == 1: uses.append(f"use {path}::{keep[0]};")
+        elif keep: uses.append(f"use {path}::{{{', '.join(keep)}}};")
+    uses.append(f"use crate::{module.replace('/', '::')}::{type_};")
+    for n in said:   # types that the module has itself
+        if re.search(rf"(?m)^pub (struct|enum) {n}\b", t) and n != type_: uses.append(f"use crate::{module.replace('/', '::')}::{n};")
+    return "\n".join(ghost) + "\n\n" + "\n".join(sorted(uses, key=lambda l: (not l.startswith("use crate"), l))) + "\n\n" + body
+
 def compat():
     new_module("gpkt", "//! Other names of what this library has.\n\npub use crate::fault::PacketFault as LineFault;\npub use crate::packet::Packet as Line;\n"
                "pub use crate::reading::PacketReader as LineReader;\npub use crate::writing::PacketWriter as LineWriter;\n")
-    new_module("gwalk", "//! Other names of what this library has.\n\npub use crate::marks::{ConnectedMarks as FullMarks, mark_connected as mark_full};\n")
-    new_module("gclientrepo", "//! Other names of what this library has.\n\npub use crate::fault::RepoFault::{UnconnectedId as NotHeld, UnconnectedRef as UnsafeRef};\n")
-    # Graph::number
-    g = read("crates/gdag/src/graph.rt")
-    m = re.search(r"(?m)^    ///[^\n]*\n((?:    #\[[^\n]*\]\n)*)    pub fn position\(&self, id: &Oid\) -> Option<usize>\n(        ensures [^\n]*\n)    \{", g)
-    if not m: sys.exit("gdag: Graph::position is not as expected")
-    ensures = m[2]
-    names = set(re.findall(r"[A-Za-z_]\w+", ensures))
-    uses = [l for l in re.findall(r"(?m)^ghost use .*;$", g) if any(re.search(rf"[{{ ,.]{n}[}},;]", l) for n in names)]
-    ghost = []
-    for l in uses:
-        path, inside = re.match(r"ghost use (.*?)\.\{(.*)\};", l).groups()
-        keep = [n for n in inside.split(", ") if n in names or n == "◌≡◌"]
-        if keep: ghost.append(f"ghost use {path}.{{{', '.join(keep)}}};")
-    if not any("◌≡◌" in l for l in ghost): ghost.insert(0, "ghost use Rattle.std.specs.Prelude.{◌≡◌};")
-    new_module("gdag", "//! Other names of what this library has.\n\n" + "\n".join(ghost) + "\n\nuse crate::graph::Graph;\nuse gname::Oid;\nuse std::alloc::Allocator;\n\n"
-               "impl<A: Allocator + Copy> Graph<A> {\n    /// [`Graph::position`] by another name.\n    pub fn number(&self, id: &Oid) -> Option<usize>\n" + ensures +
-               "    {\n        self.position(id)\n    }\n}\n")
+    new_module("gwalk", HEAD + alias_method("gwalk", "marks", "ConnectedMarks", "is_marked", "marked").replace("\n\nimpl", "\n\npub use crate::marks::{ConnectedMarks as FullMarks, mark_connected as mark_full};\n\nimpl"))
+    new_module("gclientrepo", HEAD + alias_method("gclientrepo", "repo", "Repo", "marks", "known").replace("\n\nimpl", "\n\npub use crate::fault::RepoFault::{UnconnectedId as NotHeld, UnconnectedRef as UnsafeRef};\n\nimpl"))
+    new_module("gsession", HEAD + alias_method("gsession", "session", "Session", "open_request", "pending"))
+    new_module("gdag", HEAD + alias_method("gdag", "graph", "Graph", "position", "number"))
     # MsgFault
     f = "crates/ggrammar/src/fault.rt"
     t = read(f)
