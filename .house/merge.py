@@ -3,7 +3,7 @@
 of cases one prefix; takes what nobody uses out of gmsg; takes the methods of single flags out of grequest; makes the
 modules `compat`; mends the pages; makes each line of crates.txt name what the crate uses by name; formats. It stops
 where something is not as it expects."""
-import os, re, subprocess, sys
+import os, re, shutil, subprocess, sys
 if not os.path.isfile("crates.txt"): sys.exit("run it at the top of the repository")
 if os.path.isdir("crates/gwalk/src/ordered"): sys.exit("it was run already")
 
@@ -194,6 +194,7 @@ def gone_crate(old, new):
     left = [f for f in listed(f"crates/{old}") if not f.endswith(("specs/Lib.antt", "specs/steps.antt", "proofs/Lib.antt"))]
     if left: sys.exit(f"{old}: left over {left}")
     for f in listed(f"crates/{old}"): os.remove(f)
+    shutil.rmtree(f"crates/{old}/out", ignore_errors=True)
     for folder, _, _ in sorted(os.walk(f"crates/{old}"), reverse=True):
         if not os.listdir(folder): os.rmdir(folder)
     rows = []
@@ -485,7 +486,7 @@ def pages():
         t = n = read(f)
         n = n.replace("`gtopowalk`, `gwalk`", "`gwalk`").replace("`gtopowalk`", "`gwalk`").replace("`grefspec`", "`grefs`").replace("`scarce`", "`case_text`")
         if n != t: write(f, n)
-    edit("docs/ARCHITECTURE.md", ("`gprogram::run`", "`gprogram::run_gitv2`"), ("makes a `Command` of", "makes a `Gitv2Command` of"))
+    edit("docs/ARCHITECTURE.md", ("has all that each crate uses.", "has what each crate names."), ("`gprogram::run`", "`gprogram::run_gitv2`"), ("makes a `Command` of", "makes a `Gitv2Command` of"))
     edit("docs/PROOFS.md", ("`gsession::asks::add_line`", "`gsession::asks::ask_of_line`"), ("an `Outcome`", "a `ProgramOutcome`"))
     f = "README.md"
     edit(f, ("| A written message reads back | `gmsg::laws` |", "| A written message reads back | `reads_back` in the `laws` of `ghello`, `grequest`, `glsreply`, `gfetchreply` |"))
@@ -510,6 +511,7 @@ def moved_pages():
 
 def fmt():
     for c in sorted(os.listdir("crates")):
+        if not os.path.isdir(f"crates/{c}/src"): continue
         r = run("rt", "fmt", cwd=f"crates/{c}")
         if r.returncode: print("merge: rt fmt", c, r.stdout[-400:], r.stderr[-400:])
 
