@@ -487,6 +487,9 @@ def pages():
         n = n.replace("`gtopowalk`, `gwalk`", "`gwalk`").replace("`gtopowalk`", "`gwalk`").replace("`grefspec`", "`grefs`").replace("`scarce`", "`case_text`")
         if n != t: write(f, n)
     edit("docs/ARCHITECTURE.md", ("has all that each crate uses.", "has what each crate names."), ("`gprogram::run`", "`gprogram::run_gitv2`"), ("makes a `Command` of", "makes a `Gitv2Command` of"))
+    edit("docs/DECISIONS.md", ("- **Other names are kept as aliases**: `MsgFault` of `MessageFault`, and `canon_says` of `canonical_says`. `Capability`,\n",
+         "- **Other names are kept as aliases** in a crate's module `compat`: `LineReader` of `PacketReader`, `FullMarks` of\n"
+         "  `ConnectedMarks`, `NotHeld` of `UnconnectedId`, `MsgFault` of `MessageFault`. `canon_says` is `canonical_says`. `Capability`,\n"))
     edit("docs/PROOFS.md", ("`gsession::asks::add_line`", "`gsession::asks::ask_of_line`"), ("an `Outcome`", "a `ProgramOutcome`"))
     f = "README.md"
     edit(f, ("| A written message reads back | `gmsg::laws` |", "| A written message reads back | `reads_back` in the `laws` of `ghello`, `grequest`, `glsreply`, `gfetchreply` |"))
