@@ -20,6 +20,14 @@ const WORD: usize = 4;
 // The bytes after the tables: the checksums of the pack and of the index.
 const CHECKSUMS: usize = 40;
 
+// How many ids are read on either side of the place at which an id is looked for: of a few, or of more. Ids
+// are spread by chance, so most lie as near as that.
+const FEW: usize = 1_024;
+
+const NEAR: usize = 48;
+
+const FAR: usize = 128;
+
 // The most reads of one look-up. Each but the first halves what is left of at most 2^32 ids.
 const MAX_READS: usize = 34;
 
@@ -216,11 +224,13 @@ fn halfway(places: Places) -> usize {
     places.low.saturating_add(width / 2)
 }
 
-// The places around this one, among these. Ids are spread by chance, so that most lie as near to where
-// they are looked for.
+// The places around this one, among these.
 fn part_around(places: Places, middle: usize) -> Places {
-    let width = places.high.saturating_sub(places.low);
-    let around = width.isqrt().saturating_add(1);
+    let around = if places.high.saturating_sub(places.low) <= FEW {
+        NEAR
+    } else {
+        FAR
+    };
     Places {
         low: middle.saturating_sub(around).max(places.low),
         high: middle.saturating_add(around).min(places.high),
