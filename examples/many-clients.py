@@ -31,7 +31,7 @@ QUICK = "--quick" in sys.argv[2:]
 HOSTILE, HONEST = (90, 12) if QUICK else (900, 100)
 IDLE = 1_000 if QUICK else 10_000
 CLONES = 8 if QUICK else 50
-COMMITS = 150 if QUICK else 2_600
+COMMITS = 150 if QUICK else 5_600
 LARGE = 8 if QUICK else 60
 SLOW = 10
 # The most seconds that a run of git takes beyond twice its time alone.
