@@ -42,8 +42,8 @@
 //!   client has 10 seconds for its first line, 60 for the first byte of a request and 60 for the rest. It
 //!   may take nothing for 60 seconds, and has 10 minutes in all, and a second more for each 8,192 bytes
 //!   that it took. No client waits for what another one sends or takes. All wait while a history is read,
-//!   or the objects for a client are looked for.
-//!   `upload-pack` waits for its client without end.
+//!   or the objects for a client are looked for. At most 16 repositories have their objects open at once,
+//!   and a client that asks for those of one more is refused. `upload-pack` waits for its client without end.
 //! - `core.sharedRepository` and `core.logAllRefUpdates` are not read: files get the permissions of
 //!   the process, and reflogs are left alone.
 //! - `serve` and `upload-pack` serve protocol version 2 alone. `upload-pack` does not look at who owns

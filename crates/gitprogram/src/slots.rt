@@ -132,7 +132,7 @@ impl<'f, F: ObjectFiles> Slot<'f, F> {
     }
 }
 
-// A row of slots. The prover does not cover a vector of them.
+// A row of slots. They are fields, since the prover does not cover the drop of a vector of them.
 #[derive(Drop)]
 struct Row<'f, F: ObjectFiles> {
     a: Slot<'f, F>,
