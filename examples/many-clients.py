@@ -77,7 +77,7 @@ ASK = packet(b"command=ls-refs\n") + b"0000"
 
 
 class Hostile:
-    """A client that is up to no good. It comes again when the server has closed its connection."""
+    """A client that is up to no good. It comes again when the server has closed its connection, unless it never reads."""
 
     KINDS = ("silent", "drips", "half", "deaf", "asks", "resets")
 

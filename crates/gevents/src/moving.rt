@@ -21,7 +21,8 @@ use std::time::Instant;
 // The most bytes of one read.
 const PIECE: usize = 4_096;
 
-// How often bytes are moved before another peer has its turn.
+// How often bytes are moved before another peer has its turn. What the conversation says next may take
+// long to make, so a peer's turn is over after that, too.
 const MOVES: u32 = 256;
 
 /// The state of a peer after its turn.
@@ -39,6 +40,8 @@ pub(crate) enum After {
 enum Move {
     // It can go on.
     Moved,
+    // The conversation said more.
+    Spoke,
     // The socket does not go on now.
     Blocked,
     // The connection has ended.
@@ -46,13 +49,14 @@ enum Move {
 }
 
 impl<C: Conversation, A: Allocator + Copy> Peer<C, A> {
-    /// Moves bytes until the socket would block, or the connection has ended.
+    /// Moves bytes until the socket would block, the conversation said more, or the connection has ended.
     pub(crate) fn advance(&mut self, now: Instant, limits: &Limits) -> After
         ensures { EndsBy C.turn self.new.connection result }
     {
         for _ in 0..MOVES {
             match self.step(now, limits) {
                 Move::Moved => {}
+                Move::Spoke => return After::GoesOn,
                 Move::Blocked => return After::Waits,
                 Move::Ended(end) => return After::Ends(end),
             }
@@ -160,7 +164,7 @@ impl<C: Conversation, A: Allocator + Copy> Peer<C, A> {
     {
         self.patience.speaks(now, limits);
         match self.connection.speak() {
-            Ok(()) => Move::Moved,
+            Ok(()) => Move::Spoke,
             Err(_) => Move::Ended(End::Memory),
         }
     }

@@ -31,7 +31,7 @@ impl Kept {
     }
 }
 
-/// The repositories that were served last, the oldest first. They have at most 1,048,576 commits and
+/// The repositories that were read last, the oldest first. They have at most 1,048,576 commits and
 /// tags together. A connection may still use one that is no longer kept.
 #[derive(Drop)]
 pub(crate) struct KeptRepositories {

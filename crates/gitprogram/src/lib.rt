@@ -6,7 +6,7 @@
 //!   keeps what it read of a repository while the refs and HEAD stay the same: the graphs of at most 64
 //!   repositories, with at most 1,048,576 commits and tags. Connections share that, and the packs as long
 //!   as their directory does not change. A pack goes out in parts: one of its entries is in memory at a
-//!   time. It prints a line about each connection.
+//!   time, and up to 10 objects of which the next may be deltas. It prints a line about each connection.
 //! - `upload-pack` serves one connection on standard input and output (git-upload-pack(1)).
 //! - Both answer requests for refs from the objects at which refs are. The history is read at the first
 //!   request that may ask for objects. One of which a part is missing is refused then, as by Git.
@@ -41,9 +41,11 @@
 //! - `serve` has at most 1,024 connections at once, and 64 of one address, unless options say more. A
 //!   client has 10 seconds for its first line, 60 for the first byte of a request and 60 for the rest. It
 //!   may take nothing for 60 seconds, and has 10 minutes in all, and a second more for each 8,192 bytes
-//!   that it took. No client waits for what another one sends or takes. All wait while a history is read,
-//!   or the objects for a client are looked for. At most 16 repositories have their objects open at once,
-//!   and a client that asks for those of one more is refused. `upload-pack` waits for its client without end.
+//!   that it took. No client waits for what another one sends or takes. All wait while the work of one
+//!   client is done: a history is read, objects are looked for or deflated. At most 16 repositories have
+//!   their objects open at once, and a client that asks for those of one more is refused. Git takes
+//!   `--max-connections=0` as no limit, and this program refuses it. `upload-pack` waits for its client
+//!   without end.
 //! - `core.sharedRepository` and `core.logAllRefUpdates` are not read: files get the permissions of
 //!   the process, and reflogs are left alone.
 //! - `serve` and `upload-pack` serve protocol version 2 alone. `upload-pack` does not look at who owns
@@ -58,7 +60,9 @@
 //!
 //! Anything else. Most of it is what files, streams and sockets give or take, and no contract can
 //! speak of that. No clause says how many repositories are kept, or that a packer is closed. A
-//! repository that is kept lists its refs though their objects may have gone since.
+//! repository that is kept lists its refs though their objects may have gone since. The clauses of
+//! `gserver` on which repository is found and opened, and on the words for a fault, say nothing here:
+//! `Repositories` leaves them open. A packer may fail with any fault.
 //!
 //! # Stands on
 //!

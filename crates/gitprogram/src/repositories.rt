@@ -63,6 +63,15 @@ impl<'d, D> Repositories<'d, D> {
         repo.handle()
     }
 
+    // Whether a repository with other refs is kept: these are newer.
+    fn has_others(&self, opened: &Shared<'d, D>) -> Result<bool, AllocError> {
+        let server = opened.server();
+        match self.find_kept(&opened.shown.found)? {
+            Some(kept) => Ok(!has_refs(kept.server(), server.refs(), server.head())),
+            None => Ok(false),
+        }
+    }
+
     fn keep(&self, shared: &Shared<'d, D>) -> Result<(), AllocError> {
         match self.kept.try_borrow_mut() {
             Ok(mut kept) => kept.put(shared),
@@ -106,7 +115,7 @@ impl<'d, D: Disk> Repositories<'d, D> {
         let listed = self.disk.list(&found)?;
         if let Some(shared) = self.find_kept(&found)? {
             if listed.is_of(shared.server()) {
-                return Ok(shared);
+                return Ok(shared.without_objects());
             }
         }
         let extent = self.disk.show(&found, listed)?;
@@ -128,7 +137,9 @@ impl<'d, D: Disk> Repositories<'d, D> {
             return Ok(known);
         }
         let opened = self.open_now(&known, changed)?;
-        self.keep(&opened)?;
+        if !self.has_others(&opened)? {
+            self.keep(&opened)?;
+        }
         Ok(opened)
     }
 

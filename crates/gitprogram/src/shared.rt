@@ -65,6 +65,13 @@ impl<'d, D> Shared<'d, D> {
         })
     }
 
+    /// The same, for a connection that has not asked for objects.
+    pub(crate) fn without_objects(self) -> Shared<'d, D> {
+        let mut shared = self;
+        shared.objects = None;
+        shared
+    }
+
     /// Whether its objects are open, and the directory of packs was changed last as it was opened.
     pub(crate) fn is_open_since(&self, changed: Option<SystemTime>) -> bool {
         self.objects.is_some() && changed.is_some() && self.changed == changed

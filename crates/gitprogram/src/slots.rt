@@ -161,7 +161,7 @@ impl<'f, F: ObjectFiles> Row<'f, F> {
     }
 }
 
-/// The slots, from number 0 to [`MAX_OPEN`].
+/// The slots, with numbers from 0 on, below [`MAX_OPEN`].
 #[derive(Drop)]
 pub(crate) struct Slots<'f, F: ObjectFiles> {
     a: Row<'f, F>,

@@ -78,7 +78,8 @@ where
 
     ghost answers = { λ old heard said goes new. S.answers old.side heard said goes new.side };
 
-    ghost refuses = { λ old fault said new. (said ≡ []) ⊎ S.refuses old.side fault said new.side };
+    ghost refuses = { λ old fault said new.
+        ((said ≡ []) × (fault.frame ≡ 0) × (new.side ≡ old.side)) ⊎ S.refuses old.side fault said new.side };
 
     ghost messages = { λ visitor. S.messages visitor.side };
 

@@ -76,11 +76,14 @@ fn fault_of<H, K: Blames>(
     refused: Option<Fault>,
     end: End,
 ) -> Option<Fault> {
+    if refused.is_some() {
+        return refused;
+    }
+    if let Some(fault) = fault_of_side(alloc, side) {
+        return Some(fault);
+    }
     let said = match end {
-        End::Over => return match refused {
-            Some(fault) => Some(fault),
-            None => fault_of_side(alloc, side),
-        },
+        End::Over => return None,
         End::Silent => Sentence::ClientSilent,
         End::Stalled => Sentence::ClientStalled,
         End::Overdue => Sentence::ClientSlow,
@@ -110,7 +113,7 @@ struct Line<'p, 'f> {
     address: SocketAddr,
     // The path that the client asked for; empty if it asked for none.
     path: &'p [u8],
-    // How many requests were answered.
+    // How many requests came.
     requests: u32,
     // How many bytes were sent.
     bytes: u64,
