@@ -31,7 +31,9 @@ QUICK = "--quick" in sys.argv[2:]
 HOSTILE, HONEST = (90, 12) if QUICK else (900, 100)
 IDLE = 1_000 if QUICK else 10_000
 CLONES = 8 if QUICK else 50
-COMMITS = 150 if QUICK else 5_600
+COMMITS = 150 if QUICK else 2_600
+# Of the repository that is cloned many times at once: some 20,000 objects.
+CLONED = 150 if QUICK else 5_600
 LARGE = 8 if QUICK else 60
 SLOW = 10
 # The most seconds that a run of git takes beyond twice its time alone.
@@ -245,8 +247,10 @@ def clones_at_once(folder, server, name):
     return took, copies
 
 
-def beside_daemon(folder, base, path):
+def beside_daemon(folder):
     """Clones at once from both servers."""
+    base = f"{folder}/cloned"
+    path = packed_history(f"{base}/r.git", CLONED)
     with Gitrepo(PROGRAM, base, "--export-all") as ours, GitDaemon(base, "--max-connections=0") as theirs:
         took, copies = clones_at_once(folder, ours, "ours")
         due, _ = clones_at_once(folder, theirs, "theirs")
@@ -289,6 +293,14 @@ def slow_readers(base):
     print(f"{SLOW} slow clients of a pack of {LARGE} MB: {most:.0f} MB, {before:.0f} before", flush=True)
 
 
+def packed_history(path, commits):
+    """A repository of so many commits, in one pack."""
+    os.makedirs(os.path.dirname(path), exist_ok=True)
+    add_history(new_repository(path), commits, 51)
+    git(path, "repack", "-adq")
+    return path
+
+
 def main():
     if not has_git():
         print("many-clients.py: left out, since git or its daemon is not there")
@@ -297,11 +309,9 @@ def main():
     began = time.monotonic()
     with tempfile.TemporaryDirectory(prefix="many-") as folder:
         base = f"{folder}/base"
-        os.mkdir(base)
-        path = add_history(new_repository(f"{base}/r.git"), COMMITS, 51)
-        git(path, "repack", "-adq")
+        path = packed_history(f"{base}/r.git", COMMITS)
         for step in (
-            lambda: among_hostile(folder, base, path), lambda: idle(base), lambda: beside_daemon(folder, base, path),
+            lambda: among_hostile(folder, base, path), lambda: idle(base), lambda: beside_daemon(folder),
             lambda: slow_readers(base),
         ):
             try:
