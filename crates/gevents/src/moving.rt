@@ -21,9 +21,11 @@ use std::time::Instant;
 // The most bytes of one read.
 const PIECE: usize = 4_096;
 
-// How often bytes are moved before another peer has its turn. What the conversation says next may take
-// long to make, so a peer's turn is over after that, too.
+// How often bytes are moved before another peer has its turn, and how often the conversation may say more
+// until then.
 const MOVES: u32 = 256;
+
+const SAYINGS: u32 = 16;
 
 /// The state of a peer after its turn.
 #[derive(Clone, Copy)]
@@ -40,6 +42,8 @@ pub(crate) enum After {
 enum Move {
     // It can go on.
     Moved,
+    // The peer said more.
+    Heard,
     // The conversation said more.
     Spoke,
     // The socket does not go on now.
@@ -49,14 +53,18 @@ enum Move {
 }
 
 impl<C: Conversation, A: Allocator + Copy> Peer<C, A> {
-    /// Moves bytes until the socket would block, the conversation said more, or the connection has ended.
+    /// Moves bytes until the socket would block, or the connection has ended. An answer may take long to make,
+    /// so the turn is over, too, once the peer was heard after the conversation said something.
     pub(crate) fn advance(&mut self, now: Instant, limits: &Limits) -> After
         ensures { EndsBy C.turn self.new.connection result }
     {
+        let mut said = 0;
         for _ in 0..MOVES {
             match self.step(now, limits) {
-                Move::Moved => {}
-                Move::Spoke => return After::GoesOn,
+                Move::Heard if said > 0 => return After::GoesOn,
+                Move::Spoke if said >= SAYINGS => return After::GoesOn,
+                Move::Spoke => said += 1,
+                Move::Moved | Move::Heard => {}
                 Move::Blocked => return After::Waits,
                 Move::Ended(end) => return After::Ends(end),
             }
@@ -177,7 +185,7 @@ impl<C: Conversation, A: Allocator + Copy> Peer<C, A> {
         match self.read_once() {
             Ok(()) => {
                 self.patience.received(now, limits);
-                Move::Moved
+                Move::Heard
             }
             Err(error) if is_passing(error.kind()) => {
                 self.rest();
