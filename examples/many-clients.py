@@ -236,15 +236,14 @@ def idle(base):
 
 
 def clones_at_once(folder, server, name):
-    """The seconds in which all clones end that begin at once."""
+    """The seconds in which all clones end that begin at once, the copies, and how many came through."""
     copies = [f"{folder}/{name}-{number}" for number in range(CLONES)]
     words = ["git", "clone", "--quiet", "--mirror", server.url("r.git")]
     began = time.monotonic()
     runs = [subprocess.Popen([*words, copy], env=ENV, stderr=subprocess.PIPE) for copy in copies]
     ends = [(run.communicate()[1], run.returncode) for run in runs]
     took = time.monotonic() - began
-    check(f"{name}: {CLONES} clones at once", all(status == 0 for _, status in ends), [it for it in ends if it[1]])
-    return took, copies
+    return took, copies, sum(status == 0 for _, status in ends)
 
 
 def beside_daemon(folder):
@@ -252,13 +251,15 @@ def beside_daemon(folder):
     base = f"{folder}/cloned"
     path = packed_history(f"{base}/r.git", CLONED)
     with Gitrepo(PROGRAM, base, "--export-all") as ours, GitDaemon(base, "--max-connections=0") as theirs:
-        took, copies = clones_at_once(folder, ours, "ours")
-        due, _ = clones_at_once(folder, theirs, "theirs")
+        took, copies, came = clones_at_once(folder, ours, "ours")
+        due, _, came_theirs = clones_at_once(folder, theirs, "theirs")
+        check(f"{CLONES} clones at once", came == CLONES, came)
         for copy in copies[:3]:
             check("a clone among others", refs(copy) == refs(path) and not faults_of(copy), faults_of(copy))
         used = memory_of(ours.process, "VmHWM")
     count = git(path, "count-objects", "-v").split("in-pack: ")[1].split()[0]
-    print(f"{CLONES} clones at once of {count} objects: {took:.2f} s, git daemon {due:.2f} s; the server had {used:.0f} MB", flush=True)
+    others = f"git daemon {due:.2f} s, of which {came_theirs} came through"
+    print(f"{CLONES} clones at once of {count} objects: {took:.2f} s, {others}; the server had {used:.0f} MB", flush=True)
 
 
 def large_repository(path):
