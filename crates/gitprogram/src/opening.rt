@@ -118,8 +118,8 @@ fn find_listed<R: Files, F: ObjectFiles>(
     Ok(found.refs(alloc, rt).read_refs()?)
 }
 
-/// Opens as much of a repository as a request for refs needs: the objects at which refs are; or the whole
-/// history, if one of them is not found at once.
+/// Opens as much of a repository as a request for refs needs. These are the objects at which refs are. If one
+/// is not found at once, the whole history is read.
 pub(crate) fn open_shown<R: Files, F: ObjectFiles>(
     alloc: Global,
     rt: &R,

@@ -182,7 +182,7 @@ fn words_of(why: Refusal) -> &'static str {
     }
 }
 
-// What clients may ask for.
+// The limits of a server with these arguments.
 fn limits_of(asked: &ServeArgs<'_>) -> Limits {
     let mut limits = Limits::default();
     limits.accepted = asked.connections;

@@ -19,7 +19,7 @@ const ROW: u64 = 4;
 /// The most repositories whose objects are open at once.
 pub(crate) const MAX_OPEN: u64 = 16;
 
-// What is open at a place: nothing, or objects with these tickets.
+// A place: nothing is open there, or objects with these tickets are.
 #[derive(Drop)]
 enum Place<'f, F: ObjectFiles> {
     Vacant,
