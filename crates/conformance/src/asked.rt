@@ -1,20 +1,21 @@
-//! What a command line asks for, as one line.
+//! The command of a command line, as one line.
 //!
-//! The text of such a fact is the words, blanks between them; `""` is the empty word. Due is `none` where the words are
-//! none of the usage. Else it is the command; where from, or where; the limit of a pack; how many connections; `plain`
-//! or `response-end`, as replies end; and the files, refspecs or prefixes in their order.
+//! The text of such a fact is the arguments, separated by blanks; `""` is the empty argument. The
+//! expected result is `none` if the arguments do not match the usage. Otherwise it is the command;
+//! the source or the address; the limit of a pack; the number of connections; `plain` or
+//! `response-end` for how replies end; and the files, refspecs or prefixes in their order.
 
-use cases::Trouble;
-use gargs::{Command, Fetch, Serve, Simulate, read_command};
+use case_launches::add_split;
+use case_text::Trouble;
+use gargs::{Fetch, Gitv2Command, Serve, Simulate, read_command};
 use gcmd::Ends;
-use gtcp::Place;
-use launches::add_split;
+use gtcp::Location;
 use std::alloc::Global;
 
-// The empty word, as it is written.
+// The spelling of the empty argument.
 const EMPTY: &str = "\"\"";
 
-/// What the words ask for.
+/// Returns the command of the arguments.
 pub fn answer(alloc: Global, text: &[u8]) -> Result<String, Trouble> {
     let Ok(text) = std::str::from_utf8(text) else {
         return Ok(String::from_str(alloc, "no text")?);
@@ -27,31 +28,36 @@ pub fn answer(alloc: Global, text: &[u8]) -> Result<String, Trouble> {
     }
 }
 
-fn command_shown(alloc: Global, command: &Command) -> Result<String, Trouble> {
+fn command_shown(alloc: Global, command: &Gitv2Command) -> Result<String, Trouble> {
     match command {
-        Command::Check { file } => shown(alloc, "check", &[file.as_str()], &[]),
-        Command::Fetch(fetch) => fetch_shown(alloc, fetch),
-        Command::Lines => shown(alloc, "lines", &[], &[]),
-        Command::LsStdioServer { file } => shown(alloc, "ls stdio-server", &[file.as_str()], &[]),
-        Command::LsTcp { place, prefixes } => {
+        Gitv2Command::Check { file } => command_text(alloc, "check", &[file.as_str()], &[]),
+        Gitv2Command::Fetch(fetch) => fetch_shown(alloc, fetch),
+        Gitv2Command::Lines => command_text(alloc, "lines", &[], &[]),
+        Gitv2Command::LsStdioServer { file } => command_text(
+            alloc,
+            "ls stdio-server",
+            &[file.as_str()],
+            &[],
+        ),
+        Gitv2Command::LsTcp { place, prefixes } => {
             let at = place_shown(alloc, place)?;
             let ls = format!(in alloc; "ls tcp={at}")?;
-            shown(alloc, ls.as_str(), &[], prefixes.as_slice())
+            command_text(alloc, ls.as_str(), &[], prefixes.as_slice())
         }
-        Command::Pair {
+        Gitv2Command::Pair {
             server,
             client,
             specs,
         } => {
             let files = [server.as_str(), client.as_str()];
-            shown(alloc, "pair", &files, specs.as_slice())
+            command_text(alloc, "pair", &files, specs.as_slice())
         }
-        Command::Serve(serve) => serve_shown(alloc, serve),
-        Command::Simulate(asked) => simulate_shown(alloc, asked),
-        Command::Upload { ends, file } => {
+        Gitv2Command::Serve(serve) => serve_shown(alloc, serve),
+        Gitv2Command::Simulate(asked) => simulate_shown(alloc, asked),
+        Gitv2Command::Upload { ends, file } => {
             let ends = ends_shown(*ends);
             let upload = format!(in alloc; "upload {ends}")?;
-            shown(alloc, upload.as_str(), &[file.as_str()], &[])
+            command_text(alloc, upload.as_str(), &[file.as_str()], &[])
         }
     }
 }
@@ -67,7 +73,7 @@ fn fetch_shown(alloc: Global, fetch: &Fetch) -> Result<String, Trouble> {
     let limit = fetch.limit.bytes();
     let ends = ends_shown(fetch.ends);
     let line = format!(in alloc; "fetch {from} limit={limit} {ends}")?;
-    shown(
+    command_text(
         alloc,
         line.as_str(),
         &[fetch.file.as_str()],
@@ -80,7 +86,7 @@ fn serve_shown(alloc: Global, serve: &Serve) -> Result<String, Trouble> {
     let count = serve.connections;
     let ends = ends_shown(serve.ends);
     let line = format!(in alloc; "serve listen={at} connections={count} {ends}")?;
-    shown(alloc, line.as_str(), &[serve.file.as_str()], &[])
+    command_text(alloc, line.as_str(), &[serve.file.as_str()], &[])
 }
 
 fn simulate_shown(alloc: Global, asked: &Simulate) -> Result<String, Trouble> {
@@ -89,11 +95,11 @@ fn simulate_shown(alloc: Global, asked: &Simulate) -> Result<String, Trouble> {
         asked.client.as_str(),
         asked.scenario.as_str(),
     ];
-    shown(alloc, "simulate", &files, &[])
+    command_text(alloc, "simulate", &files, &[])
 }
 
-// The address and the path, which is of ASCII.
-fn place_shown(alloc: Global, place: &Place) -> Result<String, Trouble> {
+// Returns the address and the path, which is ASCII.
+fn place_shown(alloc: Global, place: &Location) -> Result<String, Trouble> {
     let address = place.address();
     let path = match std::str::from_utf8(place.hello().path()) {
         Ok(path) => path,
@@ -109,8 +115,13 @@ fn ends_shown(ends: Ends) -> &'static str {
     }
 }
 
-// A line that begins so, with the files and the words behind it.
-fn shown(alloc: Global, start: &str, files: &[&str], words: &[String]) -> Result<String, Trouble> {
+// Returns a line with this beginning, followed by the files and the arguments.
+fn command_text(
+    alloc: Global,
+    start: &str,
+    files: &[&str],
+    words: &[String],
+) -> Result<String, Trouble> {
     let mut line = String::from_str(alloc, start)?;
     for file in files {
         add_word(file, &mut line)?;

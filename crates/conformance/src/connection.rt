@@ -1,24 +1,23 @@
-//! The calls of `gtcp` on a connection, whatever its streams are, and what they left.
+//! The calls of `gtcp` on a connection, for any streams, and their results.
 
-use cases::{Program, Trouble, words_of};
+use case_runs::{
+    Hindrance, Job, Ran, Watch, Writer, client_of, end_fetch, end_listing, end_with_fault,
+    limit_of, prefixes_of, ran_without_file, server_of, specs_of,
+};
+use case_text::{Program, Scarce, Trouble, words_of};
+use case_tries::Row;
 use gclient::{FetchFault, Fetched, Repo};
 use gcmd::{ProgramFault, Spec, finish};
 use ggraph::PlainPack;
 use glsreply::LsReply;
 use gname::Prefix;
 use gtcp::{Server, fetch_on, ls_on, serve_listener};
-use runs::{
-    Hindrance, Job, Ran, Watch, Writer, client_of, end_fetch, end_listing, failed, limit_of,
-    prefixes_of, ran_without_file, server_of, specs_of,
-};
-use scarce::Scarce;
 use std::alloc::{Allocator, Global};
 use std::io::{Read, Write};
 use std::net::{OpenListener, OpenStream};
 use std::time::Clock;
-use tries::Row;
 
-/// What a run on connections left, and what it printed.
+/// The result of a run on connections, and its printed lines.
 #[derive(Drop)]
 pub struct Held {
     pub ran: Ran,
@@ -26,14 +25,14 @@ pub struct Held {
     pub errors: Writer,
 }
 
-// What a run prints.
+// The printed lines of a run.
 #[derive(Drop)]
 struct Printed {
     report: Writer,
     errors: Writer,
 }
 
-/// Where connections come from, how many of them are served, and the clock of their time. A client takes one.
+/// The listener, how many connections are served, and the clock of their time. A client takes one.
 #[derive(Drop)]
 pub struct Door<'c, C, L> {
     pub clock: &'c C,
@@ -41,7 +40,7 @@ pub struct Door<'c, C, L> {
     pub connections: u32,
 }
 
-/// Runs a row on connections, with an allocation refused from its first call on, if one is.
+/// Runs a row on connections. An allocation may be refused, counted from the row's first call.
 pub fn hold_row<C, L, S>(
     alloc: Global,
     row: &Row<'_>,
@@ -68,7 +67,8 @@ where
     hold(&job, door)
 }
 
-// Runs a command of a connection. From its first call on the allocation of the job is refused.
+// Runs a command of a connection. The allocation of the job is refused, counted from the command's
+// first call.
 fn hold<A, C, L, S>(job: &Job<'_, '_, '_, A>, door: Door<'_, C, L>) -> Result<Held, Trouble>
 where
     A: Allocator + Copy,
@@ -110,7 +110,7 @@ where
     }
 }
 
-// Serves. The faults of connections are printed; where there is one the status of the row is 1.
+// Serves. Prints the faults of connections; if there is one, the status of the row is 1.
 fn serve_from<A, C, L, S>(
     job: &Job<'_, '_, '_, A>,
     server: &Server<A>,
@@ -127,7 +127,7 @@ where
     if accept_all(job, server, door, &mut printed.errors).is_err() {
         return Err(Trouble::NoSocket);
     }
-    let has_fault = !printed.errors.written().is_empty();
+    let has_fault = !printed.errors.written_bytes().is_empty();
     Ok(ran_without_file(job, has_fault as u8))
 }
 
@@ -168,7 +168,7 @@ where
     let words = words_of(job.memory, job.command.specs)?;
     match specs_of(job.memory, words.as_slice()) {
         Ok(specs) => fetch_by(job, specs.as_slice(), &door.listener, printed),
-        Err(fault) => Ok(failed(job, fault, &mut printed.errors)),
+        Err(fault) => Ok(end_with_fault(job, fault, &mut printed.errors)),
     }
 }
 
@@ -241,7 +241,7 @@ where
             let outcome = end_listing(job, listed, &mut printed.report);
             Ok(ran_without_file(job, finish(outcome, &mut printed.errors)))
         }
-        Err(fault) => Ok(failed(job, fault, &mut printed.errors)),
+        Err(fault) => Ok(end_with_fault(job, fault, &mut printed.errors)),
     }
 }
 

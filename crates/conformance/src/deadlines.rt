@@ -1,15 +1,16 @@
-//! Connections with a peer that is late, by a clock of their own.
+//! Connections with a late peer, and a separate clock.
 //!
-//! The limits are said here anew: a client has 10 seconds for its first line, all of it, and 60 for each request, all of it; a
-//! server may say nothing for 60 seconds, and a client may take nothing for as long.
+//! The limits are repeated here. A client has 10 seconds for its whole first line, and 60 for each
+//! whole request. A server may send nothing for 60 seconds, and a client may accept nothing for as
+//! long.
 
 use crate::connection::{Door, Held, hold_row};
 use crate::late::{LateListener, Line, Manner, OwnClock, Pulse};
-use cases::{Program, Trouble};
-use runs::Writer;
+use case_runs::Writer;
+use case_text::{Program, Trouble};
+use case_tries::{Played, Row, Stop, is_as_due, is_kept, is_stopped, is_write_failed};
 use std::alloc::Global;
 use std::time::Duration;
-use tries::{Played, Row, Stop, is_as_due, is_kept, is_stopped, is_write_failed};
 
 /// The seconds for a first line, for a request, and for silence.
 const FIRST_LINE: u64 = 10;
@@ -18,14 +19,15 @@ const REQUEST: u64 = 60;
 
 const SILENCE: u64 = 60;
 
-/// The seconds within which an honest client is answered that comes after two silent ones.
+/// The seconds within which an honest client gets a reply if it comes after two silent ones.
 const PATIENCE: u64 = 25;
 
-/// How long a slow peer waits before each byte, in milliseconds: in time for a first line and for a request, for one of them,
-/// and for none; just in time, and just too late, where it may not be silent.
+/// How long a slow peer waits before each byte, in milliseconds: in time for a first line and for a
+/// request, for one of them, and for none; just in time, and just too late, for the limit of
+/// silence.
 const GAPS: [u64; 8] = [100, 240, 250, 400, 900, 6_000, 59_999, 60_000];
 
-// What becomes of a connection.
+// The fate of a connection.
 #[derive(Clone, Copy)]
 struct Due {
     // The byte before which the peer is late, if it is.
@@ -34,9 +36,9 @@ struct Due {
     time: Duration,
 }
 
-/// Tries a row that says so with peers that are late: silent from some byte on, or slow from each message on; and, of a
-/// server's client, with one that takes no more from some byte on. The next client of a server comes in time. It counts its
-/// runs, and answers the byte at which the first went wrong.
+/// Tries a row that says so with late peers: silent from some byte on, or slow from each message
+/// on. A server's client may also accept no more from some byte on. The next client of a server is
+/// in time. Counts its runs, and returns the byte at which the first went wrong.
 pub fn first_wrong(alloc: Global, row: &Row<'_>, runs: &mut u64) -> Result<Option<usize>, Trouble> {
     if !row.is_late || !row.command.has_hello() {
         return Ok(None);
@@ -51,7 +53,7 @@ pub fn first_wrong(alloc: Global, row: &Row<'_>, runs: &mut u64) -> Result<Optio
     Ok(wrong)
 }
 
-// Silent from each packet on, and from the second and the sixth byte of each.
+// Tries peers that are silent from each packet on, and from the second and the sixth byte of each.
 fn wrong_where_silent(
     alloc: Global,
     row: &Row<'_>,
@@ -79,7 +81,7 @@ fn is_silent_as_due(
     is_late_as_due(alloc, row, manner, runs)
 }
 
-// Slow from the beginning of each message on.
+// Tries peers that are slow from the beginning of each message on.
 fn wrong_where_slow(
     alloc: Global,
     row: &Row<'_>,
@@ -110,7 +112,8 @@ fn is_slow_as_due(
     Ok(true)
 }
 
-// A server's client that takes no more from the end of each message on, or from the byte before that.
+// Tries a server's client that accepts no more from the end of each message on, or from the byte
+// before that.
 fn wrong_where_full(
     alloc: Global,
     row: &Row<'_>,
@@ -128,7 +131,7 @@ fn wrong_where_full(
     Ok(None)
 }
 
-// What only a server meets.
+// Tries the peers that only a server has.
 fn wrong_server(alloc: Global, row: &Row<'_>, runs: &mut u64) -> Result<Option<usize>, Trouble> {
     let wrong = wrong_where_full(alloc, row, runs)?;
     if wrong.is_some() {
@@ -145,7 +148,8 @@ fn wrong_server(alloc: Global, row: &Row<'_>, runs: &mut u64) -> Result<Option<u
     Ok(if is_right { None } else { Some(0) })
 }
 
-// Whether a connection comes out as is due whose peer is late in this manner, and a server's next client is served.
+// Whether a connection with a peer that is late in this manner has the expected results, and a
+// server's next client is served.
 fn is_late_as_due(
     alloc: Global,
     row: &Row<'_>,
@@ -163,7 +167,8 @@ fn is_late_as_due(
     Ok(is_right && is_next_served && met.time == due.time && is_kept(alloc, row, &met.first))
 }
 
-// Before which byte the peer is late: no time is left, of the message that it says, or since its last byte.
+// Returns the byte before which the peer is late: no time is left for the message that it sends, or
+// since its last byte.
 fn due_of(row: &Row<'_>, manner: Manner) -> Due {
     let mut time = Duration::ZERO;
     let mut left = Duration::from_secs(SILENCE);
@@ -186,7 +191,7 @@ fn due_of(row: &Row<'_>, manner: Manner) -> Due {
     }
 }
 
-// How much time the peer has for this byte, where so much is left.
+// Returns how much time the peer has for this byte, if `left` is left.
 fn time_at(row: &Row<'_>, at: usize, left: Duration) -> Duration {
     if row.command.program != Program::Serve {
         Duration::from_secs(SILENCE)
@@ -199,7 +204,7 @@ fn time_at(row: &Row<'_>, at: usize, left: Duration) -> Duration {
     }
 }
 
-// Whether a server leaves a client that takes so many bytes and no more.
+// Whether a server drops a client that accepts `takes` bytes and no more.
 fn is_left_as_due(alloc: Global, row: &Row<'_>, takes: usize) -> Result<bool, Trouble> {
     let mut manner = Manner::PROMPT;
     manner.takes = takes;
@@ -214,7 +219,7 @@ fn is_refused_by_clock(alloc: Global, row: &Row<'_>, pulse: Pulse) -> Result<boo
     is_stopped(alloc, row, &met.first, 0, Stop::Failed)
 }
 
-// Whether a server answers an honest client soon that comes after two silent ones.
+// Whether a server replies soon to an honest client that comes after two silent ones.
 fn is_answered_after_two(alloc: Global, row: &Row<'_>) -> Result<bool, Trouble> {
     let mut silent = Manner::PROMPT;
     silent.silent = 0;
@@ -222,10 +227,10 @@ fn is_answered_after_two(alloc: Global, row: &Row<'_>) -> Result<bool, Trouble> 
     Ok(met.is_last_served && met.time <= Duration::from_secs(PATIENCE))
 }
 
-// What came of connections.
+// The results of connections.
 #[derive(Drop)]
 struct Met {
-    // What was written on the first of them, and what was printed of all.
+    // The output of the first of them, and the printed lines of all.
     first: Played,
     // Whether the last was served as the row says.
     is_last_served: bool,
@@ -248,7 +253,7 @@ fn meet(alloc: Global, row: &Row<'_>, manners: &[Manner], pulse: Pulse) -> Resul
         connections,
     };
     let held = hold_row(alloc, row, 0, door)?;
-    met_by(alloc, row, held, &lines, clock.passed())
+    met_by(alloc, row, held, &lines, clock.time_passed())
 }
 
 fn met_by(
@@ -265,15 +270,16 @@ fn met_by(
     } = held;
     Ok(Met {
         first: Played::on_connection(ran, taken_by(alloc, lines.first())?, report, errors),
-        is_last_served: taken_by(alloc, lines.last())?.written() == row.talk.output.as_slice(),
+        is_last_served: taken_by(alloc, lines.last())?.written_bytes()
+            == row.talk.output.as_slice(),
         time,
     })
 }
 
-// What the peer of a connection took.
+// Returns the bytes that the peer of a connection accepted.
 fn taken_by(alloc: Global, line: Option<&Line<'_>>) -> Result<Writer, Trouble> {
     match line {
-        Some(line) => line.taken(alloc),
+        Some(line) => line.taken_bytes(alloc),
         None => Err(Trouble::NoSocket),
     }
 }

@@ -1,27 +1,28 @@
-//! Connections in memory whose peer is late, and a clock of their own: no time passes but the one that a read or a write waits.
+//! Connections in memory with a late peer, and a separate clock. Time passes only while a read or a
+//! write waits.
 
 ghost use Rattle.std.specs.Io.{ReadsAtMost, WritesAtMost};
 
-use cases::{Talk, Trouble};
-use runs::Writer;
+use case_runs::Writer;
+use case_text::{Talk, Trouble};
 use std::alloc::Global;
 use std::cell::{Cell, RefCell};
 use std::io::{self, ErrorKind, Read, Write};
 use std::net::{Ipv4Addr, OpenListener, OpenStream, Shutdown, SocketAddr};
 use std::time::{Clock, Duration};
 
-/// How a clock goes.
+/// The behavior of a clock.
 #[derive(Clone, Copy, PartialEq, Eq)]
 pub enum Pulse {
-    /// On, where something waits.
+    /// It goes on while something waits.
     Even,
-    /// Back a second at each look.
+    /// It goes back a second at each reading.
     GoesBack,
-    /// Not at all: it can't be read.
+    /// It can't be read.
     Fails,
 }
 
-/// A clock that goes on only where something waits.
+/// A clock that goes on only while something waits.
 #[derive(Drop)]
 pub struct OwnClock {
     now: Cell<Duration>,
@@ -42,8 +43,8 @@ impl OwnClock {
         }
     }
 
-    /// How much time has passed.
-    pub fn passed(&self) -> Duration {
+    /// Returns how much time has passed.
+    pub fn time_passed(&self) -> Duration {
         self.now.get()
     }
 
@@ -71,21 +72,21 @@ impl Clock for OwnClock {
     }
 }
 
-/// How a peer is late.
+/// The manner in which a peer is late.
 #[derive(Clone, Copy)]
 pub struct Manner {
-    /// From this byte on each comes alone.
+    /// The index of the first byte that is sent alone.
     pub from: usize,
     /// How long the peer waits before each of these.
     pub gap: Duration,
-    /// From this byte on none comes.
+    /// The index of the first byte that is never sent.
     pub silent: usize,
-    /// How many bytes the peer takes.
+    /// How many bytes the peer accepts.
     pub takes: usize,
 }
 
 impl Manner {
-    /// In time: all comes at once, and all is taken.
+    /// In time: the peer sends all at once, and accepts all.
     pub const PROMPT: Manner = Manner {
         from: usize::MAX,
         gap: Duration::ZERO,
@@ -93,7 +94,7 @@ impl Manner {
         takes: usize::MAX,
     };
 
-    /// How long the peer waits before it says this byte; none where it never does.
+    /// Returns how long the peer waits before it sends this byte, or `None` if it never does.
     pub fn gap_before(&self, at: usize) -> Option<Duration> {
         if at >= self.silent {
             None
@@ -104,7 +105,7 @@ impl Manner {
         }
     }
 
-    // Up to which byte the input comes at once, from this one on.
+    // Returns the end of the input that arrives at once, starting at this byte.
     fn piece_end(&self, at: usize) -> usize {
         if at >= self.from {
             at.saturating_add(1)
@@ -114,7 +115,7 @@ impl Manner {
     }
 }
 
-/// A connection to a peer that is late.
+/// A connection to a late peer.
 #[derive(Drop)]
 pub struct Line<'r> {
     talk: &'r Talk,
@@ -124,12 +125,12 @@ pub struct Line<'r> {
     read_limit: Cell<Option<Duration>>,
     write_limit: Cell<Option<Duration>>,
     is_nonblocking: Cell<bool>,
-    // Whether a call waited that had no limit.
+    // Whether a call waited without a limit.
     is_stuck: Cell<bool>,
 }
 
 impl<'r> Line<'r> {
-    /// A connection to a peer that says what the talk has it say, in this manner.
+    /// Returns a connection to a peer that sends its part of the talk in this manner.
     pub fn new(alloc: Global, talk: &'r Talk, manner: Manner) -> Line<'r> {
         Line {
             talk,
@@ -143,15 +144,16 @@ impl<'r> Line<'r> {
         }
     }
 
-    /// What the peer took. Where a call waited without a limit it counts as not passed on.
-    pub fn taken(&self, alloc: Global) -> Result<Writer, Trouble> {
+    /// Returns the bytes that the peer accepted. If a call waited without a limit, they count as
+    /// not flushed.
+    pub fn taken_bytes(&self, alloc: Global) -> Result<Writer, Trouble> {
         match self.taken.try_borrow() {
-            Ok(taken) => Ok(Writer::holding(alloc, taken.as_slice(), !self.is_stuck.get())?),
+            Ok(taken) => Ok(Writer::with_bytes(alloc, taken.as_slice(), !self.is_stuck.get())?),
             Err(_) => Err(Trouble::NoSocket),
         }
     }
 
-    // Waits so long, or forever, but no longer than the limit.
+    // Waits for this time, or forever, but no longer than the limit.
     fn wait(
         &self,
         clock: &OwnClock,
@@ -179,7 +181,7 @@ impl<'r> Line<'r> {
         Ok(())
     }
 
-    // Gives what comes next, and answers how many bytes.
+    // Writes the next bytes into the buffer, and returns how many.
     fn give(&self, clock: &OwnClock, buf: &mut [u8]) -> io::Result<usize>
         ensures { ReadsAtMost result buf.new }
     {
@@ -199,8 +201,8 @@ impl<'r> Line<'r> {
         Ok(count)
     }
 
-    // Takes what it takes of the bytes, and answers how many.
-    fn take(&self, clock: &OwnClock, buf: &[u8]) -> io::Result<usize>
+    // Accepts some of the bytes, and returns how many.
+    fn take_bytes(&self, clock: &OwnClock, buf: &[u8]) -> io::Result<usize>
         ensures { WritesAtMost result buf.now }
     {
         let Ok(mut taken) = self.taken.try_borrow_mut() else {
@@ -218,7 +220,7 @@ impl<'r> Line<'r> {
     }
 }
 
-/// The near end of a connection to a peer that is late.
+/// The near end of a connection to a late peer.
 #[derive(Drop)]
 pub struct LateStream<'c, 'r> {
     clock: &'c OwnClock,
@@ -233,7 +235,7 @@ impl Read for LateStream<'_, '_> {
 
 impl Write for LateStream<'_, '_> {
     fn write(&mut self, buf: &[u8]) -> io::Result<usize> {
-        self.line.take(self.clock, buf)
+        self.line.take_bytes(self.clock, buf)
     }
 
     fn flush(&mut self) -> io::Result<()> {
@@ -264,7 +266,7 @@ impl OpenStream for LateStream<'_, '_> {
     }
 }
 
-// As for a socket, a limit of no time is refused.
+// A limit of zero is refused, as for a socket.
 fn set_limit(limit: &Cell<Option<Duration>>, dur: Option<Duration>) -> io::Result<()> {
     if dur == Some(Duration::ZERO) {
         return Err(io::Error::from(ErrorKind::InvalidInput));

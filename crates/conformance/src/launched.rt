@@ -1,11 +1,11 @@
-//! Cases that the program itself is run on.
+//! Cases on which the program itself is run.
 
-use cases::{Case, Fact, Script, Trouble};
-use launches::{Plan, System, add_split, is_launched, launch};
-use tries::{Bench, Row};
+use case_launches::{Plan, System, add_split, is_launched, launch};
+use case_text::{Case, Fact, Script, Trouble};
+use case_tries::{Bench, Row};
 
-/// Runs the program with the words of a row, over a file of its repository, where it can be. It answers a number where it went
-/// wrong, and leaves what it printed.
+/// Runs the program with the arguments of a row, over a file of its repository, if that is
+/// possible. Returns a number if it went wrong, and keeps the printed lines.
 pub fn wrong_row<R: System>(
     rt: &R,
     script: &Script<'_>,
@@ -27,7 +27,7 @@ pub fn wrong_row<R: System>(
     }
 }
 
-/// Runs it with both ends in one process. It answers what went wrong.
+/// Runs it with both ends in one process. Returns what went wrong.
 pub fn wrong_pair<R: System>(
     rt: &R,
     script: &Script<'_>,
@@ -37,7 +37,7 @@ pub fn wrong_pair<R: System>(
     launch(rt, &Plan::of_pair(rt.alloc(), script, case, words)?)
 }
 
-/// Runs it as a case says. It answers what went wrong.
+/// Runs it as a case says. Returns what went wrong.
 pub fn wrong_launch<R: System>(
     rt: &R,
     script: &Script<'_>,
@@ -49,8 +49,8 @@ pub fn wrong_launch<R: System>(
     }
 }
 
-/// Runs it with the words of a fact, in an empty folder. It answers what went wrong: wrong usage is answered to those that ask
-/// for nothing, and to no others.
+/// Runs it with the arguments of a fact, in an empty folder. Returns what went wrong: it must
+/// report wrong usage exactly for arguments without a command.
 pub fn wrong_words<R: System>(
     rt: &R,
     script: &Script<'_>,

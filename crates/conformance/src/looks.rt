@@ -1,16 +1,16 @@
-//! Facts, looked at whole, in pieces, and with each allocation refused.
+//! Checks of facts: whole, in pieces, and with each allocation refused.
 
 use crate::asked;
 use crate::launched::wrong_words;
 use crate::tally::{Depth, Tally, tell_trouble};
-use cases::{Fact, Kind, Script, Trouble};
-use facts::{Finding, Limits};
-use launches::System;
+use case_facts::{Finding, Limits};
+use case_launches::System;
+use case_text::{Fact, FactKind, Script, Trouble};
+use case_worlds::answer_by_chance;
 use std::alloc::Global;
 use std::io;
-use worlds::answer_by_chance;
 
-/// Looks at a fact, and tells of what is not due.
+/// Checks a fact, and reports each unexpected result.
 pub fn try_fact<R: System>(
     rt: &R,
     script: &Script<'_>,
@@ -19,14 +19,14 @@ pub fn try_fact<R: System>(
 ) -> io::Result<()> {
     tally.count_fact();
     match wrong_answer(rt.alloc(), script, fact, tally) {
-        Ok(None) if fact.kind == Kind::Asked => try_asked(rt, script, fact, tally),
+        Ok(None) if fact.kind == FactKind::Asked => try_asked(rt, script, fact, tally),
         Ok(None) => Ok(()),
         Ok(Some(answer)) => tell_wrong_fact(rt, fact, answer.as_str(), tally),
         Err(trouble) => tell_trouble(rt, fact.source, fact.line, trouble, tally),
     }
 }
 
-// Runs the program with the words of a fact.
+// Runs the program with the arguments of a fact.
 fn try_asked<R: System>(
     rt: &R,
     script: &Script<'_>,
@@ -54,12 +54,13 @@ fn tell_wrong_fact<R: Print>(
     println!(rt; "{source}:{line}: {kind} {answer}")
 }
 
-// Texts of more bytes are read without an allocation refused, and longer histories are looked at once.
+// Texts of more bytes are read without refused allocations, and longer histories are searched once.
 const LONG_TEXT: usize = 10_000;
 
 const LONG_GRAPH: usize = 150_000;
 
-// The first answer that is not due: whole, in pieces of one byte and of three, and with each allocation refused.
+// Returns the first unexpected result: whole, in pieces of one byte and of three, and with each
+// allocation refused.
 fn wrong_answer(
     alloc: Global,
     script: &Script<'_>,
@@ -67,7 +68,8 @@ fn wrong_answer(
     tally: &mut Tally,
 ) -> Result<Option<String>, Trouble> {
     let graph = script.text(fact.graph)?;
-    let is_long = matches!(fact.kind, Kind::Random | Kind::Large) || graph.len() > LONG_GRAPH;
+    let is_long = matches!(fact.kind, FactKind::Random | FactKind::Large)
+        || graph.len() > LONG_GRAPH;
     for most in [usize::MAX, 1, 3] {
         let answer = answer(alloc, fact, graph, Limits { most, refused: 0 })?;
         tally.count_try();
@@ -84,7 +86,7 @@ fn wrong_answer(
     wrong_without_memory(alloc, fact, graph, tally)
 }
 
-// The first answer, with an allocation refused, that is neither due nor that there is no memory.
+// Returns the first result, with an allocation refused, that is neither expected nor out of memory.
 fn wrong_without_memory(
     alloc: Global,
     fact: &Fact<'_>,
@@ -109,7 +111,7 @@ fn wrong_without_memory(
     Ok(None)
 }
 
-// What is so of the fact.
+// Returns the actual result of the fact.
 fn answer(
     alloc: Global,
     fact: &Fact<'_>,
@@ -117,13 +119,13 @@ fn answer(
     limits: Limits,
 ) -> Result<Finding, Trouble> {
     match fact.kind {
-        Kind::Asked => plain(asked::answer(alloc, fact.text.as_slice())),
-        Kind::Random => plain(answer_by_chance(alloc, fact, graph)),
-        _ => facts::answer(alloc, fact, graph, limits),
+        FactKind::Asked => plain(asked::answer(alloc, fact.text.as_slice())),
+        FactKind::Random => plain(answer_by_chance(alloc, fact, graph)),
+        _ => case_facts::answer(alloc, fact, graph, limits),
     }
 }
 
-// What was found where no allocation was refused.
+// Returns the text as a finding without a refused allocation.
 fn plain(text: Result<String, Trouble>) -> Result<Finding, Trouble> {
     Ok(Finding {
         text: text?,

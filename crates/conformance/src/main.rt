@@ -1,37 +1,45 @@
-//! Cases of Git's fetch protocol, from files, tried on the programs of `gcmd` and on the calls below them; and words of the
-//! command line, with what they ask for.
+//! Cases of Git's fetch protocol, from files, tried on the programs of `gcmd` and on the calls
+//! below them; also command lines, with their commands.
 //!
-//! The words of the command line name files of cases; `cases` says how one is written. The first word may be `--quick`, to leave
-//! out changed bytes, `--once`, to try each case only as it stands, or `--edge`, for connections and stored files.
+//! The arguments of the command line name files of cases; `case_text` has their format. The first
+//! argument may be `--quick`, to leave out changed bytes, `--once`, to try each case only
+//! unchanged, or `--edge`, for connections and stored files.
 //!
-//! Each case is run through its programs, with ids of both formats and with replies that have ends of their own, where it does
-//! not say otherwise:
+//! Each case is run through its programs, with ids of both formats and with response-end packets
+//! after replies, unless it says otherwise:
 //!
-//! - as it stands; in pieces; over std's devices; with an indexer that watches;
+//! - unchanged; in pieces; over std's devices; with an indexer that watches;
 //! - by the program `gitv2` itself, over files, standard streams and sockets;
-//! - over a socket of this process, from the first line of a connection on, where both ends take turns;
-//! - with a peer that is late, by a clock of its own;
-//! - with each call of each device failing in turn, and with a stored file that fails at each of its calls;
-//! - cut after each byte; with each byte changed; by a table of what is due then, where it has one;
+//! - over a socket of this process, starting at the first line of a connection, with both ends
+//!   taking turns;
+//! - with a late peer, and a separate clock;
+//! - with each call of each device failing in turn, and with a stored file that fails at each of
+//!   its calls;
+//! - cut after each byte; with each byte changed; by a table of the expected results, if it has
+//!   one;
 //! - with each allocation refused in turn.
 //!
-//! What is made of a text is tried in pieces, too, and with each allocation refused. Simulations are tried in worlds of their
-//! own, too, and in others events happen by chance. Both ends of a pair, and cases of how the program runs, are tried by the
-//! program alone. A try that goes wrong is a line on standard output, and the last lines count the tries.
+//! Facts about texts are also tried in pieces, and with each allocation refused. Simulations are
+//! also tried in separate worlds, and in others with random events. Only the program itself tries
+//! both ends of a pair, and cases about its runs. A try that goes wrong is a line on standard
+//! output, and the last lines count the tries.
 //!
 //! # Proved
 //!
-//! That it is safe and ends.
+//! It is safe and ends.
 //!
 //! # What the contracts do not rule out
 //!
-//! Anything else: that wrong answers are noticed was tried with wrong cases and wrong programs.
+//! The contracts say nothing of the results. Wrong cases and wrong programs were tried, to see that
+//! wrong results are noticed.
 //!
 //! # Stands on
 //!
-//! `cases` for what the files say; `tries` for how a row is tried; `launches` for runs of the program itself; `facts`, `runs` and `worlds` for facts, for runs over devices,
-//! and for events; `gtcp` for sockets, `gargs` for the words of a command line, `gcmd` for what programs share;
-//! `gclient`, `glsreply`, `ggraph`, `ggrammar`, `gpkt` and `gname` for the types of these; `scarce` for memory that ends.
+//! `case_text` for the contents of the files and for memory that ends; `case_tries` for the tries
+//! of a row; `case_launches` for runs of the program itself. `case_facts`, `case_runs` and
+//! `case_worlds` for facts, for runs over devices, and for events. `gtcp` for sockets, `gargs` for
+//! command lines, `gcmd` for the shared parts of programs. `gclient`, `glsreply`, `ggraph`,
+//! `ggrammar`, `gpkt` and `gname` for the types of these.
 #![tactic(auto)]
 
 mod asked;
@@ -48,25 +56,25 @@ mod tally;
 use crate::looks::try_fact;
 use crate::rows::try_case;
 use crate::tally::{Depth, Tally, tell_trouble};
-use cases::{Script, Trouble};
+use case_launches::System;
+use case_text::{Script, Trouble};
+use case_tries::Way;
 use gname::Format;
-use launches::System;
 use std::alloc::Global;
 use std::net::{Net, TcpListener, TcpStream};
 use std::process::ExitCode;
 use std::rt::{Clock, Env, Files};
 use std::{env, fs, io};
-use tries::Way;
 
 fn main(rt: HostRuntime) -> ExitCode {
-    match run(&rt) {
+    match run_cases(&rt) {
         Ok(true) => ExitCode::from(0),
         Ok(false) | Err(_) => ExitCode::from(1),
     }
 }
 
-// Tries all cases of the files that the words name. It answers whether nothing went wrong.
-fn run<R>(rt: &R) -> io::Result<bool>
+// Tries all cases of the files in the arguments. Returns whether nothing went wrong.
+fn run_cases<R>(rt: &R) -> io::Result<bool>
 where
     R: AllocGlobal + Clock + Env + Files + Print + Net<Stream = TcpStream, Listener = TcpListener>,
 {
@@ -99,7 +107,7 @@ fn read_files<R: Files + AllocGlobal>(rt: &R, names: &[String]) -> io::Result<Ve
     Ok(files)
 }
 
-// Tries the cases of one format of ids. It answers whether they could be read.
+// Tries the cases of one format of ids. Returns whether they could be read.
 fn try_files<R: System>(
     rt: &R,
     format: Format,
@@ -131,7 +139,7 @@ fn read_all<'a>(
     Ok(())
 }
 
-// How much is tried, and the names of the files.
+// Returns how much is tried, and the names of the files.
 fn depth_of(words: &[String]) -> (Depth, &[String]) {
     let Some((first, names)) = words.split_first() else {
         return (Depth::Full, words);

@@ -1,18 +1,19 @@
-//! The other end of a connection over a socket of this process: it says what a row has it say, and hears the rest.
+//! The other end of a connection over a socket of this process: it sends the messages of a row, and
+//! reads the rest.
 
-use cases::{Talk, Trouble};
+use case_text::{Talk, Trouble};
 use std::alloc::Global;
 use std::cell::{Cell, RefCell};
 use std::io::{self, ErrorKind, Read, Write};
 use std::net::{Net, OpenListener, OpenStream, Shutdown, SocketAddr, TcpListener, TcpStream};
 use std::time::Duration;
 
-/// How both ends take turns.
+/// The way in which both ends take turns.
 #[derive(Clone, Copy, PartialEq, Eq)]
 pub enum Pace {
-    /// The peer says all at once, before it hears anything.
+    /// The peer sends all at once, before it reads anything.
     AtOnce,
-    /// The peer says a message once it has heard the whole reply to the one before.
+    /// The peer sends a message after it has read the whole reply to the one before.
     Turns,
     /// The same, and each end moves one byte a call.
     Bytes,
@@ -21,7 +22,7 @@ pub enum Pace {
 impl Pace {
     pub const ALL: [Pace; 3] = [Pace::AtOnce, Pace::Turns, Pace::Bytes];
 
-    // The most bytes of a call.
+    // Returns the maximum number of bytes in a call.
     fn most(self) -> usize {
         match self {
             Pace::AtOnce | Pace::Turns => usize::MAX,
@@ -30,7 +31,8 @@ impl Pace {
     }
 }
 
-// How many seconds the peer waits for bytes that were written already. Only where something is wrong it waits at all.
+// The seconds that the peer waits for bytes that were already written. It waits only if something
+// is wrong.
 const PATIENCE: u64 = 5;
 
 // The bytes that it reads in one call.
@@ -42,20 +44,20 @@ pub struct Peer<'r> {
     talk: &'r Talk,
     far: TcpStream,
     pace: Pace,
-    // How many bytes the peer said, and how many of them the near end read.
+    // How many bytes the peer sent, and how many of them the near end read.
     said: Cell<usize>,
     read: Cell<usize>,
-    // How many bytes the near end wrote, and those of them that the peer heard.
+    // How many bytes the near end wrote, and those of them that the peer read.
     written: Cell<usize>,
     heard: RefCell<Vec<u8>>,
-    // Whether the peer has ended what it says.
+    // Whether the peer has shut down writing.
     has_ended: Cell<bool>,
     // Whether the near end waited for a message before its reply was whole.
     was_awaited_early: Cell<bool>,
 }
 
 impl<'r> Peer<'r> {
-    /// A peer that connects to the listener.
+    /// Returns a peer that connects to the listener.
     pub fn new<N>(
         net: &N,
         alloc: Global,
@@ -87,12 +89,12 @@ impl<'r> Peer<'r> {
         Ok(peer)
     }
 
-    /// Whether the near end waited for no message before its reply was whole.
+    /// Whether the near end never waited for a message before its reply was whole.
     pub fn was_heard_in_turn(&self) -> bool {
         !self.was_awaited_early.get()
     }
 
-    /// What the peer heard.
+    /// Returns the bytes that the peer read.
     pub fn into_heard(self) -> Vec<u8> {
         self.heard.into_inner()
     }
@@ -104,7 +106,7 @@ impl<'r> Peer<'r> {
         matches!(far.read(&mut byte), Ok(0))
     }
 
-    // Lets the peer play, where the near end has read all that was said.
+    // Gives the peer a turn, if the near end has read all that was sent.
     fn take_turn(&self) -> io::Result<()> {
         if self.has_ended.get() || self.read.get() < self.said.get() {
             return Ok(());
@@ -118,7 +120,8 @@ impl<'r> Peer<'r> {
         }
     }
 
-    // What the peer says next: nothing where all is said, or where the reply is not whole.
+    // Returns the bytes that the peer sends next: none if all are sent, or if the reply is not
+    // whole.
     fn next_part(&self) -> &'r [u8] {
         let said = self.said.get();
         if !self.may_say(said) {
@@ -136,7 +139,8 @@ impl<'r> Peer<'r> {
         }
     }
 
-    // Whether a message that begins here may be said: just what is written before it was heard.
+    // Whether a message that begins here may be sent: the peer has read exactly the output before
+    // it.
     fn may_say(&self, said: usize) -> bool {
         match self.talk.message_at(said) {
             Some(place) => self.count_heard() == place.before,
@@ -163,7 +167,7 @@ impl<'r> Peer<'r> {
         self.far.shutdown(Shutdown::Write)
     }
 
-    /// Hears all that the near end has written. It fails where the connection is reset.
+    /// Reads all that the near end has written. Fails if the connection is reset.
     pub fn hear(&self) -> io::Result<()> {
         for _ in 0..u64::MAX {
             let left = self.written.get().saturating_sub(self.count_heard());
@@ -174,7 +178,7 @@ impl<'r> Peer<'r> {
         Ok(())
     }
 
-    // Hears so many bytes at most, and answers how many.
+    // Reads at most `most` bytes, and returns how many.
     fn hear_some(&self, most: usize) -> io::Result<usize> {
         let mut bytes = [0; HEARD_BYTES];
         let mut far = &self.far;
@@ -189,7 +193,7 @@ impl<'r> Peer<'r> {
     }
 }
 
-/// The near end of a connection: before each read its peer plays.
+/// The near end of a connection: its peer has a turn before each read.
 #[derive(Drop)]
 pub struct Turned<'p, 'r> {
     near: TcpStream,
@@ -230,7 +234,7 @@ impl OpenStream for Turned<'_, '_> {
         self.near.set_nodelay(nodelay)
     }
 
-    // A read that waits for nothing gives the peer no turn.
+    // A read that does not wait gives the peer no turn.
     fn set_nonblocking(&self, nonblocking: bool) -> io::Result<()> {
         self.peer.has_ended.set(nonblocking);
         self.near.set_nonblocking(nonblocking)
@@ -253,7 +257,7 @@ pub struct TurnedListener<'p, 'r> {
 }
 
 impl<'p, 'r> TurnedListener<'p, 'r> {
-    /// Accepts what comes to the listener, to which the peer connected.
+    /// Accepts the connections of the listener, to which the peer connected.
     pub fn new(listener: TcpListener, peer: &'p Peer<'r>) -> TurnedListener<'p, 'r> {
         TurnedListener { listener, peer }
     }

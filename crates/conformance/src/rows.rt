@@ -1,20 +1,20 @@
-//! Cases, tried by each of their programs in each way.
+//! Trying cases by each of their programs in each way.
 
 use crate::tally::{Tally, tell_trouble};
 use crate::{deadlines, launched, socket};
-use cases::{
-    Case, Command, Program, Script, Talk, Trouble, command_of, first_of, has_open_replies,
+use case_launches::System;
+use case_text::{
+    Case, Invocation, Program, Script, Talk, Trouble, command_of, first_of, has_open_replies,
 };
+use case_tries::{Bench, Reach, Row, Way};
 use ggrammar::Ends;
-use launches::System;
 use std::alloc::Global;
 use std::io;
-use tries::{Bench, Reach, Row, Way};
 
 // The first word of the command line for both ends in one process.
 const PAIR: &str = "pair ";
 
-// A case and one of its command lines, and whether its replies are to have ends of their own.
+// A case and one of its command lines, and whether response-end packets are added to its replies.
 #[derive(Clone, Copy)]
 struct Attempt<'b> {
     script: &'b Script<'b>,
@@ -23,7 +23,8 @@ struct Attempt<'b> {
     adds_ends: bool,
 }
 
-/// Tries a case by each of its programs, and again with replies that have ends of their own, where they may.
+/// Tries a case by each of its programs, and again with response-end packets after its replies, if
+/// they may have them.
 pub fn try_case<'b, R: System>(
     rt: &R,
     script: &'b Script<'b>,
@@ -57,7 +58,8 @@ fn try_words<R: System>(rt: &R, plain: Attempt<'_>, tally: &mut Tally) -> io::Re
     try_run(rt, ended, tally)
 }
 
-// Tries a case that is run by the program alone: one that says how it is run, or both ends in one process.
+// Tries a case that only the program itself runs: one that describes its run, or both ends in one
+// process.
 fn try_launch<R: System>(rt: &R, run: Attempt<'_>, tally: &mut Tally) -> io::Result<()> {
     tally.count_row();
     tally.count_runs(Way::ByProgram, 1);
@@ -80,7 +82,7 @@ fn try_run<R: System>(rt: &R, run: Attempt<'_>, tally: &mut Tally) -> io::Result
     }
 }
 
-// The row of a run; none where its replies may not have ends of their own.
+// Returns the row of a run, or `None` if its replies may not have response-end packets.
 fn row_of<'b>(
     alloc: Global,
     script: &'b Script<'b>,
@@ -92,11 +94,11 @@ fn row_of<'b>(
     }
 }
 
-// The command of a run; none where its replies may not have ends of their own.
+// Returns the command of a run, or `None` if its replies may not have response-end packets.
 fn command_in<'b>(
     script: &'b Script<'b>,
     run: Attempt<'b>,
-) -> Result<Option<Command<'b>>, Trouble> {
+) -> Result<Option<Invocation<'b>>, Trouble> {
     let case = run.case;
     let mut command = command_of(run.words, script.format)?;
     command.liar = case.liar;
@@ -114,7 +116,7 @@ fn row_for<'b>(
     alloc: Global,
     script: &'b Script<'b>,
     run: Attempt<'b>,
-    command: Command<'b>,
+    command: Invocation<'b>,
 ) -> Result<Row<'b>, Trouble> {
     let case = run.case;
     let file = script.text(command.repository)?;
@@ -134,11 +136,11 @@ fn row_for<'b>(
     })
 }
 
-// What the client's file is to hold after a fetch, where it changes.
+// Returns the expected text of the client's file after a fetch, if it changes.
 fn new_file_of<'b>(
     script: &'b Script<'b>,
     case: &Case<'b>,
-    command: Command<'_>,
+    command: Invocation<'_>,
 ) -> Result<Option<&'b [u8]>, Trouble> {
     match case.file {
         Some(name) if command.program == Program::Fetch => Ok(Some(script.text(name)?)),
@@ -146,8 +148,8 @@ fn new_file_of<'b>(
     }
 }
 
-// Gives a simulation the texts of its client and of its scenario.
-fn add_texts<'b>(script: &'b Script<'b>, command: &mut Command<'b>) -> Result<(), Trouble> {
+// Sets the texts of the client and of the scenario of a simulation.
+fn add_texts<'b>(script: &'b Script<'b>, command: &mut Invocation<'b>) -> Result<(), Trouble> {
     if command.program != Program::Simulate {
         return Ok(());
     }
@@ -157,15 +159,17 @@ fn add_texts<'b>(script: &'b Script<'b>, command: &mut Command<'b>) -> Result<()
     Ok(())
 }
 
-// Whether the replies of a case may have ends of their own, which it does not say itself.
-fn may_add_ends(command: Command<'_>, case: &Case<'_>) -> bool {
+// Whether the replies of a case may have response-end packets, and the case does not add them
+// itself.
+fn may_add_ends(command: Invocation<'_>, case: &Case<'_>) -> bool {
     command.program.has_ends()
         && command.ends == Ends::Plain
         && !case.is_plain
         && has_open_replies(case, command.has_hello())
 }
 
-// Of a row's likes with ends of their own, each byte is changed in one bit.
+// Returns the range of the changes. In a row with added response-end packets, each byte is changed
+// in one bit.
 fn reach_of(case: &Case<'_>, adds_ends: bool) -> Reach {
     if adds_ends {
         Reach::OneBit
@@ -176,7 +180,7 @@ fn reach_of(case: &Case<'_>, adds_ends: bool) -> Reach {
     }
 }
 
-// Tries a row in each way. Where it is wrong as it stands the other ways would say no more.
+// Tries a row in each way. If it is wrong unchanged, the other ways would show no more.
 fn try_row<R: System>(
     rt: &R,
     run: Attempt<'_>,
@@ -203,7 +207,7 @@ fn try_row<R: System>(
     Ok(())
 }
 
-// Tries a row in a way, and answers the first try that went wrong.
+// Tries a row in a way, and returns the first try that went wrong.
 fn try_way<R: System>(
     rt: &R,
     run: Attempt<'_>,

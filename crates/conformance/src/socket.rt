@@ -1,29 +1,31 @@
-//! Connections over a socket of this process: `gtcp` is at one end, and at the other a peer that says and hears what a case says.
+//! Connections over a socket of this process: `gtcp` is at one end, and a peer with the messages of
+//! a case at the other.
 
 use crate::connection::{Door, hold_row};
 use crate::peer::{Pace, Peer, TurnedListener};
-use cases::{Program, Trouble};
-use runs::Writer;
+use case_runs::Writer;
+use case_text::{Program, Trouble};
+use case_tries::{Played, Row, is_as_due, is_kept, is_scarce};
 use std::alloc::Global;
 use std::net::{Net, TcpListener, TcpStream};
 use std::time::Clock;
-use tries::{Played, Row, is_as_due, is_kept, is_scarce};
 
-/// So many bytes fit into a socket that nobody reads meanwhile.
+/// The maximum number of bytes that fit into a socket that nobody reads.
 const MOST_BYTES: usize = 16_384;
 
 /// More allocations than any row has.
 const MOST_TRIES: u64 = 1_000_000;
 
-// A run over a socket: how both ends take turns, and which allocation is refused.
+// A run over a socket: the way in which both ends take turns, and the refused allocation.
 #[derive(Clone, Copy)]
 struct Trial {
     pace: Pace,
     refused: u64,
 }
 
-/// Tries a row over a socket: all that the peer says at once, turn by turn, and a byte at a time; where the row says so, with
-/// each allocation refused, too. It counts its runs, and answers the first that went wrong.
+/// Tries a row over a socket: all messages of the peer at once, turn by turn, and a byte at a time.
+/// If the row says so, also with each allocation refused. Counts its runs, and returns the first
+/// that went wrong.
 pub fn first_wrong<R>(
     rt: &R,
     alloc: Global,
@@ -53,8 +55,9 @@ where
     Ok(None)
 }
 
-// Whether a row is tried so: a connection from its first line on, of few bytes, with plain packers and indexers. All at once
-// only where a client comes to the end of its conversation: what one leaves unread resets the connection.
+// Whether a row is tried in this way: a connection starting at its first line, with few bytes, and
+// with plain packers and indexers. All at once is tried only if a client reaches the end of its
+// conversation, since unread input resets the connection.
 fn is_tried(row: &Row<'_>, pace: Pace) -> bool {
     let command = row.command;
     let fits = row.talk.input.len() <= MOST_BYTES && row.talk.output.len() <= MOST_BYTES;
@@ -62,7 +65,7 @@ fn is_tried(row: &Row<'_>, pace: Pace) -> bool {
     command.has_hello() && command.liar.is_none() && fits && (ends_well || pace != Pace::AtOnce)
 }
 
-// Turn by turn, with each allocation refused in turn.
+// Tries it turn by turn, with each allocation refused in turn.
 fn wrong_without_memory<R>(
     rt: &R,
     alloc: Global,
@@ -102,15 +105,16 @@ where
         connections: 1,
     };
     let held = hold_row(alloc, row, trial.refused, door)?;
-    let output = heard(alloc, row, peer)?;
+    let output = heard_bytes(alloc, row, peer)?;
     Ok(Played::on_connection(held.ran, output, held.report, held.errors))
 }
 
-// What the peer heard. Where turns were not kept, or a server did not close the connection well, it counts as not passed on.
-fn heard(alloc: Global, row: &Row<'_>, peer: Peer<'_>) -> Result<Writer, Trouble> {
+// Returns the bytes that the peer read. If the ends did not keep their turns, or a server did not
+// close the connection well, they count as not flushed.
+fn heard_bytes(alloc: Global, row: &Row<'_>, peer: Peer<'_>) -> Result<Writer, Trouble> {
     peer.hear()?;
     let is_closed = row.command.program != Program::Serve || peer.is_closed();
     let is_well = is_closed && peer.was_heard_in_turn();
     let bytes = peer.into_heard();
-    Ok(Writer::holding(alloc, bytes.as_slice(), is_well)?)
+    Ok(Writer::with_bytes(alloc, bytes.as_slice(), is_well)?)
 }

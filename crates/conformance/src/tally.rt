@@ -1,23 +1,23 @@
-//! How much is tried, how often each way was, and what went wrong.
+//! How much is tried, how often each way was tried, and what went wrong.
 
-use cases::Trouble;
+use case_text::Trouble;
+use case_tries::Way;
 use std::io;
-use tries::Way;
 
 /// How much is tried.
 #[derive(Clone, Copy, PartialEq, Eq)]
 pub enum Depth {
-    /// Each case as it stands.
+    /// Each case unchanged.
     Once,
-    /// As it stands, by the program, over sockets, with peers that are late, and with files that fail.
+    /// Unchanged, by the program, over sockets, with late peers, and with files that fail.
     Edge,
-    /// All but the changed bytes, which take most of the time.
+    /// All except the changed bytes, which take most of the time.
     Quick,
     Full,
 }
 
 impl Depth {
-    /// What a word of the command line asks for, if it is none of a file.
+    /// Returns the depth that an argument asks for, if it does not name a file.
     pub fn of(word: &str) -> Option<Depth> {
         match word {
             "--once" => Some(Depth::Once),
@@ -85,7 +85,7 @@ impl Tally {
     }
 }
 
-/// Counts a line of a file that can't be tried, and says why.
+/// Counts a line of a file that can't be tried, and prints why.
 pub fn tell_trouble<R: Print>(
     rt: &R,
     source: &str,

@@ -8,7 +8,7 @@ use Rattle.gname.specs.declared.formats.Format.{Format}
 use Rattle.ggrammar.specs.Capabilities.{IsWellFormed, is_key, is_value}
 use Rattle.ghello.specs.Adverts.{is_capability}
 use Rattle.ghello.specs.Offers.{check_fault, has_feature}
-use Rattle.ganswer.specs.Adverts.{advertised, key, key_with}
+use Rattle.ganswer.specs.Adverts.{advertisement, key, key_with}
 use Rattle.ganswer.specs.Laws.{AdvertsWelcome}
 
 pub agent : is_capability (key_with (codes "agent") (codes "gitv2/1")) ≡ true
@@ -35,19 +35,19 @@ unfolding is_key is_value
 format_form Sha1 = record { key = refl; value = refl }
 format_form Sha256 = record { key = refl; value = refl }
 
-all_well_formed : (format : Format) → All IsWellFormed (advertised format)
+all_well_formed : (format : Format) → All IsWellFormed (advertisement format)
 unfolding is_key is_value
 all_well_formed format =
-    All-from_recursion IsWellFormed (advertised format) (
+    All-from_recursion IsWellFormed (advertisement format) (
       record { key = refl; value = refl },
       (record { key = refl; value = refl }, (record { key = refl; value = tt }, (format_form format, tt))),
     )
 
-goes_on : (format : Format) → check_fault format (advertised format) ≡ None
+goes_on : (format : Format) → check_fault format (advertisement format) ≡ None
 goes_on Sha1 = refl
 goes_on Sha256 = refl
 
-lists_unborn : (format : Format) → has_feature (codes "ls-refs") (codes "unborn") (advertised format) ≡ true
+lists_unborn : (format : Format) → has_feature (codes "ls-refs") (codes "unborn") (advertisement format) ≡ true
 lists_unborn format = refl
 
 pub adverts_welcome : AdvertsWelcome

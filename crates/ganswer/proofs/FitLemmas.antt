@@ -23,7 +23,7 @@ use Rattle.gobject.specs.declared.node.Entry.{Entry}
 use Rattle.gobject.specs.Objects.{node_at}
 use Rattle.gobject.specs.Packs.{Packs}
 use Rattle.gdag.specs.Graphs.{Holds, IsGraph, History}
-use Rattle.gdag.specs.Laws.{PlacesAreNodes}
+use Rattle.gdag.specs.Laws.{PositionsAreNodes}
 use Rattle.gdag.specs.Peeling.{PeelsTo}
 use Rattle.gdag.specs.Levels.{new_ids}
 use Rattle.gdag.specs.Walks.{common_of}
@@ -44,7 +44,7 @@ use Rattle.ganswer.specs.steps.Answers.{IsNextRef}
 use Rattle.ganswer.specs.FetchAnswers.{commons_of}
 use Rattle.ganswer.specs.Laws.{FetchAnswersFit, LsAnswersFit}
 use Rattle.gdag.proofs.IdLists.{contains_head, either_way}
-use Rattle.gdag.proofs.Places.{held_id}
+use Rattle.gdag.proofs.Positions.{held_id}
 use Rattle.glsreply.proofs.ValueLemmas.{is_format-same}
 use Rattle.std.specs.List.{list_all}
 use Rattle.ggrammar.specs.declared.fault.Why.TheVariants.{BadText, Limit}
@@ -122,7 +122,7 @@ module _ {A : Type 0} where
       let P : List ℕ × List ℕ → Type 0 = λ ref. Holds server.graph.entries ref.1 in
       unmap P name_and_id lines (subst (All P) (sym shows.shown) (All-filter (is_shown asked.prefixes) P refs held))
 
-  pub peeled_format : PlacesAreNodes A → (g : History A) → IsGraph g → (is_asked : Bool) (id : List ℕ) (peeled : Option (List ℕ)) → IsPeeledIf is_asked g.entries id peeled → IfSome peeled (IsIdOf g.format)
+  pub peeled_format : PositionsAreNodes A → (g : History A) → IsGraph g → (is_asked : Bool) (id : List ℕ) (peeled : Option (List ℕ)) → IsPeeledIf is_asked g.entries id peeled → IfSome peeled (IsIdOf g.format)
   peeled_format law g graph is_asked id None is = tt
   peeled_format law g graph false id (Some commit) is = absurd (none-some commit (sym is))
   peeled_format law g graph true id (Some commit) is = held_id law g graph commit (peeled_held g.entries id commit is.peels)
@@ -133,7 +133,7 @@ module _ {A : Type 0} where
   unborn_or_shown true (heads.Symref target) refs = target_or_ref (ref_at refs target) target
   unborn_or_shown true head refs = omega arith
 
-  module _ (places : PlacesAreNodes A) (ids : IdsHaveOneFormat) (server : Server A) (is : IsServer server) (asked : LsRefsAsked)
+  module _ (places : PositionsAreNodes A) (ids : IdsHaveOneFormat) (server : Server A) (is : IsServer server) (asked : LsRefsAsked)
       (ref : List ℕ × List ℕ) (reply : LsReply) (next : IsNextRef server asked ref reply)
     where
       abbrev IsHeld : List ℕ × List ℕ → Type 0
@@ -200,7 +200,7 @@ module _ {A : Type 0} where
       omega (arith, some, new)
 
   -- ids that are held have the graph's format
-  held_have_format : PlacesAreNodes A → (g : History A) → IsGraph g → (ids : List (List ℕ)) → list_all (has_format g.format) (filter (λ a. is_some (node_at g.entries a)) ids) ≡ true
+  held_have_format : PositionsAreNodes A → (g : History A) → IsGraph g → (ids : List (List ℕ)) → list_all (has_format g.format) (filter (λ a. is_some (node_at g.entries a)) ids) ≡ true
   held_have_format law g graph [] = refl
   held_have_format law g graph (a ∷ ids) =
       let rest = filter (λ (b : List ℕ). is_some (node_at g.entries b)) ids in
@@ -210,7 +210,7 @@ module _ {A : Type 0} where
       (λ e. ap by e ∙ ap₂ (λ (u v : Bool). u && v) (eq-eqb (length a) (id_length g.format) (held_id law g graph a e).long) more)
       (λ e. ap by e ∙ more)
 
-  pub commons_fit : PlacesAreNodes A → (g : History A) → IsGraph g → (haves : List (List ℕ)) → length haves ≤ max_haves → acks_fault g.format (common_of g.entries haves) ≡ None
+  pub commons_fit : PositionsAreNodes A → (g : History A) → IsGraph g → (haves : List (List ℕ)) → length haves ≤ max_haves → acks_fault g.format (common_of g.entries haves) ≡ None
   commons_fit law g graph haves few =
       let short = commons_short g.entries haves in
       no_fault g.format (common_of g.entries haves) (held_have_format law g graph (new_ids [] haves)) (omega (arith, short, few))
@@ -251,7 +251,7 @@ module _ {A : Type 0} where
 
   -- ---- refs
 
-  module _ (places : PlacesAreNodes A) (server : Server A) (is : IsServer server) (asked : LsRefsAsked) where
+  module _ (places : PositionsAreNodes A) (server : Server A) (is : IsServer server) (asked : LsRefsAsked) where
     fit_line : (line : RefLine) → Holds server.graph.entries line.id → IsRefName line.name → HasAttributes server asked line → IsRefLine server.graph.format line
     fit_line line held name has = record {
       id = held_id places server.graph is.graph line.id held;
@@ -265,7 +265,7 @@ module _ {A : Type 0} where
     fit_lines lines held named has = λ k d inside.
         fit_line (slice_index_or lines k d) (held k d inside) (named k d inside) (has k d inside)
 
-  pub ls_answers_fit : PlacesAreNodes A → IsRefName head_name → LsAnswersFit A
+  pub ls_answers_fit : PositionsAreNodes A → IsRefName head_name → LsAnswersFit A
   ls_answers_fit places law server asked reply is answers = record {
     unborn = subst (λ (o : Option (List ℕ)). IfSome o IsRefName) (sym answers.unborn) (unborn_named server.head server.refs is.target (ls_has asked Unborn && is_asked asked.prefixes head_name));
     lines = fit_lines places server is asked reply.lines (lines_held server asked (all_refs server) reply.lines answers.lines (all_held server is))
@@ -282,7 +282,7 @@ module _ {A : Type 0} where
 
   -- ---- objects
 
-  acks_here : PlacesAreNodes A → (server : Server A) → IsServer server → (asked : FetchAsked) → length asked.haves ≤ max_haves → (reading : Reading) → reading.format ≡ server.graph.format
+  acks_here : PositionsAreNodes A → (server : Server A) → IsServer server → (asked : FetchAsked) → length asked.haves ≤ max_haves → (reading : Reading) → reading.format ≡ server.graph.format
       → (ids : List (List ℕ)) → ids ≡ commons_of server asked → AreAcks reading.format ids
   acks_here places server is asked few reading format ids are =
       subst (λ (f : Format). AreAcks f ids) (sym format) (subst (AreAcks server.graph.format) (sym are) (record {
@@ -291,7 +291,7 @@ module _ {A : Type 0} where
         few = (let short = commons_short server.graph.entries asked.haves in omega (arith, short, few));
       }))
 
-  pub fetch_answers_fit : PlacesAreNodes A → (packs : Packs A) → FetchAnswersFit A packs
+  pub fetch_answers_fit : PositionsAreNodes A → (packs : Packs A) → FetchAnswersFit A packs
   fetch_answers_fit places packs server asked (Acks ids) reading is few answers format direct short =
       (direct ∙ answers.replies.0, acks_here places server is asked few reading format ids answers.replies.1)
   fetch_answers_fit places packs server asked (Ready ids pack) reading is few answers format direct short = (

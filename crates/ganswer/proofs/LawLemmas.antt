@@ -7,7 +7,7 @@ use Rattle.std.proofs.lemmas.Option.{none-some}
 use Rattle.gobject.specs.declared.node.Entry.{Entry}
 use Rattle.gobject.specs.Packs.{PackFails, Packs}
 use Rattle.gdag.specs.Laws.{CommonsAreHeld, SendingIsEnough, SentAreEntries}
-use Rattle.gdag.specs.Reach.{Grows, IsFull}
+use Rattle.gdag.specs.Reach.{Grows, IsConnected}
 use Rattle.gdag.specs.Graphs.{Holds, IsFirstAbsent}
 use Rattle.grefs.specs.declared.head.Head.{Head}
 use Rattle.grequest.specs.Asked.{FetchAsked}
@@ -56,9 +56,9 @@ module _ {A : Type 0} (law : CommonsAreHeld A) where
     held = All-nil (Holds server.graph.entries);
   }
 
-  full_commons : (server : Server A) (asked : FetchAsked) (client : List (Entry A)) → All (IsFull client) asked.haves → All (IsFull client) (commons_of server asked)
-  full_commons server asked client full =
-      All-weaker (Contains asked.haves) (IsFull client) (λ a offered. All-contains (IsFull client) asked.haves a full offered) (commons_of server asked)
+  connected_commons : (server : Server A) (asked : FetchAsked) (client : List (Entry A)) → All (IsConnected client) asked.haves → All (IsConnected client) (commons_of server asked)
+  connected_commons server asked client connected =
+      All-weaker (Contains asked.haves) (IsConnected client) (λ a offered. All-contains (IsConnected client) asked.haves a connected offered) (commons_of server asked)
       (commons_are_common server asked).offered
 
   pub packs_are_enough : SentAreEntries A → SendingIsEnough A → (packs : Packs A) → PacksAreEnough A packs
@@ -72,8 +72,8 @@ module _ {A : Type 0} (law : CommonsAreHeld A) where
         entries = list.1;
         graph = list.0;
         nodes = list.2;
-        enough = λ client new format agree full comes.
-            sending g.entries client sends.list new asked.wants commons tips format is.graph.differ is.closed agree can.held (full_commons server asked client full) sends.sent comes;
+        enough = λ client new format agree connected comes.
+            sending g.entries client sends.list new asked.wants commons tips format is.graph.differ is.closed agree can.held (connected_commons server asked client connected) sends.sent comes;
       }
 
 -- a want that is not held is none of some that are

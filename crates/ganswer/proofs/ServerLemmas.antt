@@ -12,14 +12,14 @@ use Rattle.gobject.specs.Objects.{node_at, entry_of, IdsDiffer}
 use Rattle.gdag.proofs.ClosedLemmas.{parents_entry}
 use Rattle.gdag.proofs.Growing.{at_front, keeps_held}
 use Rattle.gdag.specs.Graphs.{Holds, IsFirstAbsent, History, HoldsParents, IsGraph}
-use Rattle.gdag.specs.Laws.{PlacesAreNodes, ClosedStays}
+use Rattle.gdag.specs.Laws.{PositionsAreNodes, ClosedStays}
 use Rattle.gdag.specs.declared.fault.GraphFault.{GraphFault}
 use Rattle.gdag.specs.Insert.{AddsOne}
 use Rattle.gdag.specs.Reach.{IsClosed, Keeps}
 use Rattle.grefs.specs.RefLists.{RefList, IsRefs, SetsRef}
 use Rattle.grefs.specs.declared.fault.RefsFault.{RefsFault}
 use Rattle.grefs.specs.declared.head.Head.{Head}
-use Rattle.ganswer.specs.Servers.{HoldsRefs, IsFirstDangling, parents_in, HoldsHead, IsServer, served}
+use Rattle.ganswer.specs.Servers.{HoldsRefs, IsFirstDangling, parents_in, HoldsHead, IsServer, server_of}
 use Rattle.ganswer.specs.steps.Answers.{DanglesAt}
 use Rattle.std.specs.Prelude.{IfSome, Option, OnErr, OnOk, slice_get, option_map}
 use Rattle.std.specs.Map.{values_of}
@@ -70,8 +70,8 @@ module _ {A : Type 0} where
   parents_at (first ∷ g) (suc p) entry b at among = Contains-append_right first.node.parents (parents_in g) b (parents_at g p entry b at among)
 
   -- where no parent is missing at any position, none is
-  pub closed_by_places : (g : List (Entry A)) → PlacesAreNodes A → IdsDiffer g → All (Holds g) (parents_in g) → IsClosed g
-  closed_by_places g law differ held a b (node, is_node, among) =
+  pub closed_by_positions : (g : List (Entry A)) → PositionsAreNodes A → IdsDiffer g → All (Holds g) (parents_in g) → IsClosed g
+  closed_by_positions g law differ held a b (node, is_node, among) =
       let place = ((law g differ).0 a node).0 is_node in
       All-contains (Holds g) (parents_in g) b held (parents_at g place.0 (entry_of a node) b place.1 among)
 
@@ -126,8 +126,8 @@ module _ {A : Type 0} where
         | inr there ↦ All-contains H old ref (unmap (Holds g) (λ (r : List ℕ × List ℕ). r.1) old held) there
       ]) new each)
 
-  pub grown_or_same : ClosedStays A → (old new : History A) (refs : RefList) (head : Head A) (entry : Entry A) → IsServer (served old refs head) → HoldsParents old.entries entry
-      → (result : Result Bool GraphFault) → AddsOne old entry new result → Keeps old.entries new.entries → IsGraph new → IsServer (served new refs head)
+  pub grown_or_same : ClosedStays A → (old new : History A) (refs : RefList) (head : Head A) (entry : Entry A) → IsServer (server_of old refs head) → HoldsParents old.entries entry
+      → (result : Result Bool GraphFault) → AddsOne old entry new result → Keeps old.entries new.entries → IsGraph new → IsServer (server_of new refs head)
   grown_or_same law old new refs head entry is parents (Ok is_new) adds keeps graph = record {
     graph = graph;
     refs = is.refs;
@@ -136,10 +136,10 @@ module _ {A : Type 0} where
     head = head_stays old.entries new.entries keeps head is.head;
     target = is.target;
   }
-  grown_or_same law old new refs head entry is parents (Err fault) adds keeps graph = subst (λ (g : History A). IsServer (served g refs head)) (sym adds.0) is
+  grown_or_same law old new refs head entry is parents (Err fault) adds keeps graph = subst (λ (g : History A). IsServer (server_of g refs head)) (sym adds.0) is
 
-  pub with_ref_or_same : (graph : History A) (old new : RefList) (head : Head A) (name id : List ℕ) → IsServer (served graph old head) → Holds graph.entries id
-      → (result : Result Unit RefsFault) → OnOk result (SetsRef old new name id) → OnErr result (new ≡ old) → IsRefs new → IsServer (served graph new head)
+  pub with_ref_or_same : (graph : History A) (old new : RefList) (head : Head A) (name id : List ℕ) → IsServer (server_of graph old head) → Holds graph.entries id
+      → (result : Result Unit RefsFault) → OnOk result (SetsRef old new name id) → OnErr result (new ≡ old) → IsRefs new → IsServer (server_of graph new head)
   with_ref_or_same graph old new head name id is held (Ok done) sets same refs = record {
     graph = is.graph;
     refs = refs;
@@ -148,4 +148,4 @@ module _ {A : Type 0} where
     head = is.head;
     target = is.target;
   }
-  with_ref_or_same graph old new head name id is held (Err fault) sets same refs = subst (λ (r : RefList). IsServer (served graph r head)) (sym same) is
+  with_ref_or_same graph old new head name id is held (Err fault) sets same refs = subst (λ (r : RefList). IsServer (server_of graph r head)) (sym same) is

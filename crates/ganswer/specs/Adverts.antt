@@ -12,8 +12,8 @@ abbrev pub key_with : Bytes → Bytes → Capability
 key_with name value = record { key = name; value = Some value }
 
 -- its name; that it lists refs, and an unborn HEAD, and sends packs; and the format of its ids
-abbrev pub advertised : Format → List Capability
-advertised format =
+abbrev pub advertisement : Format → List Capability
+advertisement format =
     key_with (codes "agent") (codes "gitv2/1")
     ∷ key_with (codes "ls-refs") (codes "unborn")
     ∷ key (codes "fetch")

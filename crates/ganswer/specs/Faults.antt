@@ -1,9 +1,9 @@
 -- The tables of faults: the number, the name and the text of each, and the words for a client.
 use Rattle.std.specs.Prelude.{Bool, true, false, codes}
 use Rattle.gname.specs.Faults.{FaultRow, missing_parent, out_of_memory, out_of_memory_text}
-use Rattle.gpkt.specs.Faults.{line_fault_row, line_fault_text}
+use Rattle.gpkt.specs.Faults.{packet_fault_row, packet_fault_text}
 use Rattle.gpkt.specs.Packets.{Bytes}
-use Rattle.gpkt.specs.declared.fault.LineFault.TheVariants as line
+use Rattle.gpkt.specs.declared.fault.PacketFault.TheVariants as line
 use Rattle.grefs.specs.Faults.{refs_fault_row, refs_fault_text}
 use Rattle.gobject.specs.Faults.{pack_fault_row, pack_fault_text}
 use Rattle.gobject.specs.declared.fault.PackFault.TheVariants as pack
@@ -32,7 +32,7 @@ build_fault_row build.Memory = out_of_memory
 
 -- why a request was not answered
 abbrev pub serve_fault_row : ServeFault → WhyRow
-serve_fault_row (serve.Reader fault) = row_of (line_fault_row fault) (line_phrase fault)
+serve_fault_row (serve.Reader fault) = row_of (packet_fault_row fault) (line_phrase fault)
 serve_fault_row (serve.Request fault) = why_row fault.why
 serve_fault_row serve.NoWants = row_of (73, codes "NoWants") (codes "no wants")
 serve_fault_row (serve.NotOurs id) = row_of (74, codes "NotOurs") (codes "not our ref")
@@ -69,7 +69,7 @@ build_fault_text (build.MissingParent id) = codes "a parent of the new object is
 build_fault_text build.Memory = out_of_memory_text
 
 abbrev pub serve_fault_text : ServeFault → Bytes
-serve_fault_text (serve.Reader fault) = line_fault_text fault
+serve_fault_text (serve.Reader fault) = packet_fault_text fault
 serve_fault_text (serve.Request fault) = message_fault_text fault
 serve_fault_text serve.NoWants = codes "nothing is wanted"
 serve_fault_text (serve.NotOurs id) = codes "a wanted object is missing"

@@ -10,7 +10,7 @@ use Rattle.gobject.specs.declared.node.Entry.{Entry}
 use Rattle.gobject.specs.declared.fault.PackFault.{PackFault}
 use Rattle.gdag.specs.Graphs.{Holds, IsGraph, IsNode}
 use Rattle.gdag.specs.Laws.{HasAll}
-use Rattle.gdag.specs.Reach.{Agree, Grows, IsFull}
+use Rattle.gdag.specs.Reach.{Agree, Grows, IsConnected}
 use Rattle.gdag.specs.Insert.{Inserts}
 use Rattle.grefs.specs.declared.head.Head.{Head}
 use Rattle.grequest.specs.Asked.{Asked, FetchAsked, LsRefsAsked, is_direct, max_haves}
@@ -22,7 +22,7 @@ use Rattle.gfetchreply.specs.FetchReplies.{FetchReply, Reading}
 use Rattle.ggrammar.specs.Capabilities.{Capability}
 use Rattle.ghello.specs.Adverts.{AreCapabilities}
 use Rattle.ghello.specs.Offers.{check_fault, has_feature}
-use Rattle.ganswer.specs.Adverts.{advertised}
+use Rattle.ganswer.specs.Adverts.{advertisement}
 use Rattle.ganswer.specs.FetchAnswers.{CanServe, FetchAnswer, SendsPack}
 use Rattle.ganswer.specs.Answers.{Answers, FetchRefuses, Reply}
 use Rattle.ganswer.specs.declared.fault.BuildFault.{BuildFault}
@@ -43,7 +43,7 @@ pub record Welcomes (format : Format) (capabilities : List Capability) : Type 0 
 
 -- a server welcomes each client of its own object format
 abbrev pub AdvertsWelcome : Type 0
-AdvertsWelcome = (format : Format) → Welcomes format (advertised format)
+AdvertsWelcome = (format : Format) → Welcomes format (advertisement format)
 
 -- ---- refs
 
@@ -102,7 +102,7 @@ pub record IsEnough {A : Type 0} (server : Server A) (packs : Packs A) (asked : 
   pub graph : IsGraph (record { format = server.graph.format; entries = list })
   pub nodes : All (λ entry. IsNode server.graph.entries entry.id entry.node) list
   pub enough : (client new : List (Entry A)) (format : Format) → Agree server.graph.entries client →
-      All (IsFull client) asked.haves → Inserts format client list new →
+      All (IsConnected client) asked.haves → Inserts format client list new →
       HasAll server.graph.entries asked.wants new
 
 -- each pack that is sent is enough

@@ -21,8 +21,8 @@ pub record Server (A : Type 0) : Type 0 where
   pub refs : RefList
   pub head : Head A
 
-abbrev pub served : {A : Type 0} → History A → RefList → Head A → Server A
-served graph refs head = record { graph = graph; refs = refs; head = head }
+abbrev pub server_of : {A : Type 0} → History A → RefList → Head A → Server A
+server_of graph refs head = record { graph = graph; refs = refs; head = head }
 
 -- the id at which each ref stands is held
 abbrev pub HoldsRefs : {A : Type 0} → List (Entry A) → RefList → Type 0

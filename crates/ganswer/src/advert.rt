@@ -1,9 +1,9 @@
-//! What a server advertises (gitprotocol-v2(5), "Capability Advertisement").
+//! The advertisement of a server (gitprotocol-v2(5), "Capability Advertisement").
 
 ghost use Rattle.std.specs.Prelude.{◌≡◌, ◌∷◌, ◌++◌, [], IfOk, IfErr, OnOk, true};
 ghost use Rattle.std.specs.Option.{option_copied};
 ghost use Rattle.ghello.specs.Adverts.{has_room, is_capability};
-ghost use Rattle.ganswer.specs.Adverts.{advertised};
+ghost use Rattle.ganswer.specs.Adverts.{advertisement};
 ghost use Rattle.ganswer.specs.declared.fault.ServeFault.TheVariants.{Memory};
 
 use crate::fault::ServeFault;
@@ -13,12 +13,12 @@ use ghello::Advert;
 use std::alloc::Allocator;
 
 impl<A: Allocator + Copy> Server<A> {
-    /// What the server advertises (gitprotocol-v2(5), "Capability Advertisement"): `agent=gitv2/1`,
-    /// `ls-refs=unborn`, `fetch`, and the format of its ids.
+    /// Returns the server's advertisement (gitprotocol-v2(5), "Capability Advertisement"):
+    /// `agent=gitv2/1`, `ls-refs=unborn`, `fetch`, and the format of its ids.
     ///
-    /// It fails with `Memory` alone.
+    /// Fails only with `Memory`.
     pub fn advert(&self) -> Result<Advert<A>, ServeFault>
-        ensures advert { IfOk result (λ advert. advert ≡ advertised self.now.graph.format) }
+        ensures advert { IfOk result (λ advert. advert ≡ advertisement self.now.graph.format) }
         ensures fault { IfErr result (λ fault. fault ≡ Memory) }
     {
         let mut advert = Advert::new(self.graph().allocator());
@@ -34,7 +34,7 @@ impl<A: Allocator + Copy> Server<A> {
     }
 }
 
-// Adds a capability that is well-formed and for which there is room.
+// Appends a well-formed capability, for which there is room.
 fn add<A: Allocator + Copy>(
     advert: &mut Advert<A>,
     key: &[u8],

@@ -1,4 +1,4 @@
-//! What a server answers (gitprotocol-v2(5), "Command Request").
+//! The answers of a server (gitprotocol-v2(5), "Command Request").
 
 ghost use Rattle.std.specs.Prelude.{◌≡◌, IfOk, MatchResult};
 ghost use Rattle.grequest.specs.RequestValues.{asked_by_request};
@@ -15,34 +15,37 @@ use glsreply::LsReply;
 use grequest::Request;
 use std::alloc::Allocator;
 
-/// What a server answers.
+/// The answer of a server.
 #[derive(Drop)]
 pub enum Reply<A: Allocator + Copy> {
-    /// To the empty request, a lone flush with which a client ends the conversation.
+    /// For the empty request, a lone flush packet that ends the conversation: nothing.
     Nothing,
-    /// To ls-refs: refs.
+    /// For ls-refs: refs.
     Ls(LsReply<A>),
-    /// To fetch: common ids, a pack, or both.
+    /// For fetch: common ids, a pack, or both.
     Fetch(FetchReply<A>),
 }
 
 impl<A: Allocator + Copy> Server<A> {
-    /// The answer to a request (gitprotocol-v2(5), "ls-refs" and "fetch").
+    /// Returns the answer to a request (gitprotocol-v2(5), "ls-refs" and "fetch").
     ///
-    /// Refs: HEAD first, then the names in byte order; those that begin with one of the prefixes, or all where there is
-    /// none. With `symrefs` a HEAD that points at a ref has its target, and with `peel` the id of a tag the commit to
-    /// which it leads. With `unborn` comes the name that an unborn HEAD points at, where HEAD is asked for.
+    /// Refs: HEAD first, then the names in byte order. They begin with one of the prefixes, or are
+    /// all names if there is no prefix. With `symrefs`, a HEAD that points at a ref has its target.
+    /// With `peel`, the id of a tag has the commit that it peels to. With `unborn`, the answer has
+    /// the name that an unborn HEAD points at, if the request asks for HEAD.
     ///
-    /// Objects: with `done`, or without haves, the pack of those that a want reaches and no common id does; the common
-    /// ids are the distinct haves that are held, in the order in which each came first. Else, where each want reaches
-    /// a common id, the common ids and that pack, and else the common ids alone. With `include-tag` the pack has the
-    /// tags, too, that lead from the ids of refs to commits of it.
+    /// Objects: the common ids are the distinct haves that are held, in the order of their first
+    /// occurrence. With `done`, or without haves, the answer is the pack of the objects that a want
+    /// reaches and no common id does. Otherwise, if each want reaches a common id, it is the common
+    /// ids and that pack. Otherwise it is the common ids alone. With `include-tag` the pack also
+    /// has the tags that lead from the ids of refs to its commits.
     ///
-    /// It fails with `NoWants` where a fetch wants nothing. Otherwise it fails with `NotOurs` for the first want that is
-    /// not held. Otherwise it fails with `Pack` where the packer fails for the objects to send, with the packer's fault.
+    /// Fails with `NoWants` if a fetch wants nothing, or with `NotOurs` for the first want that is
+    /// not held. Otherwise fails with `Pack` and the packer's fault if the packer fails for the
+    /// objects to send.
     ///
-    /// The packer is asked once where a pack is sent or a fault of its own is reported, and otherwise it is not asked. So
-    /// where it fails, that fault is reported, and `Memory` comes only where it was not asked.
+    /// The packer is asked once if a pack is sent or its own fault is reported, and otherwise not
+    /// at all. So its fault is always reported, and `Memory` only if it was not asked.
     pub fn answer<K: Packer<A>>(
         &self,
         request: &Request<A>,

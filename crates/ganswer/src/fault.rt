@@ -1,7 +1,7 @@
-//! Why a server was not made or not changed, and why a request was not answered.
+//! Reasons why a server was not made or not changed, and a request not answered.
 
 ghost use Rattle.std.specs.Prelude.{◌≡◌, Some};
-ghost use Rattle.gpkt.specs.Faults.{line_fault_row};
+ghost use Rattle.gpkt.specs.Faults.{packet_fault_row};
 ghost use Rattle.ggrammar.specs.Faults.{line_phrase, row_of};
 ghost use Rattle.ganswer.specs.Faults.{build_fault_row, build_fault_text, lacks_memory, serve_fault_row, serve_fault_text, why_lacks_memory};
 ghost use Rattle.ganswer.specs.steps.Answers.{row_view};
@@ -11,52 +11,52 @@ ghost use Rattle.ganswer.specs.declared.fault.ServeFault.TheVariants as serve;
 use ggrammar::{MessageFault, Why};
 use ggraph::{GraphFault, PackFault, RefsFault};
 use gname::{MISSING_PARENT, OUT_OF_MEMORY, OUT_OF_MEMORY_TEXT, Oid, RefName};
-use gpkt::LineFault;
-use std::alloc::{AllocError, Allocator, Global};
+use gpkt::PacketFault;
+use std::alloc::{AllocError, AllocFailed, Allocator, Global};
 use std::error::Error;
 use std::fmt;
 
-/// Why a server was not made, or not changed.
+/// The reason a server was not made, or not changed.
 #[derive(Debug, Drop)]
 pub enum BuildFault<A: Allocator + Copy = Global> {
     /// 60 to 64, 75: the graph refuses the object.
     Graph(GraphFault),
     /// 69, 64: the refs refuse the name.
     Refs(RefsFault),
-    /// 70: the parent of an object is not held.
+    /// 70: a parent of an object is not held.
     NotClosed { id: Oid },
-    /// 71: the id at which a ref stands is not held.
+    /// 71: the id of a ref is not held.
     RefMissing { name: RefName<A> },
     /// 71: the id of a detached HEAD is not held.
     HeadMissing,
-    /// 72: the parent of an object that is to be added is not held.
+    /// 72: a parent of the object to add is not held.
     MissingParent { id: Oid },
     /// 64: out of memory for a name.
     Memory,
 }
 
 impl<A: Allocator + Copy> BuildFault<A> {
-    /// The number of the fault.
+    /// Returns the number of the fault.
     pub fn code(&self) -> u32
         ensures { result ≡ (build_fault_row self.now).0 }
     {
-        self.row().0
+        self.fault_row().0
     }
 
-    /// The name of the fault.
+    /// Returns the name of the fault.
     pub fn name(&self) -> &'static str
         ensures { result.now ≡ (build_fault_row self.now).1 }
     {
-        self.row().1
+        self.fault_row().1
     }
 
-    // The table: the number and the name of each fault.
-    fn row(&self) -> (u32, &'static str)
+    // Returns the number and the name of the fault.
+    fn fault_row(&self) -> (u32, &'static str)
         ensures { (result.0, result.1.now) ≡ build_fault_row self.now }
     {
         match self {
-            BuildFault::Graph(fault) => fault.row(),
-            BuildFault::Refs(fault) => fault.row(),
+            BuildFault::Graph(fault) => fault.fault_row(),
+            BuildFault::Refs(fault) => fault.fault_row(),
             BuildFault::NotClosed { .. } => (70, "NotClosed"),
             BuildFault::RefMissing { .. } | BuildFault::HeadMissing => (71, "RefMissing"),
             BuildFault::MissingParent { .. } => MISSING_PARENT,
@@ -93,12 +93,20 @@ impl<A: Allocator + Copy> From<AllocError> for BuildFault<A> {
     }
 }
 
-/// Why a request was not answered.
+impl<A: Allocator + Copy, T: Drop> From<AllocFailed<T>> for BuildFault<A> {
+    ghost from_gives = { λ _ fault. fault ≡ build.Memory };
+
+    fn from(_refused: AllocFailed<T>) -> BuildFault<A> {
+        BuildFault::Memory
+    }
+}
+
+/// The reason a request was not answered.
 #[derive(Debug, Drop)]
 pub enum ServeFault {
     /// 28: out of memory for the reader of requests.
-    Reader(LineFault),
-    /// 20 to 54: the request was refused as it was read.
+    Reader(PacketFault),
+    /// 20 to 54: the request was refused while it was read.
     Request(MessageFault),
     /// 73: a fetch without a want.
     NoWants,
@@ -110,7 +118,7 @@ pub enum ServeFault {
     Memory,
 }
 
-// The number and the name of a fault, and the words for a client.
+// The number and the name of a fault, and the text for a client.
 #[derive(Clone, Copy)]
 struct ServeRow {
     code: u32,
@@ -118,49 +126,49 @@ struct ServeRow {
     phrase: &'static str,
 }
 
-fn row(code: u32, name: &'static str, phrase: &'static str) -> ServeRow
+fn serve_row(code: u32, name: &'static str, phrase: &'static str) -> ServeRow
     ensures { row_view result ≡ row_of (code, name.now) phrase.now }
 {
     ServeRow { code, name, phrase }
 }
 
-// Why no packet is read, in the words for a client.
-fn line_row(fault: LineFault) -> ServeRow
-    ensures { row_view result ≡ row_of (line_fault_row fault) (line_phrase fault) }
+// Returns the row for a packet that can't be read.
+fn line_row(fault: PacketFault) -> ServeRow
+    ensures { row_view result ≡ row_of (packet_fault_row fault) (line_phrase fault) }
 {
     let why = Why::Line(fault);
-    row(why.code(), why.name(), why.phrase())
+    serve_row(why.code(), why.name(), why.phrase())
 }
 
 impl ServeFault {
-    /// The number of the fault.
+    /// Returns the number of the fault.
     pub fn code(&self) -> u32
         ensures { result ≡ (serve_fault_row self.now).code }
     {
-        self.row().code
+        self.fault_row().code
     }
 
-    /// The name of the fault.
+    /// Returns the name of the fault.
     pub fn name(&self) -> &'static str
         ensures { result.now ≡ (serve_fault_row self.now).name }
     {
-        self.row().name
+        self.fault_row().name
     }
 
-    /// The words for a client, as in `ERR upload-pack: no wants`. For a want that is not held the digits of
-    /// its id come after them.
+    /// Returns the text for a client, as in `ERR upload-pack: no wants`. If a want is not held, the
+    /// digits of its id follow the text.
     pub fn phrase(&self) -> &'static str
         ensures { result.now ≡ (serve_fault_row self.now).phrase }
     {
-        self.row().phrase
+        self.fault_row().phrase
     }
 
-    /// Whether it means out of memory: 28, 53 or 64, or 65 where the packer was.
+    /// Whether it means out of memory: 28, 53, 64, or 65 if the packer was out of memory.
     pub fn is_memory(&self) -> bool
         ensures { result ≡ lacks_memory self.now }
     {
         match self {
-            ServeFault::Reader(LineFault::Memory) => true,
+            ServeFault::Reader(PacketFault::Memory) => true,
             ServeFault::Request(fault) => why_is_memory(&fault.why),
             ServeFault::Pack(PackFault::Memory) => true,
             ServeFault::Memory => true,
@@ -168,17 +176,17 @@ impl ServeFault {
         }
     }
 
-    // The table of faults.
-    fn row(&self) -> ServeRow
+    // Returns the number, the name and the text of the fault.
+    fn fault_row(&self) -> ServeRow
         ensures { row_view result ≡ serve_fault_row self.now }
     {
         match self {
             ServeFault::Reader(fault) => line_row(*fault),
-            ServeFault::Request(fault) => row(fault.code(), fault.name(), fault.why.phrase()),
-            ServeFault::NoWants => row(73, "NoWants", "no wants"),
-            ServeFault::NotOurs { .. } => row(74, "NotOurs", "not our ref"),
-            ServeFault::Pack(fault) => row(fault.code(), fault.name(), "pack failed"),
-            ServeFault::Memory => row(OUT_OF_MEMORY.0, OUT_OF_MEMORY.1, OUT_OF_MEMORY_TEXT),
+            ServeFault::Request(fault) => serve_row(fault.code(), fault.name(), fault.why.phrase()),
+            ServeFault::NoWants => serve_row(73, "NoWants", "no wants"),
+            ServeFault::NotOurs { .. } => serve_row(74, "NotOurs", "not our ref"),
+            ServeFault::Pack(fault) => serve_row(fault.code(), fault.name(), "pack failed"),
+            ServeFault::Memory => serve_row(OUT_OF_MEMORY.0, OUT_OF_MEMORY.1, OUT_OF_MEMORY_TEXT),
         }
     }
 }
@@ -200,12 +208,12 @@ impl fmt::Display for ServeFault {
 
 impl Error for ServeFault {}
 
-// Whether a request was not read: out of memory.
+// Whether a request was not read because memory ran out.
 fn why_is_memory(why: &Why) -> bool
     ensures { result ≡ why_lacks_memory why.now }
 {
     match why {
-        Why::Line(LineFault::Memory) => true,
+        Why::Line(PacketFault::Memory) => true,
         Why::Memory => true,
         _ => false,
     }
@@ -215,6 +223,14 @@ impl From<AllocError> for ServeFault {
     ghost from_gives = { λ _ fault. fault ≡ serve.Memory };
 
     fn from(_refused: AllocError) -> ServeFault {
+        ServeFault::Memory
+    }
+}
+
+impl<T: Drop> From<AllocFailed<T>> for ServeFault {
+    ghost from_gives = { λ _ fault. fault ≡ serve.Memory };
+
+    fn from(_refused: AllocFailed<T>) -> ServeFault {
         ServeFault::Memory
     }
 }

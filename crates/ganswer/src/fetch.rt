@@ -1,4 +1,4 @@
-//! What fetch answers (gitprotocol-v2(5), "fetch").
+//! The answers to fetch (gitprotocol-v2(5), "fetch").
 
 ghost use Rattle.std.specs.Prelude.{◌≡◌, ◌↔◌, IfOk, IfErr, IsTrue, MatchResult};
 ghost use Rattle.gdag.specs.declared.fault.GraphFault.TheVariants.{Memory as OutOfMemory};
@@ -15,28 +15,29 @@ use crate::fault::ServeFault;
 use crate::one_pack::OnePack;
 use crate::server::Server;
 use gfetchreply::{Acks, FetchReply, PackBytes};
-use ggraph::graph_laws::places_are_nodes;
+use ggraph::graph_laws::positions_are_nodes;
 use ggraph::{Entry, GraphFault, Packer, common_ids, ready, send_list, send_list_tags};
 use gname::Oid;
-use grequest::FetchRequest;
+use grequest::{FetchFlag, FetchRequest};
 use std::alloc::Allocator;
 
 /// The answer to a request for objects, before the objects to send are packed.
 #[derive(Drop)]
 pub enum BegunFetch<A: Allocator + Copy> {
-    /// These ids are common, and that is not enough: no pack follows.
+    /// These ids are common, and they are not enough: no pack follows.
     Acks(Acks<A>),
-    /// These ids are common, and that is enough: these objects follow.
+    /// These ids are common, and they are enough: these objects follow.
     Ready(Acks<A>, Vec<Entry<A>, A>),
     /// These objects follow, and nothing is acknowledged.
     Pack(Vec<Entry<A>, A>),
 }
 
 impl<A: Allocator + Copy> Server<A> {
-    /// The answer to a request for objects (gitprotocol-v2(5), "fetch"), as [`Server::answer`] gives it. The packer is
-    /// asked once where a pack is sent or a fault of its own is reported, and else it is not asked.
+    /// Returns the answer to a request for objects (gitprotocol-v2(5), "fetch"), as
+    /// [`Server::answer`] does. The packer is asked once if a pack is sent or its own fault is
+    /// reported, and otherwise not at all.
     ///
-    /// So where it fails, that fault is reported, and `Memory` comes only where it was not asked.
+    /// So its fault is always reported, and `Memory` only if it was not asked.
     pub fn answer_fetch<K: Packer<A>>(
         &self,
         asked: &FetchRequest<A>,
@@ -66,11 +67,11 @@ impl<A: Allocator + Copy> Server<A> {
         }
     }
 
-    /// The answer to a request for objects, before the objects to send are packed: for an owner that
-    /// packs them itself.
+    /// Returns the answer to a request for objects before the objects to send are packed, for a
+    /// caller that packs them itself.
     ///
-    /// It fails with `NoWants` if nothing is wanted, with `NotOurs` at the first want that is not held,
-    /// and with `Memory` if there is not enough for a walk or the list.
+    /// Fails with `NoWants` if nothing is wanted, with `NotOurs` at the first want that is not
+    /// held, and with `Memory` if there is not enough memory for a walk or the list.
     pub fn begin_fetch(&self, asked: &FetchRequest<A>) -> Result<BegunFetch<A>, ServeFault>
         ensures { MatchResult result (BeginsFetch self.now asked.now.asked)
             (FetchDeclines self.now asked.now.asked) }
@@ -101,7 +102,7 @@ impl<A: Allocator + Copy> Server<A> {
         }
     }
 
-    // The common ids, to be acknowledged.
+    // Returns the common ids, as the acknowledgments of a reply.
     fn commons(&self, asked: &FetchRequest<A>) -> Result<Acks<A>, ServeFault>
         ensures commons { IfOk result (λ commons. commons ≡ record {
           format = self.now.graph.format;
@@ -110,13 +111,13 @@ impl<A: Allocator + Copy> Server<A> {
         ensures fault { IfErr result (λ fault. fault ≡ Memory) }
     {
         // Laws.
-        places_are_nodes::<A>();
+        positions_are_nodes::<A>();
         asked.laws();
         let ids = self.common_ids(asked)?;
         Ok(Acks::from_ids(self.graph().format(), ids).unwrap())
     }
 
-    // The common ids.
+    // Returns the common ids.
     fn common_ids(&self, asked: &FetchRequest<A>) -> Result<Vec<Oid, A>, ServeFault>
         ensures ids { IfOk result (λ ids. ids.items ≡ commons_of self.now asked.now.asked) }
         ensures fault { IfErr result (λ fault. fault ≡ Memory) }
@@ -133,7 +134,7 @@ impl<A: Allocator + Copy> Server<A> {
         ready(self.graph(), asked.wants(), commons).map_err(no_memory)
     }
 
-    // The pack of the objects to send.
+    // Returns the pack of the objects to send.
     fn pack<K: Packer<A>>(
         &self,
         asked: &FetchRequest<A>,
@@ -154,7 +155,7 @@ impl<A: Allocator + Copy> Server<A> {
         Ok(PackBytes::new(bytes).unwrap())
     }
 
-    // The objects to send.
+    // Returns the objects to send.
     fn objects(
         &self,
         asked: &FetchRequest<A>,
@@ -165,7 +166,7 @@ impl<A: Allocator + Copy> Server<A> {
         ensures fault { IfErr result (λ fault. fault ≡ Memory) }
     {
         let graph = self.graph();
-        if asked.include_tag() {
+        if asked.has(FetchFlag::IncludeTag) {
             send_list_tags(graph, asked.wants(), commons, self.refs()).map_err(no_memory)
         } else {
             send_list(graph, asked.wants(), commons).map_err(no_memory)
@@ -173,7 +174,7 @@ impl<A: Allocator + Copy> Server<A> {
     }
 }
 
-// The fault of a walk, which fails only out of memory.
+// Converts the fault of a walk, which fails only if out of memory.
 fn no_memory(fault: GraphFault) -> ServeFault
     requires { fault ≡ OutOfMemory }
     ensures { result ≡ Memory }

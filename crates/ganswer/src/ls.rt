@@ -1,4 +1,4 @@
-//! What ls-refs answers (gitprotocol-v2(5), "ls-refs").
+//! The answers to ls-refs (gitprotocol-v2(5), "ls-refs").
 
 ghost use Rattle.std.specs.Prelude.{◌≡◌, ◌∷◌, ◌++◌, [], nat_eq, IfOk, IfErr, IfSome, OnOk};
 ghost use Rattle.std.specs.List.{list_any, starts_with};
@@ -15,15 +15,15 @@ use crate::peels::peeled_if;
 use crate::server::Server;
 use ggrammar::MessageFault;
 use ggraph::Head;
-use ggraph::graph_laws::places_are_nodes;
+use ggraph::graph_laws::positions_are_nodes;
 use glsreply::{LentLine, LsReply, RefLine};
 use gname::laws::ids_have_one_format;
 use gname::{Oid, Prefix, RefName};
-use grequest::LsRefsRequest;
+use grequest::{LsRefsFlag, LsRefsRequest};
 use std::alloc::{AllocError, Allocator};
 
 impl<A: Allocator + Copy> Server<A> {
-    // The reply to a request for refs. It fails with `Memory` alone.
+    // Returns the reply to a request for refs. Fails only with `Memory`.
     pub(crate) fn answer_ls(&self, asked: &LsRefsRequest<A>) -> Result<LsReply<A>, ServeFault>
         ensures answer { IfOk result (LsAnswer self.now asked.now) }
         ensures fault { IfErr result (λ fault. fault ≡ Memory) }
@@ -34,7 +34,7 @@ impl<A: Allocator + Copy> Server<A> {
         Ok(reply)
     }
 
-    // A reply without lines, with the target of an unborn HEAD.
+    // Returns a reply without lines, with the target of an unborn HEAD.
     fn begin_ls(&self, asked: &LsRefsRequest<A>) -> Result<LsReply<A>, ServeFault>
         ensures reply { IfOk result (λ reply. reply
             ≡ record { unborn = unborn_of self.now asked.now; lines = [] }) }
@@ -47,7 +47,7 @@ impl<A: Allocator + Copy> Server<A> {
         Ok(reply)
     }
 
-    // Adds the line of HEAD, where it stands at an id and is asked for.
+    // Appends the line of HEAD, if HEAD has an id and the request asks for it.
     fn add_head(&self, asked: &LsRefsRequest<A>, reply: &mut LsReply<A>) -> Result<(), ServeFault>
         requires { reply.old ≡ record { unborn = unborn_of self.now asked.now; lines = [] } }
         ensures head { OnOk result (IsAnswering self.now asked.now
@@ -55,12 +55,12 @@ impl<A: Allocator + Copy> Server<A> {
         ensures fault { IfErr result (λ fault. fault ≡ Memory) }
     {
         match self.head_id() {
-            Some(id) => self.add_line(asked, self.name_of_head(), id, None, reply),
+            Some(id) => self.add_ref_line(asked, self.name_of_head(), id, None, reply),
             None => Ok(()),
         }
     }
 
-    // Adds the lines of the refs that are asked for.
+    // Appends the lines of the requested refs.
     fn add_refs(
         &self,
         asked: &LsRefsRequest<A>,
@@ -75,13 +75,13 @@ impl<A: Allocator + Copy> Server<A> {
     {
         for (place, reference) in refs.iter().enumerate() {
             let known = self.peeled_at(place);
-            self.add_line(asked, &reference.0, reference.1, known, reply)?;
+            self.add_ref_line(asked, &reference.0, reference.1, known, reply)?;
         }
         Ok(())
     }
 
-    // Adds the line of a ref, where it is asked for. What the id peels to may be known.
-    fn add_line(
+    // Appends the line of a ref, if the request asks for it. The peeled id may be known.
+    fn add_ref_line(
         &self,
         asked: &LsRefsRequest<A>,
         name: &RefName<A>,
@@ -97,7 +97,7 @@ impl<A: Allocator + Copy> Server<A> {
         ensures fault { IfErr result (λ fault. fault ≡ Memory) }
     {
         // Laws.
-        places_are_nodes::<A>();
+        positions_are_nodes::<A>();
         ids_have_one_format();
         self.laws();
         let Some(line) = self.line(asked, name, id, known) else {
@@ -110,8 +110,8 @@ impl<A: Allocator + Copy> Server<A> {
         }
     }
 
-    /// The line of a ref, with the attributes that a request asks for. It is `None` if the request does not ask for the
-    /// ref. `known` is the id that the ref peels to, if it is known.
+    /// Returns the line of a ref, with the attributes that a request asks for, or `None` if the
+    /// request does not ask for the ref. `known` is the id that the ref peels to, if it is known.
     pub fn line<'a>(
         &'a self,
         asked: &LsRefsRequest<A>,
@@ -129,11 +129,11 @@ impl<A: Allocator + Copy> Server<A> {
             id,
             name,
             symref: self.symref(asked, name),
-            peeled: peeled_if(asked.peel(), self.graph(), &id, known),
+            peeled: peeled_if(asked.has(LsRefsFlag::Peel), self.graph(), &id, known),
         })
     }
 
-    /// The id that HEAD points at, if there is one.
+    /// Returns the id that HEAD points at, if there is one.
     pub fn head_id(&self) -> Option<Oid>
         ensures { result ≡ head_id self.now.head self.now.refs }
     {
@@ -144,7 +144,7 @@ impl<A: Allocator + Copy> Server<A> {
         }
     }
 
-    // The name that HEAD points at.
+    // Returns the name that HEAD points at.
     fn target(&self) -> Option<&RefName<A>>
         ensures { option_copied result ≡ target_of self.now.head }
     {
@@ -154,18 +154,18 @@ impl<A: Allocator + Copy> Server<A> {
         }
     }
 
-    // The name that HEAD points at, where targets are asked for and the name is HEAD.
+    // Returns the name that HEAD points at, if the request asks for targets and `name` is HEAD.
     fn symref(&self, asked: &LsRefsRequest<A>, name: &RefName<A>) -> Option<&RefName<A>>
         ensures { option_copied result ≡ symref_of self.now.head asked.now name.now }
     {
-        if asked.symrefs() && name.is_head() {
+        if asked.has(LsRefsFlag::Symrefs) && name.is_head() {
             self.target()
         } else {
             None
         }
     }
 
-    // The name that an unborn HEAD points at.
+    // Returns the name that an unborn HEAD points at.
     fn missing_target(&self) -> Option<&RefName<A>>
         ensures { option_copied result ≡ missing_target self.now.head self.now.refs }
     {
@@ -176,11 +176,12 @@ impl<A: Allocator + Copy> Server<A> {
         }
     }
 
-    /// The name that an unborn HEAD points at, if the request asks for it and HEAD is unborn.
+    /// Returns the name that an unborn HEAD points at, if the request asks for it and HEAD is
+    /// unborn.
     pub fn unborn(&self, asked: &LsRefsRequest<A>) -> Option<&RefName<A>>
         ensures { option_copied result ≡ unborn_of self.now asked.now }
     {
-        if asked.unborn() && is_asked(asked.prefixes(), self.name_of_head()) {
+        if asked.has(LsRefsFlag::Unborn) && is_asked(asked.prefixes(), self.name_of_head()) {
             self.missing_target()
         } else {
             None
@@ -188,7 +189,7 @@ impl<A: Allocator + Copy> Server<A> {
     }
 }
 
-// The line with names of its own.
+// Returns the line with owned names.
 fn own_line<A: Allocator + Copy>(line: LentLine<'_, A>) -> Result<RefLine<A>, AllocError>
     ensures { IfOk result (λ own. own ≡ lent_view line.entry) }
 {
@@ -204,7 +205,7 @@ fn own_line<A: Allocator + Copy>(line: LentLine<'_, A>) -> Result<RefLine<A>, Al
     })
 }
 
-// Whether the name begins with one of the prefixes, or there is none.
+// Whether the name begins with one of the prefixes, or there are no prefixes.
 fn is_asked<A: Allocator + Copy>(prefixes: &[Prefix<A>], name: &RefName<A>) -> bool
     ensures { result ≡ is_asked prefixes.now name.now }
 {
@@ -217,7 +218,7 @@ fn begins_with_any<A: Allocator + Copy>(prefixes: &[Prefix<A>], name: &RefName<A
     prefixes.iter().any(|prefix| name.starts_with(prefix))
 }
 
-// The fault of a line that fits its reply: out of memory.
+// Converts the fault of a line that fits its reply: out of memory.
 fn no_memory(fault: MessageFault) -> ServeFault
     requires { fault.why ≡ why.Memory }
     ensures { result ≡ Memory }

@@ -1,4 +1,4 @@
-//! A packer that is asked for one pack at most for each answer.
+//! A packer that is asked for at most one pack for each answer.
 
 ghost use Rattle.std.specs.Prelude.{◌≡◌, false, MatchResult};
 ghost use Rattle.gobject.specs.Packs.{MayPack};
@@ -10,7 +10,7 @@ use ggraph::{Entry, PackFault, Packer};
 use std::alloc::Allocator;
 use std::marker::Model;
 
-/// What a packer has answered.
+/// The result of a packer.
 #[derive(Clone, Copy, Debug, PartialEq, Eq, Drop)]
 pub enum Packing {
     /// It was not asked.
@@ -21,8 +21,8 @@ pub enum Packing {
     Failed(PackFault),
 }
 
-/// A packer that is asked for one pack at most for each answer, and what it has answered. Once it has
-/// failed it is asked no more, so that its fault stays known.
+/// A packer that is asked for at most one pack for each answer, and its result. Once it has failed
+/// it is not asked again, so its fault stays known.
 #[derive(Drop)]
 pub struct OnePack<'a, K> {
     packer: &'a K,
@@ -38,7 +38,7 @@ impl<'a, K> Model for OnePack<'a, K> {
 }
 
 impl<'a, K> OnePack<'a, K> {
-    /// The packer, before it is asked.
+    /// Makes a `OnePack` of a packer that was not asked yet.
     pub fn new(packer: &'a K) -> OnePack<'a, K>
         ensures packer { result.packer ≡ packer.now }
         ensures unasked { result.answered ≡ packing.Unasked }
@@ -49,14 +49,14 @@ impl<'a, K> OnePack<'a, K> {
         }
     }
 
-    /// What it has answered.
-    pub fn answered(&self) -> Packing
+    /// Returns its last result.
+    pub fn last_packing(&self) -> Packing
         ensures { result ≡ self.now.answered }
     {
         self.answered
     }
 
-    /// Makes it ready for another answer. It must not have failed.
+    /// Prepares it for another answer. It must not have failed.
     pub fn renew(&mut self)
         requires { has_failed self.old.answered ≡ false }
         ensures unasked { self.new.answered ≡ packing.Unasked }

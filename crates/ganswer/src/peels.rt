@@ -1,4 +1,4 @@
-//! What the ids of refs peel to where they are those of tags.
+//! The peeled ids of refs that point at tags.
 
 ghost use Rattle.std.specs.Prelude.{◌≡◌, ◌⊎◌, ◌∷◌, ◌++◌, [], length, IfSome, MatchOption, None};
 ghost use Rattle.gobject.specs.Objects.{node_at};
@@ -9,7 +9,7 @@ use ggraph::{Graph, Kind};
 use gname::Oid;
 use std::alloc::Allocator;
 
-// Nothing yet, with room for so many, or for none where there is no memory for that.
+// Returns an empty list, with room for `count` ids, or without room if out of memory.
 pub(crate) fn no_peels<A: Allocator + Copy>(alloc: A, count: usize) -> Vec<Option<Oid>, A>
     ensures { result.items ≡ [] }
 {
@@ -19,7 +19,8 @@ pub(crate) fn no_peels<A: Allocator + Copy>(alloc: A, count: usize) -> Vec<Optio
     }
 }
 
-// Keeps what belongs at a position, where all before it is kept and there is room. It takes no memory.
+// Appends the entry of an index, if the list has all entries before it and has room. Allocates
+// nothing.
 pub(crate) fn keep_peeled<A: Allocator + Copy>(
     peels: &mut Vec<Option<Oid>, A>,
     place: usize,
@@ -33,7 +34,7 @@ pub(crate) fn keep_peeled<A: Allocator + Copy>(
     }
 }
 
-// The commit to which the tag leads, where it is asked for. It may be known.
+// Returns the commit that the tag peels to, if it is requested. It may be known.
 pub(crate) fn peeled_if<A: Allocator + Copy>(
     is_asked: bool,
     graph: &Graph<A>,
@@ -48,18 +49,18 @@ pub(crate) fn peeled_if<A: Allocator + Copy>(
     }
     match known {
         Some(peeled) => peeled,
-        None => peeled(graph, id),
+        None => peel_tag(graph, id),
     }
 }
 
-// The commit to which a tag leads, and nothing for other objects.
-fn peeled<A: Allocator + Copy>(graph: &Graph<A>, id: &Oid) -> Option<Oid>
+// Returns the commit that a tag peels to, or `None` for other objects.
+fn peel_tag<A: Allocator + Copy>(graph: &Graph<A>, id: &Oid) -> Option<Oid>
     ensures { IsPeeled graph.now.entries id.now result }
 {
     look_up(graph, id)?
 }
 
-// The same where the object is held.
+// Returns the same if the object is held.
 pub(crate) fn look_up<A: Allocator + Copy>(graph: &Graph<A>, id: &Oid) -> Option<Option<Oid>>
     ensures { MatchOption result (node_at graph.now.entries id.now ≡ None)
         (λ peeled. Holds graph.now.entries id.now × IsPeeled graph.now.entries id.now peeled) }

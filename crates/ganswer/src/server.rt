@@ -1,4 +1,4 @@
-//! The repository that is served, and its changes.
+//! The served repository, and its changes.
 
 ghost use Rattle.std.specs.Prelude.{◌≡◌, ◌↔◌, slice_get, IfOk, IfSome, IsTrue, MatchOption, MatchResult, Some};
 ghost use Rattle.gname.specs.Ids.{Id};
@@ -8,29 +8,29 @@ ghost use Rattle.gdag.specs.Reach.{Grows, IsClosed};
 ghost use Rattle.grefs.specs.RefLists.{IsRefs};
 ghost use Rattle.ganswer.specs.Changes.{Adds, Sets, SetsHead};
 ghost use Rattle.ganswer.specs.LsAnswers.{KnowsPeels, IsPeeled};
-ghost use Rattle.ganswer.specs.Servers.{HoldsHead, HoldsRefs, IsServer, Makes, parents_in, served};
+ghost use Rattle.ganswer.specs.Servers.{HoldsHead, HoldsRefs, IsServer, Makes, parents_in, server_of};
 ghost use Rattle.ganswer.specs.steps.Answers.{DanglesAt};
 ghost use Rattle.gname.specs.Names.{Name, head_name};
 
 use crate::fault::BuildFault;
 use crate::peels::{keep_peeled, look_up, no_peels};
-use ggraph::graph_laws::{closed_stays, ordered_is_closed, places_are_nodes};
+use ggraph::graph_laws::{closed_stays, ordered_is_closed, positions_are_nodes};
 use ggraph::{Entry, Graph, Head, Refs};
 use gname::{Oid, RefName};
 use std::alloc::{Allocator, Global};
 use std::marker::Model;
 
-/// A repository that is served: a graph, refs and HEAD (gitglossary(7), "ref", "HEAD"). The graph is
-/// closed, and each id at which a ref, or a detached HEAD, stands is held. HEAD may be unborn.
+/// A served repository: a graph, refs and HEAD (gitglossary(7), "ref", "HEAD"). The graph is
+/// closed. It holds the id of each ref and of a detached HEAD. HEAD may be unborn.
 #[derive(Drop)]
 pub struct Server<A: Allocator + Copy = Global> {
     graph: Graph<A>,
     refs: Refs<A>,
     head: Head<A>,
-    // The name HEAD, which answers lend.
+    // The name HEAD, which the server lends to answers.
     name_of_head: RefName<A>,
-    // What the ids of the refs peel to where they are those of tags, in the order of the refs, so that a request for it
-    // looks up no object; or nothing, where there was no memory for that, or a ref was set.
+    // The peeled ids of the refs that point at tags, in the order of the refs, so that a request
+    // for them looks up no object. It is empty if there was no memory for it, or if a ref was set.
     peels: Vec<Option<Oid>, A>,
 }
 
@@ -48,15 +48,15 @@ impl<A: Allocator + Copy> Model for Server<A> {
 }
 
 impl<A: Allocator + Copy> Server<A> {
-    /// A server of these parts.
+    /// Makes a server of these parts.
     ///
-    /// It fails with `NotClosed` where the parent of an object is not held, and reports the first in the order of the
-    /// objects and of their parents. Otherwise it fails with `RefMissing` where the id of a ref is not held, and
-    /// reports the first by name. Otherwise it fails with `HeadMissing` where HEAD is detached at an id that is not
-    /// held. These faults take no memory. `Memory` comes where nothing is missing: out of memory for the name HEAD.
-    /// The parts are lost then.
+    /// Fails with `NotClosed` at the first parent that is not held, in the order of the objects and
+    /// of their parents. Otherwise fails with `RefMissing` at the first ref by name whose id is not
+    /// held. Otherwise fails with `HeadMissing` if HEAD is detached at an id that is not held.
+    /// These faults take no memory. Fails with `Memory` if nothing is missing, but there is no
+    /// memory for the name HEAD. The parts are lost on each fault.
     pub fn new(graph: Graph<A>, refs: Refs<A>, head: Head<A>) -> Result<Server<A>, BuildFault<A>>
-        ensures { Makes (served graph refs head) result }
+        ensures { Makes (server_of graph refs head) result }
     {
         // Laws.
         graph.laws();
@@ -71,7 +71,7 @@ impl<A: Allocator + Copy> Server<A> {
         }
     }
 
-    // A server of parts of which at most HEAD is missing.
+    // Makes a server of parts of which at most HEAD is missing.
     fn with_refs(
         graph: Graph<A>,
         refs: Refs<A>,
@@ -81,7 +81,7 @@ impl<A: Allocator + Copy> Server<A> {
         requires closed { IsClosed graph.entries }
         requires held { HoldsRefs graph.entries refs }
         requires peels { KnowsPeels graph.entries refs peels.items }
-        ensures { Makes (served graph refs head) result }
+        ensures { Makes (server_of graph refs head) result }
     {
         // Laws.
         graph.laws();
@@ -100,7 +100,7 @@ impl<A: Allocator + Copy> Server<A> {
         })
     }
 
-    /// The objects, in store order.
+    /// Returns the objects, in store order.
     pub fn graph(&self) -> &Graph<A>
         ensures graph { result.now ≡ self.now.graph }
         ensures server { IsServer self.now }
@@ -108,7 +108,7 @@ impl<A: Allocator + Copy> Server<A> {
         &self.graph
     }
 
-    /// The refs, by name.
+    /// Returns the refs, by name.
     pub fn refs(&self) -> &Refs<A>
         ensures refs { result.now ≡ self.now.refs }
         ensures server { IsServer self.now }
@@ -116,14 +116,14 @@ impl<A: Allocator + Copy> Server<A> {
         &self.refs
     }
 
-    /// A law: what is true of each server.
+    /// A law: the properties of each server.
     pub fn laws(&self)
         ensures { IsServer self.now }
     {
         let _ = &self.graph;
     }
 
-    /// What HEAD stands at.
+    /// Returns HEAD.
     pub fn head(&self) -> &Head<A>
         ensures head { result.now ≡ self.now.head }
         ensures server { IsServer self.now }
@@ -131,10 +131,10 @@ impl<A: Allocator + Copy> Server<A> {
         &self.head
     }
 
-    /// Adds an object at the end of the store order. Where it is held with the same node nothing changes.
+    /// Appends an object to the store order. Changes nothing if it is held with the same node.
     ///
-    /// It fails with `MissingParent` where a parent of it is not held, and reports the first; else with `Graph` as
-    /// `Graph::insert` does. Nothing changes then.
+    /// Fails with `MissingParent` at the first of its parents that is not held, and otherwise with
+    /// `Graph` as `Graph::insert` does. Nothing changes then.
     pub fn add(&mut self, entry: Entry<A>) -> Result<(), BuildFault<A>>
         ensures adds { Adds self.old entry self.new result }
         ensures format { self.new.graph.format ≡ self.old.graph.format }
@@ -152,10 +152,10 @@ impl<A: Allocator + Copy> Server<A> {
         }
     }
 
-    /// Puts a name at an id, a new name too (git-update-ref(1)).
+    /// Sets a ref to an id; the ref may be new (git-update-ref(1)).
     ///
-    /// It fails with `RefMissing` where the id is not held; else with `Refs` as `Refs::set` does. Nothing changes
-    /// then.
+    /// Fails with `RefMissing` if the id is not held, and otherwise with `Refs` as `Refs::set`
+    /// does. Nothing changes then.
     pub fn set_ref(&mut self, name: RefName<A>, id: Oid) -> Result<(), BuildFault<A>>
         ensures sets { Sets self.old name id self.new result }
         ensures server { IsServer self.new }
@@ -172,9 +172,10 @@ impl<A: Allocator + Copy> Server<A> {
         }
     }
 
-    /// Puts HEAD where it is to stand (git-symbolic-ref(1)). It takes no memory.
+    /// Sets HEAD (git-symbolic-ref(1)). Allocates nothing.
     ///
-    /// It fails with `HeadMissing` where that is an id that is not held, and nothing changes then.
+    /// Fails with `HeadMissing` if HEAD is to be detached at an id that is not held. Nothing
+    /// changes then.
     pub fn set_head(&mut self, head: Head<A>) -> Result<(), BuildFault<A>>
         ensures sets { SetsHead self.old head self.new result }
         ensures server { IsServer self.new }
@@ -188,14 +189,15 @@ impl<A: Allocator + Copy> Server<A> {
         Ok(())
     }
 
-    /// The name `HEAD`.
+    /// Returns the name `HEAD`.
     pub fn name_of_head(&self) -> &RefName<A>
         ensures { result.now ≡ head_name }
     {
         &self.name_of_head
     }
 
-    /// The id that the ref at a position peels to, if it is known: `None` in it if the ref is not at a tag.
+    /// Returns the id that the ref at an index peels to, if it is known: `Some(None)` if the ref
+    /// does not point at a tag.
     pub fn peeled_at(&self, place: usize) -> Option<Option<Oid>>
         ensures { (ref : Name × Id) → slice_get self.now.refs place ≡ Some ref
             → IfSome result (IsPeeled self.now.graph.entries ref.1) }
@@ -204,7 +206,7 @@ impl<A: Allocator + Copy> Server<A> {
     }
 }
 
-// The first parent that is missing.
+// Returns the first parent that is missing.
 fn missing_parent<A: Allocator + Copy>(graph: &Graph<A>) -> Option<Oid>
     ensures { MatchOption result (IsClosed graph.now.entries)
         (IsFirstAbsent graph.now.entries (parents_in graph.now.entries)) }
@@ -217,13 +219,13 @@ fn missing_parent<A: Allocator + Copy>(graph: &Graph<A>) -> Option<Oid>
     first_missing_parent(graph)
 }
 
-// The same, by look-ups.
+// Returns the same, by look-ups.
 fn first_missing_parent<A: Allocator + Copy>(graph: &Graph<A>) -> Option<Oid>
     ensures { MatchOption result (IsClosed graph.now.entries)
         (IsFirstAbsent graph.now.entries (parents_in graph.now.entries)) }
 {
     // Laws.
-    places_are_nodes::<A>();
+    positions_are_nodes::<A>();
     for place in 0..graph.len() {
         if let Some(id) = graph.first_absent(graph.parents(place)) {
             return Some(id);
@@ -232,7 +234,8 @@ fn first_missing_parent<A: Allocator + Copy>(graph: &Graph<A>) -> Option<Oid>
     None
 }
 
-// What the ids of the refs peel to where there is memory for that; or where the first ref is whose id is not held.
+// Returns the peeled ids of the refs if there is memory for them. Fails with the first ref whose id
+// is not held.
 fn check_refs<A: Allocator + Copy>(
     graph: &Graph<A>,
     refs: &[(RefName<A>, Oid)],

@@ -4,7 +4,7 @@ ghost use Rattle.std.specs.Prelude.{◌∷◌, ◌++◌, [], List, map};
 ghost use Rattle.std.specs.Option.{option_copied};
 ghost use Rattle.gpkt.specs.Packets.{Flush};
 ghost use Rattle.ggrammar.specs.Endings.{ends_with};
-ghost use Rattle.ggrammar.specs.Writing.{WritesLines, WritesPart};
+ghost use Rattle.ggrammar.specs.Writing.{WritesPackets, WritesPart};
 ghost use Rattle.glsreply.specs.LsReplies.{LsReply, canonical_reply, ref_packet};
 ghost use Rattle.glsreply.specs.RefTexts.{RefLine};
 ghost use Rattle.ganswer.specs.LsAnswers.{LsAnswer, ShowsLines, all_refs, head_id, head_ref};
@@ -12,31 +12,31 @@ ghost use Rattle.ganswer.specs.steps.Answers.{line_list};
 
 use crate::server::Server;
 use ggrammar::Ends;
-use ggrammar::laws::writes_lines;
+use ggrammar::laws::writes_packets;
 use ggraph::graph_laws::peels_to_one;
 use glsreply::{LentLine, RefText, write_end, write_ref, write_unborn};
-use gpkt::{LineWriter, Sink, WriteFault};
+use gpkt::{PacketWriter, Sink, WriteFault};
 use grequest::LsRefsRequest;
 use std::alloc::Allocator;
 
 impl<A: Allocator + Copy> Server<A> {
-    /// Writes the answer to a request for refs (gitprotocol-v2(5), "ls-refs"), the one that [`Server::answer`] gives.
-    /// The server lends the names, so it takes no memory.
+    /// Writes the answer to a request for refs (gitprotocol-v2(5), "ls-refs"), as
+    /// [`Server::answer`] returns it. The server lends the names, so this allocates nothing.
     ///
-    /// It fails with `Io` where the sink fails, and then a beginning of the answer stands written; with `Failed` where
-    /// the writer had failed before.
+    /// Fails with `Io` if the sink fails, after a prefix of the answer was written. Fails with
+    /// `Failed` if the writer had failed before.
     pub fn write_ls_answer<W: Sink>(
         &self,
         asked: &LsRefsRequest<A>,
         ends: Ends,
-        writer: &mut LineWriter<W>,
+        writer: &mut PacketWriter<W>,
     ) -> Result<(), WriteFault>
         ensures { (reply : LsReply) → LsAnswer self.now asked.now reply
-            → WritesLines W.contents W.passed_on W.is_down W.loans writer.old writer.new result
+            → WritesPackets W.contents W.passed_on W.is_down W.loans writer.old writer.new result
             (canonical_reply ends reply) }
     {
         // Laws.
-        writes_lines::<W>();
+        writes_packets::<W>();
         write_unborn(self.unborn(asked), writer)?;
         self.write_lines(asked, ends, writer)
     }
@@ -46,26 +46,26 @@ impl<A: Allocator + Copy> Server<A> {
         &self,
         asked: &LsRefsRequest<A>,
         ends: Ends,
-        writer: &mut LineWriter<W>,
+        writer: &mut PacketWriter<W>,
     ) -> Result<(), WriteFault>
         ensures { (lines : List RefLine) → ShowsLines self.now asked.now (all_refs self.now) lines
-            → WritesLines W.contents W.passed_on W.is_down W.loans writer.old writer.new result
+            → WritesPackets W.contents W.passed_on W.is_down W.loans writer.old writer.new result
             (map ref_packet lines ++ Flush ∷ ends_with ends) }
     {
         // Laws.
-        writes_lines::<W>();
+        writes_packets::<W>();
         let mut text = RefText::new();
         self.write_head(asked, &mut text, writer)?;
         self.write_refs(asked, &mut text, writer)?;
         write_end(ends, writer)
     }
 
-    // Writes the line of HEAD, where it stands at an id and is asked for.
+    // Writes the line of HEAD, if HEAD has an id and the request asks for it.
     fn write_head<W: Sink>(
         &self,
         asked: &LsRefsRequest<A>,
         text: &mut RefText,
-        writer: &mut LineWriter<W>,
+        writer: &mut PacketWriter<W>,
     ) -> Result<(), WriteFault>
         ensures { (lines : List RefLine)
             → ShowsLines self.now asked.now (head_ref (head_id self.now.head self.now.refs)) lines
@@ -73,7 +73,7 @@ impl<A: Allocator + Copy> Server<A> {
             (map ref_packet lines) }
     {
         // Laws.
-        writes_lines::<W>();
+        writes_packets::<W>();
         peels_to_one::<A>();
         match self.head_id() {
             Some(id) => {
@@ -84,19 +84,19 @@ impl<A: Allocator + Copy> Server<A> {
         }
     }
 
-    // Writes the lines of the refs that are asked for.
+    // Writes the lines of the requested refs.
     fn write_refs<W: Sink>(
         &self,
         asked: &LsRefsRequest<A>,
         text: &mut RefText,
-        writer: &mut LineWriter<W>,
+        writer: &mut PacketWriter<W>,
     ) -> Result<(), WriteFault>
         ensures { (lines : List RefLine) → ShowsLines self.now asked.now self.now.refs lines
             → WritesPart W.contents W.passed_on W.is_down W.loans writer.old writer.new result
             (map ref_packet lines) }
     {
         // Laws.
-        writes_lines::<W>();
+        writes_packets::<W>();
         peels_to_one::<A>();
         for (place, reference) in self.refs().as_slice().iter().enumerate() {
             let known = self.peeled_at(place);
@@ -107,17 +107,17 @@ impl<A: Allocator + Copy> Server<A> {
     }
 }
 
-// Writes a line, where there is one.
+// Writes a line, if there is one.
 fn write_line<A: Allocator + Copy, W: Sink>(
     line: Option<&LentLine<'_, A>>,
     text: &mut RefText,
-    writer: &mut LineWriter<W>,
+    writer: &mut PacketWriter<W>,
 ) -> Result<(), WriteFault>
     ensures { WritesPart W.contents W.passed_on W.is_down W.loans writer.old writer.new result
         (map ref_packet (line_list (option_copied line.entry))) }
 {
     // Laws.
-    writes_lines::<W>();
+    writes_packets::<W>();
     match line {
         Some(line) => write_ref(line, text, writer),
         None => Ok(()),

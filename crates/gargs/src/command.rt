@@ -1,11 +1,11 @@
-//! What a command line asks for.
+//! The commands of a command line.
 
 use gcmd::{Ends, PackLimit};
-use gtcp::Place;
+use gtcp::Location;
 
-/// What the words ask for.
+/// The command of some arguments.
 #[derive(Debug, Drop)]
-pub enum Command {
+pub enum Gitv2Command {
     /// `check FILE`
     Check {
         /// The name of the file of the repository.
@@ -22,16 +22,16 @@ pub enum Command {
     },
     /// `ls --tcp ADDR --path PATH [PREFIX]...`
     LsTcp {
-        /// Where the server is.
-        place: Place,
-        /// What the names of the refs begin with. All are listed where there are none.
+        /// The location of the server.
+        place: Location,
+        /// The prefixes of the refs to list, or none to list all.
         prefixes: Vec<String>,
     },
     /// `pair SERVERFILE CLIENTFILE SPEC...`
     Pair {
         /// The name of the file of the server's repository.
         server: String,
-        /// That of the client's.
+        /// The name of the file of the client's repository.
         client: String,
         /// The refspecs, at least one.
         specs: Vec<String>,
@@ -49,27 +49,27 @@ pub enum Command {
     },
 }
 
-/// What is fetched, how, and into which file.
+/// The parameters of a fetch.
 #[derive(Debug, Drop)]
 pub struct Fetch {
-    /// Where from. `None` where that is what standard input and standard output lead to.
-    pub place: Option<Place>,
-    /// The most bytes of a pack.
+    /// The location of the server, or `None` for standard input and standard output.
+    pub place: Option<Location>,
+    /// The maximum size of a pack in bytes.
     pub limit: PackLimit,
     /// How replies end.
     pub ends: Ends,
-    /// The name of the file of the client's repository, which is written anew.
+    /// The name of the file of the client's repository, which is replaced.
     pub file: String,
-    /// The refspecs, at least one. Whether they are any is not looked at.
+    /// The refspecs, at least one, not yet checked.
     pub specs: Vec<String>,
 }
 
-/// What is served, where, to how many connections, and how replies end.
+/// The parameters of a service.
 #[derive(Debug, Drop)]
 pub struct Serve {
-    /// Where connections are accepted, and the path that they are to name.
-    pub place: Place,
-    /// How many are served, from 1 to 1,000,000.
+    /// The address at which connections are accepted, and the path that clients must name.
+    pub place: Location,
+    /// The number of connections to serve, from 1 to 1,000,000.
     pub connections: u32,
     /// How replies end.
     pub ends: Ends,
@@ -77,13 +77,13 @@ pub struct Serve {
     pub file: String,
 }
 
-/// What is simulated, by its files.
+/// The files of a simulation.
 #[derive(Debug, Drop)]
 pub struct Simulate {
     /// The name of the file of the server's repository.
     pub server: String,
-    /// That of the client's.
+    /// The name of the file of the client's repository.
     pub client: String,
-    /// That of the events.
+    /// The name of the file of the events.
     pub scenario: String,
 }

@@ -6,10 +6,10 @@ ghost use Rattle.gargs.specs.Numbers.{Says};
 
 use gcmd::PackLimit;
 
-// The most connections that are served.
+// The maximum number of connections to serve.
 const MAX_CONNECTIONS: u32 = 1_000_000;
 
-/// The limit of a pack that the text says. `None` where it is no number, or too high.
+/// Returns the limit of a pack that the text gives, or `None` if it is not a number or too high.
 pub(crate) fn limit_of(text: &str) -> Option<PackLimit>
     ensures { MatchOption result (((bytes : ℕ) → bytes ≤ max_pack → Says text.now bytes → ⊥))
         (Says text.now) }
@@ -17,7 +17,8 @@ pub(crate) fn limit_of(text: &str) -> Option<PackLimit>
     PackLimit::new(number_of(text)?)
 }
 
-/// How many connections the text says. `None` where it is no number, or none, or more than 1,000,000.
+/// Returns the number of connections that the text gives, or `None` if it is not a number from 1 to
+/// 1,000,000.
 pub(crate) fn connections_of(text: &str) -> Option<u32>
     ensures { MatchOption result
         (((count : ℕ) → 1 ≤ count → count ≤ 1_000_000 → Says text.now count → ⊥))
@@ -31,7 +32,7 @@ pub(crate) fn connections_of(text: &str) -> Option<u32>
     }
 }
 
-// The number that some decimal digits, at least one, stand for. `parse` takes a `+` before them, too.
+// Returns the number of some decimal digits, at least one. `parse` also takes a `+` before them.
 fn number_of(text: &str) -> Option<usize>
     ensures { MatchOption result (((number : ℕ) → number < 2 ^ 64 → Says text.now number → ⊥))
         (Says text.now) }

@@ -1,16 +1,17 @@
-//! A command line, read.
+//! Reading a command line.
 
-use crate::command::{Command, Fetch, Serve, Simulate};
+use crate::command::{Fetch, Gitv2Command, Serve, Simulate};
 use crate::number::{connections_of, limit_of};
 use crate::usage::program;
 use clap::ArgMatches;
 use gcmd::{Ends, PackLimit};
-use gtcp::Place;
+use gtcp::Location;
 use std::alloc::{AllocError, Global};
 
-/// What these words ask for, the first of which is the program's own name. `None` where they are none of the usage,
-/// which has no help either, and where there is no memory to read them.
-pub fn read_command(alloc: Global, words: &[String]) -> Option<Command> {
+/// Returns the command of these arguments, the first of which is the program's own name. Returns
+/// `None` if they do not match the usage, which has no help either, and if there is no memory to
+/// read them.
+pub fn read_command(alloc: Global, words: &[String]) -> Option<Gitv2Command> {
     if words.iter().any(|word| word.as_str() == "--") {
         return None;
     }
@@ -22,11 +23,11 @@ fn parse<'a>(alloc: Global, words: &'a [String]) -> Option<ArgMatches<'a>> {
     program(alloc).ok()?.try_get_matches_from(words).ok()
 }
 
-fn command_of(alloc: Global, matches: &ArgMatches<'_>) -> Option<Command> {
+fn command_of(alloc: Global, matches: &ArgMatches<'_>) -> Option<Gitv2Command> {
     match matches.subcommand()? {
         ("check", check) => check_command(alloc, check),
         ("fetch", fetch) => fetch_command(alloc, fetch),
-        ("lines", _) => Some(Command::Lines),
+        ("lines", _) => Some(Gitv2Command::Lines),
         ("ls", ls) => ls_command(alloc, ls),
         ("pair", pair) => pair_command(alloc, pair),
         ("serve", serve) => serve_command(alloc, serve),
@@ -44,18 +45,18 @@ fn word_in(alloc: Global, matches: &ArgMatches<'_>, name: &str) -> Option<String
     String::from_str(alloc, matches.get_str(name)?).ok()
 }
 
-fn check_command(alloc: Global, matches: &ArgMatches<'_>) -> Option<Command> {
+fn check_command(alloc: Global, matches: &ArgMatches<'_>) -> Option<Gitv2Command> {
     let file = file_in(alloc, matches)?;
-    Some(Command::Check { file })
+    Some(Gitv2Command::Check { file })
 }
 
-fn fetch_command(alloc: Global, matches: &ArgMatches<'_>) -> Option<Command> {
+fn fetch_command(alloc: Global, matches: &ArgMatches<'_>) -> Option<Gitv2Command> {
     let limit = limit_in(matches)?;
     let ends = ends_in(matches);
     let place = source_in(alloc, matches)?;
     let file = file_in(alloc, matches)?;
     let specs = words_in(alloc, matches, "spec").ok()?;
-    Some(Command::Fetch(Fetch {
+    Some(Gitv2Command::Fetch(Fetch {
         place,
         limit,
         ends,
@@ -64,37 +65,38 @@ fn fetch_command(alloc: Global, matches: &ArgMatches<'_>) -> Option<Command> {
     }))
 }
 
-// Where a fetch is from: a place, or `Some(None)` for standard input and standard output.
-fn source_in(alloc: Global, matches: &ArgMatches<'_>) -> Option<Option<Place>> {
+// Returns the location of a fetch, or `Some(None)` for standard input and standard output.
+fn source_in(alloc: Global, matches: &ArgMatches<'_>) -> Option<Option<Location>> {
     match way_of(matches, "stdio")? {
-        Way::Stdio => Some(None),
-        Way::Tcp => Some(Some(place_in(alloc, matches, "tcp")?)),
+        Transport::Stdio => Some(None),
+        Transport::Tcp => Some(Some(place_in(alloc, matches, "tcp")?)),
     }
 }
 
-// How a server is reached.
+// The transport to a server.
 #[derive(Clone, Copy)]
-enum Way {
+enum Transport {
     Stdio,
     Tcp,
 }
 
-// By the flag, without an address or a path; or by these, without the flag.
-fn way_of(matches: &ArgMatches<'_>, flag: &str) -> Option<Way> {
+// Returns the transport: the flag without an address or a path, or these without the flag.
+fn way_of(matches: &ArgMatches<'_>, flag: &str) -> Option<Transport> {
     let is_named = matches.get_str("tcp").is_some() || matches.get_str("path").is_some();
     match (matches.get_flag(flag), is_named) {
-        (true, false) => Some(Way::Stdio),
-        (false, true) => Some(Way::Tcp),
+        (true, false) => Some(Transport::Stdio),
+        (false, true) => Some(Transport::Tcp),
         _ => None,
     }
 }
 
-// The address of this option, and the path.
-fn place_in(alloc: Global, matches: &ArgMatches<'_>, option: &str) -> Option<Place> {
-    Place::new(alloc, matches.get_str(option)?, matches.get_str("path")?)
+// Returns the address of this option, and the path.
+fn place_in(alloc: Global, matches: &ArgMatches<'_>, option: &str) -> Option<Location> {
+    Location::new(alloc, matches.get_str(option)?, matches.get_str("path")?)
 }
 
-// The limit that is asked for, or that of a fetch where none is. `None` where it is no number, or too high.
+// Returns the given limit, or that of a fetch if none is given. Returns `None` if it is not a
+// number or too high.
 fn limit_in(matches: &ArgMatches<'_>) -> Option<PackLimit> {
     match matches.get_str("limit") {
         Some(text) => limit_of(text),
@@ -102,7 +104,7 @@ fn limit_in(matches: &ArgMatches<'_>) -> Option<PackLimit> {
     }
 }
 
-// The words of an argument that may have many.
+// Returns the values of an argument that may have many.
 fn words_in(
     alloc: Global,
     matches: &ArgMatches<'_>,
@@ -125,17 +127,17 @@ fn ends_in(matches: &ArgMatches<'_>) -> Ends {
     }
 }
 
-fn ls_command(alloc: Global, matches: &ArgMatches<'_>) -> Option<Command> {
+fn ls_command(alloc: Global, matches: &ArgMatches<'_>) -> Option<Gitv2Command> {
     let mut words = words_in(alloc, matches, "word").ok()?;
     match way_of(matches, "stdio-server")? {
-        Way::Stdio if words.len() == 1 => {
+        Transport::Stdio if words.len() == 1 => {
             let file = words.pop()?;
-            Some(Command::LsStdioServer { file })
+            Some(Gitv2Command::LsStdioServer { file })
         }
-        Way::Stdio => None,
-        Way::Tcp => {
+        Transport::Stdio => None,
+        Transport::Tcp => {
             let place = place_in(alloc, matches, "tcp")?;
-            Some(Command::LsTcp {
+            Some(Gitv2Command::LsTcp {
                 place,
                 prefixes: words,
             })
@@ -143,23 +145,23 @@ fn ls_command(alloc: Global, matches: &ArgMatches<'_>) -> Option<Command> {
     }
 }
 
-fn pair_command(alloc: Global, matches: &ArgMatches<'_>) -> Option<Command> {
+fn pair_command(alloc: Global, matches: &ArgMatches<'_>) -> Option<Gitv2Command> {
     let server = file_in(alloc, matches)?;
     let client = word_in(alloc, matches, "client")?;
     let specs = words_in(alloc, matches, "spec").ok()?;
-    Some(Command::Pair {
+    Some(Gitv2Command::Pair {
         server,
         client,
         specs,
     })
 }
 
-fn serve_command(alloc: Global, matches: &ArgMatches<'_>) -> Option<Command> {
+fn serve_command(alloc: Global, matches: &ArgMatches<'_>) -> Option<Gitv2Command> {
     let connections = connections_of(matches.get_str("connections")?)?;
     let ends = ends_in(matches);
     let place = place_in(alloc, matches, "listen")?;
     let file = file_in(alloc, matches)?;
-    Some(Command::Serve(Serve {
+    Some(Gitv2Command::Serve(Serve {
         place,
         connections,
         ends,
@@ -167,19 +169,19 @@ fn serve_command(alloc: Global, matches: &ArgMatches<'_>) -> Option<Command> {
     }))
 }
 
-fn simulate_command(alloc: Global, matches: &ArgMatches<'_>) -> Option<Command> {
+fn simulate_command(alloc: Global, matches: &ArgMatches<'_>) -> Option<Gitv2Command> {
     let server = file_in(alloc, matches)?;
     let client = word_in(alloc, matches, "client")?;
     let scenario = word_in(alloc, matches, "scenario")?;
-    Some(Command::Simulate(Simulate {
+    Some(Gitv2Command::Simulate(Simulate {
         server,
         client,
         scenario,
     }))
 }
 
-fn upload_command(alloc: Global, matches: &ArgMatches<'_>) -> Option<Command> {
+fn upload_command(alloc: Global, matches: &ArgMatches<'_>) -> Option<Gitv2Command> {
     let file = file_in(alloc, matches)?;
     let ends = ends_in(matches);
-    Some(Command::Upload { ends, file })
+    Some(Gitv2Command::Upload { ends, file })
 }

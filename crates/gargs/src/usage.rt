@@ -1,20 +1,20 @@
-//! The words of each command, as `clap` is told of them.
+//! The arguments of each command, as declared to `clap`.
 
 use clap::{Arg, ArgAction, Command};
 use std::alloc::{AllocError, Global};
 
-// A word of a command, or several of them, under the name by which it is looked up once read.
+// One or several arguments of a command, under the name by which they are looked up.
 #[derive(Clone, Copy)]
 enum Word {
     // `--NAME`
     Flag(&'static str),
     // `--NAME VALUE`
     Valued(&'static str),
-    // A word that must be there.
+    // A required argument.
     One(&'static str),
-    // At least one word.
+    // At least one argument.
     Many(&'static str),
-    // Any number of words.
+    // Any number of arguments.
     Any(&'static str),
 }
 
@@ -28,7 +28,7 @@ const SPECS: Word = Word::Many("spec");
 
 const TCP: Word = Word::Valued("tcp");
 
-// The commands, each with its words.
+// The commands, each with its arguments.
 const COMMANDS: &[(&str, &[Word])] = &[
     ("check", &[FILE]),
     ("lines", &[]),
@@ -66,7 +66,7 @@ const COMMANDS: &[(&str, &[Word])] = &[
     ),
 ];
 
-/// The program, with all of its commands.
+/// Returns the program, with all of its commands.
 pub(crate) fn program<'a>(alloc: Global) -> Result<Command<'a>, AllocError> {
     let mut program = Command::new(alloc, "gitv2");
     for &(name, words) in COMMANDS {

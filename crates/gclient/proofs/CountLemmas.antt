@@ -10,7 +10,7 @@ use Rattle.gdag.specs.Reach.{Grows}
 use Rattle.gdag.specs.Walks.{CountsReached}
 use Rattle.gdag.proofs.Growing.{grows_on}
 use Rattle.gobject.specs.Packs.{Indexes, IndexFails}
-use Rattle.gclientrepo.specs.Repos.{IsWhole, RepoState}
+use Rattle.gclientrepo.specs.Repos.{IsConnectedRepo, RepoState}
 use Rattle.grequest.specs.Asked.{Asked, Empty, Ls, Fetches}
 use Rattle.gsession.specs.Bounds.{BeganOn, BeganStaysOn, BeginsCounted, BeganBegins, CountedAreFew, CountedStays}
 use Rattle.gsession.specs.Bounds.{IsCounted}
@@ -21,7 +21,7 @@ use Rattle.gsession.specs.declared.taken.Taken.{Taken}
 use Rattle.gsession.specs.Laws.{EachGoesOn}
 use Rattle.gsession.specs.Requesting.{waiting_for}
 use Rattle.gsession.specs.TakingReplies.{TakesHead}
-use Rattle.gclient.specs.Conversations.{Start, begun, heard, Converses, Fails, cannot_ask, cannot_begin, cannot_hear}
+use Rattle.gclient.specs.Conversations.{Start, begin_session, hear_advert, Converses, Fails, cannot_ask, cannot_begin, cannot_hear}
 use Rattle.gclient.specs.Conversations.{cannot_send, cannot_settle, cannot_take, no_buffer, HasFetched, FailsToAsk}
 use Rattle.gclient.specs.Conversations.{HasAsked, IsDue, request, ending, request_bytes, requests_bytes}
 use Rattle.gclient.specs.Laws.{NextIsFew, RoundsAreAsked, TalksAreFew, asked_in, count_of, objects_asked, AsksAtMost}
@@ -133,8 +133,8 @@ module _ {A : Type 0} (indexes : Indexes A) (index_fails : IndexFails) where
 
   pub rounds_are_asked : RoundsAreAsked indexes index_fails
   rounds_are_asked start capabilities talk last are =
-      let none : (heard start capabilities).session.rounds ≡ 0 = refl in
-      omega (arith, turns_rounds (heard start capabilities) talk last are)
+      let none : (hear_advert start capabilities).session.rounds ≡ 0 = refl in
+      omega (arith, turns_rounds (hear_advert start capabilities) talk last are)
 
   -- ---- so far
 
@@ -160,22 +160,22 @@ module _ {A : Type 0} (indexes : Indexes A) (index_fails : IndexFails) where
       tips = (laws.goes_on repo old new call).tips ∙ was.tips;
     }
 
-    begun_going : IsWhole start.repo → length start.refspecs ≤ max_specs → IsGoing start (begun start) start.repo
+    begun_going : IsConnectedRepo start.repo → length start.refspecs ≤ max_specs → IsGoing start (begin_session start) start.repo
     begun_going whole few =
         let plain : SessionState A =
         new_session start.repo.graph.format start.refspecs start.limit start.ends (tips_of start.repo) in
         let counted = laws.begins start.repo start.refspecs start.limit start.ends plain (few, refl) in
         let began = laws.begins_on start.repo start.refspecs start.limit start.ends plain whole (few, refl) in record {
           counted = record { once = counted.once; few = counted.few; due = counted.due };
-          began = record { full = began.full; sent = began.sent };
+          began = record { connected = began.connected; sent = began.sent };
           grows = still start;
           tips = refl;
         }
 
-    heard_going : (capabilities : List Capability) → IsWhole start.repo → length start.refspecs ≤ max_specs
-        → IsGoing start (heard start capabilities).session start.repo
+    heard_going : (capabilities : List Capability) → IsConnectedRepo start.repo → length start.refspecs ≤ max_specs
+        → IsGoing start (hear_advert start capabilities).session start.repo
     heard_going capabilities whole few =
-        called (begun start) (heard start capabilities).session start.repo start.repo
+        called (begin_session start) (hear_advert start capabilities).session start.repo start.repo
         (begun_going whole few)
         (heard_call capabilities (Ok tt) ((refl, refl), refl)) (still start)
 
@@ -205,11 +205,11 @@ module _ {A : Type 0} (indexes : Indexes A) (index_fails : IndexFails) where
         turns_going next talk last (turn_going first turn next was is) rest
 
     talk_going : (capabilities : List Capability) (talk : List Turn) (last : ClientState A)
-        → IsWhole start.repo → length start.refspecs ≤ max_specs
-        → AreTurns indexes index_fails (heard start capabilities) talk last
+        → IsConnectedRepo start.repo → length start.refspecs ≤ max_specs
+        → AreTurns indexes index_fails (hear_advert start capabilities) talk last
         → IsGoing start last.session last.repo
     talk_going capabilities talk last whole few are =
-        turns_going (heard start capabilities) talk last
+        turns_going (hear_advert start capabilities) talk last
         (heard_going capabilities whole few) are
 
     going_few : (session : SessionState A) (repo : RepoState A) (held parents : ℕ) → IsGoing start session repo
@@ -322,7 +322,7 @@ flush_few talk most few =
 
 module _ {A : Type 0} (indexes : Indexes A) (index_fails : IndexFails) where
   module _ (talks : TalksAreFew indexes index_fails) (next : NextIsFew indexes index_fails) (start : Start A)
-      (whole : IsWhole start.repo) (held parents : ℕ)
+      (whole : IsConnectedRepo start.repo) (held parents : ℕ)
       (counts : CountsReached start.repo.graph.entries (tips_of start.repo) held parents) where
     talk_few : (input : Input) (talk : List Turn) (last : ClientState A) (Rest : Input → Type 0)
         → Converses indexes index_fails start input talk last Rest

@@ -2,3 +2,4 @@ pub mod StepLemmas
 pub mod TurnLemmas
 pub mod TalkLemmas
 pub mod CountLemmas
+mod ListingLemmas

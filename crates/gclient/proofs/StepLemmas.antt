@@ -5,14 +5,14 @@ use Rattle.std.specs.Prelude.{IsErrAnd, flat_map}
 use Rattle.gname.specs.declared.formats.Format.{Format}
 use Rattle.gpkt.specs.Sending.{Input, IsUp, output_of, IsUnwritten, Passes, SendsSome}
 use Rattle.gpkt.specs.Change.{Change}
-use Rattle.gpkt.specs.LineWriting.{Writer, HasPushed}
+use Rattle.gpkt.specs.PacketWriting.{Writer, HasPushed}
 use Rattle.gpkt.specs.Packets.{Packet, canonical_all}
 use Rattle.gpkt.specs.Devices.{KeepsPassed}
 use Rattle.gpkt.specs.Laws.{PushesWritten}
 use Rattle.gpkt.specs.declared.fault.WriteFault.{WriteFault}
 use Rattle.ggrammar.specs.Capabilities.{Capability}
 use Rattle.ggrammar.specs.declared.fault.MessageFault.{MessageFault}
-use Rattle.ggrammar.specs.Writing.{WritesLines}
+use Rattle.ggrammar.specs.Writing.{WritesPackets}
 use Rattle.ggrammar.specs.Kinds.{ReadsMessage}
 use Rattle.ghello.specs.Adverts.{Says, judge}
 use Rattle.ghello.specs.Offers.{check_fault}
@@ -23,7 +23,7 @@ use Rattle.gsession.specs.declared.stage.Stage.TheVariants.{Listing, Fetching, S
 use Rattle.gsession.specs.Requesting.{is_due}
 use Rattle.gsession.specs.TakingRefs.{TakesLs, stage_for}
 use Rattle.gsession.specs.declared.taken.LsTaken.{LsTaken}
-use Rattle.gclient.specs.Conversations.{Start, RefusesAdvert, heard, FailsToAsk, HasAsked, request_bytes}
+use Rattle.gclient.specs.Conversations.{Start, RefusesAdvert, hear_advert, FailsToAsk, HasAsked, request_bytes}
 use Rattle.gclient.specs.Conversations.{requests_bytes, HasPassed}
 use Rattle.gclient.specs.steps.Conversations.{HasBegun, HearsServer, start_with}
 use Rattle.gclient.specs.Turns.{Turn}
@@ -72,7 +72,7 @@ pub record IsHeard {A : Type 0} (repo : RepoState A) (s : SessionState A) : Type
   pub sent : s.sent ≡ []
 
 heard_new : {A : Type 0} (start : Start A) (capabilities : List Capability)
-    → IsHeard start.repo (heard start capabilities).session
+    → IsHeard start.repo (hear_advert start capabilities).session
 heard_new start capabilities =
     record { stage = refl; pending = refl; due = refl; format = refl; tips = refl; sent = refl }
 
@@ -80,7 +80,7 @@ pub is_heard : {A : Type 0} (format : Format) (repo : RepoState A) (old new : Se
     → HasBegun old repo
     → HearsServer {A = A} format old input new (Ok tt) → IsHeard repo new
 is_heard {A} format repo old new input begun (packets, capabilities, advertises, lines, is, up) =
-    let same : new ≡ (heard (start_with old repo) capabilities).session =
+    let same : new ≡ (hear_advert (start_with old repo) capabilities).session =
     is ∙ ap (λ (s : SessionState A). record s { offers_unborn = tells_unborn capabilities }) begun in
     subst (IsHeard repo) (sym same) (heard_new (start_with old repo) capabilities)
 
@@ -115,7 +115,7 @@ module _ {W : Type 0} (contents passed_on : W → Option (List ℕ)) (is_down : 
 
   -- what was written by a writer that had not failed was passed on
   pub passed_pushed : PushesWritten contents passed_on is_down loans → (a b c : Writer W) (packets : List Packet)
-      (result : Result (Unit {0}) WriteFault) → WritesLines contents passed_on is_down loans a b (Ok tt) packets
+      (result : Result (Unit {0}) WriteFault) → WritesPackets contents passed_on is_down loans a b (Ok tt) packets
       → HasPushed contents passed_on is_down loans b c result
       → HasPassed (output_of contents passed_on is_down a.sink c.sink) result (canonical_all packets)
   passed_pushed pushes a b c packets (Ok done) wrote pushed =

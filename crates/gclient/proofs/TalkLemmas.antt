@@ -5,11 +5,11 @@ use Rattle.std.proofs.lemmas.Grind.{flat_map-append}
 use Rattle.gname.specs.declared.formats.Format.{Format}
 use Rattle.gpkt.specs.Sending.{Input, input_of, output_of, IsUnread, Passes, SendsSome, Output}
 use Rattle.gpkt.specs.Laws.{ReadsJoin}
-use Rattle.gpkt.specs.LineReading.{ReadsLines}
+use Rattle.gpkt.specs.PacketReading.{ReadsPackets}
 use Rattle.gpkt.specs.Packets.{Packet}
 use Rattle.gobject.specs.Packs.{Indexes, IndexFails}
 use Rattle.gclientrepo.specs.Changes.{SettlesAsks}
-use Rattle.gclientrepo.specs.Repos.{RepoState, IsWhole}
+use Rattle.gclientrepo.specs.Repos.{RepoState, IsConnectedRepo}
 use Rattle.gclientrepo.specs.declared.ask.Ask.{Ask}
 use Rattle.gclientrepo.specs.Settling.{Settles}
 use Rattle.grequest.specs.Asked.{Empty, Asked}
@@ -22,7 +22,7 @@ use Rattle.gsession.specs.declared.taken.LsTaken.{LsTaken}
 use Rattle.gsession.specs.TakingRefs.{TakesLs}
 use Rattle.gsession.specs.declared.fault.ClientFault.TheVariants as client
 use Rattle.gclient.specs.Conversations.{Start, Converses, Fails, cannot_ask, cannot_hear, cannot_send, cannot_settle}
-use Rattle.gclient.specs.Conversations.{cannot_take, HasFetched, request, ending, IsLeft, begun, heard}
+use Rattle.gclient.specs.Conversations.{cannot_take, HasFetched, request, ending, IsLeft, begin_session, hear_advert}
 use Rattle.gpkt.specs.Sending.{rest_of}
 use Rattle.gclient.specs.Conversations.{request_bytes, cannot_begin, no_buffer, FetchesOver}
 use Rattle.gclient.specs.steps.Conversations.{Closes, FailsTurn, unasked, unsent, untaken, HasTalked, HasTurned}
@@ -41,9 +41,9 @@ use Rattle.grefs.specs.RefLists.{RefList}
 use Rattle.gclientrepo.proofs.Refusals.{refusals_change_nothing}
 
 reads_more : ReadsJoin → (old mid new : Option (List ℕ)) (packets : List Packet) (talk : List Turn) (turn : Turn)
-    → ReadsLines (record { old = old; new = mid }) (packets ++ flat_map (λ t. t.reply) talk)
-    → ReadsLines (record { old = mid; new = new }) turn.reply
-    → ReadsLines (record { old = old; new = new }) (packets ++ flat_map (λ t. t.reply) (talk ++ turn ∷ []))
+    → ReadsPackets (record { old = old; new = mid }) (packets ++ flat_map (λ t. t.reply) talk)
+    → ReadsPackets (record { old = mid; new = new }) turn.reply
+    → ReadsPackets (record { old = old; new = new }) (packets ++ flat_map (λ t. t.reply) (talk ++ turn ∷ []))
 reads_more join old mid new packets talk turn before next =
     let replies : Turn → List Packet = λ t. t.reply in
     let last : flat_map replies (talk ++ turn ∷ []) ≡ flat_map replies talk ++ turn.reply =
@@ -51,7 +51,7 @@ reads_more join old mid new packets talk turn before next =
     ∙ ap (λ (xs : List Packet). flat_map replies talk ++ xs) (append-nil turn.reply) in
     let all : (packets ++ flat_map replies talk) ++ turn.reply ≡ packets ++ flat_map replies (talk ++ turn ∷ []) =
     append_assoc packets (flat_map replies talk) turn.reply ∙ ap (λ (xs : List Packet). packets ++ xs) (sym last) in
-    subst (λ (xs : List Packet). ReadsLines (record { old = old; new = new }) xs) all
+    subst (λ (xs : List Packet). ReadsPackets (record { old = old; new = new }) xs) all
     (join old mid new (packets ++ flat_map replies talk) turn.reply before next)
 
 module _ {A S W : Type 0} (indexes : Indexes A) (index_fails : IndexFails) (start : Start A)
@@ -71,7 +71,7 @@ module _ {A S W : Type 0} (indexes : Indexes A) (index_fails : IndexFails) (star
     advertises = before.advertises;
     each = before.each;
     between = remaining s;
-    read = subst (λ (x : Option (List ℕ)). ReadsLines (record { old = remaining r; new = x })
+    read = subst (λ (x : Option (List ℕ)). ReadsPackets (record { old = remaining r; new = x })
         (before.packets ++ flat_map (λ t. t.reply) talk))
         (sym before.rest.unread) before.read;
     rest = rest;
@@ -88,8 +88,8 @@ module _ {A S W : Type 0} (indexes : Indexes A) (index_fails : IndexFails) (star
   -- a turn more
   converse_more : ReadsJoin → (r s t : S) (talk : List Turn) (turn : Turn) (now new : ClientState A)
       → (before : Converses indexes index_fails start (input_of remaining source_down r s) talk now IsLeft)
-      → AreTurns indexes index_fails (heard start before.capabilities) (talk ++ turn ∷ []) new
-      → ReadsLines (record { old = remaining s; new = remaining t }) turn.reply → source_down t ≡ false
+      → AreTurns indexes index_fails (hear_advert start before.capabilities) (talk ++ turn ∷ []) new
+      → ReadsPackets (record { old = remaining s; new = remaining t }) turn.reply → source_down t ≡ false
       → Converses indexes index_fails start (input_of remaining source_down r t) (talk ++ turn ∷ []) new IsLeft
   unfolding converse_on
   converse_more join r s t talk turn now new before each lines up =
@@ -110,18 +110,18 @@ module _ {A S W : Type 0} (indexes : Indexes A) (index_fails : IndexFails) (star
   pub same_format : (input : Input) (talk : List Turn) (now : ClientState A) (Rest : Input → Type 0)
       → Converses indexes index_fails start input talk now Rest → now.repo.graph.format ≡ start.repo.graph.format
   same_format input talk now Rest converses =
-      (turns_kept indexes index_fails (heard start converses.capabilities) talk now converses.each).format
+      (turns_kept indexes index_fails (hear_advert start converses.capabilities) talk now converses.each).format
 
   pub same_own : (input : Input) (talk : List Turn) (now : ClientState A) (Rest : Input → Type 0)
       → Converses indexes index_fails start input talk now Rest → now.session.format ≡ now.repo.graph.format
   same_own input talk now Rest converses =
-      (turns_kept indexes index_fails (heard start converses.capabilities) talk now converses.each).own
+      (turns_kept indexes index_fails (hear_advert start converses.capabilities) talk now converses.each).own
       ∙ sym (same_format input talk now Rest converses)
 
   pub same_tips : (input : Input) (talk : List Turn) (now : ClientState A) (Rest : Input → Type 0)
       → Converses indexes index_fails start input talk now Rest → now.session.tips ≡ tips_of start.repo
   same_tips input talk now Rest converses =
-      (turns_kept indexes index_fails (heard start converses.capabilities) talk now converses.each).tips
+      (turns_kept indexes index_fails (hear_advert start converses.capabilities) talk now converses.each).tips
 
   -- ---- from turn to turn
 
@@ -139,7 +139,7 @@ module _ {A S W : Type 0} (indexes : Indexes A) (index_fails : IndexFails) (star
       record {
         talk = before.talk ++ more.turn ∷ [];
         converses = converse_more join r s t before.talk more.turn now new before.converses
-            (turns_more indexes index_fails (heard start before.converses.capabilities) before.talk more.turn now new
+            (turns_more indexes index_fails (hear_advert start before.converses.capabilities) before.talk more.turn now new
             before.converses.each more.is_turn)
             more.lines more.up;
         asked = asked_more contents passed_on sink_down start.repo.graph.format a b c before.talk more.turn before.asked
@@ -183,7 +183,7 @@ module _ {A S W : Type 0} (indexes : Indexes A) (index_fails : IndexFails) (star
   -- ---- the beginning
 
   -- the server is heard, and nothing is asked
-  pub talked_none : (r s : S) (a : W) (old new : SessionState A) → length start.refspecs ≤ max_specs → old ≡ begun start
+  pub talked_none : (r s : S) (a : W) (old new : SessionState A) → length start.refspecs ≤ max_specs → old ≡ begin_session start
       → HearsServer {A = A} start.repo.graph.format old (input_of remaining source_down r s) new (Ok tt)
       → HasTalked indexes index_fails start (input_of remaining source_down r s)
       (output_of contents passed_on sink_down a a) (client_of new start.repo None)
@@ -197,7 +197,7 @@ module _ {A S W : Type 0} (indexes : Indexes A) (index_fails : IndexFails) (star
       each = ap (λ (x : SessionState A). client_of x start.repo None)
           (is ∙ ap (λ (x : SessionState A). record x { offers_unborn = tells_unborn capabilities }) fresh);
       between = remaining s;
-      read = subst (λ (xs : List Packet). ReadsLines (record { old = remaining r; new = remaining s }) xs)
+      read = subst (λ (xs : List Packet). ReadsPackets (record { old = remaining r; new = remaining s }) xs)
           (sym (append-nil packets)) lines;
       rest = record { unread = refl; up = up };
     };
@@ -281,23 +281,23 @@ module _ {A S W : Type 0} (indexes : Indexes A) (index_fails : IndexFails)
     (remaining : S → Option (List ℕ)) (source_down : S → Bool)
     (contents passed_on : W → Option (List ℕ)) (sink_down : W → Bool) where
   -- the server is heard, refs are asked for, and the reply is taken
-  pub has_listed : ReadsJoin → DistinctAreOnce → BeganStays A → (repo : RepoState A) → IsWhole repo
-      → (r s t : S) (a b : W) (old heard waiting new : SessionState A) (asked : Asked) (taken : LsTaken A)
+  pub has_listed : ReadsJoin → DistinctAreOnce → BeganStays A → (repo : RepoState A) → IsConnectedRepo repo
+      → (r s t : S) (a b : W) (old hear_advert waiting new : SessionState A) (asked : Asked) (taken : LsTaken A)
       → length old.refspecs ≤ max_specs → HasBegun old repo
-      → HearsServer {A = A} repo.graph.format old (input_of remaining source_down r s) heard (Ok tt)
-      → Requests heard repo.graph.entries waiting (Ok asked)
+      → HearsServer {A = A} repo.graph.format old (input_of remaining source_down r s) hear_advert (Ok tt)
+      → Requests hear_advert repo.graph.entries waiting (Ok asked)
       → Passes (output_of contents passed_on sink_down a b) (request_bytes repo.graph.format asked)
       → TakesLs waiting repo.graph.entries (record { old = remaining s; new = remaining t }) new (Ok taken)
       → source_down t ≡ false
       → HasListed indexes index_fails (start_with old repo) (input_of remaining source_down r t)
       (output_of contents passed_on sink_down a b) (client_of new repo taken.unborn)
-  has_listed join once stays repo whole r s t a b old heard waiting new asked taken few begun hears made passed takes up =
+  has_listed join once stays repo whole r s t a b old hear_advert waiting new asked taken few begin_session hears made passed takes up =
       let start = start_with old repo in
-      let first = client_of heard repo None in
+      let first = client_of hear_advert repo None in
       let last = client_of new repo taken.unborn in
-      let none = talked_none indexes index_fails start remaining source_down contents passed_on sink_down r s a old heard
-      few begun hears in
-      let is = is_heard repo.graph.format repo old heard (input_of remaining source_down r s) begun hears in
+      let none = talked_none indexes index_fails start remaining source_down contents passed_on sink_down r s a old hear_advert
+      few begin_session hears in
+      let is = is_heard repo.graph.format repo old hear_advert (input_of remaining source_down r s) begin_session hears in
       let turned = listed indexes index_fails first waiting new asked (input_of remaining source_down s t)
       (output_of contents passed_on sink_down a b) taken made passed takes up in
       let talked = talked_more indexes index_fails start remaining source_down contents passed_on sink_down join r s t a a b
@@ -307,7 +307,7 @@ module _ {A S W : Type 0} (indexes : Indexes A) (index_fails : IndexFails)
         format = same_own indexes index_fails start remaining source_down contents passed_on sink_down
             (input_of remaining source_down r t) talked.talk last IsLeft talked.converses;
         began = turn_began indexes index_fails stays repo.graph.entries first turned.turn last (kept_still first).grows
-            (begins_on once repo heard whole is.tips is.sent) turned.is_turn;
+            (begins_on once repo hear_advert whole is.tips is.sent) turned.is_turn;
       }
 
 -- ---- what a conversation keeps: the refs where it fails, and the objects
@@ -329,7 +329,7 @@ module _ {A : Type 0} (indexes : Indexes A) (index_fails : IndexFails) (start : 
   kept_so_far : (input : Input) (talk : List Turn) (now : ClientState A) (Rest : Input → Type 0)
       → Converses indexes index_fails start input talk now Rest → IsKeptRepo start.repo now.repo
   kept_so_far input talk now Rest converses =
-      let kept = turns_kept indexes index_fails (heard start converses.capabilities) talk now converses.each in
+      let kept = turns_kept indexes index_fails (hear_advert start converses.capabilities) talk now converses.each in
       record { refs = kept.refs; grows = kept.grows }
 
   fails_keep : (input : Input) (output : Output) (new : RepoState A) (cause : FetchFault A)

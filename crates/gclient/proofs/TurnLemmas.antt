@@ -3,19 +3,19 @@ use Rattle.std.proofs.Common.{◌≡◌, ℕ, Bool, false, List, [], ◌∷◌, 
 use Rattle.std.proofs.Common.{◌+◌, ◌≤◌, length, All, bytes_eq, Option, arith}
 use Rattle.gpkt.specs.Sending.{Input, Output, IsUnread, IsUp, Passes}
 use Rattle.gpkt.specs.Change.{Change}
-use Rattle.gpkt.specs.LineReading.{Reader, ReadsLines}
+use Rattle.gpkt.specs.PacketReading.{Reader, ReadsPackets}
 use Rattle.gpkt.specs.Packets.{Packet}
 use Rattle.ggrammar.specs.MessageReading.{IsReadFailure}
 use Rattle.gfetchreply.specs.FetchReplies.{FetchReply}
 use Rattle.gobject.specs.Packs.{Indexes, IndexFails}
 use Rattle.gobject.specs.declared.node.Entry.{Entry}
-use Rattle.gdag.specs.Reach.{Grows, IsFull, SomeReaches}
+use Rattle.gdag.specs.Reach.{Grows, IsConnected, SomeReaches}
 use Rattle.gdag.specs.Graphs.{Holds}
 use Rattle.gdag.specs.Laws.{DistinctAreOnce}
 use Rattle.gdag.proofs.Growing.{grows_none, grows_on, inserts_grows}
 use Rattle.gdag.proofs.Reaching.{held_among}
 use Rattle.gdag.proofs.Counting.{ids_of}
-use Rattle.gclientrepo.specs.Repos.{RepoState, IsWhole}
+use Rattle.gclientrepo.specs.Repos.{RepoState, IsConnectedRepo}
 use Rattle.grequest.specs.Asked.{Asked, Empty, Ls, Fetches, LsRefsAsked, FetchAsked}
 use Rattle.gsession.specs.Sessions.{LeavesReplies, SessionState, IsSession, FitsStage, tips_of}
 use Rattle.gsession.specs.TakingReplies.{Awaits, IsTakeFault, TakesHead, TakesReply}
@@ -41,7 +41,7 @@ use Rattle.std.proofs.lemmas.List.{length-map}
 use Rattle.std.proofs.lemmas.List.Elements.{All-contains, All-nil}
 use Rattle.std.proofs.lemmas.Map.Made.{is_member-Decides, length-le_from_is_member}
 use Rattle.std.proofs.lemmas.Slice.Eq.{bytes_eq-Decides}
-use Rattle.gsession.proofs.NextLaws.{tips_are_full}
+use Rattle.gsession.proofs.NextLaws.{tips_are_connected}
 use Rattle.gsession.proofs.SessionLemmas.{listing_fetches, settling_fetches}
 
 -- ---- the request
@@ -89,7 +89,7 @@ module _ {A : Type 0} (indexes : Indexes A) (index_fails : IndexFails) where
       (reply : List Packet) (input : Input) (output : Output)
       → Requests old.session old.repo.graph.entries waiting (Ok asked)
       → Passes output (request_bytes old.repo.graph.format asked) → waiting.pending ≡ Some due
-      → Takes indexes index_fails waiting due old reply new → ReadsLines input.read reply → IsUp input
+      → Takes indexes index_fails waiting due old reply new → ReadsPackets input.read reply → IsUp input
       → HasTurned indexes index_fails old input output new
   taken_turn old waiting new asked due reply input output made passed awaits takes lines up =
       let both = sym (waits old.repo.graph.entries old.session waiting asked made) ∙ awaits in
@@ -334,16 +334,16 @@ module _ {A : Type 0} (indexes : Indexes A) (index_fails : IndexFails) where
       → BeganOn g waiting → TakesHead indexes index_fails waiting repo reply new.session new.repo taken
       → BeganOn g new.session
   head_began g repo waiting reply new (Round common) began takes =
-      subst (BeganOn g) (sym takes.1) (record { full = began.full; sent = began.sent })
+      subst (BeganOn g) (sym takes.1) (record { connected = began.connected; sent = began.sent })
   head_began g repo waiting reply new (PackTaken added) began takes =
-      subst (BeganOn g) (sym takes.1) (record { full = began.full; sent = began.sent })
+      subst (BeganOn g) (sym takes.1) (record { connected = began.connected; sent = began.sent })
 
   taken_began : (g : List (Entry A)) (old : ClientState A) (waiting : SessionState A) (asked : Asked)
       (reply : List Packet) (new : ClientState A)
       → BeganOn g waiting → Takes indexes index_fails waiting asked old reply new → BeganOn g new.session
   taken_began g old waiting Empty reply new began takes = absurd takes
   taken_began g old waiting (Ls asked) reply new began takes =
-      subst (BeganOn g) (sym takes.takes.after) (record { full = began.full; sent = began.sent })
+      subst (BeganOn g) (sym takes.takes.after) (record { connected = began.connected; sent = began.sent })
   taken_began g old waiting (Fetches asked) reply new began takes =
       head_began g old.repo waiting takes.reply new takes.taken began takes.takes.1
 
@@ -435,11 +435,11 @@ rounds_within {A} g s is stage pending began =
 -- ---- the beginning
 
 -- a session begins on the graph of its repository
-pub begins_on : {A : Type 0} → DistinctAreOnce → (repo : RepoState A) (s : SessionState A) → IsWhole repo
+pub begins_on : {A : Type 0} → DistinctAreOnce → (repo : RepoState A) (s : SessionState A) → IsConnectedRepo repo
     → s.tips ≡ tips_of repo → s.sent ≡ []
     → BeganOn repo.graph.entries s
 begins_on once repo s whole tips sent = record {
-  full = subst (All (IsFull repo.graph.entries)) (sym tips) (tips_are_full once repo whole);
+  connected = subst (All (IsConnected repo.graph.entries)) (sym tips) (tips_are_connected once repo whole);
   sent = subst (All (λ a. Holds repo.graph.entries a × SomeReaches repo.graph.entries s.tips a)) (sym sent)
       (All-nil (λ a. Holds repo.graph.entries a × SomeReaches repo.graph.entries s.tips a));
 }

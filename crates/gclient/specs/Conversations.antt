@@ -4,7 +4,7 @@ use Rattle.std.specs.Prelude.{◌≡◌, ◌⊎◌, ℕ, ◌≤◌, false, List,
 use Rattle.std.specs.List.{flat_map}
 use Rattle.gname.specs.declared.formats.Format.{Format}
 use Rattle.gpkt.specs.Sending.{Input, Output, IsUnread, IsUnwritten, IsUp, Passes, SendsAndFails, SendsSome, rest_of}
-use Rattle.gpkt.specs.LineReading.{ReadsLines}
+use Rattle.gpkt.specs.PacketReading.{ReadsPackets}
 use Rattle.gpkt.specs.Packets.{Bytes, Packet, canonical_all}
 use Rattle.gpkt.specs.Devices.{KeepsPassed}
 use Rattle.ggrammar.specs.Capabilities.{Capability}
@@ -14,7 +14,7 @@ use Rattle.ggrammar.specs.declared.fault.MessageFault.{MessageFault}
 use Rattle.ghello.specs.Adverts as advert
 use Rattle.ghello.specs.Offers.{check_fault}
 use Rattle.gobject.specs.Packs.{Indexes, IndexFails}
-use Rattle.grefspec.specs.Refspecs.{Refspec}
+use Rattle.grefs.specs.Refspecs.{Refspec}
 use Rattle.gclientrepo.specs.Changes.{SettlesAsks}
 use Rattle.gclientrepo.specs.Repos.{RepoState}
 use Rattle.gclientrepo.specs.declared.fault.RepoFault.{RepoFault}
@@ -75,7 +75,7 @@ pub record Advertises (format : Format) (packets : List Packet) (capabilities : 
 pub record Mismatches (format : Format) (input : Input) (cause : MessageFault) : Type 0 where
   pub packets : List Packet
   pub capabilities : List Capability
-  pub lines : ReadsLines input.read packets
+  pub lines : ReadsPackets input.read packets
   pub says : advert.Says packets capabilities
   pub why : check_fault format capabilities ≡ Some cause.why
   pub frame : cause.frame ≡ 0
@@ -111,16 +111,16 @@ start_of repo refspecs limit ends = start_for repo refspecs limit ends no_option
 
 module _ {A : Type 0} (start : Start A) where
   -- the session as it begins
-  abbrev pub begun : SessionState A
-  begun =
+  abbrev pub begin_session : SessionState A
+  begin_session =
       record (new_session start.repo.graph.format start.refspecs start.limit start.ends (tips_of start.repo)) {
         options = start.options;
       }
 
   -- the client that has heard the server's advertisement
-  abbrev pub heard : List Capability → ClientState A
-  heard capabilities = record {
-    session = record begun { offers_unborn = tells_unborn capabilities };
+  abbrev pub hear_advert : List Capability → ClientState A
+  hear_advert capabilities = record {
+    session = record begin_session { offers_unborn = tells_unborn capabilities };
     repo = start.repo;
     unborn = None;
   }
@@ -133,9 +133,9 @@ module _ {A : Type 0} (indexes : Indexes A) (index_fails : IndexFails) (start : 
     pub packets : List Packet
     pub capabilities : List Capability
     pub advertises : Advertises start.repo.graph.format packets capabilities
-    pub each : AreTurns indexes index_fails (heard start capabilities) talk last
+    pub each : AreTurns indexes index_fails (hear_advert start capabilities) talk last
     pub between : Option Bytes
-    pub read : ReadsLines (record { old = input.read.old; new = between })
+    pub read : ReadsPackets (record { old = input.read.old; new = between })
         (packets ++ flat_map (λ turn. turn.reply) talk)
     pub rest : Rest (rest_of input between)
 

@@ -8,10 +8,10 @@ use Rattle.ggrammar.specs.Capabilities.{Capability}
 use Rattle.gdag.specs.Reach.{Grows}
 use Rattle.gdag.specs.Walks.{CountsReached}
 use Rattle.gobject.specs.Packs.{Indexes, IndexFails}
-use Rattle.gclientrepo.specs.Repos.{IsWhole, RepoState}
+use Rattle.gclientrepo.specs.Repos.{IsConnectedRepo, RepoState}
 use Rattle.grequest.specs.Asked.{Asked, Fetches}
 use Rattle.gsession.specs.Sessions.{SessionState, max_specs, tips_of}
-use Rattle.gclient.specs.Conversations.{FetchesOver, Start, heard, request_bytes}
+use Rattle.gclient.specs.Conversations.{FetchesOver, Start, hear_advert, request_bytes}
 use Rattle.gclient.specs.Turns.{AreTurns, AsksNext, ClientState, Turn}
 use Rattle.gclient.specs.declared.fault.FetchFault.{FetchFault}
 use Rattle.gclient.specs.declared.fetched.Fetched.{Fetched}
@@ -36,15 +36,15 @@ asked_in talk = map (λ turn. turn.asked) talk
 abbrev pub RoundsAreAsked : {A : Type 0} → Indexes A → IndexFails → Type 0
 RoundsAreAsked {A} indexes index_fails =
     (start : Start A) (capabilities : List Capability) (talk : List Turn) (last : ClientState A)
-    → AreTurns indexes index_fails (heard start capabilities) talk last
+    → AreTurns indexes index_fails (hear_advert start capabilities) talk last
     → last.session.rounds ≡ objects_asked (asked_in talk)
 
 -- the turns ask for objects at most once more than there are ids that the refs reached at the beginning
 abbrev pub TalksAreFew : {A : Type 0} → Indexes A → IndexFails → Type 0
 TalksAreFew {A} indexes index_fails =
     (start : Start A) (capabilities : List Capability) (talk : List Turn) (last : ClientState A) (held parents : ℕ)
-    → IsWhole start.repo → length start.refspecs ≤ max_specs
-    → AreTurns indexes index_fails (heard start capabilities) talk last
+    → IsConnectedRepo start.repo → length start.refspecs ≤ max_specs
+    → AreTurns indexes index_fails (hear_advert start capabilities) talk last
     → CountsReached start.repo.graph.entries (tips_of start.repo) held parents
     → objects_asked (asked_in talk) ≤ held + 1
 
@@ -52,8 +52,8 @@ TalksAreFew {A} indexes index_fails =
 abbrev pub NextIsFew : {A : Type 0} → Indexes A → IndexFails → Type 0
 NextIsFew {A} indexes index_fails =
     (start : Start A) (capabilities : List Capability) (talk : List Turn) (last : ClientState A) (asked : Asked)
-    (waiting : SessionState A) (held parents : ℕ) → IsWhole start.repo → length start.refspecs ≤ max_specs
-    → AreTurns indexes index_fails (heard start capabilities) talk last → AsksNext last asked waiting
+    (waiting : SessionState A) (held parents : ℕ) → IsConnectedRepo start.repo → length start.refspecs ≤ max_specs
+    → AreTurns indexes index_fails (hear_advert start capabilities) talk last → AsksNext last asked waiting
     → CountsReached start.repo.graph.entries (tips_of start.repo) held parents
     → objects_asked (asked_in talk ++ asked ∷ []) ≤ held + 1
 
@@ -71,7 +71,7 @@ pub record AsksAtMost (format : Format) (output : Output) (most : ℕ) : Type 0 
 abbrev pub EndsAreFew : {A : Type 0} → Indexes A → IndexFails → Type 0
 EndsAreFew {A} indexes index_fails =
     (start : Start A) (input : Input) (output : Output) (new : RepoState A) (result : Result (Fetched A) (FetchFault A))
-    (held parents : ℕ) → IsWhole start.repo → FetchesOver indexes index_fails start input output new result
+    (held parents : ℕ) → IsConnectedRepo start.repo → FetchesOver indexes index_fails start input output new result
     → CountsReached start.repo.graph.entries (tips_of start.repo) held parents
     → AsksAtMost start.repo.graph.format output (held + 1)
 

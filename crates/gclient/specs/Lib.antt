@@ -1,5 +1,8 @@
 pub mod Turns
 pub mod Conversations
+pub mod Greetings
+pub mod GitFetches
+pub mod Listings
 pub mod Laws
 pub mod Faults
 pub mod steps

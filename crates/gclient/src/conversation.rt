@@ -1,11 +1,11 @@
-//! A conversation, from the advertisement to the refs here that move.
+//! A conversation, from the advertisement to the update of the local refs.
 
 ghost use Rattle.std.specs.Prelude.{◌≡◌, ◌≤◌, ◌+◌, ℕ, Option, None, false, length, IfOk, OnErr, OnOk};
 ghost use Rattle.gname.specs.Names.{Name};
 ghost use Rattle.gpkt.specs.Sending.{input_of, output_of};
 ghost use Rattle.gdag.specs.Reach.{Grows};
 ghost use Rattle.gdag.specs.Walks.{CountsReached};
-ghost use Rattle.gclientrepo.specs.Repos.{IsWhole};
+ghost use Rattle.gclientrepo.specs.Repos.{IsConnectedRepo};
 ghost use Rattle.gclientrepo.specs.Settling.{Settles};
 ghost use Rattle.gsession.specs.Bounds.{BeganOn};
 ghost use Rattle.gsession.specs.Sessions.{max_specs, tips_of};
@@ -24,24 +24,27 @@ use ggraph::Indexer;
 use ggraph::graph_laws::distinct_are_once;
 use gname::RefName;
 use gpkt::laws::reads_join;
-use gpkt::{LineBuffer, LineReader, LineWriter, Sink, Source};
-use grefspec::Spec;
+use gpkt::{PacketBuffer, PacketReader, PacketWriter, Sink, Source};
+use grefs::Spec;
 use grequest::Request;
 use gsession::laws::{began_stays, rounds_are_few};
 use gsession::{FetchPlan, PackOptions, Session, Settled, Taken};
 use std::alloc::Allocator;
 
-/// Fetches by refspecs from a server (gitprotocol-v2(5)): reads its advertisement, asks for its refs, asks for the
-/// objects that are wanted, round after round while the server only acknowledges, ends the conversation with a lone
-/// flush, and then moves the refs here. What is written is passed on after each request, and nothing after the last
-/// reply is read. A pack may have at most as many bytes as the limit says, and each reply ends as `ends` says.
+/// Fetches by refspecs from a server (gitprotocol-v2(5)). Reads the server's advertisement, asks
+/// for its refs, and asks for the wanted objects, round after round while the server only
+/// acknowledges. Ends the conversation with a lone flush packet, and then updates the local refs.
+/// Each request is flushed, and nothing after the last reply is read. A pack has at most as many
+/// bytes as `limit` says, and each reply ends as `ends` says.
 ///
-/// It fails with `TooManySpecs` over 16 refspecs, and, out of memory to begin, with `Repo` or `NoBuffer`; nothing is
-/// read then. Else the first fault ends it: `Message` where the advertisement or a reply is refused, the client can't
-/// go on with the server (`UnknownCommand`, `Format`), or a ref that is asked for can't have its name (`BadName`);
-/// `TooManyWants`; `StrangeAck`, `Index` or `Repo` where a reply is not taken; `WriteFailed` where the sink fails, and
-/// a beginning of the requests stands then; `Repo` where the refs can't move (`NotConnected`, `Refs`), or out of
-/// memory. After every fault the refs are as before, and to the graph objects only came.
+/// Fails with `TooManySpecs` for more than 16 refspecs, and with `Repo` or `NoBuffer` if out of
+/// memory at the start; nothing is read then. Otherwise the first fault ends it. Fails with
+/// `Message` if the advertisement or a reply is refused, if the client can't go on with the server
+/// (`UnknownCommand`, `Format`), or if a requested ref can't have its name (`BadName`). Fails with
+/// `TooManyWants`; with `StrangeAck`, `Index` or `Repo` if a reply is not taken; with `WriteFailed`
+/// if the sink fails, after a prefix of the requests. Fails with `Repo` if the refs can't move
+/// (`NotConnected`, `Refs`), or if out of memory. After every fault the refs are unchanged, and the
+/// graph has only gained objects.
 pub fn fetch_over<S: Source, W: Sink, A: Allocator + Copy, K: Indexer<A>>(
     repo: &mut Repo<A>,
     source: &mut S,
@@ -59,7 +62,7 @@ pub fn fetch_over<S: Source, W: Sink, A: Allocator + Copy, K: Indexer<A>>(
         fetched.settled.asks fetched.settled.updates.items repo.new.refs) }
     ensures refs { OnErr result (repo.new.refs ≡ repo.old.refs) }
     ensures grows { Grows repo.old.graph.entries repo.new.graph.entries }
-    ensures safe { IsWhole repo.new }
+    ensures connected_refs { IsConnectedRepo repo.new }
     ensures bound { IfOk result (λ fetched. (held parents : ℕ)
         → CountsReached repo.old.graph.entries (tips_of repo.old) held parents
         → fetched.requests ≤ held + 1) }
@@ -91,14 +94,14 @@ pub fn fetch_over_with<S: Source, W: Sink, A: Allocator + Copy, K: Indexer<A>>(
         fetched.settled.asks fetched.settled.updates.items repo.new.refs) }
     ensures refs { OnErr result (repo.new.refs ≡ repo.old.refs) }
     ensures grows { Grows repo.old.graph.entries repo.new.graph.entries }
-    ensures safe { IsWhole repo.new }
+    ensures connected_refs { IsConnectedRepo repo.new }
     ensures bound { IfOk result (λ fetched. (held parents : ℕ)
         → CountsReached repo.old.graph.entries (tips_of repo.old) held parents
         → fetched.requests ≤ held + 1) }
     ensures source_loans { S.loans source.new ≡ S.loans source.old }
     ensures sink_loans { W.loans sink.new ≡ W.loans sink.old }
 {
-    let mut writer = LineWriter::new(sink);
+    let mut writer = PacketWriter::new(sink);
     let fetched = fetch_to(repo, source, &mut writer, indexer, plan);
     let _sink = writer.into_inner();
     // Laws.
@@ -106,11 +109,11 @@ pub fn fetch_over_with<S: Source, W: Sink, A: Allocator + Copy, K: Indexer<A>>(
     fetched
 }
 
-// Fetches over a writer that is well.
+// Fetches over a writer that has not failed.
 fn fetch_to<S: Source, W: Sink, A: Allocator + Copy, K: Indexer<A>>(
     repo: &mut Repo<A>,
     source: &mut S,
-    writer: &mut LineWriter<W>,
+    writer: &mut PacketWriter<W>,
     indexer: &K,
     plan: &FetchPlan<'_, A>,
 ) -> Result<Fetched<A>, FetchFault<A>>
@@ -128,22 +131,22 @@ fn fetch_to<S: Source, W: Sink, A: Allocator + Copy, K: Indexer<A>>(
 {
     let alloc = repo.graph().allocator();
     let mut session = Session::begin_with(alloc, repo, plan)?;
-    let buffer = match LineBuffer::new(alloc) {
+    let buffer = match PacketBuffer::new(alloc) {
         Ok(buffer) => buffer,
         Err(_) => return Err(FetchFault::NoBuffer),
     };
-    let mut reader = LineReader::with_buffer(buffer, source);
+    let mut reader = PacketReader::with_buffer(buffer, source);
     let fetched = converse(repo, &mut session, &mut reader, writer, indexer);
     let _source = reader.into_inner();
     fetched
 }
 
-// The conversation of a session that has begun.
+// Holds the conversation of a session that has begun.
 fn converse<S: Source, W: Sink, A: Allocator + Copy, K: Indexer<A>>(
     repo: &mut Repo<A>,
     session: &mut Session<A>,
-    reader: &mut LineReader<S, A>,
-    writer: &mut LineWriter<W>,
+    reader: &mut PacketReader<S, A>,
+    writer: &mut PacketWriter<W>,
     indexer: &K,
 ) -> Result<Fetched<A>, FetchFault<A>>
     requires reader { reader.old.failed ≡ false }
@@ -173,12 +176,13 @@ fn converse<S: Source, W: Sink, A: Allocator + Copy, K: Indexer<A>>(
     })
 }
 
-// Hears the server, and asks until the last reply is taken. Answers what the server says of an unborn HEAD.
+// Reads the advertisement, and asks until the last reply is taken. Returns what the server says
+// about an unborn HEAD.
 fn talk<S: Source, W: Sink, A: Allocator + Copy, K: Indexer<A>>(
     repo: &mut Repo<A>,
     session: &mut Session<A>,
-    reader: &mut LineReader<S, A>,
-    writer: &mut LineWriter<W>,
+    reader: &mut PacketReader<S, A>,
+    writer: &mut PacketWriter<W>,
     indexer: &K,
 ) -> Result<Option<RefName<A>>, FetchFault<A>>
     requires reader { reader.old.failed ≡ false }
@@ -210,13 +214,13 @@ fn talk<S: Source, W: Sink, A: Allocator + Copy, K: Indexer<A>>(
     Ok(taken.unborn)
 }
 
-// Asks for objects, round after round while the server only acknowledges. The conversation began at other states of
-// the source and the sink.
+// Asks for objects, round after round while the server only acknowledges. The source and the sink
+// may have been in other states when the conversation began.
 fn fetch_all<S: Source, W: Sink, A: Allocator + Copy, K: Indexer<A>>(
     repo: &mut Repo<A>,
     session: &mut Session<A>,
-    reader: &mut LineReader<S, A>,
-    writer: &mut LineWriter<W>,
+    reader: &mut PacketReader<S, A>,
+    writer: &mut PacketWriter<W>,
     indexer: &K,
 ) -> Result<(), FetchFault<A>>
     requires reader { reader.old.failed ≡ false }
@@ -252,11 +256,11 @@ fn fetch_all<S: Source, W: Sink, A: Allocator + Copy, K: Indexer<A>>(
     }
 }
 
-// Ends the conversation with a lone flush, and settles.
+// Ends the conversation with a lone flush packet, and settles.
 fn close<W: Sink, A: Allocator + Copy>(
     repo: &mut Repo<A>,
     session: &mut Session<A>,
-    writer: &mut LineWriter<W>,
+    writer: &mut PacketWriter<W>,
 ) -> Result<Settled<A>, FetchFault<A>>
     requires writer { writer.old.failed ≡ false }
     requires settles_next { session.old.stage ≡ Settling }

@@ -1,4 +1,4 @@
-//! Why a conversation failed.
+//! Reasons why a conversation fails.
 
 ghost use Rattle.std.specs.Prelude.{◌≡◌, Some};
 ghost use Rattle.gclient.specs.Faults.{fetch_fault_row, fetch_fault_text};
@@ -6,47 +6,48 @@ ghost use Rattle.gclient.specs.declared.fault.FetchFault.TheVariants as fetch;
 ghost use Rattle.gsession.specs.declared.fault.ClientFault.TheVariants.{Message};
 
 use ggrammar::MessageFault;
-use gpkt::{LineFault, WriteFault};
+use gpkt::{PacketFault, WriteFault};
 use gsession::ClientFault;
 use std::alloc::{Allocator, Global};
 use std::error::Error;
 use std::fmt;
 
-/// Why a conversation failed. Its number identifies it.
+/// The reason a conversation failed. Its number identifies it.
 #[derive(Debug, Drop)]
 pub enum FetchFault<A: Allocator + Copy = Global> {
-    /// 20 to 25, 29, 30 and 41 to 54: the advertisement or a reply was refused, at one of its packets; 60 to 64, 66,
-    /// 69, 75, 82, 84, 85 and 86: the session or the repository refused what came, or is out of memory (64).
+    /// 20 to 25, 29, 30 and 41 to 54: the advertisement or a reply was refused, at one of its
+    /// packets. 60 to 64, 66, 69, 75, 82, 84, 85 and 86: the session or the repository refused what
+    /// arrived, or is out of memory (64).
     Client(ClientFault<A>),
-    /// 28: out of memory for the buffer of the reader, and nothing was read.
+    /// 28: out of memory for the reader's buffer. Nothing was read.
     NoBuffer,
-    /// 27: the sink failed. A beginning of the requests stands written.
+    /// 27: the sink failed. A prefix of the requests was written.
     WriteFailed,
 }
 
 impl<A: Allocator + Copy> FetchFault<A> {
-    /// The number of the fault.
+    /// Returns the number of the fault.
     pub fn code(&self) -> u32
         ensures { result ≡ (fetch_fault_row self.now).0 }
     {
-        self.row().0
+        self.fault_row().0
     }
 
-    /// The name of the fault.
+    /// Returns the name of the fault.
     pub fn name(&self) -> &'static str
         ensures { result.now ≡ (fetch_fault_row self.now).1 }
     {
-        self.row().1
+        self.fault_row().1
     }
 
-    // The table: the number and the name of each fault.
-    fn row(&self) -> (u32, &'static str)
+    // Returns the number and the name of the fault.
+    fn fault_row(&self) -> (u32, &'static str)
         ensures { (result.0, result.1.now) ≡ fetch_fault_row self.now }
     {
         match self {
-            FetchFault::Client(fault) => fault.row(),
-            FetchFault::NoBuffer => LineFault::Memory.row(),
-            FetchFault::WriteFailed => WriteFault::Io.row(),
+            FetchFault::Client(fault) => fault.fault_row(),
+            FetchFault::NoBuffer => PacketFault::Memory.fault_row(),
+            FetchFault::WriteFailed => WriteFault::Io.fault_row(),
         }
     }
 }
@@ -57,7 +58,7 @@ impl<A: Allocator + Copy> fmt::Display for FetchFault<A> {
     fn fmt<W: fmt::Write>(&self, f: &mut fmt::Formatter<W>) -> fmt::Result {
         match self {
             FetchFault::Client(fault) => fmt::Display::fmt(fault, f),
-            FetchFault::NoBuffer => fmt::Display::fmt(&LineFault::Memory, f),
+            FetchFault::NoBuffer => fmt::Display::fmt(&PacketFault::Memory, f),
             FetchFault::WriteFailed => fmt::Display::fmt(&WriteFault::Io, f),
         }
     }

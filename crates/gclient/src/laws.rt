@@ -1,4 +1,4 @@
-//! The laws of conversations: functions without effect, whose contracts they are.
+//! The laws of conversations: functions without effect, which exist for their contracts.
 
 ghost use Rattle.gclient.specs.Laws.{EndsAreFew, FailingKeepsRefs, FetchingGrows, NextIsFew, RoundsAreAsked, TalksAreFew};
 
@@ -13,8 +13,8 @@ pub fn rounds_are_asked<A: Allocator + Copy, K: Indexer<A>>()
     ensures { (k : K) → RoundsAreAsked (K.indexes k) (K.index_fails k) }
 {}
 
-/// A conversation asks for objects at most once more than there are ids that the refs reached when it began, whatever
-/// the server says and whatever its end is, also where it failed.
+/// A conversation asks for objects at most N + 1 times, if the refs reached N ids when it began.
+/// This holds whatever the server says and however it ends, even if it failed.
 pub fn requests_are_few<A: Allocator + Copy, K: Indexer<A>>()
     ensures talks { (k : K) → TalksAreFew (K.indexes k) (K.index_fails k) }
     ensures next { (k : K) → NextIsFew (K.indexes k) (K.index_fails k) }
@@ -27,8 +27,8 @@ pub fn requests_are_few<A: Allocator + Copy, K: Indexer<A>>()
     requests_are_counted::<A, K>();
 }
 
-/// To the graph of a repository objects only come, whatever a conversation comes to; where it failed, the refs are as
-/// they were.
+/// The graph of a repository only gains objects, whatever the outcome of a conversation. If the
+/// conversation failed, the refs are unchanged.
 pub fn fetching_only_grows<A: Allocator + Copy, K: Indexer<A>>()
     ensures grows { (k : K) → FetchingGrows (K.indexes k) (K.index_fails k) }
     ensures refs { (k : K) → FailingKeepsRefs (K.indexes k) (K.index_fails k) }

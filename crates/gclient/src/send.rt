@@ -1,4 +1,4 @@
-//! Requests, written and passed on.
+//! Writing and flushing requests.
 
 ghost use Rattle.std.specs.Prelude.{◌≡◌, false, OnOk};
 ghost use Rattle.gpkt.specs.Sending.{output_of};
@@ -7,18 +7,18 @@ ghost use Rattle.gclient.specs.Conversations.{request_bytes, HasPassed};
 
 use gname::Format;
 use gpkt::laws::writes_join;
-use gpkt::{LineWriter, Sink, WriteFault};
+use gpkt::{PacketWriter, Sink, WriteFault};
 use grequest::{Request, write_request};
 use std::alloc::Allocator;
 
-/// Writes a request in its one spelling (gitprotocol-v2(5), "Command Request"), and passes it on.
+/// Writes a request in its one spelling (gitprotocol-v2(5), "Command Request"), and flushes it.
 ///
-/// The writer has not failed, and the ids of the request are of the format. It fails where the sink is down; a beginning
-/// of the request stands written then, and the writer takes no more.
+/// The writer has not failed, and the ids of the request have the format. Fails if the sink is
+/// down. Then a prefix of the request was written, and the writer takes no more.
 pub fn send_request<W: Sink, A: Allocator + Copy>(
     request: &Request<A>,
     format: Format,
-    writer: &mut LineWriter<W>,
+    writer: &mut PacketWriter<W>,
 ) -> Result<(), WriteFault>
     requires well { writer.old.failed ≡ false }
     requires ids { IsOfFormat format request.now }

@@ -3,7 +3,7 @@
 ghost use Rattle.std.specs.Prelude.{◌≡◌, ℕ, true, false, Option, None, IfOk, IfSome, OnOk};
 ghost use Rattle.gname.specs.Names.{Name};
 ghost use Rattle.gpkt.specs.Sending.{input_of, output_of};
-ghost use Rattle.gclientrepo.specs.Repos.{IsWhole};
+ghost use Rattle.gclientrepo.specs.Repos.{IsConnectedRepo};
 ghost use Rattle.gsession.specs.Offering.{AreOffersOf};
 ghost use Rattle.gsession.specs.Requesting.{is_due};
 ghost use Rattle.gsession.specs.Sessions.{IsBegun, IsSession};
@@ -16,23 +16,24 @@ use crate::send::send_request;
 use gclientrepo::Repo;
 use ggraph::{Indexer, Offers};
 use ghello::read_advert;
-use gpkt::{LineReader, LineWriter, Sink, Source};
+use gpkt::{PacketReader, PacketWriter, Sink, Source};
 use gsession::laws::offers_stay;
 use gsession::{Session, Taken};
 use std::alloc::Allocator;
 
-/// Reads the server's advertisement and lets the session hear it, where the client can go on with the server.
+/// Reads the server's advertisement, and passes it to the session if the client can go on with the
+/// server.
 pub(crate) fn hear<S: Source, A: Allocator + Copy>(
     repo: &Repo<A>,
     session: &mut Session<A>,
-    reader: &mut LineReader<S, A>,
+    reader: &mut PacketReader<S, A>,
 ) -> Result<(), FetchFault<A>>
     requires well { reader.old.failed ≡ false }
     requires begun { IsBegun session.old }
     ensures hears { HearsServer repo.now.graph.format session.old
         (input_of S.remaining S.is_down reader.old.source reader.new.source) session.new result }
     ensures goes_on { OnOk result (reader.new.failed ≡ false) }
-    ensures whole { OnOk result (IsWhole repo.now) }
+    ensures whole { OnOk result (IsConnectedRepo repo.now) }
     ensures loans { S.loans reader.new.source ≡ S.loans reader.old.source }
 {
     let advert = read_advert(reader, repo.graph().allocator())?;
@@ -41,13 +42,13 @@ pub(crate) fn hear<S: Source, A: Allocator + Copy>(
     Ok(())
 }
 
-/// Makes the session's next request, which then waits for its reply, and sends it.
-/// What the requests before left of the session's walk is in `offers`, and what this one leaves.
+/// Makes the session's next request, which then waits for its reply, and sends it. `offers` holds
+/// the state of the session's walk, before the request and after it.
 pub(crate) fn ask<W: Sink, A: Allocator + Copy>(
     repo: &Repo<A>,
     session: &mut Session<A>,
     offers: &mut Option<Offers<A>>,
-    writer: &mut LineWriter<W>,
+    writer: &mut PacketWriter<W>,
 ) -> Result<(), FetchFault<A>>
     requires well { writer.old.failed ≡ false }
     requires offers { IfSome offers.old (AreOffersOf session.old repo.now.graph.entries) }
@@ -74,8 +75,8 @@ pub(crate) fn fetch<S: Source, W: Sink, A: Allocator + Copy, K: Indexer<A>>(
     repo: &mut Repo<A>,
     session: &mut Session<A>,
     offers: &mut Option<Offers<A>>,
-    reader: &mut LineReader<S, A>,
-    writer: &mut LineWriter<W>,
+    reader: &mut PacketReader<S, A>,
+    writer: &mut PacketWriter<W>,
     indexer: &K,
 ) -> Result<Taken, FetchFault<A>>
     requires reader { reader.old.failed ≡ false }

@@ -17,7 +17,7 @@ use Rattle.std.specs.Str.{bytes_eq}
 use Rattle.indexmap.specs.IndexMap.{IndexMap, insert_entry}
 use Rattle.indexmap.proofs.CallerLemmas.{insert_entry-new}
 use Rattle.gdag.proofs.Pairs.{past}
-use Rattle.gclientrepo.specs.Asks.{NamesDiffer, aimed, asked_ids, asks_of, is_asked, with_ask}
+use Rattle.gclientrepo.specs.Asks.{NamesDiffer, ask_of_aim, asked_ids, asks_of, is_asked, with_ask}
 use Rattle.gclientrepo.specs.declared.ask.Ask.{Ask}
 use Rattle.gclientrepo.specs.declared.asks.Aim.{Aim}
 
@@ -43,10 +43,10 @@ module _ (A : Type 0) where
 
   -- a new pair is one more ask
   pub pushed_asks : {S : Type 0} (m : IndexMap (List ℕ) Aim S) (new : List (List ℕ × Aim)) (name : List ℕ) (aim : Aim) → is_asked (asks_here m.entries) name ≡ false
-      → new ≡ insert_entry (pointwise nat_eq) m.entries name aim → asks_here new ≡ asks_here m.entries ++ aimed (name, aim) ∷ []
+      → new ≡ insert_entry (pointwise nat_eq) m.entries name aim → asks_here new ≡ asks_here m.entries ++ ask_of_aim (name, aim) ∷ []
   pushed_asks m new name aim absent is =
       ap asks_here (is ∙ insert_entry-new (pointwise nat_eq) m name aim (none_there (lookup (pointwise nat_eq name) m.entries) (asked_pairs m.entries name ∙ absent)))
-      ∙ map-append (λ (pair : List ℕ × Aim). aimed pair) m.entries ((name, aim) ∷ [])
+      ∙ map-append (λ (pair : List ℕ × Aim). ask_of_aim pair) m.entries ((name, aim) ∷ [])
 
   -- an ask for a ref of which none is there
   pub with_ask_new : (asks : List (Ask A)) (ask : Ask A) → is_asked asks ask.name ≡ false → with_ask asks ask ≡ asks ++ ask ∷ []
@@ -63,9 +63,9 @@ module _ (A : Type 0) where
 
   -- what a look-up by position finds
   pub at_place : (pairs : List (List ℕ × Aim)) (k : ℕ) (found : Option (Bor (List ℕ) × Bor Aim)) → option_map deref_pair found ≡ slice_get pairs k
-      → MatchOption found (length (asks_here pairs) ≤ k) (λ pair. slice_get (asks_here pairs) k ≡ Some (aimed (pair.0.now, pair.1.now)))
-  at_place pairs k None is = let n = length-map pairs (λ (pair : List ℕ × Aim). aimed {A = A} pair) in let h = past pairs k is in omega arith
-  at_place pairs k (Some pair) is = slice_get-map (λ (p : List ℕ × Aim). aimed {A = A} p) pairs k ∙ ap (option_map (λ (p : List ℕ × Aim). aimed {A = A} p)) (sym is)
+      → MatchOption found (length (asks_here pairs) ≤ k) (λ pair. slice_get (asks_here pairs) k ≡ Some (ask_of_aim (pair.0.now, pair.1.now)))
+  at_place pairs k None is = let n = length-map pairs (λ (pair : List ℕ × Aim). ask_of_aim {A = A} pair) in let h = past pairs k is in omega arith
+  at_place pairs k (Some pair) is = slice_get-map (λ (p : List ℕ × Aim). ask_of_aim {A = A} p) pairs k ∙ ap (option_map (λ (p : List ℕ × Aim). ask_of_aim {A = A} p)) (sym is)
 
   -- the ids of the map are those that are asked for
   pub ids_pairs : (pairs : List (List ℕ × Aim)) → map (λ aim. aim.id) (values_of pairs) ≡ asked_ids (asks_here pairs)

@@ -1,5 +1,5 @@
 pub mod AskLemmas
-pub mod KeepingWhole
+pub mod KeepingConnected
 pub mod OneSettling
 pub mod RefMapLemmas
 pub mod Refusals

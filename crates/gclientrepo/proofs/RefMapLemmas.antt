@@ -114,7 +114,7 @@ pub room_for : (old : RefList) (name : List ℕ) (there : Option (List ℕ)) →
 room_for old name (Some id) is can few = inr (λ none. none-some id (sym none ∙ is))
 room_for old name None is can few =
     either_way (nat_lt (length old) max_refs) (λ low. inl (ltb-true (length old) max_refs low))
-    (λ full. absurd (can (inr (is, (let least = ltb-false (length old) max_refs full in omega (arith, least, few))))))
+    (λ connected. absurd (can (inr (is, (let least = ltb-false (length old) max_refs connected in omega (arith, least, few))))))
 
 pub few_set : (old new : RefList) (name : List ℕ) → (length old < max_refs) ⊎ (ref_at old name ≢ None) → length old ≤ max_refs → CountsSet old name new → length new ≤ max_refs
 few_set old new name (inl low) few count = let one = grown (lookup (is_at (order name)) old) in omega (arith, low, one, count)

@@ -8,7 +8,7 @@ use Rattle.gclientrepo.specs.Laws.{RefusalsChangeNothing}
 use Rattle.gclientrepo.specs.Repos.{RepoState}
 use Rattle.gclientrepo.specs.declared.ask.Ask.{Ask}
 use Rattle.gclientrepo.specs.declared.fault.RepoFault.{RepoFault}
-use Rattle.gclientrepo.specs.declared.fault.RepoFault.TheVariants.{NotHeld, NotConnected, MissingParent, Graph, Refs}
+use Rattle.gclientrepo.specs.declared.fault.RepoFault.TheVariants.{UnconnectedId, NotConnected, MissingParent, Graph, Refs}
 
 module _ {A : Type 0} where
   adding : (old new : RepoState A) (entry : Entry A) (fault : RepoFault A) → AddsLocal old entry new (Err fault) → new ≡ old
@@ -17,7 +17,7 @@ module _ {A : Type 0} where
   adding old new entry fault is = absurd is
 
   setting : (old new : RepoState A) (name id : List ℕ) (fault : RepoFault A) → SetsLocal old name id new (Err fault) → new ≡ old
-  setting old new name id (NotHeld missing) is = is.0
+  setting old new name id (UnconnectedId missing) is = is.0
   setting old new name id (Refs refs.Refs) is = is.0
   setting old new name id (Refs refs.Memory) is = is.0
   setting old new name id (Graph graph.Memory) is = is.0

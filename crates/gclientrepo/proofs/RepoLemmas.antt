@@ -9,19 +9,19 @@ use Rattle.std.specs.Map.{values_of}
 use Rattle.std.specs.Option.{is_some}
 use Rattle.gobject.specs.Objects.{IdsDiffer, node_at}
 use Rattle.gobject.specs.declared.node.Entry.{Entry}
-use Rattle.ggraph.specs.SafeRefs.{SafeStays}
+use Rattle.ggraph.specs.ConnectedRefs.{ConnectedRefsStay}
 use Rattle.gdag.specs.Graphs.{History, Holds, IsFirstAbsent, IsOrdered}
-use Rattle.gdag.specs.Laws.{ClosedIsFull, GrowingKeeps, OrderedIsClosed}
-use Rattle.gdag.specs.Reach.{IsFull, here}
+use Rattle.gdag.specs.Laws.{ClosedIsConnected, GrowingKeeps, OrderedIsClosed}
+use Rattle.gdag.specs.Reach.{IsConnected, here}
 use Rattle.gdag.specs.Walks.{Misses}
 use Rattle.gdag.specs.declared.fault.GraphFault.{GraphFault}
 use Rattle.gdag.specs.declared.fault.GraphFault.TheVariants.{Memory}
 use Rattle.grefs.specs.RefLists.{RefList, SetsRef}
 use Rattle.gdag.proofs.IdLists.{contains_head}
-use Rattle.gwalk.specs.Marks.{AreFull, CoveringStays, MarksReached, MarksStayFull}
+use Rattle.gwalk.specs.Marks.{AreConnected, CoveringStays, MarksReached, MarksStayConnected}
 use Rattle.gclientrepo.specs.Changes.{NeedsWalk}
-use Rattle.gclientrepo.specs.Laws.{WholeStays}
-use Rattle.gclientrepo.specs.Repos.{IsFirstUnsafe, IsWhole}
+use Rattle.gclientrepo.specs.Laws.{ConnectedRepoStays}
+use Rattle.gclientrepo.specs.Repos.{IsFirstUnconnected, IsConnectedRepo}
 use Rattle.gclientrepo.specs.steps.Repos.{ComeFrom, IsFirstLost}
 
 value_there : (refs : RefList) (ref : List ℕ × List ℕ) → Contains refs ref → Contains (values_of refs) ref.1
@@ -47,27 +47,27 @@ with_reason (Ok x) is p = tt
 with_reason (Err fault) is p = (is, p)
 
 module _ {A : Type 0} where
-  pub whole_stays : GrowingKeeps A → SafeStays A → MarksStayFull A → CoveringStays A → WholeStays A
-  whole_stays keeps safe full covers g h refs known grows differ whole = record {
-    safe = safe g.entries h.entries refs (keeps g.entries h.entries grows) whole.safe;
-    full = full g.entries h.entries known grows whole.full;
-    covers = covers g.entries h.entries (values_of refs) known grows differ whole.safe whole.covers;
+  pub connected_repo_stays : GrowingKeeps A → ConnectedRefsStay A → MarksStayConnected A → CoveringStays A → ConnectedRepoStays A
+  connected_repo_stays keeps connected_refs connected covers g h refs known grows differ whole = record {
+    connected_refs = connected_refs g.entries h.entries refs (keeps g.entries h.entries grows) whole.connected_refs;
+    connected = connected g.entries h.entries known grows whole.connected;
+    covers = covers g.entries h.entries (values_of refs) known grows differ whole.connected_refs whole.covers;
   }
 
   -- where nothing is missing of some ids they are connected; else they are not all connected
-  pub all_held : (g : List (Entry A)) (ids : List (List ℕ)) (missing : Option (List ℕ)) → Misses g ids missing → is_some missing ≡ false → All (IsFull g) ids
+  pub all_held : (g : List (Entry A)) (ids : List (List ℕ)) (missing : Option (List ℕ)) → Misses g ids missing → is_some missing ≡ false → All (IsConnected g) ids
   all_held g ids None misses is = misses
   all_held g ids (Some b) misses is = absurd (false≢true (sym is))
 
-  pub not_all_held : (g : List (Entry A)) (ids : List (List ℕ)) (missing : Option (List ℕ)) → Misses g ids missing → is_some missing ≡ true → ¬ (All (IsFull g) ids)
+  pub not_all_held : (g : List (Entry A)) (ids : List (List ℕ)) (missing : Option (List ℕ)) → Misses g ids missing → is_some missing ≡ true → ¬ (All (IsConnected g) ids)
   not_all_held g ids None misses is = absurd (false≢true is)
-  not_all_held g ids (Some b) misses is = λ full.
-      let held : is_some (node_at g b) ≡ true = All-contains (IsFull g) ids misses.0.0 full misses.0.1 b misses.0.2 in
+  not_all_held g ids (Some b) misses is = λ connected.
+      let held : is_some (node_at g b) ≡ true = All-contains (IsConnected g) ids misses.0.0 connected misses.0.1 b misses.0.2 in
       false≢true (sym (ap is_some misses.1) ∙ held)
 
   -- where parents came first each id that is held is connected
-  pub held_full : OrderedIsClosed A → ClosedIsFull A → (g : List (Entry A)) → IdsDiffer g → IsOrdered g → (a : List ℕ) → Holds g a → IsFull g a
-  held_full closed full g differ ordered = (full g).0 (closed g differ ordered)
+  pub held_connected : OrderedIsClosed A → ClosedIsConnected A → (g : List (Entry A)) → IdsDiffer g → IsOrdered g → (a : List ℕ) → Holds g a → IsConnected g a
+  held_connected closed connected g differ ordered = (connected g).0 (closed g differ ordered)
 
   -- an id that is not held is missing
   pub first_misses : (g : List (Entry A)) (ids : List (List ℕ)) (a : List ℕ) → IsFirstAbsent g ids a → Misses g ids (Some a)
@@ -76,10 +76,10 @@ module _ {A : Type 0} where
       ((a, subst (λ (l : List (List ℕ)). Contains l a) (sym first.parts) there, here), first.absent)
 
   -- where parents came first ids that are held are connected
-  pub all_full : OrderedIsClosed A → ClosedIsFull A → (g : List (Entry A)) → IdsDiffer g → (ordered : Bool) → IsTrue ordered ↔ IsOrdered g → ordered ≡ true
-      → (ids : List (List ℕ)) → All (Holds g) ids → All (IsFull g) ids
-  all_full closed full g differ ordered is true_is ids held =
-      All-weaker (Holds g) (IsFull g) (held_full closed full g differ (is.0 true_is)) ids held
+  pub all_connected : OrderedIsClosed A → ClosedIsConnected A → (g : List (Entry A)) → IdsDiffer g → (ordered : Bool) → IsTrue ordered ↔ IsOrdered g → ordered ≡ true
+      → (ids : List (List ℕ)) → All (Holds g) ids → All (IsConnected g) ids
+  all_connected closed connected g differ ordered is true_is ids held =
+      All-weaker (Holds g) (IsConnected g) (held_connected closed connected g differ (is.0 true_is)) ids held
 
   -- out of memory for a walk that is needed
   pub needs_walk : (g : List (Entry A)) (ids : List (List ℕ)) (ordered : Bool) → All (Holds g) ids → IsTrue ordered ↔ IsOrdered g → ordered ≡ false → NeedsWalk g ids
@@ -90,24 +90,24 @@ module _ {A : Type 0} where
   absent_misses g ids a there absent = ((a, there, here), absent)
 
   -- marks of all that the refs reach
-  pub whole_opened : (g : History A) (refs : RefList) (known : List Bool) → All (IsFull g.entries) (values_of refs) → AreFull g.entries known
-      → MarksReached g.entries (values_of refs) [] known → IsWhole (record { graph = g; refs = refs; known = known })
-  whole_opened g refs known safe full marks = record {
-    safe = safe;
-    full = full;
+  pub connected_opened : (g : History A) (refs : RefList) (known : List Bool) → All (IsConnected g.entries) (values_of refs) → AreConnected g.entries known
+      → MarksReached g.entries (values_of refs) [] known → IsConnectedRepo (record { graph = g; refs = refs; known = known })
+  connected_opened g refs known connected_refs connected marks = record {
+    connected_refs = connected_refs;
+    connected = connected;
     covers = λ place entry at reached. (marks.each place entry at).1 (inr reached);
   }
 
   -- refs that come from those of a connected repository, or stand at connected ids whose ancestries are marked now
-  pub whole_installed : (g : History A) (old : RefList) (known : List Bool) (ids : List (List ℕ)) (new : RefList) (marks : List Bool)
-      → IsWhole (record { graph = g; refs = old; known = known }) → All (IsFull g.entries) ids → ComeFrom old ids new
-      → AreFull g.entries marks → MarksReached g.entries ids known marks → IsWhole (record { graph = g; refs = new; known = marks })
-  whole_installed g old known ids new marks whole full from are reached =
+  pub connected_installed : (g : History A) (old : RefList) (known : List Bool) (ids : List (List ℕ)) (new : RefList) (marks : List Bool)
+      → IsConnectedRepo (record { graph = g; refs = old; known = known }) → All (IsConnected g.entries) ids → ComeFrom old ids new
+      → AreConnected g.entries marks → MarksReached g.entries ids known marks → IsConnectedRepo (record { graph = g; refs = new; known = marks })
+  connected_installed g old known ids new marks whole connected from are reached =
       let each = values_from old ids new from in
       let Either : List ℕ → Type 0 = λ a. Contains (values_of old) a ⊎ Contains ids a in
       record {
-        safe = All-weaker Either (IsFull g.entries) (λ a there. elim there [ inl held ↦ All-contains (IsFull g.entries) (values_of old) a whole.safe held | inr asked ↦ All-contains (IsFull g.entries) ids a full asked ]) (values_of new) each;
-        full = are;
+        connected_refs = All-weaker Either (IsConnected g.entries) (λ a there. elim there [ inl held ↦ All-contains (IsConnected g.entries) (values_of old) a whole.connected_refs held | inr asked ↦ All-contains (IsConnected g.entries) ids a connected asked ]) (values_of new) each;
+        connected = are;
         covers = λ place entry at some.
             (reached.each place entry at).1
             (elim (All-contains Either (values_of new) some.0 each some.1) [
@@ -118,19 +118,19 @@ module _ {A : Type 0} where
 
   -- the ids up to one that is not held are connected, where parents came first
   pub lost_at : (g : List (Entry A)) (ids : List (List ℕ)) (place : ℕ) (a : List ℕ) → place < length ids → get_or ids place a ≡ a
-      → All (IsFull g) (take place ids) → ¬ (Holds g a) → IsFirstLost g ids place
+      → All (IsConnected g) (take place ids) → ¬ (Holds g a) → IsFirstLost g ids place
   lost_at g ids place a inside is held absent = record {
     inside = inside;
     held = held;
-    lost = λ full.
+    lost = λ connected.
         let next : take (place + 1) ids ≡ take place ids ++ a ∷ [] = take_more ids place a inside ∙ ap (λ (b : List ℕ). take place ids ++ b ∷ []) is in
-        absent (All-contains (IsFull g) (take place ids ++ a ∷ []) a (subst (All (IsFull g)) next full)
+        absent (All-contains (IsConnected g) (take place ids ++ a ∷ []) a (subst (All (IsConnected g)) next connected)
         (Contains-append_right (take place ids) (a ∷ []) a (contains_head a [])) a here);
   }
 
   -- the first ref that is not connected
-  pub unsafe_at : (g : List (Entry A)) (refs : RefList) (place : ℕ) (ref : List ℕ × List ℕ) → IsFirstLost g (values_of refs) place → get_or refs place ref ≡ ref → IsFirstUnsafe g refs ref.0
-  unsafe_at g refs place ref first is =
+  pub unconnected_at : (g : List (Entry A)) (refs : RefList) (place : ℕ) (ref : List ℕ × List ℕ) → IsFirstLost g (values_of refs) place → get_or refs place ref ≡ ref → IsFirstUnconnected g refs ref.0
+  unconnected_at g refs place ref first is =
       let value : List ℕ × List ℕ → List ℕ = λ r. r.1 in
       let inside : place < length refs = let low = first.inside in let long = length-map refs value in omega (arith, low, long) in
       record {
@@ -138,10 +138,10 @@ module _ {A : Type 0} where
         id = ref.1;
         back = drop (place + 1) refs;
         parts = sym (take-append-drop place refs) ∙ ap (λ (l : RefList). take place refs ++ l) (drop_more refs place ref inside ∙ ap (λ (r : List ℕ × List ℕ). r ∷ drop (place + 1) refs) is);
-        safe = subst (λ (l : List (List ℕ)). All (IsFull g) l) (take-map value place refs) first.held;
-        unsafe = λ full.
+        connected_refs = subst (λ (l : List (List ℕ)). All (IsConnected g) l) (take-map value place refs) first.held;
+        unconnected = λ connected.
             let there : get_or (values_of refs) place ref.1 ≡ ref.1 = get_or-map value refs place ref ref.1 inside ∙ ap value is in
-            first.lost (All-more (IsFull g) (values_of refs) place ref.1 first.inside first.held (subst (IsFull g) (sym there) full));
+            first.lost (All-more (IsConnected g) (values_of refs) place ref.1 first.inside first.held (subst (IsConnected g) (sym there) connected));
       }
 
 -- something stands at each position of a list
@@ -155,19 +155,19 @@ none_inside xs i low empty =
 module _ {A : Type 0} (g : List (Entry A)) (refs : RefList) (place : ℕ) where
   -- so is the name at that position
   named_at : (name : List ℕ) (there : Option (List ℕ × List ℕ)) → IsFirstLost g (values_of refs) place → slice_get refs place ≡ there
-      → place < length refs → IfSome there (λ ref. name ≡ ref.0) → IsFirstUnsafe g refs name
+      → place < length refs → IfSome there (λ ref. name ≡ ref.0) → IsFirstUnconnected g refs name
   named_at name None first is inside named = absurd (none_inside refs place inside is)
   named_at name (Some ref) first is inside named =
-      subst (IsFirstUnsafe g refs) (sym named) (unsafe_at g refs place ref first (get_or_from_slice_get refs place ref ref is))
+      subst (IsFirstUnconnected g refs) (sym named) (unconnected_at g refs place ref first (get_or_from_slice_get refs place ref ref is))
 
-  pub unsafe_named : (name : List ℕ) → IsFirstLost g (values_of refs) place → IfSome (slice_get refs place) (λ ref. name ≡ ref.0)
-      → IsFirstUnsafe g refs name
-  unsafe_named name first named =
+  pub unconnected_named : (name : List ℕ) → IsFirstLost g (values_of refs) place → IfSome (slice_get refs place) (λ ref. name ≡ ref.0)
+      → IsFirstUnconnected g refs name
+  unconnected_named name first named =
       let inside : place < length refs = let low = first.inside in let long = length-map refs (λ (r : List ℕ × List ℕ). r.1) in omega (arith, low, long) in
       named_at name (slice_get refs place) first refl inside named
 
   -- the ref at a position, after refs that are connected
-  module _ (ref : List ℕ × List ℕ) (inside : place < length refs) (is : get_or refs place ref ≡ ref) (held : All (IsFull g) (take place (values_of refs))) where
+  module _ (ref : List ℕ × List ℕ) (inside : place < length refs) (is : get_or refs place ref ≡ ref) (held : All (IsConnected g) (take place (values_of refs))) where
     within : place < length (values_of refs)
     within = let long = length-map refs (λ (r : List ℕ × List ℕ). r.1) in omega (arith, inside, long)
 
@@ -177,8 +177,8 @@ module _ {A : Type 0} (g : List (Entry A)) (refs : RefList) (place : ℕ) where
     pub lost_ref : ¬ (Holds g ref.1) → IsFirstLost g (values_of refs) place
     lost_ref absent = lost_at g (values_of refs) place ref.1 within there held absent
 
-    pub full_ref : IsFull g ref.1 → All (IsFull g) (take (place + 1) (values_of refs))
-    full_ref full = All-more (IsFull g) (values_of refs) place ref.1 within held (subst (IsFull g) (sym there) full)
+    pub connected_ref : IsConnected g ref.1 → All (IsConnected g) (take (place + 1) (values_of refs))
+    connected_ref connected = All-more (IsConnected g) (values_of refs) place ref.1 within held (subst (IsConnected g) (sym there) connected)
 
 -- refs of which one was set come from the others, or stand at its id
 pub set_from : (others old new : RefList) (name id : List ℕ) → old ≡ others → SetsRef old new name id → ComeFrom others (id ∷ []) new

@@ -142,9 +142,9 @@ module _ {A : Type 0} where
       → NamesDiffer asks → place < length asks → get_or asks place ask ≡ ask → HasSettled g old (take place asks) updates before → CannotSet before ask.name → CannotSettle old asks
   cannot_settle g old asks place updates before ask differ inside is settled (inl head) =
       inl (head_at asks place ask inside is head)
-  cannot_settle g old asks place updates before ask differ inside is settled (inr full) =
-      let new : is_new old ask ≡ true = ap is_none (sym (unmoved g old (take place asks) updates before ask settled (differ_before asks place ask differ inside is)) ∙ full.0) in
+  cannot_settle g old asks place updates before ask differ inside is settled (inr connected) =
+      let new : is_new old ask ≡ true = ap is_none (sym (unmoved g old (take place asks) updates before ask settled (differ_before asks place ask differ inside is)) ∙ connected.0) in
       let next = count_by_more_yes (is_new old) asks place ask inside (ap (is_new old) is ∙ new) in
       let all = sum_by-take-le (λ (a : Ask A). cond (is_new old a) 1 0) asks (place + 1) in
       let count = settled.count in
-      inr (omega (arith, next, all, count, full.1))
+      inr (omega (arith, next, all, count, connected.1))

@@ -33,9 +33,9 @@ abbrev pub IsForcedAt : {A : Type 0} → List (Ask A) → ℕ → Bool → Type 
 IsForcedAt {A} asks place forced = (ask : Ask A) × (slice_get asks place ≡ Some ask) × (ask.forced ≡ forced)
 
 -- a name, and where its ref is to stand, as an ask
-abbrev pub aimed : {A : Type 0} → Name × Aim → Ask A
-aimed pair = record { name = pair.0; id = pair.1.id; forced = pair.1.forced }
+abbrev pub ask_of_aim : {A : Type 0} → Name × Aim → Ask A
+ask_of_aim pair = record { name = pair.0; id = pair.1.id; forced = pair.1.forced }
 
 -- the asks of a map's pairs
 abbrev pub asks_of : {A : Type 0} → List (Name × Aim) → List (Ask A)
-asks_of pairs = map aimed pairs
+asks_of pairs = map ask_of_aim pairs

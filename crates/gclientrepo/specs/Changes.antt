@@ -4,17 +4,17 @@ use Rattle.std.specs.Prelude.{◌≡◌, ◌⊎◌, Bool, List, [], ◌∷◌, A
 use Rattle.gname.specs.Ids.{Id}
 use Rattle.gname.specs.Names.{Name}
 use Rattle.gobject.specs.declared.node.Entry.{Entry}
-use Rattle.ggraph.specs.SafeRefs.{IsSafe}
+use Rattle.ggraph.specs.ConnectedRefs.{HasConnectedRefs}
 use Rattle.gdag.specs.Graphs.{History, Holds, IsFirstAbsent, IsOrdered}
 use Rattle.gdag.specs.Insert.{AddsOne, IsCause}
-use Rattle.gdag.specs.Reach.{IsFull}
+use Rattle.gdag.specs.Reach.{IsConnected}
 use Rattle.gdag.specs.Walks.{Misses}
 use Rattle.gdag.specs.declared.fault.GraphFault.TheVariants as graph
 use Rattle.grefs.specs.RefLists.{RefList, CannotSet, SetsRef}
 use Rattle.grefs.specs.declared.fault.RefsFault.TheVariants as refs
 use Rattle.gwalk.specs.Marks.{MarksReached}
-use Rattle.gclientrepo.specs.declared.fault.RepoFault.TheVariants.{UnsafeRef, NotHeld, NotConnected, MissingParent, Graph, Refs}
-use Rattle.gclientrepo.specs.Repos.{RepoState, IsFirstUnsafe}
+use Rattle.gclientrepo.specs.declared.fault.RepoFault.TheVariants.{UnconnectedRef, UnconnectedId, NotConnected, MissingParent, Graph, Refs}
+use Rattle.gclientrepo.specs.Repos.{RepoState, IsFirstUnconnected}
 use Rattle.gclientrepo.specs.Settling.{CannotSettle, Settles, asked_ids}
 use Rattle.gclientrepo.specs.declared.ask.Ask.{Ask}
 use Rattle.gclientrepo.specs.declared.ask.RefUpdate.{RefUpdate}
@@ -25,8 +25,8 @@ use Rattle.gclientrepo.specs.declared.fault.RepoFault.{RepoFault}
 abbrev pub Opens : {A : Type 0} → History A → RefList → Result (RepoState A) (RepoFault A) → Type 0
 Opens given given_refs (Ok repo) =
     (repo.graph ≡ given) × (repo.refs ≡ given_refs) × MarksReached given.entries (values_of given_refs) [] repo.known
-Opens given given_refs (Err (UnsafeRef name)) = IsFirstUnsafe given.entries given_refs name
-Opens given given_refs (Err (Graph graph.Memory)) = IsSafe given.entries given_refs ⊎ ¬ (IsOrdered given.entries)
+Opens given given_refs (Err (UnconnectedRef name)) = IsFirstUnconnected given.entries given_refs name
+Opens given given_refs (Err (Graph graph.Memory)) = HasConnectedRefs given.entries given_refs ⊎ ¬ (IsOrdered given.entries)
 Opens given given_refs (Err _) = ⊥
 
 -- what adding an object answers: whether its id is new, and it came in, after its parents; or the first parent that is
@@ -45,7 +45,7 @@ AddsLocal old entry new (Err _) = ⊥
 -- what some refs do to a repository whose graph stays: the ids are connected, and all that they reach is marked
 pub record Marks {A : Type 0} (old : RepoState A) (ids : List Id) (new : RepoState A) : Type 0 where
   pub graph : new.graph ≡ old.graph
-  pub full : All (IsFull old.graph.entries) ids
+  pub connected : All (IsConnected old.graph.entries) ids
   pub known : MarksReached old.graph.entries ids old.known new.known
 
 -- only a walk can tell whether the ids are connected: each is held, and some object came before one of its parents
@@ -57,11 +57,11 @@ pub record NeedsWalk {A : Type 0} (g : List (Entry A)) (ids : List Id) : Type 0 
 -- such a ref can't be set; or that it can, and it is out of memory; or that it is out of memory for a walk
 abbrev pub SetsLocal : {A : Type 0} → RepoState A → Name → Id → RepoState A → Result (Unit {0}) (RepoFault A) → Type 0
 SetsLocal old name id new (Ok _) = Marks old (id ∷ []) new × SetsRef old.refs new.refs name id
-SetsLocal old name id new (Err (NotHeld missing)) = (new ≡ old) × Misses old.graph.entries (id ∷ []) (Some missing)
+SetsLocal old name id new (Err (UnconnectedId missing)) = (new ≡ old) × Misses old.graph.entries (id ∷ []) (Some missing)
 SetsLocal old name id new (Err (Refs refs.Refs)) =
-    (new ≡ old) × IsFull old.graph.entries id × CannotSet old.refs name
+    (new ≡ old) × IsConnected old.graph.entries id × CannotSet old.refs name
 SetsLocal old name id new (Err (Refs refs.Memory)) =
-    (new ≡ old) × IsFull old.graph.entries id × ¬ (CannotSet old.refs name)
+    (new ≡ old) × IsConnected old.graph.entries id × ¬ (CannotSet old.refs name)
 SetsLocal old name id new (Err (Graph graph.Memory)) = (new ≡ old) × NeedsWalk old.graph.entries (id ∷ [])
 SetsLocal old name id new (Err _) = ⊥
 
@@ -75,8 +75,8 @@ SettlesAsks old asks new (Ok updates) =
 SettlesAsks old asks new (Err (NotConnected missing)) =
     (new ≡ old) × Misses old.graph.entries (asked_ids asks) (Some missing)
 SettlesAsks old asks new (Err (Refs refs.Refs)) =
-    (new ≡ old) × All (IsFull old.graph.entries) (asked_ids asks) × CannotSettle old.refs asks
+    (new ≡ old) × All (IsConnected old.graph.entries) (asked_ids asks) × CannotSettle old.refs asks
 SettlesAsks old asks new (Err (Refs refs.Memory)) =
-    (new ≡ old) × All (IsFull old.graph.entries) (asked_ids asks) × ¬ (CannotSettle old.refs asks)
+    (new ≡ old) × All (IsConnected old.graph.entries) (asked_ids asks) × ¬ (CannotSettle old.refs asks)
 SettlesAsks old asks new (Err (Graph graph.Memory)) = (new ≡ old) × NeedsWalk old.graph.entries (asked_ids asks)
 SettlesAsks old asks new (Err _) = ⊥

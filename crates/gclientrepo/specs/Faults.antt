@@ -4,14 +4,14 @@ use Rattle.gname.specs.Faults.{FaultRow, missing_parent}
 use Rattle.gdag.specs.Faults.{graph_fault_row, graph_fault_text}
 use Rattle.grefs.specs.Faults.{refs_fault_row, refs_fault_text}
 use Rattle.gclientrepo.specs.declared.fault.RepoFault.{RepoFault}
-use Rattle.gclientrepo.specs.declared.fault.RepoFault.TheVariants.{UnsafeRef, NotHeld, NotConnected, MissingParent}
+use Rattle.gclientrepo.specs.declared.fault.RepoFault.TheVariants.{UnconnectedRef, UnconnectedId, NotConnected, MissingParent}
 use Rattle.gclientrepo.specs.declared.fault.RepoFault.TheVariants.{Graph, Refs}
 
 -- why a call on a repository was refused; a fault of the graph or of the refs has its own row
 abbrev pub repo_fault_row : {A : Type 0} → RepoFault A → FaultRow
 repo_fault_row (MissingParent id) = missing_parent
-repo_fault_row (UnsafeRef name) = (80, codes "UnsafeRef")
-repo_fault_row (NotHeld missing) = (81, codes "NotHeld")
+repo_fault_row (UnconnectedRef name) = (80, codes "UnsafeRef")
+repo_fault_row (UnconnectedId missing) = (81, codes "NotHeld")
 repo_fault_row (NotConnected missing) = (85, codes "NotConnected")
 repo_fault_row (Graph fault) = graph_fault_row fault
 repo_fault_row (Refs fault) = refs_fault_row fault
@@ -19,8 +19,8 @@ repo_fault_row (Refs fault) = refs_fault_row fault
 -- ---- their texts
 abbrev pub repo_fault_text : {A : Type 0} → RepoFault A → List ℕ
 repo_fault_text (MissingParent id) = codes "a parent is not held"
-repo_fault_text (UnsafeRef name) = codes "the ancestry of a ref is not held"
-repo_fault_text (NotHeld missing) = codes "the ancestry of an id is not held"
+repo_fault_text (UnconnectedRef name) = codes "the ancestry of a ref is not held"
+repo_fault_text (UnconnectedId missing) = codes "the ancestry of an id is not held"
 repo_fault_text (NotConnected missing) = codes "the ancestries of the asked ids are not held"
 repo_fault_text (Graph fault) = graph_fault_text fault
 repo_fault_text (Refs fault) = refs_fault_text fault

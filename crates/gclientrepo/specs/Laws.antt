@@ -5,33 +5,33 @@ use Rattle.gname.specs.Names.{Name}
 use Rattle.gobject.specs.Objects.{IdsDiffer}
 use Rattle.gobject.specs.declared.node.Entry.{Entry}
 use Rattle.gdag.specs.Graphs.{History}
-use Rattle.gdag.specs.Reach.{Grows, IsFull}
+use Rattle.gdag.specs.Reach.{Grows, IsConnected}
 use Rattle.gdag.specs.Walks.{Misses}
 use Rattle.grefs.specs.RefLists.{RefList, IsRefs}
 use Rattle.gclientrepo.specs.Changes.{AddsLocal, SetsLocal, SettlesAsks}
-use Rattle.gclientrepo.specs.Repos.{IsWhole, RepoState}
+use Rattle.gclientrepo.specs.Repos.{IsConnectedRepo, RepoState}
 use Rattle.gclientrepo.specs.Settling.{Settles}
 use Rattle.gclientrepo.specs.declared.ask.Ask.{Ask}
 use Rattle.gclientrepo.specs.declared.ask.RefUpdate.{RefUpdate}
 use Rattle.gclientrepo.specs.declared.fault.RepoFault.{RepoFault}
 
 -- a repository stays connected where objects come to its graph
-abbrev pub WholeStays : Type 0 → Type 0
-WholeStays A =
+abbrev pub ConnectedRepoStays : Type 0 → Type 0
+ConnectedRepoStays A =
     (g h : History A) (refs : RefList) (known : List Bool) → Grows g.entries h.entries → IdsDiffer h.entries
-    → IsWhole (record { graph = g; refs = refs; known = known })
-    → IsWhole (record { graph = h; refs = refs; known = known })
+    → IsConnectedRepo (record { graph = g; refs = refs; known = known })
+    → IsConnectedRepo (record { graph = h; refs = refs; known = known })
 
 -- a repository stays connected where asks are settled
-abbrev pub SettlingStaysWhole : Type 0 → Type 0
-SettlingStaysWhole A =
+abbrev pub SettlingStaysConnected : Type 0 → Type 0
+SettlingStaysConnected A =
     (old new : RepoState A) (asks : List (Ask A)) (updates : List RefUpdate)
-    → IsRefs new.refs → IsWhole old → SettlesAsks old asks new (Ok updates) → IsWhole new
+    → IsRefs new.refs → IsConnectedRepo old → SettlesAsks old asks new (Ok updates) → IsConnectedRepo new
 
 -- and where a ref is set
-abbrev pub SettingStaysWhole : Type 0 → Type 0
-SettingStaysWhole A =
-    (old new : RepoState A) (name : Name) (id : Id) → IsWhole old → SetsLocal old name id new (Ok tt) → IsWhole new
+abbrev pub SettingStaysConnected : Type 0 → Type 0
+SettingStaysConnected A =
+    (old new : RepoState A) (name : Name) (id : Id) → IsConnectedRepo old → SetsLocal old name id new (Ok tt) → IsConnectedRepo new
 
 -- a refusal changes nothing
 pub record RefusalsChangeNothing (A : Type 0) : Type 0 where
@@ -46,7 +46,7 @@ pub record RefusalsChangeNothing (A : Type 0) : Type 0 where
 abbrev pub HeldIsNotMissing : Type 0 → Type 0
 HeldIsNotMissing A =
     (g : List (Entry A)) (ids : List Id) (missing : Id)
-    → All (IsFull g) ids → ¬ (Misses g ids (Some missing))
+    → All (IsConnected g) ids → ¬ (Misses g ids (Some missing))
 
 -- there is one settling of some asks
 abbrev pub OneSettling : Type 0 → Type 0

@@ -5,7 +5,7 @@ pub mod Laws
 pub mod Repos
 pub mod Settling
 pub mod steps
-pub use Rattle.ggraph.specs.SafeRefs
+pub use Rattle.ggraph.specs.ConnectedRefs
 pub use Rattle.gdag.specs.Graphs
 pub use Rattle.gdag.specs.Insert
 pub use Rattle.gdag.specs.Reach

@@ -5,11 +5,11 @@ use Rattle.std.specs.Prelude.{◌≡◌, List, Bool, ◌∷◌, ◌++◌}
 use Rattle.gname.specs.Ids.{Id}
 use Rattle.gname.specs.Names.{Name}
 use Rattle.gobject.specs.declared.node.Entry.{Entry}
-use Rattle.ggraph.specs.SafeRefs.{IsSafe}
+use Rattle.ggraph.specs.ConnectedRefs.{HasConnectedRefs}
 use Rattle.gdag.specs.Graphs.{History}
-use Rattle.gdag.specs.Reach.{IsFull}
+use Rattle.gdag.specs.Reach.{IsConnected}
 use Rattle.grefs.specs.RefLists.{RefList}
-use Rattle.gwalk.specs.Marks.{AreFull, Covers}
+use Rattle.gwalk.specs.Marks.{AreConnected, Covers}
 
 -- what a repository holds
 pub record RepoState (A : Type 0) : Type 0 where
@@ -18,16 +18,16 @@ pub record RepoState (A : Type 0) : Type 0 where
   pub known : List Bool
 
 -- each ref is connected; each marked object is connected; and all that a ref reaches is marked
-pub record IsWhole {A : Type 0} (repo : RepoState A) : Type 0 where
-  pub safe : IsSafe repo.graph.entries repo.refs
-  pub full : AreFull repo.graph.entries repo.known
+pub record IsConnectedRepo {A : Type 0} (repo : RepoState A) : Type 0 where
+  pub connected_refs : HasConnectedRefs repo.graph.entries repo.refs
+  pub connected : AreConnected repo.graph.entries repo.known
   pub covers : Covers repo.graph.entries (values_of repo.refs) repo.known
 
 -- the name is that of the first ref that is not connected
-pub record IsFirstUnsafe {A : Type 0} (g : List (Entry A)) (refs : RefList) (name : Name) : Type 0 where
+pub record IsFirstUnconnected {A : Type 0} (g : List (Entry A)) (refs : RefList) (name : Name) : Type 0 where
   pub front : RefList
   pub id : Id
   pub back : RefList
   pub parts : refs ≡ front ++ (name, id) ∷ back
-  pub safe : IsSafe g front
-  pub unsafe : ¬ (IsFull g id)
+  pub connected_refs : HasConnectedRefs g front
+  pub unconnected : ¬ (IsConnected g id)

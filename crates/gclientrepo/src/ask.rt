@@ -1,26 +1,26 @@
-//! What is asked of a ref, and what becomes of it.
+//! Asks for refs, and their outcomes.
 
 use gname::{Oid, RefName};
 use std::alloc::{Allocator, Global};
 
-/// That a ref is to stand at an id.
+/// A request to set a ref to an id.
 #[derive(Debug, Drop)]
 pub struct Ask<A: Allocator + Copy = Global> {
     /// The ref.
     pub name: RefName<A>,
-    /// The id at which it is to stand.
+    /// The id that the ref is to have.
     pub id: Oid,
-    /// Whether it is to move even where that is no fast-forward (git-fetch(1), `--force`).
+    /// Whether to move the ref even if that is not a fast-forward (git-fetch(1), `--force`).
     pub forced: bool,
 }
 
-/// What became of an ask.
+/// The outcome of an ask.
 #[derive(Clone, Copy, Debug, PartialEq, Eq, Drop)]
 pub enum RefUpdate {
-    /// The ref came to stand at the id: it was new, or moved by force or as a fast-forward.
+    /// The ref was set to the id: it was new, forced or fast-forwarded.
     Moved,
-    /// The ref stood at the id already.
+    /// The ref had this id already.
     Same,
-    /// The ref stays, as the move would be no fast-forward.
+    /// The ref is unchanged, because the move is not a fast-forward.
     NotForward,
 }

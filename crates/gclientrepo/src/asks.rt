@@ -1,8 +1,8 @@
-//! What is asked of several refs.
+//! Asks for several refs.
 
 ghost use Rattle.std.specs.Prelude.{◌≡◌, ◌≤◌, ◌<◌, ◌↔◌, [], IfOk, IsTrue, MatchOption, OnErr, OnOk, Some, length, map, slice_get};
 ghost use Rattle.indexmap.specs.IndexMap.{values};
-ghost use Rattle.gclientrepo.specs.Asks.{IsAskAt, IsForcedAt, NamesDiffer, aimed, asked_ids, is_asked, with_ask};
+ghost use Rattle.gclientrepo.specs.Asks.{IsAskAt, IsForcedAt, NamesDiffer, ask_of_aim, asked_ids, is_asked, with_ask};
 
 use crate::ask::Ask;
 use gname::{Oid, RefName};
@@ -11,18 +11,18 @@ use std::alloc::{AllocError, Allocator, Global};
 use std::hash::{BuildHasherDefault, DefaultHasher};
 use std::marker::Model;
 
-/// How the names of refs are hashed. Names come from peers, who may choose them: for `DefaultHasher` names that
-/// collide have to be searched for, where for std's fast hasher they can be written down.
+/// The hasher of ref names. Names come from peers, who may choose them. For `DefaultHasher` names
+/// that collide have to be searched for; for std's fast hasher they can be written down.
 type NameHasher = BuildHasherDefault<DefaultHasher>;
 
-/// Where a ref is to stand.
+/// The id that a ref is to have, and whether it is forced.
 #[derive(Debug, Drop)]
 pub(crate) struct Aim {
     pub(crate) id: Oid,
     pub(crate) forced: bool,
 }
 
-/// Asks in the order in which they came, of which no two are for one ref.
+/// Asks in the order of their addition. No two are for one ref.
 #[derive(Debug, Drop)]
 pub struct Asks<A: Allocator + Copy = Global> {
     aims: IndexMap<RefName<A>, Aim, NameHasher, A>,
@@ -41,7 +41,7 @@ impl<A: Allocator + Copy> Model for Asks<A> {
 }
 
 impl<A: Allocator + Copy> Asks<A> {
-    /// No asks. It takes no memory.
+    /// Returns an empty list. Allocates nothing.
     pub fn new(alloc: A) -> Asks<A>
         ensures { result ≡ [] }
     {
@@ -50,7 +50,7 @@ impl<A: Allocator + Copy> Asks<A> {
         }
     }
 
-    /// How many asks there are.
+    /// Returns how many asks there are.
     pub fn len(&self) -> usize
         ensures count { result ≡ length self.now }
         ensures differ { NamesDiffer self.now }
@@ -58,7 +58,7 @@ impl<A: Allocator + Copy> Asks<A> {
         self.aims.len()
     }
 
-    /// Whether there is no ask.
+    /// Whether there are no asks.
     pub fn is_empty(&self) -> bool
         ensures { IsTrue result ↔ (self.now ≡ []) }
     {
@@ -72,9 +72,9 @@ impl<A: Allocator + Copy> Asks<A> {
         self.aims.contains_key(name)
     }
 
-    /// Adds an ask after the others, unless one of them is for the same ref: the first ask for a ref counts.
+    /// Appends an ask, unless there is one for the same ref: the first ask for a ref counts.
     ///
-    /// It fails where there is no memory. The asks are then as they were.
+    /// Fails only if out of memory. The asks are then unchanged.
     pub fn add(&mut self, ask: Ask<A>) -> Result<(), AllocError>
         ensures ok { OnOk result (self.new ≡ with_ask self.old ask) }
         ensures err { OnErr result (self.new ≡ self.old) }
@@ -90,7 +90,7 @@ impl<A: Allocator + Copy> Asks<A> {
         Ok(())
     }
 
-    /// The name and the id of the ask at a position, counted from 0; `None` past the end.
+    /// Returns the name and the id of the ask at an index, counted from 0, or `None` past the end.
     pub fn at(&self, place: usize) -> Option<(&RefName<A>, Oid)>
         ensures { MatchOption result (length self.now ≤ place)
             (λ pair. IsAskAt self.now place pair.0.now pair.1) }
@@ -102,8 +102,8 @@ impl<A: Allocator + Copy> Asks<A> {
         Some((name, aim.id))
     }
 
-    /// Whether the ask at a position, counted from 0, is forced: its ref is to move even where that
-    /// is no fast-forward. `None` past the end.
+    /// Whether the ask at an index, counted from 0, is forced: its ref moves even if that is not a
+    /// fast-forward. `None` past the end.
     pub fn is_forced(&self, place: usize) -> Option<bool>
         ensures { MatchOption result (length self.now ≤ place) (IsForcedAt self.now place) }
     {
@@ -114,30 +114,30 @@ impl<A: Allocator + Copy> Asks<A> {
         Some(aim.forced)
     }
 
-    /// The ids that are asked for, in the order of the asks.
+    /// Returns the asked ids, in the order of the asks.
     ///
-    /// It fails where there is no memory for them.
+    /// Fails only if out of memory.
     pub fn ids(&self, alloc: A) -> Result<Vec<Oid, A>, AllocError>
         ensures { IfOk result (λ ids. ids.items ≡ asked_ids self.now) }
     {
         ids_of(alloc, &self.aims)
     }
 
-    /// The allocator that the memory of the asks comes from.
+    /// Returns the allocator of the asks.
     pub fn allocator(&self) -> A {
         *self.aims.allocator()
     }
 
-    /// The name of the ref that the ask at a position is for, and where it is to stand.
+    /// Returns the ref of the ask at an index, and its new id.
     pub(crate) fn aim(&self, place: usize) -> (&RefName<A>, &Aim)
         requires { place < length self.now }
-        ensures { slice_get self.now place ≡ Some (aimed (result.0.now, result.1.now)) }
+        ensures { slice_get self.now place ≡ Some (ask_of_aim (result.0.now, result.1.now)) }
     {
         self.aims.get_index(place).unwrap()
     }
 }
 
-// The ids in a map, in its order.
+// Returns the ids in a map, in its order.
 fn ids_of<A: Allocator + Copy>(
     alloc: A,
     aims: &IndexMap<RefName<A>, Aim, NameHasher, A>,

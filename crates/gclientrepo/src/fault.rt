@@ -1,4 +1,4 @@
-//! What a call on a repository refuses.
+//! The faults of calls on a repository.
 
 ghost use Rattle.std.specs.Prelude.{◌≡◌, Some};
 ghost use Rattle.gdag.specs.declared.fault.GraphFault.TheVariants.{Memory};
@@ -12,49 +12,49 @@ use std::alloc::{AllocError, AllocFailed, Allocator, Global};
 use std::error::Error;
 use std::fmt;
 
-/// Why a call on a repository was refused.
+/// The reason a call on a repository was refused.
 #[derive(Debug, Drop)]
 pub enum RepoFault<A: Allocator + Copy = Global> {
-    /// A parent of the object that was to be added is not held.
+    /// A parent of the object to add is not held.
     MissingParent { id: Oid },
     /// This ref, the first in the order of the names, is not connected.
-    UnsafeRef { name: RefName<A> },
-    /// The id at which a ref was to stand is not connected: of its ancestry this id is missing.
-    NotHeld { missing: Oid },
-    /// The ids that were asked for are not all connected: of their ancestries this id is missing.
+    UnconnectedRef { name: RefName<A> },
+    /// The new id of a ref is not connected: this id is missing in its ancestry.
+    UnconnectedId { missing: Oid },
+    /// The asked ids are not all connected: this id is missing in their ancestries.
     NotConnected { missing: Oid },
-    /// The graph refused it, or out of memory for a walk or a copy.
+    /// The graph refused the change, or it is out of memory for a walk or a copy.
     Graph(GraphFault),
-    /// A ref can't be set, or it can and it is out of memory to set it.
+    /// A ref can't be set, or it can but it is out of memory to set it.
     Refs(RefsFault),
 }
 
 impl<A: Allocator + Copy> RepoFault<A> {
-    /// The number of the fault.
+    /// Returns the number of the fault.
     pub fn code(&self) -> u32
         ensures { result ≡ (repo_fault_row self.now).0 }
     {
-        self.row().0
+        self.fault_row().0
     }
 
-    /// The name of the fault.
+    /// Returns the name of the fault.
     pub fn name(&self) -> &'static str
         ensures { result.now ≡ (repo_fault_row self.now).1 }
     {
-        self.row().1
+        self.fault_row().1
     }
 
-    /// The table: the number and the name of each fault.
-    pub fn row(&self) -> (u32, &'static str)
+    /// Returns the number and the name of the fault.
+    pub fn fault_row(&self) -> (u32, &'static str)
         ensures { (result.0, result.1.now) ≡ repo_fault_row self.now }
     {
         match self {
             RepoFault::MissingParent { .. } => MISSING_PARENT,
-            RepoFault::UnsafeRef { .. } => (80, "UnsafeRef"),
-            RepoFault::NotHeld { .. } => (81, "NotHeld"),
+            RepoFault::UnconnectedRef { .. } => (80, "UnsafeRef"),
+            RepoFault::UnconnectedId { .. } => (81, "NotHeld"),
             RepoFault::NotConnected { .. } => (85, "NotConnected"),
-            RepoFault::Graph(fault) => fault.row(),
-            RepoFault::Refs(fault) => fault.row(),
+            RepoFault::Graph(fault) => fault.fault_row(),
+            RepoFault::Refs(fault) => fault.fault_row(),
         }
     }
 }
@@ -65,8 +65,8 @@ impl<A: Allocator + Copy> fmt::Display for RepoFault<A> {
     fn fmt<W: fmt::Write>(&self, f: &mut fmt::Formatter<W>) -> fmt::Result {
         match self {
             RepoFault::MissingParent { .. } => f.write_str("a parent is not held"),
-            RepoFault::UnsafeRef { .. } => f.write_str("the ancestry of a ref is not held"),
-            RepoFault::NotHeld { .. } => f.write_str("the ancestry of an id is not held"),
+            RepoFault::UnconnectedRef { .. } => f.write_str("the ancestry of a ref is not held"),
+            RepoFault::UnconnectedId { .. } => f.write_str("the ancestry of an id is not held"),
             RepoFault::NotConnected { .. } => f.write_str(
                 "the ancestries of the asked ids are not held",
             ),

@@ -1,54 +1,55 @@
-//! The laws of repositories: functions without effect, whose contracts they are.
+//! The laws of repositories: functions without effect, which exist for their contracts.
 
-ghost use Rattle.gclientrepo.specs.Laws.{HeldIsNotMissing, OneSettling, RefusalsChangeNothing, SettingStaysWhole, SettlingStaysWhole, WholeStays};
+ghost use Rattle.gclientrepo.specs.Laws.{HeldIsNotMissing, OneSettling, RefusalsChangeNothing, SettingStaysConnected, SettlingStaysConnected, ConnectedRepoStays};
 
 use ggraph::graph_laws::{growing_keeps, reaching_goes_on};
-use ggraph::laws::safe_stays;
-use ggraph::walk_laws::{covering_stays, marks_stay_full};
+use ggraph::laws::connected_refs_stay;
+use ggraph::walk_laws::{covering_stays, marks_stay_connected};
 use grefs::laws::{refs_are_their_look_ups, refs_come_in_order};
 use std::alloc::Allocator;
 
-/// A repository stays connected where objects come to its graph: each ref is connected, each marked
-/// object is connected, and all that a ref reaches is marked.
-pub fn whole_stays<A: Allocator + Copy>()
-    ensures { WholeStays A }
+/// A repository stays connected if its graph gains objects: each ref is connected, each marked
+/// object is connected, and everything that a ref reaches is marked.
+pub fn connected_repo_stays<A: Allocator + Copy>()
+    ensures { ConnectedRepoStays A }
 {
     growing_keeps::<A>();
-    safe_stays::<A>();
-    marks_stay_full::<A>();
+    connected_refs_stay::<A>();
+    marks_stay_connected::<A>();
     covering_stays::<A>();
 }
 
-/// A repository stays connected where asks are settled.
-#[tactic(auto, using(crate::proofs::KeepingWhole::settling_stays_whole))]
-pub fn settling_stays_whole<A: Allocator + Copy>()
-    ensures { SettlingStaysWhole A }
+/// A repository stays connected if asks are settled.
+#[tactic(auto, using(crate::proofs::KeepingConnected::settling_stays_connected))]
+pub fn settling_stays_connected<A: Allocator + Copy>()
+    ensures { SettlingStaysConnected A }
 {
     refs_come_in_order();
     reaching_goes_on::<A>();
 }
 
-/// A repository stays connected where a ref is set.
-#[tactic(auto, using(crate::proofs::KeepingWhole::setting_stays_whole))]
-pub fn setting_stays_whole<A: Allocator + Copy>()
-    ensures { SettingStaysWhole A }
+/// A repository stays connected if a ref is set.
+#[tactic(auto, using(crate::proofs::KeepingConnected::setting_stays_connected))]
+pub fn setting_stays_connected<A: Allocator + Copy>()
+    ensures { SettingStaysConnected A }
 {
     reaching_goes_on::<A>();
 }
 
-/// A fault of adding an object, of setting a ref or of settling asks leaves the repository as it was.
+/// A fault of adding an object, of setting a ref or of settling asks leaves the repository
+/// unchanged.
 #[tactic(auto, using(crate::proofs::Refusals::refusals_change_nothing))]
 pub fn refusals_change_nothing<A: Allocator + Copy>()
     ensures { RefusalsChangeNothing A }
 {}
 
-/// Nothing is missing of connected ids.
+/// Nothing is missing in the ancestries of connected ids.
 #[tactic(auto, using(crate::proofs::RepoLemmas::not_all_held))]
 pub fn held_is_not_missing<A: Allocator + Copy>()
     ensures { HeldIsNotMissing A }
 {}
 
-/// There is one settling of some asks: what becomes of each, and where each ref stands afterwards.
+/// A list of asks has one settling: the outcome of each, and the id of each ref afterwards.
 #[tactic(auto, using(crate::proofs::OneSettling::one_settling))]
 pub fn one_settling<A: Allocator + Copy>()
     ensures { OneSettling A }

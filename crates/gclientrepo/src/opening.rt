@@ -1,26 +1,26 @@
-//! Which ref is the first that is not connected.
+//! The search for the first ref that is not connected.
 
 ghost use Rattle.std.specs.Prelude.{◌≡◌, All, IfErr, IfOk, MatchOption};
 ghost use Rattle.std.specs.Map.{values_of};
 ghost use Rattle.gdag.specs.declared.fault.GraphFault.TheVariants.{Memory};
 ghost use Rattle.gdag.specs.Graphs.{IsOrdered};
-ghost use Rattle.gdag.specs.Reach.{IsFull};
+ghost use Rattle.gdag.specs.Reach.{IsConnected};
 ghost use Rattle.gclientrepo.specs.steps.Repos.{IsFirstLost};
 
-use ggraph::graph_laws::{closed_is_full, ordered_is_closed};
+use ggraph::graph_laws::{closed_is_connected, ordered_is_closed};
 use ggraph::{Graph, GraphFault, Refs, missing};
 use gname::Oid;
 use std::alloc::Allocator;
 
-/// The position of the first ref that is not connected, where there is one.
+/// Returns the index of the first ref that is not connected, if there is one.
 ///
-/// It fails with `Memory` alone, and only where some object came before one of its parents.
-pub(crate) fn first_unsafe<A: Allocator + Copy>(
+/// Fails only with `Memory`, and only if some object came before one of its parents.
+pub(crate) fn first_unconnected<A: Allocator + Copy>(
     graph: &Graph<A>,
     refs: &Refs<A>,
 ) -> Result<Option<usize>, GraphFault>
     ensures place { IfOk result (λ place. MatchOption place
-        (All (IsFull graph.now.entries) (values_of refs.now))
+        (All (IsConnected graph.now.entries) (values_of refs.now))
         (IsFirstLost graph.now.entries (values_of refs.now))) }
     ensures fault { IfErr result (λ fault. (fault ≡ Memory)
         × ¬ (IsOrdered graph.now.entries)) }
@@ -36,15 +36,16 @@ pub(crate) fn first_unsafe<A: Allocator + Copy>(
     Ok(Some(first_lost(graph, ids)?))
 }
 
-// The position of the first ref whose id is not held. Where parents came first each other id is connected.
+// Returns the index of the first ref whose id is not held. If parents came first, each other id is
+// connected.
 fn first_absent<A: Allocator + Copy>(graph: &Graph<A>, refs: &Refs<A>) -> Option<usize>
     requires { IsOrdered graph.now.entries }
-    ensures { MatchOption result (All (IsFull graph.now.entries) (values_of refs.now))
+    ensures { MatchOption result (All (IsConnected graph.now.entries) (values_of refs.now))
         (IsFirstLost graph.now.entries (values_of refs.now)) }
 {
     // Laws.
     ordered_is_closed::<A>();
-    closed_is_full::<A>();
+    closed_is_connected::<A>();
     graph.laws();
     let pairs = refs.as_slice();
     for place in 0..pairs.len() {
@@ -55,22 +56,22 @@ fn first_absent<A: Allocator + Copy>(graph: &Graph<A>, refs: &Refs<A>) -> Option
     None
 }
 
-// The position of the first id that is not connected.
+// Returns the index of the first id that is not connected.
 fn first_lost<A: Allocator + Copy>(graph: &Graph<A>, ids: &[Oid]) -> Result<usize, GraphFault>
-    requires { ¬ (All (IsFull graph.now.entries) ids.now) }
+    requires { ¬ (All (IsConnected graph.now.entries) ids.now) }
     ensures place { IfOk result (IsFirstLost graph.now.entries ids.now) }
     ensures fault { IfErr result (λ fault. fault ≡ Memory) }
 {
-    // The ids before `full` are connected, and those before `end` are not all.
-    let mut full = 0;
+    // The ids before `connected` are connected. Not all of those before `end` are.
+    let mut connected = 0;
     let mut end = ids.len();
-    while full + 1 < end {
-        let middle = full + (end - full) / 2;
+    while connected + 1 < end {
+        let middle = connected + (end - connected) / 2;
         if missing(graph, &ids[..middle])?.is_none() {
-            full = middle;
+            connected = middle;
         } else {
             end = middle;
         }
     }
-    Ok(full)
+    Ok(connected)
 }

@@ -1,4 +1,4 @@
-//! Refs while they are set one after the other.
+//! Refs while they are set one by one.
 
 ghost use Rattle.std.specs.Prelude.{◌≡◌, ◌<◌, IfOk, OnOk, length};
 ghost use Rattle.grefs.specs.RefLists.{CannotSet, IsRefs, SetsRef, max_refs};
@@ -11,7 +11,7 @@ use std::alloc::{AllocError, Allocator};
 use std::collections::BTreeMap;
 use std::marker::Model;
 
-/// Refs to which many may be added: a list of refs has to move all that come after a new name.
+/// Refs to which many may be added. A list of refs has to move all refs after a new name.
 #[derive(Drop)]
 pub(crate) struct RefMap<A: Allocator + Copy> {
     refs: BTreeMap<RefName<A>, Oid, A>,
@@ -28,7 +28,7 @@ impl<A: Allocator + Copy> Model for RefMap<A> {
 }
 
 impl<A: Allocator + Copy> RefMap<A> {
-    /// Refs like these. It fails where there is no memory.
+    /// Copies the refs. Fails only if out of memory.
     pub(crate) fn copy_of(alloc: A, refs: &Refs<A>) -> Result<RefMap<A>, AllocError>
         ensures { IfOk result (λ copy. copy ≡ refs.now) }
     {
@@ -36,7 +36,7 @@ impl<A: Allocator + Copy> RefMap<A> {
         Ok(RefMap { refs })
     }
 
-    /// Puts a name at an id. The name can be set. It fails where there is no memory.
+    /// Sets a ref to an id. The name can be set. Fails only if out of memory.
     pub(crate) fn set(&mut self, name: RefName<A>, id: Oid) -> Result<(), AllocError>
         requires { ¬ (CannotSet self.old name) }
         ensures { OnOk result (SetsRef self.old self.new name id) }
@@ -48,7 +48,7 @@ impl<A: Allocator + Copy> RefMap<A> {
         Ok(())
     }
 
-    /// The refs, in the order of their names. It fails where there is no memory.
+    /// Returns the refs, in the order of their names. Fails only if out of memory.
     pub(crate) fn into_refs(self, alloc: A) -> Result<Refs<A>, AllocError>
         ensures refs { IfOk result (λ refs. refs ≡ self) }
         ensures valid { IfOk result IsRefs }
@@ -63,7 +63,7 @@ impl<A: Allocator + Copy> RefMap<A> {
     }
 }
 
-// The refs as a map. It fails where there is no memory.
+// Returns the refs as a map. Fails only if out of memory.
 fn tree_of<A: Allocator + Copy>(
     alloc: A,
     refs: &[(RefName<A>, Oid)],

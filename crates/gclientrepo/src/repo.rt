@@ -6,61 +6,63 @@ ghost use Rattle.gname.specs.Ids.{Id};
 ghost use Rattle.gdag.specs.declared.fault.GraphFault.TheVariants.{Memory};
 ghost use Rattle.gdag.specs.Graphs.{IsGraph, IsNode};
 ghost use Rattle.gdag.specs.Insert.{Adds, AddsOnly, AddsOnlyParents};
-ghost use Rattle.gdag.specs.Reach.{Grows, IsFull, Keeps};
+ghost use Rattle.gdag.specs.Reach.{Grows, IsConnected, Keeps};
 ghost use Rattle.gdag.specs.Walks.{Misses};
-ghost use Rattle.ggraph.specs.SafeRefs.{IsSafe};
+ghost use Rattle.ggraph.specs.ConnectedRefs.{HasConnectedRefs};
 ghost use Rattle.grefs.specs.RefLists.{IsRefs, SetsRef};
 ghost use Rattle.gwalk.specs.Marks.{MarksReached};
 ghost use Rattle.gclientrepo.specs.Asks.{asked_ids};
 ghost use Rattle.gclientrepo.specs.Changes.{AddsLocal, NeedsWalk, Marks, Opens, SetsLocal, SettlesAsks};
 ghost use Rattle.gclientrepo.specs.steps.Repos.{ComeFrom};
-ghost use Rattle.gclientrepo.specs.Repos.{IsWhole};
+ghost use Rattle.gclientrepo.specs.Repos.{IsConnectedRepo};
 ghost use Rattle.gclientrepo.specs.Settling.{CannotSettle, Settles};
 
 use crate::ask::RefUpdate;
 use crate::asks::Asks;
 use crate::fault::RepoFault;
-use crate::laws::whole_stays;
-use crate::opening::first_unsafe;
-use crate::settling::{cannot_set, cannot_settle, first_absent, settled};
-use ggraph::graph_laws::{closed_is_full, ordered_is_closed};
-use ggraph::{Entry, FullMarks, Graph, GraphFault, Refs, RefsFault, mark_full, missing_known};
+use crate::laws::connected_repo_stays;
+use crate::opening::first_unconnected;
+use crate::settling::{cannot_set, cannot_settle, first_absent, settle_refs};
+use ggraph::graph_laws::{closed_is_connected, ordered_is_closed};
+use ggraph::{
+    ConnectedMarks, Entry, Graph, GraphFault, Refs, RefsFault, mark_connected, missing_known,
+};
 use gname::{Format, Oid, RefName};
 use grefs::laws::refs_come_in_order;
 use std::alloc::{Allocator, Global};
 use std::marker::Model;
 
-/// What a client keeps: its objects, its refs, and marks of objects that are known to be connected.
-/// Each ref is connected at all times.
+/// A client's objects, refs, and marks of objects that are known to be connected. Each ref is
+/// connected at all times.
 #[derive(Debug, Drop)]
 pub struct Repo<A: Allocator + Copy = Global> {
     graph: Graph<A>,
     refs: Refs<A>,
-    known: FullMarks<A>,
+    known: ConnectedMarks<A>,
 }
 
 impl<A: Allocator + Copy> Model for Repo<A> {
-    ghost use Rattle.gclientrepo.specs.Repos.{RepoState, IsWhole};
+    ghost use Rattle.gclientrepo.specs.Repos.{RepoState, IsConnectedRepo};
 
     ghost Value = { RepoState A };
 
     ghost view = { λ it. record { graph = it.graph; refs = it.refs; known = it.known } };
 
-    ghost invariant = { λ it. IsWhole (record { graph = it.graph; refs = it.refs; known = it.known }) };
+    ghost invariant = { λ it. IsConnectedRepo (record { graph = it.graph; refs = it.refs; known = it.known }) };
 }
 
 impl<A: Allocator + Copy> Repo<A> {
-    /// A repository of these objects and refs. What the refs reach is marked.
+    /// Makes a repository of these objects and refs, and marks everything that the refs reach.
     ///
-    /// It fails with `UnsafeRef` and the first ref, in the order of the names, that is not
-    /// connected, and where out of memory. Where parents came first, that is reported only where each ref is
-    /// connected. The graph and the refs are then gone.
+    /// Fails with `UnconnectedRef` at the first ref, in the order of the names, that is not
+    /// connected, and if out of memory. If parents came first, the latter is reported only if each
+    /// ref is connected. A fault drops the graph and the refs.
     pub fn new(graph: Graph<A>, refs: Refs<A>) -> Result<Repo<A>, RepoFault<A>>
         ensures opens { Opens graph refs result }
-        ensures whole { IfOk result IsWhole }
+        ensures whole { IfOk result IsConnectedRepo }
     {
-        if let Some(place) = first_unsafe(&graph, &refs)? {
-            return Err(RepoFault::UnsafeRef {
+        if let Some(place) = first_unconnected(&graph, &refs)? {
+            return Err(RepoFault::UnconnectedRef {
                 name: refs.into_name(place),
             });
         }
@@ -68,31 +70,31 @@ impl<A: Allocator + Copy> Repo<A> {
         Ok(Repo { graph, refs, known })
     }
 
-    /// The objects.
+    /// Returns the objects.
     pub fn graph(&self) -> &Graph<A>
         ensures { result.now ≡ self.now.graph }
     {
         &self.graph
     }
 
-    /// The refs.
+    /// Returns the refs.
     pub fn refs(&self) -> &Refs<A>
         ensures { result.now ≡ self.now.refs }
     {
         &self.refs
     }
 
-    /// The marks of objects that are known to be connected.
-    pub fn known(&self) -> &FullMarks<A>
+    /// Returns the marks of objects that are known to be connected.
+    pub fn marks(&self) -> &ConnectedMarks<A>
         ensures { result.now ≡ self.now.known }
     {
         &self.known
     }
 
-    /// The format of the ids.
+    /// Returns the format of the ids.
     pub fn format(&self) -> Format
         ensures format { result ≡ self.now.graph.format }
-        ensures whole { IsWhole self.now }
+        ensures whole { IsConnectedRepo self.now }
         ensures graph { IsGraph self.now.graph }
         ensures refs { IsRefs self.now.refs }
     {
@@ -101,9 +103,9 @@ impl<A: Allocator + Copy> Repo<A> {
         self.graph.format()
     }
 
-    /// A law: what is true of each repository.
+    /// A law: the properties of each repository.
     pub fn laws(&self)
-        ensures whole { IsWhole self.now }
+        ensures whole { IsConnectedRepo self.now }
         ensures graph { IsGraph self.now.graph }
         ensures refs { IsRefs self.now.refs }
     {
@@ -111,12 +113,13 @@ impl<A: Allocator + Copy> Repo<A> {
         self.refs.laws();
     }
 
-    /// What is missing of the ancestries of some ids: `None` where each of them is connected, and
-    /// else an id that one of them reaches and that is not held. An id that is not held is looked up first. Where
-    /// parents came first, no walk is needed; another walk does not go on from marked objects.
+    /// Returns an id that is missing in the ancestries of some ids: one of them reaches it, and it
+    /// is not held. Returns `None` if each of them is connected. An id that is not held is looked
+    /// up first. If parents came first, no walk is needed; another walk does not go on from marked
+    /// objects.
     ///
-    /// It fails with `Memory` alone, and only where all of the ids are held and some object came before one of its
-    /// parents.
+    /// Fails only with `Memory`, and only if all of the ids are held and some object came before
+    /// one of its parents.
     pub fn missing(&self, ids: &[Oid]) -> Result<Option<Oid>, GraphFault>
         ensures answer { IfOk result (Misses self.now.graph.entries ids.now) }
         ensures fault { IfErr result (λ fault. (fault ≡ Memory)
@@ -124,7 +127,7 @@ impl<A: Allocator + Copy> Repo<A> {
     {
         // Laws.
         ordered_is_closed::<A>();
-        closed_is_full::<A>();
+        closed_is_connected::<A>();
         if let Some(id) = self.graph.first_absent(ids) {
             return Ok(Some(id));
         }
@@ -134,7 +137,8 @@ impl<A: Allocator + Copy> Repo<A> {
         self.missing_by_walk(ids)
     }
 
-    // What is missing of the ancestries of some ids, by a walk. It fails with `Memory` alone.
+    // Returns an id that is missing in the ancestries of some ids, by a walk. Fails only with
+    // `Memory`.
     fn missing_by_walk(&self, ids: &[Oid]) -> Result<Option<Oid>, GraphFault>
         ensures answer { IfOk result (Misses self.now.graph.entries ids.now) }
         ensures fault { IfErr result (λ fault. fault ≡ Memory) }
@@ -143,27 +147,28 @@ impl<A: Allocator + Copy> Repo<A> {
         Ok(missing)
     }
 
-    /// Adds an object whose parents are held, and answers whether its id is new. Refs and marks stay.
+    /// Adds an object whose parents are held, and returns whether its id is new. Refs and marks are
+    /// unchanged.
     ///
-    /// It fails with `MissingParent` and the first parent that is not held, and else as `Graph::insert` does. The
-    /// repository is then as it was.
+    /// Fails with `MissingParent` at the first parent that is not held, and otherwise as
+    /// `Graph::insert` does. The repository is then unchanged.
     pub fn add_local(&mut self, entry: Entry<A>) -> Result<bool, RepoFault<A>>
         ensures adds { AddsLocal self.old entry self.new result }
         ensures grows { Grows self.old.graph.entries self.new.graph.entries }
-        ensures whole { IsWhole self.new }
+        ensures whole { IsConnectedRepo self.new }
     {
         // Laws.
-        whole_stays::<A>();
+        connected_repo_stays::<A>();
         if let Some(id) = self.graph.first_absent(entry.node.parents.as_slice()) {
             return Err(RepoFault::MissingParent { id });
         }
         Ok(self.graph.insert(entry)?)
     }
 
-    /// Adds copies of the objects of a pack, all or none, and answers how many ids are new. Their parents need not be
-    /// held. Refs and marks stay.
+    /// Adds copies of the objects of a pack, all or none, and returns how many ids are new. Their
+    /// parents need not be held. Refs and marks are unchanged.
     ///
-    /// It is refused as `Graph::insert_all` is, and the repository is then as it was.
+    /// Fails as `Graph::insert_all` does, and the repository is then unchanged.
     pub fn insert_all(&mut self, entries: &[Entry<A>]) -> Result<usize, GraphFault>
         ensures adds { Adds self.old.graph entries.now self.new.graph result }
         ensures only { AddsOnly self.old.graph.entries entries.now self.new.graph.entries }
@@ -173,29 +178,30 @@ impl<A: Allocator + Copy> Repo<A> {
             entry.node) entries.now) }
         ensures grows { Grows self.old.graph.entries self.new.graph.entries }
         ensures keeps { Keeps self.old.graph.entries self.new.graph.entries }
-        ensures full { (a : Id) → IsFull self.old.graph.entries a
-            → IsFull self.new.graph.entries a }
+        ensures connected { (a : Id) → IsConnected self.old.graph.entries a
+            → IsConnected self.new.graph.entries a }
         ensures refs { self.new.refs ≡ self.old.refs }
         ensures known { self.new.known ≡ self.old.known }
-        ensures whole { IsWhole self.new }
+        ensures whole { IsConnectedRepo self.new }
     {
         // Laws.
-        whole_stays::<A>();
+        connected_repo_stays::<A>();
         self.graph.insert_all(entries)
     }
 
-    /// Sets a ref to a connected id, whether or not that is a fast-forward. What the id reaches is
-    /// marked first.
+    /// Sets a ref to a connected id, whether or not that is a fast-forward. Everything that the id
+    /// reaches is marked first.
     ///
-    /// It fails with `NotHeld` and an id that is missing of the ancestry, then with `Refs` where the ref is HEAD or
-    /// there would be too many refs, and only then where out of memory to set it. Out of memory for a walk
-    /// (`Graph`) comes before these, and only where `missing` needs one. The repository is then as it was.
+    /// Fails with `UnconnectedId` and an id that is missing in the ancestry, then with `Refs` if
+    /// the ref is HEAD or there would be too many refs, and only then if out of memory to set it.
+    /// Out of memory for a walk (`Graph`) precedes these, only if `missing` needs a walk. The
+    /// repository is then unchanged.
     pub fn set_local_ref(&mut self, name: RefName<A>, id: Oid) -> Result<(), RepoFault<A>>
         ensures sets { SetsLocal self.old name id self.new result }
-        ensures whole { IsWhole self.new }
+        ensures whole { IsConnectedRepo self.new }
     {
         if let Some(missing) = self.missing(&[id])? {
-            return Err(RepoFault::NotHeld { missing });
+            return Err(RepoFault::UnconnectedId { missing });
         }
         if cannot_set(&self.refs, &name) {
             return Err(RepoFault::Refs(RefsFault::Refs));
@@ -206,13 +212,13 @@ impl<A: Allocator + Copy> Repo<A> {
         }
     }
 
-    // Sets a ref, which can be set, to a connected id. It fails only where out of memory.
+    // Sets a ref, which can be set, to a connected id. Fails only if out of memory.
     fn put(&mut self, name: RefName<A>, id: Oid) -> Result<(), RepoFault<A>>
-        requires { All (IsFull self.old.graph.entries) (id ∷ []) }
+        requires { All (IsConnected self.old.graph.entries) (id ∷ []) }
         ensures puts { MatchResult result
             (λ _. Marks self.old (id ∷ []) self.new × SetsRef self.old.refs self.new.refs name id)
             (λ _. self.new ≡ self.old) }
-        ensures whole { IsWhole self.new }
+        ensures whole { IsConnectedRepo self.new }
     {
         let mut refs = self.refs.copy_in(self.graph.allocator())?;
         refs.set(name, id)?;
@@ -220,20 +226,20 @@ impl<A: Allocator + Copy> Repo<A> {
         Ok(())
     }
 
-    /// Settles asks: each ref that is new, or is moved by force or as a fast-forward, comes to
-    /// stand at the asked id, all at once, and each other ref stays. It answers what became of each
-    /// ask, in their order. All is judged by the refs as they were. What the ids reach is marked
-    /// before a ref moves.
+    /// Settles asks. Sets each ref that is new, forced or fast-forwarded to the asked id, all at
+    /// once, and leaves each other ref. Returns the outcome of each ask, in their order. All
+    /// outcomes depend on the refs before the call. Everything that the ids reach is marked before
+    /// a ref moves.
     ///
-    /// It fails with `NotConnected` and an id that is missing of the ancestries of the asked ids, then with `Refs`
-    /// where an ask is for HEAD or there would be too many refs, and only then where out of memory to settle. Out of
-    /// memory for a walk (`Graph`) comes before these, and only where `missing` needs one. The repository is then as
-    /// it was.
+    /// Fails with `NotConnected` and an id that is missing in the ancestries of the asked ids, then
+    /// with `Refs` if an ask is for HEAD or there would be too many refs, and only then if out of
+    /// memory to settle. Out of memory for a walk (`Graph`) precedes these, only if `missing` needs
+    /// a walk. The repository is then unchanged.
     pub fn settle(&mut self, asks: &Asks<A>) -> Result<Vec<RefUpdate, A>, RepoFault<A>>
         ensures settles { MatchResult result
             (λ updates. SettlesAsks self.old asks.now self.new (Ok updates.items))
             (λ fault. SettlesAsks self.old asks.now self.new (Err fault)) }
-        ensures whole { IsWhole self.new }
+        ensures whole { IsConnectedRepo self.new }
     {
         if let Some(missing) = self.missing_of(asks)? {
             return Err(RepoFault::NotConnected { missing });
@@ -247,7 +253,7 @@ impl<A: Allocator + Copy> Repo<A> {
         }
     }
 
-    // What `missing` answers of the asked ids. Only a walk takes memory.
+    // Returns the result of `missing` for the asked ids. Only a walk takes memory.
     fn missing_of(&self, asks: &Asks<A>) -> Result<Option<Oid>, GraphFault>
         ensures answer { IfOk result (Misses self.now.graph.entries (asked_ids asks.now)) }
         ensures fault { IfErr result (λ fault. (fault ≡ Memory)
@@ -255,7 +261,7 @@ impl<A: Allocator + Copy> Repo<A> {
     {
         // Laws.
         ordered_is_closed::<A>();
-        closed_is_full::<A>();
+        closed_is_connected::<A>();
         if let Some(id) = first_absent(&self.graph, asks) {
             return Ok(Some(id));
         }
@@ -266,55 +272,56 @@ impl<A: Allocator + Copy> Repo<A> {
         self.missing_by_walk(ids.as_slice())
     }
 
-    // Moves the refs that are asked for, where they may move, to ids that are connected. The refs can be set, so it
-    // fails only where out of memory.
+    // Moves the asked refs that may move to ids that are connected. The refs can be set, so it
+    // fails only if out of memory.
     fn move_refs(&mut self, asks: &Asks<A>) -> Result<Vec<RefUpdate, A>, GraphFault>
-        requires full { All (IsFull self.old.graph.entries) (asked_ids asks.now) }
+        requires connected { All (IsConnected self.old.graph.entries) (asked_ids asks.now) }
         requires can { ¬ (CannotSettle self.old.refs asks.now) }
         ensures moves { MatchResult result
             (λ updates. Marks self.old (asked_ids asks.now) self.new
             × Settles self.old.graph.entries self.old.refs asks.now updates.items self.new.refs)
             (λ _. self.new ≡ self.old) }
-        ensures whole { IsWhole self.new }
+        ensures whole { IsConnectedRepo self.new }
     {
         // Laws.
         refs_come_in_order();
         let ids = asks.ids(self.graph.allocator())?;
-        let (refs, updates) = settled(&self.graph, &self.refs, asks)?;
+        let (refs, updates) = settle_refs(&self.graph, &self.refs, asks)?;
         self.install(refs, ids.as_slice())?;
         Ok(updates)
     }
 
-    // Puts refs in the place of those that are there. They come from these, or stand at one of the ids. What the ids
-    // reach is marked before.
+    // Replaces the refs by others, which are old refs or have one of the ids. Everything that the
+    // ids reach is marked before.
     fn install(&mut self, refs: Refs<A>, ids: &[Oid]) -> Result<(), GraphFault>
-        requires full { All (IsFull self.old.graph.entries) ids.now }
+        requires connected { All (IsConnected self.old.graph.entries) ids.now }
         requires from { ComeFrom self.old.refs ids.now refs }
         ensures installs { MatchResult result
             (λ _. Marks self.old ids.now self.new × (self.new.refs ≡ refs))
             (λ fault. (self.new ≡ self.old) × (fault ≡ Memory)) }
-        ensures whole { IsWhole self.new }
+        ensures whole { IsConnectedRepo self.new }
     {
-        mark_full(&self.graph, ids, &mut self.known)?;
+        mark_connected(&self.graph, ids, &mut self.known)?;
         self.refs = refs;
         Ok(())
     }
 }
 
-// Marks of what the refs reach, each of which is connected. It fails only where out of memory.
+// Returns marks of everything that the refs reach, all of it connected. Fails only if out of
+// memory.
 fn marks_of<A: Allocator + Copy>(
     graph: &Graph<A>,
     refs: &Refs<A>,
-) -> Result<FullMarks<A>, GraphFault>
-    requires { IsSafe graph.now.entries refs.now }
+) -> Result<ConnectedMarks<A>, GraphFault>
+    requires { HasConnectedRefs graph.now.entries refs.now }
     ensures marks { IfOk result (MarksReached graph.now.entries (values_of refs.now) []) }
     ensures fault { IfErr result (λ fault. fault ≡ Memory) }
-    ensures whole { IfOk result (λ known. IsWhole
+    ensures whole { IfOk result (λ known. IsConnectedRepo
         (record { graph = graph.now; refs = refs.now; known = known })) }
 {
     let alloc = graph.allocator();
     let targets = refs.ids(alloc)?;
-    let mut known = FullMarks::new(alloc);
-    mark_full(graph, targets.as_slice(), &mut known)?;
+    let mut known = ConnectedMarks::new(alloc);
+    mark_connected(graph, targets.as_slice(), &mut known)?;
     Ok(known)
 }

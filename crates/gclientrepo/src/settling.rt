@@ -1,4 +1,4 @@
-//! What becomes of the refs that are asked for (git-fetch(1), "<refspec>").
+//! The outcomes of asks (git-fetch(1), "<refspec>").
 
 ghost use Rattle.std.specs.Prelude.{◌≡◌, ◌↔◌, All, Contains, IfErr, IfOk, IsTrue, MatchOption, None, count_by, map};
 ghost use Rattle.gdag.specs.declared.fault.GraphFault.TheVariants.{Memory};
@@ -7,7 +7,7 @@ ghost use Rattle.gname.specs.Names.{head_name};
 ghost use Rattle.gobject.specs.Objects.{node_at};
 ghost use Rattle.grefs.specs.RefLists.{CannotSet, IsRefs};
 ghost use Rattle.gclientrepo.specs.steps.Settling.{HasSettled, TakesAsk};
-ghost use Rattle.gclientrepo.specs.Asks.{aimed, asked_ids};
+ghost use Rattle.gclientrepo.specs.Asks.{ask_of_aim, asked_ids};
 ghost use Rattle.gclientrepo.specs.Settling.{CannotSettle, IsUpdate, is_new};
 
 use crate::ask::RefUpdate;
@@ -18,8 +18,9 @@ use gname::{Oid, RefName};
 use grefs::laws::limits_are_the_constants;
 use std::alloc::Allocator;
 
-/// The refs once the asks, which can be settled, are; and what becomes of each ask. It fails with `Memory` alone.
-pub(crate) fn settled<A: Allocator + Copy>(
+/// Returns the refs after settling, and the outcome of each ask. The asks can be settled. Fails
+/// only with `Memory`.
+pub(crate) fn settle_refs<A: Allocator + Copy>(
     graph: &Graph<A>,
     refs: &Refs<A>,
     asks: &Asks<A>,
@@ -36,7 +37,7 @@ pub(crate) fn settled<A: Allocator + Copy>(
     Ok((new, updates))
 }
 
-// Moves the refs that are asked for, where they may move, and answers what becomes of each ask.
+// Moves the asked refs that may move, and returns the outcome of each ask.
 fn take_asks<A: Allocator + Copy>(
     graph: &Graph<A>,
     old: &Refs<A>,
@@ -57,7 +58,7 @@ fn take_asks<A: Allocator + Copy>(
     Ok(updates)
 }
 
-/// The first asked id that the graph does not hold. It takes no memory.
+/// Returns the first asked id that the graph does not hold. Allocates nothing.
 pub(crate) fn first_absent<A: Allocator + Copy>(graph: &Graph<A>, asks: &Asks<A>) -> Option<Oid>
     ensures { MatchOption result (All (Holds graph.now.entries) (asked_ids asks.now))
         (λ id. Contains (asked_ids asks.now) id × (node_at graph.now.entries id ≡ None)) }
@@ -71,7 +72,7 @@ pub(crate) fn first_absent<A: Allocator + Copy>(graph: &Graph<A>, asks: &Asks<A>
     None
 }
 
-/// Whether a ref can't be set: the name is HEAD, or it is new where there are as many refs as can be.
+/// Whether a ref can't be set: the name is HEAD, or it is new and there are as many refs as can be.
 pub(crate) fn cannot_set<A: Allocator + Copy>(refs: &Refs<A>, name: &RefName<A>) -> bool
     ensures { IsTrue result ↔ CannotSet refs.now name.now }
 {
@@ -100,7 +101,7 @@ fn asks_for_head<A: Allocator + Copy>(asks: &Asks<A>) -> bool
     false
 }
 
-// How many of the asks are for new refs.
+// Returns how many of the asks are for new refs.
 fn count_new<A: Allocator + Copy>(refs: &Refs<A>, asks: &Asks<A>) -> usize
     ensures { result ≡ count_by (is_new refs.now) asks.now }
 {
@@ -114,7 +115,7 @@ fn count_new<A: Allocator + Copy>(refs: &Refs<A>, asks: &Asks<A>) -> usize
     count
 }
 
-// Moves the ref that is asked for, where it may move. What becomes of it is judged by the old refs.
+// Moves the asked ref, if it may move. Its outcome depends on the old refs.
 fn take_ask<A: Allocator + Copy>(
     graph: &Graph<A>,
     old: &Refs<A>,
@@ -123,7 +124,7 @@ fn take_ask<A: Allocator + Copy>(
     refs: &mut RefMap<A>,
 ) -> Result<RefUpdate, GraphFault>
     requires { ¬ (CannotSet refs.old name.now) }
-    ensures { IfOk result (TakesAsk graph.now.entries old.now (aimed (name.now, aim.now)) refs.old
+    ensures { IfOk result (TakesAsk graph.now.entries old.now (ask_of_aim (name.now, aim.now)) refs.old
         refs.new) }
 {
     let update = update_of(graph, old, name, aim)?;
@@ -134,7 +135,7 @@ fn take_ask<A: Allocator + Copy>(
     Ok(update)
 }
 
-// What becomes of an ask.
+// Returns the outcome of an ask.
 fn update_of<A: Allocator + Copy>(
     graph: &Graph<A>,
     refs: &Refs<A>,
@@ -142,7 +143,7 @@ fn update_of<A: Allocator + Copy>(
     aim: &Aim,
 ) -> Result<RefUpdate, GraphFault>
     ensures update { IfOk result (IsUpdate graph.now.entries refs.now
-        (aimed (name.now, aim.now))) }
+        (ask_of_aim (name.now, aim.now))) }
     ensures fault { IfErr result (λ fault. fault ≡ Memory) }
 {
     let Some(old) = refs.get(name) else {

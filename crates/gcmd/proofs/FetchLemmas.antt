@@ -2,14 +2,14 @@
 use Rattle.std.proofs.Common.{◌≡◌, ℕ, List, All, Ok, Err, refl, sym, ap, subst, ◌∙◌}
 use Rattle.std.proofs.lemmas.List.{append-nil}
 use Rattle.gdag.proofs.OrderLemmas.{all_at}
-use Rattle.gdag.proofs.Places.{held_id}
+use Rattle.gdag.proofs.Positions.{held_id}
 use Rattle.gdag.specs.Graphs.{History, IsGraph}
-use Rattle.gdag.specs.Laws.{PlacesAreNodes}
-use Rattle.gdag.specs.Reach.{IsFull, here}
+use Rattle.gdag.specs.Laws.{PositionsAreNodes}
+use Rattle.gdag.specs.Reach.{IsConnected, here}
 use Rattle.ggraph.specs.Saving.{IsFirstOther, SaveRefuses, named_ids, ref_ids}
 use Rattle.ggraph.specs.declared.fault.SaveFault.{SaveFault}
 use Rattle.ggraph.specs.declared.fault.SaveFault.TheVariants.{Memory, OtherFormat}
-use Rattle.gclientrepo.specs.Repos.{IsWhole, RepoState}
+use Rattle.gclientrepo.specs.Repos.{IsConnectedRepo, RepoState}
 use Rattle.ggraph.specs.RepositoryText.{repository_text, IsLoadable}
 use Rattle.ggraph.specs.declared.text.Order.TheVariants.{Any}
 use Rattle.grefs.specs.RefLists.{RefList}
@@ -24,17 +24,17 @@ use Rattle.gcmd.specs.declared.fault.ProgramFault.TheVariants as program
 
 module _ {A : Type 0} where
   -- an id that is held has its graph's format, so no ref of a client stands at an id of another format
-  none_other : PlacesAreNodes A → (repo : RepoState A) (id : List ℕ) → IsGraph repo.graph → IsWhole repo
+  none_other : PositionsAreNodes A → (repo : RepoState A) (id : List ℕ) → IsGraph repo.graph → IsConnectedRepo repo
       → ¬ (IsFirstOther repo.graph.format (named_ids repo.refs (no_head {A = A})) id)
   none_other places repo id graph whole other =
       let ids : named_ids repo.refs (no_head {A = A}) ≡ ref_ids repo.refs = append-nil (ref_ids repo.refs) in
-      let full : IsFull repo.graph.entries id =
-      all_at (IsFull repo.graph.entries) other.front id other.rest
-      (subst (All (IsFull repo.graph.entries)) (sym ids ∙ other.parts) whole.safe) in
+      let full : IsConnected repo.graph.entries id =
+      all_at (IsConnected repo.graph.entries) other.front id other.rest
+      (subst (All (IsConnected repo.graph.entries)) (sym ids ∙ other.parts) whole.connected_refs) in
       other.other (held_id places repo.graph graph id (full id here))
 
   -- saving a client fails out of memory
-  pub only_memory : PlacesAreNodes A → (repo : RepoState A) (fault : SaveFault) → IsGraph repo.graph → IsWhole repo
+  pub only_memory : PositionsAreNodes A → (repo : RepoState A) (fault : SaveFault) → IsGraph repo.graph → IsConnectedRepo repo
       → SaveRefuses repo.graph.format repo.refs (no_head {A = A}) fault → fault ≡ Memory
   only_memory places repo Memory graph whole refused = refl
   only_memory places repo (OtherFormat id) graph whole refused = absurd (none_other places repo id graph whole refused)
@@ -45,7 +45,7 @@ module _ {A : Type 0} (file : List ℕ) (graph : History A) (refs : RefList) (he
     (text : file ≡ repository_text graph refs head) (loadable : IsLoadable Any graph refs head)
   where
     -- a client is made of what the file names
-    pub names_client : (repo : RepoState A) → head ≡ no_head → Opens graph refs (Ok repo) → IsWhole repo → NamesClient file repo
+    pub names_client : (repo : RepoState A) → head ≡ no_head → Opens graph refs (Ok repo) → IsConnectedRepo repo → NamesClient file repo
     names_client repo none opens whole = record {
       text =
           text ∙ ap (λ (h : Head A). repository_text graph refs h) none
@@ -59,9 +59,9 @@ module _ {A : Type 0} (file : List ℕ) (graph : History A) (refs : RefList) (he
     }
 
     -- or none is
-    pub refuses_unsafe : (cause : RepoFault A) (fault : ProgramFault A) → head ≡ no_head → Opens graph refs (Err cause)
+    pub refuses_unconnected : (cause : RepoFault A) (fault : ProgramFault A) → head ≡ no_head → Opens graph refs (Err cause)
         → fault ≡ program.Fetch (fetch.Client (client.Repo cause)) → RefusesClient file fault
-    refuses_unsafe cause fault none opens same =
+    refuses_unconnected cause fault none opens same =
         subst (RefusesClient file) (sym same)
         (record {
           graph = graph;

@@ -10,9 +10,9 @@ use Rattle.gpkt.specs.Change.{change_of}
 use Rattle.gpkt.specs.Devices.{KeepsPassed, PassesAll}
 use Rattle.gpkt.specs.Laws.{ReadsNone, ReadsNext}
 use Rattle.gpkt.specs.Packets.{Packet}
-use Rattle.gpkt.specs.LineReading.{Reader, HasRead, ReadsLines}
+use Rattle.gpkt.specs.PacketReading.{Reader, HasRead, ReadsPackets}
 use Rattle.gpkt.specs.declared.device.Down.{Down}
-use Rattle.gpkt.specs.declared.fault.LineFault.{LineFault}
+use Rattle.gpkt.specs.declared.fault.PacketFault.{PacketFault}
 use Rattle.gcmd.specs.Lines.{digits_part, max_lines, shown_line, shown_lines, ShowsSome}
 use Rattle.gcmd.specs.steps.Lines.{ShowsEach, HasPassed}
 use Rattle.gpkt.specs.Sending.{Input, Output, input_of, output_of}
@@ -118,14 +118,14 @@ module _ {W : Type 0} (contents passed_on : W → Option (List ℕ)) (is_down : 
       subst (IsPut (output_of contents passed_on is_down start now) (Ok tt)) (ap encode_lower same) putting.put
 
   -- what was put is passed on
-  pub HasPassed-all : (input : Input) (a b c : W) (ended : Result (Unit {0}) LineFault) → ShowsEach input (output_of contents passed_on is_down a b) (Ok ended)
+  pub HasPassed-all : (input : Input) (a b c : W) (ended : Result (Unit {0}) PacketFault) → ShowsEach input (output_of contents passed_on is_down a b) (Ok ended)
       → Keeps (contents b) (contents c) → PassesAll (contents c) (change_of passed_on b c) → is_down c ≡ false
       → HasPassed input (output_of contents passed_on is_down a c) (Ok ended)
   HasPassed-all input a b c ended (lines, read, put) kept passes up =
       (lines, read, record { written = Appends-kept _ _ _ (shown_lines lines) put.0 kept; passed_on = λ known. passes (IsSome-kept _ _ put.1 known); up = up })
 
   -- or it is not
-  pub ShowsSome-all : (input : Input) (a b c : W) (ended : Result (Unit {0}) LineFault) → ShowsEach input (output_of contents passed_on is_down a b) (Ok ended)
+  pub ShowsSome-all : (input : Input) (a b c : W) (ended : Result (Unit {0}) PacketFault) → ShowsEach input (output_of contents passed_on is_down a b) (Ok ended)
       → Keeps (contents b) (contents c) → KeepsPassed (change_of passed_on b c) → is_down c ≡ true
       → ShowsSome input (output_of contents passed_on is_down a c)
   ShowsSome-all input a b c ended (lines, read, put) kept passed down = (
@@ -160,7 +160,7 @@ module _
       pub counted : count ≡ length lines
       pub ready : now.failed ≡ false
       pub up : 0 < count → source_down now.source ≡ false
-      pub read : ReadsLines (record { old = remaining start.source; new = remaining now.source }) lines
+      pub read : ReadsPackets (record { old = remaining start.source; new = remaining now.source }) lines
       pub put : IsPut (output_of contents passed_on sink_down before after) (Ok tt) (shown_lines lines)
 
     pub IsShowing-none : ReadsNone → (start : Reader S) (sink : W) → start.failed ≡ false → IsShowing start start sink sink 0
@@ -215,7 +215,7 @@ module _
           (showing.lines, record { between = remaining now.source; before = showing.read; stops = inl read.bytes; source = read.after.2 }, showing.put)
 
       -- a packet is refused
-      pub ShowsEach-refused : (fault : LineFault) → IsShowing start now before after count → HasRead remaining source_down source_loans now next (Err fault)
+      pub ShowsEach-refused : (fault : PacketFault) → IsShowing start now before after count → HasRead remaining source_down source_loans now next (Err fault)
           → ShowsEach (input_of remaining source_down start.source next.source) (output_of contents passed_on sink_down before after) (Ok (Err fault))
       ShowsEach-refused fault showing read = (
         showing.lines,

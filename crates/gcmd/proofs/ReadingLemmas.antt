@@ -1,13 +1,13 @@
 -- Packets that are read.
 use Rattle.std.proofs.Common.{◌≡◌, ℕ, List, Option, Err, Bool, false, refl, sym, ◌∙◌}
-use Rattle.gpkt.specs.LineReading.{Reader, HasRead}
-use Rattle.gpkt.specs.declared.fault.LineFault.{LineFault}
-use Rattle.gpkt.specs.declared.fault.LineFault.TheVariants.{BadDigits, Reserved, TooLong, Truncated, Io, Failed, Memory}
+use Rattle.gpkt.specs.PacketReading.{Reader, HasRead}
+use Rattle.gpkt.specs.declared.fault.PacketFault.{PacketFault}
+use Rattle.gpkt.specs.declared.fault.PacketFault.TheVariants.{BadDigits, Reserved, TooLong, Truncated, Io, Failed, Memory}
 use Rattle.ggrammar.specs.MessageReading.{IsReadFailure}
 use Rattle.ggrammar.specs.declared.fault.Why.TheVariants as why
 
 -- a read that failed, of a reader that had not
-pub read_failure : {S : Type 0} (remaining : S → Option (List ℕ)) (is_down : S → Bool) (loans : S → List ℕ) (old new : Reader S) (fault : LineFault)
+pub read_failure : {S : Type 0} (remaining : S → Option (List ℕ)) (is_down : S → Bool) (loans : S → List ℕ) (old new : Reader S) (fault : PacketFault)
     → old.failed ≡ false → HasRead remaining is_down loans old new (Err fault) → IsReadFailure false (is_down new.source) (why.Line fault)
 read_failure remaining is_down loans old new BadDigits ready h = (refl, h.after.2)
 read_failure remaining is_down loans old new Reserved ready h = (refl, h.after.2)

@@ -5,8 +5,8 @@ use Rattle.std.specs.Prelude.{String, string_bytes}
 use Rattle.std.proofs.lemmas.List.{append-nil, length-take-le, map-append, take_all, take_more, take-append-drop}
 use Rattle.std.proofs.lemmas.List.Elements.{All-cons, All-nil}
 use Rattle.std.proofs.lemmas.Option.{get_or_from_slice_get}
-use Rattle.grefspec.specs.Refspecs.{IsSpec, Reads, Refspec}
-use Rattle.grefspec.specs.declared.fault.SpecFault.{SpecFault}
+use Rattle.grefs.specs.Refspecs.{IsSpec, Reads, Refspec}
+use Rattle.grefs.specs.declared.refspec.fault.SpecFault.{SpecFault}
 use Rattle.gclientrepo.proofs.SettlingLemmas.{zip_push}
 use Rattle.gclientrepo.specs.Asks.{IsAskAt}
 use Rattle.gclientrepo.specs.declared.ask.Ask.{Ask}

@@ -3,14 +3,14 @@ use Rattle.std.specs.Prelude.{◌≡◌, ◌↔◌, ◌++◌, Bool, IsTrue, if�
 use Rattle.std.specs.Fmt.{decimal}
 use Rattle.gpkt.specs.Packets.{Bytes}
 use Rattle.gdag.specs.Reach.{IsClosed}
-use Rattle.ggraph.specs.SafeRefs.{IsSafe}
+use Rattle.ggraph.specs.ConnectedRefs.{HasConnectedRefs}
 use Rattle.ggraph.specs.Loading.{StopsAt}
 use Rattle.ggraph.specs.RepositoryText.{repository_text, IsLoadable}
 use Rattle.ggraph.specs.declared.text.Order.TheVariants.{Any}
 use Rattle.ggraph.specs.declared.text.Repository.{Repository}
 use Rattle.gpkt.specs.Sending.{Output, IsUnwritten, Sends}
 use Rattle.gcmd.specs.Outputs.{BreaksOff}
-use Rattle.gcmd.specs.Programs.{Outcome}
+use Rattle.gcmd.specs.Programs.{ProgramOutcome}
 use Rattle.gcmd.specs.declared.check.Report.{Report}
 use Rattle.gcmd.specs.declared.fault.ProgramFault.TheVariants as program
 
@@ -19,7 +19,7 @@ pub record IsReport {A : Type 0} (repo : Repository A) (report : Report) : Type 
   pub nodes : report.nodes ≡ length repo.graph.entries
   pub refs : report.refs ≡ length repo.refs
   pub closed : IsTrue report.closed ↔ IsClosed repo.graph.entries
-  pub safe : IsTrue report.safe ↔ IsSafe repo.graph.entries repo.refs
+  pub connected_refs : IsTrue report.connected_refs ↔ HasConnectedRefs repo.graph.entries repo.refs
 
 abbrev pub yes_or_no : Bool → Bytes
 yes_or_no holds = if holds then codes "yes" else codes "no"
@@ -28,7 +28,7 @@ yes_or_no holds = if holds then codes "yes" else codes "no"
 abbrev pub report_line : Report → Bytes
 report_line report =
     codes "nodes " ++ decimal report.nodes ++ codes " refs " ++ decimal report.refs
-    ++ codes " closed " ++ yes_or_no report.closed ++ codes " safe " ++ yes_or_no report.safe ++ codes "\n"
+    ++ codes " closed " ++ yes_or_no report.closed ++ codes " safe " ++ yes_or_no report.connected_refs ++ codes "\n"
 
 -- the file is the text of a repository
 pub record IsRepository (A : Type 0) (file : Bytes) : Type 0 where
@@ -45,7 +45,7 @@ pub record IsReported (A : Type 0) (file : Bytes) (report : Report) : Type 0 whe
 
 -- what `check` does: the line is written and passed on; or a beginning of it is written, where the sink fails; or
 -- nothing, where the file is no repository, or out of memory to judge it
-abbrev pub Checks : {A : Type 0} → Bytes → Output → Outcome A → Type 0
+abbrev pub Checks : {A : Type 0} → Bytes → Output → ProgramOutcome A → Type 0
 Checks {A} file output (Ok done) = (report : Report) × IsReported A file report × Sends output (report_line report)
 Checks {A} file output (Err program.WriteFailed) =
     (report : Report) × IsReported A file report × BreaksOff output (report_line report)

@@ -5,7 +5,7 @@ use Rattle.gname.specs.declared.faults.NameFault.{NameFault}
 use Rattle.gname.specs.declared.faults.NameFault.TheVariants as name
 use Rattle.gname.specs.Names.{Name, head_name}
 use Rattle.gname.specs.Ids.{Id}
-use Rattle.gpkt.specs.Faults.{line_fault_row, line_fault_text, write_fault_row}
+use Rattle.gpkt.specs.Faults.{packet_fault_row, packet_fault_text, write_fault_row}
 use Rattle.gpkt.specs.declared.fault.WriteFault.TheVariants.{Io}
 use Rattle.gpkt.specs.Packets.{Bytes}
 use Rattle.ggrammar.specs.Faults.{WhyRow}
@@ -22,7 +22,7 @@ use Rattle.ganswer.specs.declared.fault.BuildFault.TheVariants as build
 use Rattle.ganswer.specs.declared.fault.ServeFault.{ServeFault}
 use Rattle.ganswer.specs.declared.fault.ServeFault.TheVariants as serve
 use Rattle.gobject.specs.declared.fault.IndexFault.TheVariants as index
-use Rattle.grefspec.specs.Faults.{spec_fault_row, spec_fault_text}
+use Rattle.grefs.specs.RefspecFaults.{spec_fault_row, spec_fault_text}
 use Rattle.gclientrepo.specs.declared.fault.RepoFault.{RepoFault}
 use Rattle.gclientrepo.specs.declared.fault.RepoFault.TheVariants as repo
 use Rattle.gsession.specs.Faults.{client_fault_row}
@@ -145,7 +145,7 @@ line_in_client _ = None
 -- the id that is missing, that two objects have, or that is of another format
 abbrev pub id_in_repo : {A : Type 0} → RepoFault A → Option Id
 id_in_repo (repo.MissingParent id) = Some id
-id_in_repo (repo.NotHeld missing) = Some missing
+id_in_repo (repo.UnconnectedId missing) = Some missing
 id_in_repo (repo.NotConnected missing) = Some missing
 id_in_repo (repo.Graph cause) = id_in_graph cause
 id_in_repo _ = None
@@ -159,7 +159,7 @@ id_in_client _ = None
 -- the ref that is not connected, or what a peer said
 abbrev pub text_in_client : {A : Type 0} → ClientFault A → Option Bytes
 text_in_client (client.Message fault) = said_in fault.why
-text_in_client (client.Repo (repo.UnsafeRef name)) = Some name
+text_in_client (client.Repo (repo.UnconnectedRef name)) = Some name
 text_in_client _ = None
 
 abbrev pub printed_of_client : {A : Type 0} → ClientFault A → Printed
@@ -182,7 +182,7 @@ printed_of program.File = plain (95, codes "File")
 printed_of (program.Text fault) = printed_of_text fault
 printed_of (program.Build fault) = printed_of_build fault
 printed_of (program.Request fault) = printed_of_request fault
-printed_of (program.Line fault) = plain (line_fault_row fault)
+printed_of (program.Line fault) = plain (packet_fault_row fault)
 printed_of (program.Spec fault) = plain (spec_fault_row fault)
 printed_of (program.Fetch fault) = printed_of_fetch fault
 printed_of program.WriteFailed = plain (write_fault_row Io)
@@ -197,7 +197,7 @@ program_fault_text program.File = codes "the file can't be read or written"
 program_fault_text (program.Text fault) = load_fault_text fault
 program_fault_text (program.Build fault) = build_fault_text fault
 program_fault_text (program.Request fault) = serve_fault_text fault
-program_fault_text (program.Line fault) = line_fault_text fault
+program_fault_text (program.Line fault) = packet_fault_text fault
 program_fault_text (program.Spec fault) = spec_fault_text fault
 program_fault_text (program.Fetch fault) = fetch_fault_text fault
 program_fault_text program.WriteFailed = codes "the output failed"

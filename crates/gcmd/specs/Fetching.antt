@@ -16,10 +16,10 @@ use Rattle.gpkt.specs.Sending.{Input, Output, IsUnread, IsUnwritten, Sends}
 use Rattle.grefs.specs.RefLists.{RefList}
 use Rattle.grefs.specs.declared.head.Head.{Head}
 use Rattle.grefs.specs.declared.head.Head.TheVariants as head
-use Rattle.grefspec.specs.Refspecs.{IsSpec, Reads, Refspec}
-use Rattle.grefspec.specs.declared.fault.SpecFault.{SpecFault}
+use Rattle.grefs.specs.Refspecs.{IsSpec, Reads, Refspec}
+use Rattle.grefs.specs.declared.refspec.fault.SpecFault.{SpecFault}
 use Rattle.gclientrepo.specs.Changes.{Opens}
-use Rattle.gclientrepo.specs.Repos.{IsWhole, RepoState}
+use Rattle.gclientrepo.specs.Repos.{IsConnectedRepo, RepoState}
 use Rattle.gclientrepo.specs.Settling.{Settles}
 use Rattle.gsession.specs.declared.fault.ClientFault.TheVariants as client
 use Rattle.gclient.specs.Conversations.{FetchesOver, start_of}
@@ -27,7 +27,7 @@ use Rattle.gclient.specs.declared.fault.FetchFault.{FetchFault}
 use Rattle.gclient.specs.declared.fault.FetchFault.TheVariants as fetch
 use Rattle.gclient.specs.declared.fetched.Fetched.{Fetched}
 use Rattle.gcmd.specs.Outputs.{BreaksOff}
-use Rattle.gcmd.specs.Programs.{Outcome}
+use Rattle.gcmd.specs.Programs.{ProgramOutcome}
 use Rattle.gcmd.specs.Reporting.{fetch_report}
 use Rattle.gcmd.specs.declared.fault.ProgramFault.{ProgramFault}
 use Rattle.gcmd.specs.declared.fault.ProgramFault.TheVariants as program
@@ -63,7 +63,7 @@ no_head = head.None
 pub record NamesClient {A : Type 0} (file : Bytes) (repo : RepoState A) : Type 0 where
   pub text : file ≡ repository_text repo.graph repo.refs (no_head {A = A})
   pub loadable : IsLoadable Any repo.graph repo.refs (no_head {A = A})
-  pub whole : IsWhole repo
+  pub whole : IsConnectedRepo repo
 
 -- the file is the text of a repository that has a HEAD, as this line of it says
 pub record NamesHead (A : Type 0) (file : Bytes) (line : ℕ) : Type 0 where
@@ -74,7 +74,7 @@ pub record NamesHead (A : Type 0) (file : Bytes) (line : ℕ) : Type 0 where
   pub place : line ≡ length repo.graph.entries + length repo.refs + 2
 
 -- the file is the text of a repository that is no client's, for this cause
-pub record NamesUnsafe (A : Type 0) (file : Bytes) (Cause : History A → RefList → Type 0) : Type 0 where
+pub record NamesUnconnected (A : Type 0) (file : Bytes) (Cause : History A → RefList → Type 0) : Type 0 where
   pub graph : History A
   pub refs : RefList
   pub text : file ≡ repository_text graph refs (no_head {A = A})
@@ -87,7 +87,7 @@ abbrev pub RefusesClient : {A : Type 0} → Bytes → ProgramFault A → Type 0
 RefusesClient {A} file (program.Text cause) =
     StopsAt A Any file cause ⊎ ((line : ℕ) × (cause ≡ load.Text line) × NamesHead A file line)
 RefusesClient {A} file (program.Fetch (fetch.Client (client.Repo cause))) =
-    NamesUnsafe A file (λ graph refs. Opens graph refs (Err cause))
+    NamesUnconnected A file (λ graph refs. Opens graph refs (Err cause))
 RefusesClient file _ = ⊥
 
 -- what opening it answers
@@ -116,26 +116,26 @@ IsNewFile old new fetched None = ⊥
 IsNewFile old new fetched (Some text) = NamesClient text new × IsFetchedInto old new fetched
 
 -- the report is written and passed on; or its sink failed
-abbrev pub SendsReport : {A : Type 0} → Bytes → Output → Outcome A → Type 0
+abbrev pub SendsReport : {A : Type 0} → Bytes → Output → ProgramOutcome A → Type 0
 SendsReport bytes report (Ok done) = Sends report bytes
 SendsReport bytes report (Err program.WriteFailed) = BreaksOff report bytes
 SendsReport bytes report (Err _) = ⊥
 
 -- what reporting answers: that; or out of memory for the report
-abbrev pub Reports : {A : Type 0} → Fetched A → Output → Outcome A → Type 0
+abbrev pub Reports : {A : Type 0} → Fetched A → Output → ProgramOutcome A → Type 0
 Reports fetched report outcome =
     SendsReport (fetch_report fetched) report outcome ⊎ ((outcome ≡ Err program.Memory) × IsUnwritten report)
 
 -- how the program ends once the refs are settled: there is a new file, and that is reported; or it is out of memory for
 -- the new file, and nothing is
-abbrev pub Concludes : {A : Type 0} → RepoState A → RepoState A → Fetched A → Output → Option Bytes → Outcome A → Type 0
+abbrev pub Concludes : {A : Type 0} → RepoState A → RepoState A → Fetched A → Output → Option Bytes → ProgramOutcome A → Type 0
 Concludes old new fetched report file outcome =
     (IsNewFile old new fetched file × Reports fetched report outcome)
     ⊎ ((file ≡ None) × IsUnwritten report × (outcome ≡ Err program.Memory))
 
 -- how it ends after the conversation; where that failed, there is no new file, and nothing is reported
 abbrev pub EndsAfter : {A : Type 0} → RepoState A → RepoState A → Result (Fetched A) (FetchFault A) → Output
-    → Option Bytes → Outcome A → Type 0
+    → Option Bytes → ProgramOutcome A → Type 0
 EndsAfter old new (Ok fetched) report file outcome = Concludes old new fetched report file outcome
 EndsAfter old new (Err fault) report file outcome =
     (file ≡ None) × IsUnwritten report × (outcome ≡ Err (program.Fetch fault))
@@ -146,7 +146,7 @@ module _ {A : Type 0} (old : Bytes) (specs : List Refspec) (limit : ℕ) (ends :
     (output report : Output) (file : Option Bytes)
   where
     -- the file is no client's; nothing is read or written, and there is no new file
-    pub record IsNotFetched (outcome : Outcome A) : Type 0 where
+    pub record IsNotFetched (outcome : ProgramOutcome A) : Type 0 where
       pub fault : ProgramFault A
       pub refused : RefusesClient old fault
       pub met : outcome ≡ Err fault
@@ -156,7 +156,7 @@ module _ {A : Type 0} (old : Bytes) (specs : List Refspec) (limit : ℕ) (ends :
       pub none : file ≡ None
 
     -- the repository that the file names fetches by the refspecs
-    pub record IsFetched (outcome : Outcome A) : Type 0 where
+    pub record IsFetched (outcome : ProgramOutcome A) : Type 0 where
       pub repo : RepoState A
       pub names : NamesClient old repo
       pub new : RepoState A
@@ -166,5 +166,5 @@ module _ {A : Type 0} (old : Bytes) (specs : List Refspec) (limit : ℕ) (ends :
       pub concludes : EndsAfter repo new result report file outcome
 
     -- what `fetch` does
-    abbrev pub FetchesFile : Outcome A → Type 0
+    abbrev pub FetchesFile : ProgramOutcome A → Type 0
     FetchesFile outcome = IsFetched outcome ⊎ IsNotFetched outcome

@@ -13,7 +13,7 @@ pub mod steps
 pub use Rattle.glockfile.specs.Storing
 pub use Rattle.gname.specs.Names
 pub use Rattle.gpkt.specs.Packets
-pub use Rattle.gpkt.specs.LineReading
+pub use Rattle.gpkt.specs.PacketReading
 pub use Rattle.gpkt.specs.Sending
 pub use Rattle.gobject.specs.PlainPackText
 pub use Rattle.gdag.specs.Graphs
@@ -21,12 +21,12 @@ pub use Rattle.gdag.specs.Reach
 pub use Rattle.grefs.specs.RefLists
 pub use Rattle.ggraph.specs.Loading
 pub use Rattle.ggraph.specs.RepositoryText
-pub use Rattle.ggraph.specs.SafeRefs
+pub use Rattle.ggraph.specs.ConnectedRefs
 pub use Rattle.ganswer.specs.Answers
 pub use Rattle.ganswer.specs.Servers
 pub use Rattle.gserve.specs.Conversations
 pub use Rattle.gserve.specs.Exchanges
-pub use Rattle.grefspec.specs.Refspecs
+pub use Rattle.grefs.specs.Refspecs
 pub use Rattle.gclientrepo.specs.Repos
 pub use Rattle.gclientrepo.specs.Changes
 pub use Rattle.gclientrepo.specs.Settling

@@ -8,8 +8,8 @@ use Rattle.gcmd.specs.Faults.{Printed, printed_of}
 use Rattle.gcmd.specs.declared.fault.ProgramFault.{ProgramFault}
 
 -- a byte as it is printed: `?` stands for one outside 32 to 126
-abbrev pub shown : ℕ → ℕ
-shown byte = if nat_le 32 byte && nat_le byte 126 then byte else 63
+abbrev pub printable : ℕ → ℕ
+printable byte = if nat_le 32 byte && nat_le byte 126 then byte else 63
 
 -- a number after its word, where the fault has it
 abbrev pub number_part : Bytes → Option ℕ → Bytes
@@ -18,7 +18,7 @@ number_part word (Some number) = word ++ decimal number
 
 -- a name or a text
 abbrev pub text_part : Bytes → Bytes
-text_part text = codes " " ++ map shown text
+text_part text = codes " " ++ map printable text
 
 -- an id
 abbrev pub id_part : Id → Bytes

@@ -18,7 +18,7 @@ use Rattle.gserve.specs.declared.connection.End.{End}
 use Rattle.gserve.specs.declared.connection.End.TheVariants as end
 use Rattle.gserve.specs.declared.exchange.ExchangeEnd.{ExchangeEnd}
 use Rattle.gserve.specs.declared.exchange.ExchangeEnd.TheVariants as exchange
-use Rattle.gcmd.specs.Programs.{Outcome}
+use Rattle.gcmd.specs.Programs.{ProgramOutcome}
 use Rattle.gcmd.specs.declared.fault.ProgramFault.{ProgramFault}
 use Rattle.gcmd.specs.declared.fault.ProgramFault.TheVariants as program
 
@@ -52,7 +52,7 @@ LoadsServer file (Err fault) = RefusesFile file fault
 
 module _ {A : Type 0} (file : Bytes) (input : Input) (output : Output) where
   -- the file is not served, and nothing is read or written
-  pub record IsNotServed (outcome : Outcome A) : Type 0 where
+  pub record IsNotServed (outcome : ProgramOutcome A) : Type 0 where
     pub fault : ProgramFault A
     pub refused : RefusesFile file fault
     pub met : outcome ≡ Err fault
@@ -60,13 +60,13 @@ module _ {A : Type 0} (file : Bytes) (input : Input) (output : Output) where
     pub unwritten : IsUnwritten output
 
   -- the server that the file names does this
-  pub record IsServedBy (Does : Server A → Outcome A → Type 0) (outcome : Outcome A) : Type 0 where
+  pub record IsServedBy (Does : Server A → ProgramOutcome A → Type 0) (outcome : ProgramOutcome A) : Type 0 where
     pub server : Server A
     pub names : NamesServer file server
     pub does : Does server outcome
 
   -- what a program does that serves the file
-  abbrev pub ServesFile : (Server A → Outcome A → Type 0) → Outcome A → Type 0
+  abbrev pub ServesFile : (Server A → ProgramOutcome A → Type 0) → ProgramOutcome A → Type 0
   ServesFile Does outcome = IsServedBy Does outcome ⊎ IsNotServed outcome
 
 -- ---- packs are plain
@@ -80,7 +80,7 @@ plain_pack_fails list fault = PackRefuses (pack_text list) fault
 -- ---- one request, and a connection
 
 -- how an exchange comes out, after its end
-abbrev pub outcome_of_exchange : {A : Type 0} → ExchangeEnd → Outcome A
+abbrev pub outcome_of_exchange : {A : Type 0} → ExchangeEnd → ProgramOutcome A
 outcome_of_exchange exchange.Answered = Ok tt
 outcome_of_exchange exchange.Closed = Ok tt
 outcome_of_exchange exchange.Ended = Ok tt
@@ -88,7 +88,7 @@ outcome_of_exchange (exchange.Refused fault) = Err (program.Request fault)
 outcome_of_exchange exchange.WriteFailed = Err program.WriteFailed
 
 -- how a connection does
-abbrev pub outcome_of_connection : {A : Type 0} → End → Outcome A
+abbrev pub outcome_of_connection : {A : Type 0} → End → ProgramOutcome A
 outcome_of_connection end.Closed = Ok tt
 outcome_of_connection end.Ended = Ok tt
 outcome_of_connection (end.Refused fault) = Err (program.Request fault)
@@ -96,23 +96,23 @@ outcome_of_connection end.WriteFailed = Err program.WriteFailed
 
 -- a server answers one request
 pub record AnswersOne {A : Type 0} (input : Input) (output : Output) (server : Server A)
-    (outcome : Outcome A) : Type 0 where
+    (outcome : ProgramOutcome A) : Type 0 where
   pub ended : ExchangeEnd
   pub exchange : ServesOne server plain_packs plain_pack_fails Plain input output ended
   pub comes_out : outcome ≡ outcome_of_exchange ended
 
 -- it answers the requests of a connection, so many of them
 pub record AnswersAll {A : Type 0} (ends : Ends) (input : Input) (output : Output) (server : Server A)
-    (outcome : Outcome A) : Type 0 where
+    (outcome : ProgramOutcome A) : Type 0 where
   pub requests : ℕ
   pub ended : End
   pub connection : Serves server plain_packs plain_pack_fails ends input output requests ended
   pub comes_out : outcome ≡ outcome_of_connection ended
 
 -- what `ls --stdio-server` does
-abbrev pub ServesRequest : {A : Type 0} → Bytes → Input → Output → Outcome A → Type 0
+abbrev pub ServesRequest : {A : Type 0} → Bytes → Input → Output → ProgramOutcome A → Type 0
 ServesRequest file input output = ServesFile file input output (AnswersOne input output)
 
 -- what `upload` does
-abbrev pub ServesConnection : {A : Type 0} → Bytes → Ends → Input → Output → Outcome A → Type 0
+abbrev pub ServesConnection : {A : Type 0} → Bytes → Ends → Input → Output → ProgramOutcome A → Type 0
 ServesConnection file ends input output = ServesFile file input output (AnswersAll ends input output)

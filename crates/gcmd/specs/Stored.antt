@@ -14,10 +14,10 @@ use Rattle.gclient.specs.Conversations.{FetchesOver, start_of}
 use Rattle.gclient.specs.declared.fault.FetchFault.{FetchFault}
 use Rattle.gclient.specs.declared.fetched.Fetched.{Fetched}
 use Rattle.gclientrepo.specs.Repos.{RepoState}
-use Rattle.grefspec.specs.Refspecs.{Refspec}
+use Rattle.grefs.specs.Refspecs.{Refspec}
 use Rattle.gcmd.specs.Fetching.{IsFetchedInto, NamesClient, RefusesClient, Reports, plain_index_fails, plain_indexes}
 use Rattle.gcmd.specs.Printing.{fault_line}
-use Rattle.gcmd.specs.Programs.{Outcome, Prints}
+use Rattle.gcmd.specs.Programs.{ProgramOutcome, Prints}
 use Rattle.gcmd.specs.declared.fault.ProgramFault.{ProgramFault}
 use Rattle.gcmd.specs.declared.fault.ProgramFault.TheVariants as program
 use Rattle.gcmd.specs.declared.stored.OpenedFile.{OpenedFile}
@@ -62,7 +62,7 @@ OpensStored texts (Err fault) = RefusesFile texts fault
 
 module _ {A : Type 0} (old : Bytes) (repo : RepoState A) (fetched : Fetched A) (stored : Stored) (report : Output) where
   -- the file has the new text, and only then that is reported
-  pub record IsStored (outcome : Outcome A) : Type 0 where
+  pub record IsStored (outcome : ProgramOutcome A) : Type 0 where
     pub text : Bytes
     pub names : NamesClient text repo
     pub replaced : IsReplaced old text stored (Ok tt)
@@ -70,7 +70,7 @@ module _ {A : Type 0} (old : Bytes) (repo : RepoState A) (fetched : Fetched A) (
     pub reports : Reports fetched report outcome
 
   -- it can't be replaced: it has the old text or the whole new one, and nothing is reported
-  pub record IsNotReplaced (outcome : Outcome A) : Type 0 where
+  pub record IsNotReplaced (outcome : ProgramOutcome A) : Type 0 where
     pub text : Bytes
     pub names : NamesClient text repo
     pub fault : StorageFault
@@ -79,18 +79,18 @@ module _ {A : Type 0} (old : Bytes) (repo : RepoState A) (fetched : Fetched A) (
     pub met : outcome ≡ Err (storage_fault fault)
 
   -- out of memory for the new text: it has the old one, and nothing is reported
-  pub record IsNotSaved (outcome : Outcome A) : Type 0 where
+  pub record IsNotSaved (outcome : ProgramOutcome A) : Type 0 where
     pub kept : IsKept stored
     pub unreported : IsUnwritten report
     pub met : outcome ≡ Err program.Memory
 
   -- how a fetch ends then
-  abbrev pub ConcludesStored : Outcome A → Type 0
+  abbrev pub ConcludesStored : ProgramOutcome A → Type 0
   ConcludesStored outcome = IsStored outcome ⊎ IsNotReplaced outcome ⊎ IsNotSaved outcome
 
 -- how it ends after the conversation; where that failed, the file has the old text, and nothing is reported
 abbrev pub EndsStored : {A : Type 0} → Bytes → RepoState A → RepoState A → Result (Fetched A) (FetchFault A) → Stored
-    → Output → Outcome A → Type 0
+    → Output → ProgramOutcome A → Type 0
 EndsStored old repo new (Ok fetched) stored report outcome =
     IsFetchedInto repo new fetched × ConcludesStored old new fetched stored report outcome
 EndsStored old repo new (Err fault) stored report outcome =
@@ -102,7 +102,7 @@ module _ {A : Type 0} (specs : List Refspec) (limit : ℕ) (ends : Ends) (stored
     (output report : Output)
   where
     -- the file is not opened; it stays, and nothing is read or written
-    pub record IsNotOpened (outcome : Outcome A) : Type 0 where
+    pub record IsNotOpened (outcome : ProgramOutcome A) : Type 0 where
       pub fault : ProgramFault A
       pub refused : RefusesFile stored.old fault
       pub met : outcome ≡ Err fault
@@ -112,7 +112,7 @@ module _ {A : Type 0} (specs : List Refspec) (limit : ℕ) (ends : Ends) (stored
       pub unreported : IsUnwritten report
 
     -- the repository that its text names fetches by the refspecs
-    pub record IsFetchedStored (outcome : Outcome A) : Type 0 where
+    pub record IsFetchedStored (outcome : ProgramOutcome A) : Type 0 where
       pub old : Bytes
       pub held : Holds stored.old old
       pub repo : RepoState A
@@ -124,18 +124,18 @@ module _ {A : Type 0} (specs : List Refspec) (limit : ℕ) (ends : Ends) (stored
       pub ends_so : EndsStored old repo new result stored report outcome
 
     -- what `fetch` does to a stored file; at the end this run holds no lockfile
-    abbrev pub FetchesStored : Outcome A → Type 0
+    abbrev pub FetchesStored : ProgramOutcome A → Type 0
     FetchesStored outcome = (stored.lockfile ≡ Absent) × (IsFetchedStored outcome ⊎ IsNotOpened outcome)
 
 -- A program ends whose report and whose fault go to one sink. Nothing follows a report that was written and passed on,
 -- and the status is 0. Nothing follows a report at which the sink failed, and it is 1. A fault before the report is
 -- printed, and it is 1.
-abbrev pub ExitsAfter : {A : Type 0} → Outcome A → Output → Output → ℕ → Type 0
+abbrev pub ExitsAfter : {A : Type 0} → ProgramOutcome A → Output → Output → ℕ → Type 0
 ExitsAfter (Ok done) report errors status = (errors ≡ report) × (status ≡ 0)
 ExitsAfter (Err program.WriteFailed) report errors status = (errors ≡ report) × (status ≡ 1)
 ExitsAfter (Err fault) report errors status = Prints errors (fault_line fault) × (status ≡ 1)
 
 -- a program reports to the sink of its errors, and ends as its work came out
-abbrev pub ReportsAndExits : {A : Type 0} → (Output → Outcome A → Type 0) → Output → ℕ → Type 0
+abbrev pub ReportsAndExits : {A : Type 0} → (Output → ProgramOutcome A → Type 0) → Output → ℕ → Type 0
 ReportsAndExits {A} Works errors status =
-    (report : Output) × (outcome : Outcome A) × Works report outcome × ExitsAfter outcome report errors status
+    (report : Output) × (outcome : ProgramOutcome A) × Works report outcome × ExitsAfter outcome report errors status

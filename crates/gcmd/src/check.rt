@@ -12,19 +12,19 @@ use crate::program::finish;
 use crate::send::send;
 use arrayvec::ArrayVec;
 use ggrammar::compose::add;
-use ggraph::{GraphFault, Order, Repository, is_safe, load};
+use ggraph::{GraphFault, Order, Repository, has_connected_refs, load};
 use gpkt::{Down, Sink};
 use std::alloc::Allocator;
 
-/// The most bytes of a report: its words, and two numbers of 20.
+/// The maximum length in bytes of a report: its words, and two numbers of 20.
 const MAX_REPORT: usize = 76;
 
-/// `gitv2 check FILE`: reports of the repository whose text is `file`, in any order of its nodes, how many
-/// nodes and refs it has, whether its graph is closed (`closed`), and whether it is connected (`safe`).
-/// A fault is one line on `errors`.
+/// `gitv2 check FILE`: reports on the repository whose text is `file`, in any order of its nodes.
+/// The report has the number of nodes and refs, whether the graph is closed (`closed`), and whether
+/// the repository is connected (`safe`). A fault is one line on `errors`.
 ///
-/// It answers the exit status: 0 where the report is written and passed on, 1 where a fault was met.
-/// Nothing is written then, save a beginning where the output failed.
+/// Returns the exit status: 0 if the report is written and flushed, 1 if there was a fault. Nothing
+/// is written then, except a prefix of the text if the output failed.
 pub fn cmd_check<A: Allocator + Copy, W: Sink, E: Sink>(
     alloc: A,
     file: &[u8],
@@ -61,24 +61,24 @@ fn check<A: Allocator + Copy, W: Sink>(
     }
 }
 
-// What is reported of a repository.
+// The values of a report.
 #[derive(Clone, Copy)]
 struct Report {
     nodes: usize,
     refs: usize,
     closed: bool,
-    safe: bool,
+    connected_refs: bool,
 }
 
 fn report_of<A: Allocator + Copy>(repo: &Repository<A>) -> Result<Report, GraphFault>
     ensures report { IfOk result (IsReport repo.now) }
 {
-    let safe = is_safe(&repo.graph, &repo.refs)?;
+    let connected_refs = has_connected_refs(&repo.graph, &repo.refs)?;
     Ok(Report {
         nodes: repo.graph.len(),
         refs: repo.refs.len(),
         closed: repo.graph.is_closed(),
-        safe,
+        connected_refs,
     })
 }
 
@@ -103,7 +103,7 @@ fn compose_report(report: &Report, text: &mut ArrayVec<u8, MAX_REPORT>)
     add(b" closed ", text);
     add(yes_or_no(report.closed), text);
     add(b" safe ", text);
-    add(yes_or_no(report.safe), text);
+    add(yes_or_no(report.connected_refs), text);
     add(b"\n", text);
 }
 

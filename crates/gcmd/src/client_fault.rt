@@ -1,4 +1,4 @@
-//! What is printed of a client's faults beside the number and the name.
+//! The parts of a client's fault that are printed after the number and the name.
 
 ghost use Rattle.std.specs.Prelude.{◌≡◌};
 ghost use Rattle.std.specs.Option.{option_copied};
@@ -11,7 +11,7 @@ use ggraph::IndexFault;
 use gname::Oid;
 use std::alloc::Allocator;
 
-/// The packet at which a message was refused.
+/// Returns the packet at which a message was refused.
 pub(crate) fn frame_in_client<A: Allocator + Copy>(fault: &ClientFault<A>) -> Option<u64>
     ensures { result ≡ frame_in_client fault.now }
 {
@@ -21,7 +21,7 @@ pub(crate) fn frame_in_client<A: Allocator + Copy>(fault: &ClientFault<A>) -> Op
     }
 }
 
-/// The line of a pack that is wrong.
+/// Returns the line of a pack that is wrong.
 pub(crate) fn line_in_client<A: Allocator + Copy>(fault: &ClientFault<A>) -> Option<usize>
     ensures { result ≡ line_in_client fault.now }
 {
@@ -31,7 +31,8 @@ pub(crate) fn line_in_client<A: Allocator + Copy>(fault: &ClientFault<A>) -> Opt
     }
 }
 
-/// The id that is missing, that two objects have, that is of another format, or that was acknowledged and not offered.
+/// Returns the id that is missing, that two objects have, that has another format, or that was
+/// acknowledged and not offered.
 pub(crate) fn id_in_client<A: Allocator + Copy>(fault: &ClientFault<A>) -> Option<Oid>
     ensures { result ≡ id_in_client fault.now }
 {
@@ -47,20 +48,22 @@ fn id_in_repo<A: Allocator + Copy>(fault: &RepoFault<A>) -> Option<Oid>
 {
     match fault {
         RepoFault::MissingParent { id } => Some(*id),
-        RepoFault::NotHeld { missing } | RepoFault::NotConnected { missing } => Some(*missing),
+        RepoFault::UnconnectedId { missing } | RepoFault::NotConnected { missing } => Some(
+            *missing,
+        ),
         RepoFault::Graph(cause) => id_in_graph(cause),
         _ => None,
     }
 }
 
-/// The ref that is not connected, or what a peer said.
+/// Returns the ref that is not connected, or the text of a peer.
 pub(crate) fn text_in_client<A: Allocator + Copy>(fault: &ClientFault<A>) -> Option<&[u8]>
     ensures text { option_copied result ≡ text_in_client fault.now }
     ensures short { IsShortText (option_copied result) }
 {
     match fault {
         ClientFault::Message(cause) => said_in(&cause.why),
-        ClientFault::Repo(RepoFault::UnsafeRef { name }) => Some(name.as_bytes()),
+        ClientFault::Repo(RepoFault::UnconnectedRef { name }) => Some(name.as_bytes()),
         _ => None,
     }
 }

@@ -1,7 +1,7 @@
-//! The repository that is fetched into, from its file, and what is fetched, from words.
+//! The client's repository, from its file, and the refspecs, from words.
 
 ghost use Rattle.std.specs.Prelude.{◌≡◌, ◌↔◌, ◌+◌, ◌++◌, ◌∷◌, [], IfErr, IsTrue, MatchResult, OnOk, Ok, Err, length, map, string_bytes};
-ghost use Rattle.grefspec.specs.declared.fault.SpecFault.TheVariants.{Memory};
+ghost use Rattle.grefs.specs.declared.refspec.fault.SpecFault.TheVariants.{Memory};
 ghost use Rattle.gcmd.specs.Fetching.{OpensClient, ReadsSpecs, no_head};
 
 use crate::fault::ProgramFault;
@@ -11,7 +11,7 @@ use std::alloc::Allocator;
 
 /// Reads words as refspecs (git-fetch(1), "<refspec>"), a refspec each.
 ///
-/// It fails with `Spec` at the first word that is none, and out of memory.
+/// Fails with `Spec` at the first word that is not a refspec, and if out of memory.
 pub fn read_specs<A: Allocator + Copy>(
     alloc: A,
     words: &[String<A>],
@@ -27,7 +27,7 @@ pub fn read_specs<A: Allocator + Copy>(
     Ok(specs)
 }
 
-// Keeps one refspec more.
+// Appends a refspec.
 fn keep<A: Allocator + Copy>(specs: &mut Vec<Spec<A>, A>, spec: Spec<A>) -> Result<(), SpecFault>
     ensures kept { OnOk result (specs.new.items ≡ specs.old.items ++ spec ∷ []) }
     ensures fault { IfErr result (λ fault. fault ≡ Memory) }
@@ -38,10 +38,10 @@ fn keep<A: Allocator + Copy>(specs: &mut Vec<Spec<A>, A>, spec: Spec<A>) -> Resu
     }
 }
 
-/// The client's repository whose text is `file`, of either object format.
+/// Returns the client's repository whose text is `file`, with either object format.
 ///
-/// It fails with `Text` where the file is the text of no repository, and at the line of HEAD where it has one; else
-/// with `Fetch` where a ref is not connected. Both may be out of memory.
+/// Fails with `Text` if the file is not the text of a repository, and at the line of HEAD if it has
+/// one. Otherwise fails with `Fetch` if a ref is not connected. Both may report out of memory.
 pub fn open_client<A: Allocator + Copy>(alloc: A, file: &[u8]) -> Result<Repo<A>, ProgramFault<A>>
     ensures { OpensClient file.now result }
 {
@@ -63,7 +63,8 @@ fn is_none<A: Allocator + Copy>(head: &Head<A>) -> bool
     }
 }
 
-// The line of HEAD, counted from 1: before it are the first line, and a line for each object and each ref.
+// Returns the line of HEAD, counted from 1. Before it are the first line, and a line for each
+// object and each ref.
 fn line_of_head<A: Allocator + Copy>(repository: &Repository<A>) -> usize
     ensures { result ≡ length repository.now.graph.entries + length repository.now.refs + 2 }
 {

@@ -1,4 +1,4 @@
-//! Numbers in texts of bounded length. They take no memory.
+//! Numbers in texts of bounded length. They allocate nothing.
 
 ghost use Rattle.std.specs.Prelude.{◌≡◌, ◌+◌, ◌≤◌, ◌++◌, length};
 ghost use Rattle.std.specs.Fmt.{decimal};
@@ -8,7 +8,7 @@ use arrayvec::ArrayVec;
 use ggrammar::compose::add;
 use itoa::Buffer;
 
-/// Adds a number, in decimal.
+/// Appends a number, in decimal.
 pub(crate) fn add_number<const N: usize>(number: u64, text: &mut ArrayVec<u8, N>)
     requires { length text.old.items + max_decimal ≤ N }
     ensures text { text.new.items ≡ text.old.items ++ decimal number }

@@ -1,4 +1,4 @@
-//! The faults that programs end with.
+//! The faults with which programs end.
 
 ghost use Rattle.std.specs.Prelude.{◌≡◌, Some};
 ghost use Rattle.gcmd.specs.Faults.{printed_of, program_fault_text};
@@ -12,50 +12,51 @@ use gclient::{ClientFault, FetchFault, RepoFault, SpecFault};
 use ggraph::LoadFault;
 use glockfile::StorageFault;
 use gname::{NameFault, OUT_OF_MEMORY_TEXT};
-use gpkt::LineFault;
-use std::alloc::{Allocator, Global};
+use gpkt::PacketFault;
+use std::alloc::{AllocError, AllocFailed, Allocator, Global};
 use std::error::Error;
 use std::fmt;
 
-/// Why a program ends with status 1. One line is printed of it.
+/// The reason a program ends with status 1. It is printed as one line.
 #[derive(Debug, Drop)]
 pub enum ProgramFault<A: Allocator + Copy = Global> {
-    /// 64: out of memory for a file, for a buffer of standard input or output, or to judge a repository.
+    /// 64: out of memory for a file, for a buffer of standard input or output, or to judge a
+    /// repository.
     Memory,
     /// 95: the repository's file could not be read, or could not be written after a fetch.
     File,
-    /// 67, 68, 64: a file is no repository's text.
+    /// 67, 68, 64: a file is not the text of a repository.
     Text(LoadFault),
-    /// 71, 64: something is missing of the repository that a file names.
+    /// 71, 64: something is missing in the repository of a file.
     Build(BuildFault<A>),
     /// 20 to 54, 64, 65, 73, 74: a request was refused.
     Request(ServeFault),
-    /// 20 to 24, 28: a packet that was to be shown was refused, or out of memory to read it.
-    Line(LineFault),
-    /// 87, 18: a word is no refspec, or out of memory to keep those that are.
+    /// 20 to 24, 28: a packet to show was refused, or out of memory to read it.
+    Line(PacketFault),
+    /// 87, 18: a word is not a refspec, or out of memory to keep the refspecs.
     Spec(SpecFault),
-    /// 20 to 25, 27 to 30, 41 to 54, 60 to 64, 66, 69, 75, 80, 82 and 84 to 86: a ref of a client's repository
-    /// is not connected (80), fetching into it failed, or out of memory.
+    /// 20 to 25, 27 to 30, 41 to 54, 60 to 64, 66, 69, 75, 80, 82 and 84 to 86: a ref of a client's
+    /// repository is not connected (80), fetching into it failed, or out of memory.
     Fetch(FetchFault<A>),
     /// 27: the output failed.
     WriteFailed,
-    /// 11, 13, 18: a word is no prefix of names, or out of memory to keep it.
+    /// 11, 13, 18: a word is not a prefix of names, or out of memory to keep it.
     Name(NameFault),
-    /// 94: a message between both ends of a pair is longer than they may be.
+    /// 94: a message between both ends of a pair is too long.
     PairLimit,
     /// 96: a socket could not be opened, or a connection could not be accepted.
     Socket,
 }
 
 impl<A: Allocator + Copy> ProgramFault<A> {
-    /// The number of the fault.
+    /// Returns the number of the fault.
     pub fn code(&self) -> u32
         ensures { result ≡ (printed_of self.now).number }
     {
         FaultLine::of(self).number()
     }
 
-    /// The name of the fault.
+    /// Returns the name of the fault.
     pub fn name(&self) -> &'static str
         ensures { result.now ≡ (printed_of self.now).name }
     {
@@ -118,10 +119,10 @@ impl<A: Allocator + Copy> From<RepoFault<A>> for ProgramFault<A> {
     }
 }
 
-impl<A: Allocator + Copy> From<LineFault> for ProgramFault<A> {
+impl<A: Allocator + Copy> From<PacketFault> for ProgramFault<A> {
     ghost from_gives = { λ cause fault. fault ≡ program.Line cause };
 
-    fn from(cause: LineFault) -> ProgramFault<A> {
+    fn from(cause: PacketFault) -> ProgramFault<A> {
         ProgramFault::Line(cause)
     }
 }
@@ -144,5 +145,29 @@ impl<A: Allocator + Copy> From<StorageFault> for ProgramFault<A> {
             StorageFault::Memory => ProgramFault::Memory,
             StorageFault::Failed => ProgramFault::File,
         }
+    }
+}
+
+impl<A: Allocator + Copy> From<FetchFault<A>> for ProgramFault<A> {
+    ghost from_gives = { λ cause fault. fault ≡ program.Fetch cause };
+
+    fn from(cause: FetchFault<A>) -> ProgramFault<A> {
+        ProgramFault::Fetch(cause)
+    }
+}
+
+impl<A: Allocator + Copy> From<AllocError> for ProgramFault<A> {
+    ghost from_gives = { λ _ fault. fault ≡ program.Memory };
+
+    fn from(_refused: AllocError) -> ProgramFault<A> {
+        ProgramFault::Memory
+    }
+}
+
+impl<A: Allocator + Copy, T: Drop> From<AllocFailed<T>> for ProgramFault<A> {
+    ghost from_gives = { λ _ fault. fault ≡ program.Memory };
+
+    fn from(_refused: AllocFailed<T>) -> ProgramFault<A> {
+        ProgramFault::Memory
     }
 }

@@ -16,29 +16,31 @@ use crate::send::send;
 use gclient::{Fetched, Repo, Spec, fetch_over};
 use gfetchreply::PackLimit;
 use ggrammar::Ends;
-use ggraph::graph_laws::places_are_nodes;
+use ggraph::graph_laws::positions_are_nodes;
 use ggraph::{Head, PlainPack, SaveFault, save};
 use gpkt::{Sink, Source};
 use std::alloc::{Allocator, Global};
 
-/// What came of a fetch into a file.
+/// The result of a fetch into a file.
 #[derive(Debug, Drop)]
 pub struct FetchRun<A: Allocator + Copy = Global> {
-    /// The exit status: 0 where the report is written and passed on, 1 where a fault was met.
+    /// The exit status: 0 if the report is written and flushed, 1 if there was a fault.
     pub status: u8,
-    /// What the file is to hold from now on. `None` where it stays as it is.
+    /// The new text of the file, or `None` if the file is unchanged.
     pub file: Option<Vec<u8, A>>,
 }
 
-/// `gitv2 fetch --stdio [--limit N] [--response-end] FILE SPEC...`: fetches by refspecs from the server that `input`
-/// and `output` lead to, into the client's repository whose text is `file` (gitprotocol-v2(5)). A pack may have so
-/// many bytes as the limit says, and each reply ends as `ends` says. What became of each ref that was asked for is a
-/// line of the report: `moved NAME ID`, `same NAME`, or `notforward NAME` where that would be no fast-forward; and
-/// `unborn NAME` is the last where HEAD was fetched, and the server's is unborn, and points at NAME. A fault is one
-/// line on `errors`.
+/// `gitv2 fetch --stdio [--limit N] [--response-end] FILE SPEC...`: fetches by refspecs from the
+/// server at `input` and `output` into the client's repository whose text is `file`
+/// (gitprotocol-v2(5)). A pack has at most as many bytes as `limit` says, and each reply ends as
+/// `ends` says. The outcome of each asked ref is a line of the report: `moved NAME ID`, `same
+/// NAME`, or `notforward NAME` if the move is not a fast-forward. The last line is `unborn NAME` if
+/// HEAD was fetched and the server's HEAD is unborn and points at NAME. A fault is one line on
+/// `errors`.
 ///
-/// It answers the exit status, and the new text of the file where the refs were settled: then it is to be written,
-/// and the report to be shown after it. Where the conversation failed the file stays as it is.
+/// Returns the exit status, and the new text of the file if the refs were settled. Then the caller
+/// writes the file, and shows the report after it. If the conversation failed the file is
+/// unchanged.
 pub fn cmd_fetch<A: Allocator + Copy, S: Source, W: Sink, R: Sink, E: Sink>(
     alloc: A,
     file: &[u8],
@@ -72,19 +74,19 @@ pub fn cmd_fetch<A: Allocator + Copy, S: Source, W: Sink, R: Sink, E: Sink>(
     FetchRun { status, file }
 }
 
-// What is fetched into a file, and how.
+// The parameters of a fetch into a file.
 #[derive(Clone, Copy)]
 struct FileFetch<'a, A: Allocator + Copy> {
     // The text of the client's repository.
     file: &'a [u8],
     specs: &'a [Spec<A>],
-    // The most bytes of a pack.
+    // The maximum size of a pack in bytes.
     limit: PackLimit,
     // How each reply ends.
     ends: Ends,
 }
 
-// Fetches, and answers how that came out, and the new text of the file where there is one.
+// Fetches, and returns the outcome, and the new text of the file if there is one.
 fn fetch_into<A: Allocator + Copy, S: Source, W: Sink, R: Sink>(
     alloc: A,
     fetch: &FileFetch<'_, A>,
@@ -107,7 +109,7 @@ fn fetch_into<A: Allocator + Copy, S: Source, W: Sink, R: Sink>(
     }
 }
 
-// The same for the client's repository of the file.
+// Does the same for the client's repository of the file.
 fn fetch_for<A: Allocator + Copy, S: Source, W: Sink, R: Sink>(
     repo: &mut Repo<A>,
     fetch: &FileFetch<'_, A>,
@@ -140,8 +142,9 @@ fn fetch_for<A: Allocator + Copy, S: Source, W: Sink, R: Sink>(
     }
 }
 
-/// Ends a fetch that settled the refs: makes the new text of the client's file, and reports. It answers how that came
-/// out, and the text. Where it is out of memory for the text, there is none, and nothing is reported.
+/// Ends a fetch that settled the refs: makes the new text of the client's file, and reports.
+/// Returns the outcome and the text. If it is out of memory for the text, there is none, and
+/// nothing is reported.
 pub fn conclude<A: Allocator + Copy, R: Sink>(
     alloc: A,
     repo: &Repo<A>,
@@ -160,7 +163,7 @@ pub fn conclude<A: Allocator + Copy, R: Sink>(
     }
 }
 
-// The text of a client's repository. It fails out of memory.
+// Returns the text of a client's repository. Fails only if out of memory.
 pub(crate) fn text_of<A: Allocator + Copy>(
     alloc: A,
     repo: &Repo<A>,
@@ -169,7 +172,7 @@ pub(crate) fn text_of<A: Allocator + Copy>(
         (λ fault. fault ≡ Memory) }
 {
     // Laws.
-    places_are_nodes::<A>();
+    positions_are_nodes::<A>();
     repo.laws();
     match save(alloc, repo.graph(), repo.refs(), &Head::None) {
         Ok(text) => Ok(text),
@@ -177,9 +180,9 @@ pub(crate) fn text_of<A: Allocator + Copy>(
     }
 }
 
-/// Writes the report of a fetch, and passes it on.
+/// Writes the report of a fetch, and flushes it.
 ///
-/// It fails with `Memory`, and nothing is written, or with `WriteFailed`.
+/// Fails with `Memory`, and nothing is written, or with `WriteFailed`.
 pub fn send_report<A: Allocator + Copy, R: Sink>(
     alloc: A,
     fetched: &Fetched<A>,
@@ -196,9 +199,9 @@ pub fn send_report<A: Allocator + Copy, R: Sink>(
     }
 }
 
-/// Writes a text on a sink of reports, and passes it on.
+/// Writes a text to a sink of reports, and flushes it.
 ///
-/// It fails with `WriteFailed`; a beginning of the text stands then.
+/// Fails only with `WriteFailed`, after a prefix of the text was written.
 pub fn send_text<A: Allocator + Copy, R: Sink>(
     text: &[u8],
     report: &mut R,

@@ -16,22 +16,23 @@ use crate::program::finish;
 use crate::send::put;
 use arrayvec::ArrayVec;
 use ggrammar::compose::add;
-use gpkt::{Down, Line, LineBuffer, LineFault, LineReader, Sink, Source, laws};
+use gpkt::{Down, Packet, PacketBuffer, PacketFault, PacketReader, Sink, Source, laws};
 use std::alloc::Allocator;
 
-/// The most bytes of a shown data packet before its digits: the word, and a number of 20.
+/// The maximum length in bytes of a shown data packet before its digits: the word, and a number of
+/// 20.
 const MAX_DATA_HEAD: usize = 25;
 
-/// How many bytes of a payload are shown in one call.
+/// The maximum number of bytes of a payload shown in one call.
 const CHUNK: usize = 512;
 
-/// `gitv2 lines`: shows each packet of `input` on a line of `output`, `data` with the length and the digits of its
-/// payload, `flush`, `delim` or `response-end`, until the input ends (gitprotocol-common(5), "pkt-line Format").
-/// No more than 4,294,967,295 packets are read.
+/// `gitv2 lines`: shows each packet of `input` on a line of `output`, until the input ends
+/// (gitprotocol-common(5), "pkt-line Format"). A line is `data` with the length and the digits of
+/// the payload, `flush`, `delim` or `response-end`. It reads at most 4,294,967,295 packets.
 ///
-/// It answers the exit status: 0 where all packets are shown and passed on; 1 where a fault was met, which is one
-/// line on `errors`. The packets before one that is refused are shown and passed on. Where it is out of memory for
-/// the buffer of the reader, nothing is read or written.
+/// Returns the exit status: 0 if all packets are shown and flushed, 1 if there was a fault, which
+/// is one line on `errors`. The packets before a refused one are shown and flushed. If it is out of
+/// memory for the reader's buffer, nothing is read or written.
 pub fn cmd_lines<A: Allocator + Copy, S: Source, W: Sink, E: Sink>(
     alloc: A,
     input: &mut S,
@@ -59,8 +60,8 @@ fn show_lines<A: Allocator + Copy, S: Source, W: Sink>(
     ensures input_loans { S.loans input.new ≡ S.loans input.old }
     ensures output_loans { W.loans output.new ≡ W.loans output.old }
 {
-    let buffer = LineBuffer::new(alloc)?;
-    let mut reader = LineReader::with_buffer(buffer, input);
+    let buffer = PacketBuffer::new(alloc)?;
+    let mut reader = PacketReader::with_buffer(buffer, input);
     let passed = pass_each(&mut reader, output);
     let _input = reader.into_inner();
     match passed {
@@ -70,11 +71,11 @@ fn show_lines<A: Allocator + Copy, S: Source, W: Sink>(
     }
 }
 
-// Shows each packet, and passes on what is shown. It answers how the reading ended.
+// Shows each packet, and flushes the output. Returns how the reading ended.
 fn pass_each<A: Allocator + Copy, S: Source, W: Sink>(
-    reader: &mut LineReader<S, A>,
+    reader: &mut PacketReader<S, A>,
     output: &mut W,
-) -> Result<Result<(), LineFault>, Down>
+) -> Result<Result<(), PacketFault>, Down>
     requires { reader.old.failed ≡ false }
     ensures passed { HasPassed (input_of S.remaining S.is_down reader.old.source reader.new.source)
         (output_of W.contents W.passed_on W.is_down output.old output.new) result }
@@ -88,9 +89,9 @@ fn pass_each<A: Allocator + Copy, S: Source, W: Sink>(
 
 // Shows each packet that is read.
 fn show_each<A: Allocator + Copy, S: Source, W: Sink>(
-    reader: &mut LineReader<S, A>,
+    reader: &mut PacketReader<S, A>,
     output: &mut W,
-) -> Result<Result<(), LineFault>, Down>
+) -> Result<Result<(), PacketFault>, Down>
     requires { reader.old.failed ≡ false }
     ensures shows { ShowsEach (input_of S.remaining S.is_down reader.old.source reader.new.source)
         (output_of W.contents W.passed_on W.is_down output.old output.new) result }
@@ -113,16 +114,16 @@ fn show_each<A: Allocator + Copy, S: Source, W: Sink>(
     Ok(Ok(()))
 }
 
-fn show_line<W: Sink>(line: Line<'_>, output: &mut W) -> Result<(), Down>
+fn show_line<W: Sink>(line: Packet<'_>, output: &mut W) -> Result<(), Down>
     ensures shown { IsPut (output_of W.contents W.passed_on W.is_down output.old output.new) result
         (shown_line (packet_of line.entry)) }
     ensures loans { W.loans output.new ≡ W.loans output.old }
 {
     match line {
-        Line::Data(payload) => show_data(payload, output),
-        Line::Flush => put(b"flush\n", output),
-        Line::Delim => put(b"delim\n", output),
-        Line::ResponseEnd => put(b"response-end\n", output),
+        Packet::Data(payload) => show_data(payload, output),
+        Packet::Flush => put(b"flush\n", output),
+        Packet::Delim => put(b"delim\n", output),
+        Packet::ResponseEnd => put(b"response-end\n", output),
     }
 }
 
@@ -139,7 +140,7 @@ fn show_data<W: Sink>(payload: &[u8], output: &mut W) -> Result<(), Down>
     put(b"\n", output)
 }
 
-// What stands before the digits of a data packet.
+// Writes the part before the digits of a data packet.
 fn compose_head(len: usize, head: &mut ArrayVec<u8, MAX_DATA_HEAD>)
     requires { head.old.items ≡ [] }
     ensures { head.new.items ≡ codes "data " ++ decimal len }
@@ -148,7 +149,7 @@ fn compose_head(len: usize, head: &mut ArrayVec<u8, MAX_DATA_HEAD>)
     add_number(len as u64, head);
 }
 
-// A space and the digits, where there are some.
+// Writes a space and the digits, if there are some.
 fn show_digits<W: Sink>(payload: &[u8], output: &mut W) -> Result<(), Down>
     ensures shown { IsPut (output_of W.contents W.passed_on W.is_down output.old output.new) result
         (digits_part payload.now) }
@@ -161,7 +162,7 @@ fn show_digits<W: Sink>(payload: &[u8], output: &mut W) -> Result<(), Down>
     put_digits(payload, output)
 }
 
-// The digits, chunk by chunk.
+// Writes the digits, chunk by chunk.
 fn put_digits<W: Sink>(bytes: &[u8], output: &mut W) -> Result<(), Down>
     ensures put { IsPut (output_of W.contents W.passed_on W.is_down output.old output.new) result
         (encode_lower bytes.now) }

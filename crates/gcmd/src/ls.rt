@@ -14,12 +14,13 @@ use gpkt::{Sink, Source};
 use gserve::{ExchangeEnd, OnePack, serve_one};
 use std::alloc::Allocator;
 
-/// `gitv2 ls --stdio-server FILE`: reads one request from `input` and writes its reply to `output`, with no
-/// advertisement before it, from the repository whose text is `file` (gitprotocol-v2(5), "Command Request"). Any
-/// request is answered, one for objects too. A fault is one line on `errors`.
+/// `gitv2 ls --stdio-server FILE`: reads one request from `input` and writes its reply to `output`,
+/// from the repository whose text is `file` (gitprotocol-v2(5), "Command Request"). There is no
+/// advertisement before the reply. It replies to any request, also to one for objects. A fault is
+/// one line on `errors`.
 ///
-/// It answers the exit status: 0 where the request was answered, was a lone flush, or there was no input;
-/// 1 where a fault was met. What is written is passed on before the call returns.
+/// Returns the exit status: 0 if the request got a reply or was a lone flush packet, or if there
+/// was no input; 1 if there was a fault. All output is flushed before the call returns.
 pub fn cmd_ls<A: Allocator + Copy, S: Source, W: Sink, E: Sink>(
     alloc: A,
     file: &[u8],
@@ -38,7 +39,7 @@ pub fn cmd_ls<A: Allocator + Copy, S: Source, W: Sink, E: Sink>(
     finish(answer_one(alloc, file, input, output), errors)
 }
 
-// Answers one request.
+// Replies to one request.
 fn answer_one<A: Allocator + Copy, S: Source, W: Sink>(
     alloc: A,
     file: &[u8],
@@ -55,7 +56,7 @@ fn answer_one<A: Allocator + Copy, S: Source, W: Sink>(
     outcome_of(serve_one(&server, &mut packer, Ends::Plain, input, output))
 }
 
-// How the work comes out at the end of the exchange.
+// Returns the outcome of an exchange.
 fn outcome_of<A: Allocator + Copy>(ended: ExchangeEnd) -> Result<(), ProgramFault<A>>
     ensures { result ≡ outcome_of_exchange ended }
 {

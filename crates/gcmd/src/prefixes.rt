@@ -10,7 +10,7 @@ use std::alloc::Allocator;
 
 /// Reads words as prefixes of names of refs (gitprotocol-v2(5), "ls-refs"), a prefix each.
 ///
-/// It fails with `Name` at the first word that is none, and where there is no memory.
+/// Fails with `Name` at the first word that is not a prefix, and if out of memory.
 pub fn read_prefixes<A: Allocator + Copy>(
     alloc: A,
     words: &[String<A>],
@@ -26,7 +26,7 @@ pub fn read_prefixes<A: Allocator + Copy>(
     Ok(prefixes)
 }
 
-// Keeps one prefix more.
+// Appends a prefix.
 fn keep<A: Allocator + Copy>(
     prefixes: &mut Vec<Prefix<A>, A>,
     prefix: Prefix<A>,

@@ -1,11 +1,12 @@
-//! How faults are printed: `gitv2: fault NUMBER NAME`, and then, where the fault has them and in this order,
-//! ` frame K`, ` line K`, ` at K`, and a space and the id, the name or the text, each byte outside 32 to 126 as `?`.
+//! The printed lines of faults. A line is `gitv2: fault NUMBER NAME`, and then, if the fault has
+//! them and in this order, ` frame K`, ` line K`, ` at K`, and a space and the id, the name or the
+//! text. Each byte outside 32 to 126 is printed as `?`.
 
 ghost use Rattle.std.specs.Prelude.{◌≡◌, ◌+◌, ◌≤◌, ◌++◌, length, map, None, []};
 ghost use Rattle.std.specs.Option.{option_copied};
 ghost use Rattle.gcmd.specs.Faults.{id_in_build, id_in_graph, id_in_request, frame_in_request, line_in_text, place_in_name, printed_of, printed_of_build, printed_of_client, printed_of_fetch, printed_of_name, printed_of_request, printed_of_text, ref_in_build, said_in, said_in_request};
 ghost use Rattle.gcmd.specs.steps.Printing.{max_decimal, max_fault_line, max_fault_name, max_subject, row_view, IsShort, IsShortText};
-ghost use Rattle.gcmd.specs.Printing.{number_part, printed_line, shown, subject_part};
+ghost use Rattle.gcmd.specs.Printing.{number_part, printed_line, printable, subject_part};
 ghost use Rattle.gpkt.specs.Sending.{output_of};
 ghost use Rattle.gcmd.specs.Outputs.{IsSent};
 
@@ -23,17 +24,18 @@ use gname::{HEAD, NameFault, OUT_OF_MEMORY, Oid};
 use gpkt::{Down, Sink, WriteFault};
 use std::alloc::Allocator;
 
-/// The most bytes of a fault's line: its words, a name of 32, four numbers of 20, and a text of 1,000.
+/// The maximum length in bytes of a fault's line: its words, a name of 32, four numbers of 20, and
+/// a text of 1,000.
 const MAX_FAULT_LINE: usize = 1_145;
 
-/// What is printed of a fault.
+/// The printed parts of a fault.
 #[derive(Clone, Copy)]
 pub(crate) struct FaultLine<'a> {
     number: u32,
     name: &'static str,
     frame: Option<u64>,
     line: Option<usize>,
-    // The position of a byte in a name.
+    // The index of a byte in a name.
     at: Option<usize>,
     id: Option<Oid>,
     // A name, or a text.
@@ -41,7 +43,7 @@ pub(crate) struct FaultLine<'a> {
 }
 
 impl<'a> FaultLine<'a> {
-    /// The table of faults.
+    /// Returns the printed parts of the fault.
     pub(crate) fn of<A: Allocator + Copy>(fault: &'a ProgramFault<A>) -> FaultLine<'a>
         ensures row { row_view result ≡ printed_of fault.now }
         ensures short { IsShort result }
@@ -65,7 +67,7 @@ impl<'a> FaultLine<'a> {
         }
     }
 
-    // A fault of which only the number and the name are printed.
+    // Returns a fault of which only the number and the name are printed.
     fn plain(number: u32, name: &'static str) -> FaultLine<'a>
         requires { length name.now ≤ max_fault_name }
         ensures number { result.number ≡ number }
@@ -84,7 +86,7 @@ impl<'a> FaultLine<'a> {
         }
     }
 
-    // A text that is no repository's, with the line that is wrong.
+    // Returns the line for a text that is not a repository, with the line that is wrong.
     fn of_text(fault: &LoadFault) -> FaultLine<'a>
         ensures row { row_view result ≡ printed_of_text fault.now }
         ensures short { IsShort result }
@@ -95,7 +97,7 @@ impl<'a> FaultLine<'a> {
         }
     }
 
-    // A name that is refused, with the byte.
+    // Returns the line for a refused name, with the byte.
     fn of_name(fault: &NameFault) -> FaultLine<'a>
         ensures row { row_view result ≡ printed_of_name fault.now }
         ensures short { IsShort result }
@@ -106,7 +108,7 @@ impl<'a> FaultLine<'a> {
         }
     }
 
-    // A repository of which something is missing, with the ref or the id.
+    // Returns the line for a repository of which something is missing, with the ref or the id.
     fn of_build<A: Allocator + Copy>(fault: &'a BuildFault<A>) -> FaultLine<'a>
         ensures row { row_view result ≡ printed_of_build fault.now }
         ensures short { IsShort result }
@@ -118,7 +120,8 @@ impl<'a> FaultLine<'a> {
         }
     }
 
-    // A request that was refused, with the packet, what a peer said, or the want that is missing.
+    // Returns the line for a refused request, with the packet, the text of a peer, or the missing
+    // want.
     fn of_request(fault: &'a ServeFault) -> FaultLine<'a>
         ensures row { row_view result ≡ printed_of_request fault.now }
         ensures short { IsShort result }
@@ -131,7 +134,7 @@ impl<'a> FaultLine<'a> {
         }
     }
 
-    // A conversation that failed.
+    // Returns the line for a conversation that failed.
     fn of_fetch<A: Allocator + Copy>(fault: &'a FetchFault<A>) -> FaultLine<'a>
         ensures row { row_view result ≡ printed_of_fetch fault.now }
         ensures short { IsShort result }
@@ -144,7 +147,8 @@ impl<'a> FaultLine<'a> {
         }
     }
 
-    // A session that was refused, with the packet, the line of a pack, the id, and the ref or what a peer said.
+    // Returns the line for a refused session, with the packet, the line of a pack, the id, and the
+    // ref or the text of a peer.
     fn of_client<A: Allocator + Copy>(fault: &'a ClientFault<A>) -> FaultLine<'a>
         ensures row { row_view result ≡ printed_of_client fault.now }
         ensures short { IsShort result }
@@ -170,8 +174,8 @@ impl<'a> FaultLine<'a> {
         self.name
     }
 
-    /// Prints the line, and passes it on. At an error a beginning of the line stands printed, and the
-    /// sink is down.
+    /// Prints the line, and flushes it. At an error a prefix of the line was printed, and the sink
+    /// is down.
     pub(crate) fn print<E: Sink>(&self, errors: &mut E) -> Result<(), Down>
         requires { IsShort self.now }
         ensures sent { IsSent (output_of E.contents E.passed_on E.is_down errors.old errors.new)
@@ -183,7 +187,7 @@ impl<'a> FaultLine<'a> {
         send(text.as_slice(), errors)
     }
 
-    // Puts the line together.
+    // Composes the line.
     fn compose(&self, text: &mut ArrayVec<u8, MAX_FAULT_LINE>)
         requires short { IsShort self.now }
         requires empty { text.old.items ≡ [] }
@@ -207,7 +211,7 @@ fn as_number(place: Option<usize>) -> Option<u64>
     place.map(|place| place as u64)
 }
 
-// Adds a number after its word, where there is one.
+// Appends a number after its word, if there is one.
 fn add_place(word: &[u8], place: Option<u64>, text: &mut ArrayVec<u8, MAX_FAULT_LINE>)
     requires { length text.old.items + length word.now + max_decimal ≤ max_fault_line }
     ensures text { text.new.items ≡ text.old.items ++ number_part word.now place }
@@ -219,40 +223,40 @@ fn add_place(word: &[u8], place: Option<u64>, text: &mut ArrayVec<u8, MAX_FAULT_
     }
 }
 
-// Adds the id, the name or the text that the fault is about.
-fn add_subject(id: Option<Oid>, shown: Option<&[u8]>, text: &mut ArrayVec<u8, MAX_FAULT_LINE>)
+// Appends the id, the name or the text of the fault.
+fn add_subject(id: Option<Oid>, printable: Option<&[u8]>, text: &mut ArrayVec<u8, MAX_FAULT_LINE>)
     requires room { length text.old.items + max_subject ≤ max_fault_line }
-    requires short { IsShortText (option_copied shown) }
-    ensures text { text.new.items ≡ text.old.items ++ subject_part id (option_copied shown.entry) }
+    requires short { IsShortText (option_copied printable) }
+    ensures text { text.new.items ≡ text.old.items ++ subject_part id (option_copied printable.entry) }
     ensures long { length text.new.items ≤ length text.old.items + max_subject }
 {
-    match (id, shown) {
+    match (id, printable) {
         (Some(id), _) => {
             add(b" ", text);
             add_id(&id, text);
         }
-        (None, Some(shown)) => {
+        (None, Some(printable)) => {
             add(b" ", text);
-            add_shown(shown, text);
+            add_shown(printable, text);
         }
         (None, None) => {}
     }
 }
 
-// Adds a text as it is shown.
+// Appends a text in its printable form.
 fn add_shown(piece: &[u8], text: &mut ArrayVec<u8, MAX_FAULT_LINE>)
     requires { length text.old.items + length piece.now ≤ max_fault_line }
-    ensures text { text.new.items ≡ text.old.items ++ map shown piece.now }
+    ensures text { text.new.items ≡ text.old.items ++ map printable piece.now }
     ensures long { length text.new.items ≡ length text.old.items + length piece.now }
 {
     for byte in piece {
-        text.push(shown(*byte));
+        text.push(printable(*byte));
     }
 }
 
-// The byte, or `?` where it is none that can be printed.
-fn shown(byte: u8) -> u8
-    ensures { result ≡ shown byte }
+// Returns the byte, or `?` if it can't be printed.
+fn printable(byte: u8) -> u8
+    ensures { result ≡ printable byte }
 {
     if (32..=126).contains(&byte) {
         byte
@@ -261,7 +265,7 @@ fn shown(byte: u8) -> u8
     }
 }
 
-// The byte at which a name is refused.
+// Returns the index of the byte at which a name is refused.
 fn place_in_name(fault: &NameFault) -> Option<usize>
     ensures { result ≡ place_in_name fault.now }
 {
@@ -283,7 +287,7 @@ fn line_in_text(fault: &LoadFault) -> Option<usize>
     }
 }
 
-/// The id that two objects have, or that is of another format.
+/// Returns the id that two objects have, or that has another format.
 pub(crate) fn id_in_graph(fault: &GraphFault) -> Option<Oid>
     ensures { result ≡ id_in_graph fault.now }
 {
@@ -342,7 +346,7 @@ fn said_in_request(fault: &ServeFault) -> Option<&[u8]>
     }
 }
 
-/// What a peer said.
+/// Returns the text of a peer.
 pub(crate) fn said_in(why: &Why) -> Option<&[u8]>
     ensures text { option_copied result ≡ said_in why.now }
     ensures short { IsShortText (option_copied result) }

@@ -1,4 +1,4 @@
-//! How programs end.
+//! The endings of programs.
 
 ghost use Rattle.std.specs.Prelude.{◌≡◌, Err};
 ghost use Rattle.gcmd.specs.Outputs.{IsSent};
@@ -11,8 +11,8 @@ use crate::print::FaultLine;
 use gpkt::{Down, Sink};
 use std::alloc::Allocator;
 
-/// Prints the fault as one line on `errors`, passes it on, and answers the exit status, which is 1. Where
-/// the line can't be printed, there is nowhere to report it.
+/// Prints the fault as one line on `errors`, flushes it, and returns the exit status, which is 1.
+/// If the line can't be printed, it can't be reported either.
 pub fn cmd_failed<A: Allocator + Copy, E: Sink>(fault: ProgramFault<A>, errors: &mut E) -> u8
     ensures exits { ExitsWith (Err fault)
         (output_of E.contents E.passed_on E.is_down errors.old errors.new) result }
@@ -22,8 +22,8 @@ pub fn cmd_failed<A: Allocator + Copy, E: Sink>(fault: ProgramFault<A>, errors: 
     1
 }
 
-/// Prints the fault as one line on `errors`, and passes it on. At an error a beginning of the line stands printed, and
-/// the sink is down.
+/// Prints the fault as one line on `errors`, and flushes it. At an error a prefix of the line was
+/// printed, and the sink is down.
 pub fn print_fault<A: Allocator + Copy, E: Sink>(
     fault: &ProgramFault<A>,
     errors: &mut E,
@@ -35,7 +35,8 @@ pub fn print_fault<A: Allocator + Copy, E: Sink>(
     FaultLine::of(fault).print(errors)
 }
 
-/// Ends a program as its work came out: prints the fault that was met, if one was. It answers the exit status.
+/// Ends a program with the outcome of its work: prints its fault, if there was one. Returns the
+/// exit status.
 pub fn finish<A: Allocator + Copy, E: Sink>(
     outcome: Result<(), ProgramFault<A>>,
     errors: &mut E,

@@ -1,4 +1,4 @@
-//! The repository that is served, from its file.
+//! The served repository, from its file.
 
 ghost use Rattle.gcmd.specs.Serving.{LoadsServer};
 
@@ -7,11 +7,11 @@ use ganswer::Server;
 use ggraph::{Order, load};
 use std::alloc::Allocator;
 
-/// The server of the repository whose text is `file`, of either object format.
+/// Returns the server of the repository whose text is `file`, with either object format.
 ///
-/// It fails with `Text` where the file is the text of no repository in which each parent comes before its children;
-/// else with `Build` where a ref, or HEAD by its id, stands at an object that is not there. Both may be out of
-/// memory.
+/// Fails with `Text` if the file is not the text of a repository in which each parent precedes its
+/// children. Otherwise fails with `Build` if the object of a ref, or of HEAD by its id, is missing.
+/// Both may report out of memory.
 pub fn load_server<A: Allocator + Copy>(alloc: A, file: &[u8]) -> Result<Server<A>, ProgramFault<A>>
     ensures { LoadsServer file.now result }
 {

@@ -1,4 +1,4 @@
-//! Bytes written to a sink, and passed on.
+//! Writing bytes to a sink, and flushing them.
 
 ghost use Rattle.std.specs.Prelude.{◌≡◌};
 ghost use Rattle.gpkt.specs.Sending.{output_of};
@@ -7,8 +7,8 @@ ghost use Rattle.gcmd.specs.Outputs.{IsSent};
 
 use gpkt::{Down, Sink, write_all};
 
-/// Writes bytes and passes them on. At an error a beginning of them stands written, and the sink is down. Nothing
-/// more was passed on then, unless passing on itself failed.
+/// Writes bytes and flushes them. At an error a prefix of them was written, and the sink is down.
+/// Nothing more was flushed then, unless the flush itself failed.
 pub(crate) fn send<W: Sink>(bytes: &[u8], sink: &mut W) -> Result<(), Down>
     ensures sent { IsSent (output_of W.contents W.passed_on W.is_down sink.old sink.new) result
         bytes.now }
@@ -20,7 +20,8 @@ pub(crate) fn send<W: Sink>(bytes: &[u8], sink: &mut W) -> Result<(), Down>
     }
 }
 
-/// Writes bytes, and passes nothing on. At an error a beginning of them stands written, and the sink is down.
+/// Writes bytes without flushing them. At an error a prefix of them was written, and the sink is
+/// down.
 pub(crate) fn put<W: Sink>(bytes: &[u8], sink: &mut W) -> Result<(), Down>
     ensures put { IsPut (output_of W.contents W.passed_on W.is_down sink.old sink.new) result
         bytes.now }

@@ -1,4 +1,4 @@
-//! `gitv2 fetch` into a stored file, which is replaced whole, or not at all.
+//! `gitv2 fetch` into a stored file, which is replaced whole or not at all.
 
 ghost use Rattle.std.specs.Prelude.{◌≡◌, Err, Ok, MatchResult, length};
 ghost use Rattle.gpkt.specs.Packets.{Bytes};
@@ -26,13 +26,13 @@ use std::alloc::{Allocator, Global};
 pub struct FetchOptions<'a, A: Allocator + Copy = Global> {
     /// The refspecs.
     pub specs: &'a [Spec<A>],
-    /// The most bytes of a pack.
+    /// The maximum size of a pack in bytes.
     pub limit: PackLimit,
     /// How each reply ends.
     pub ends: Ends,
 }
 
-/// A client's file that is locked: its text, and the repository that the text names.
+/// A locked file of a client: its text, and the repository of the text.
 #[derive(Drop)]
 pub struct OpenedFile<A: Allocator + Copy = Global> {
     /// The text that was read.
@@ -41,14 +41,14 @@ pub struct OpenedFile<A: Allocator + Copy = Global> {
     pub repo: Repo<A>,
 }
 
-/// `gitv2 fetch --stdio [--limit N] [--response-end] FILE SPEC...`: locks and reads the file, fetches into its
-/// repository from the server that `input` and `output` lead to, and replaces the file whole where the refs were
-/// settled. Then it writes the report on `errors`, since the output leads to the server. A fault is one line there.
-/// It answers the exit status.
+/// `gitv2 fetch --stdio [--limit N] [--response-end] FILE SPEC...`: locks and reads the file, and
+/// fetches into its repository from the server at `input` and `output`. Replaces the file whole if
+/// the refs were settled. Then writes the report to `errors`, since `output` leads to the server. A
+/// fault is one line there. Returns the exit status.
 ///
-/// The fault is `File` or `Memory` where the file can't be locked, read or replaced. Nothing is read from the input or
-/// written to the output before the file is locked and read. At every fault the file has the old text or the whole new
-/// one. This run holds no lockfile at the end.
+/// The fault is `File` or `Memory` if the file can't be locked, read or replaced. Nothing is read
+/// from the input or written to the output before the file is locked and read. At every fault the
+/// file has the old text or the whole new one. This run holds no lockfile at the end.
 pub fn cmd_fetch_stored<A: Allocator + Copy, T: Storage, S: Source, W: Sink, E: Sink>(
     alloc: A,
     file: &mut T,
@@ -71,7 +71,7 @@ pub fn cmd_fetch_stored<A: Allocator + Copy, T: Storage, S: Source, W: Sink, E: 
     exit_after(outcome, errors)
 }
 
-// Ends a program that reports to the sink of its errors.
+// Ends a program that writes its report to the errors' sink.
 fn exit_after<A: Allocator + Copy, E: Sink>(
     outcome: Result<(), ProgramFault<A>>,
     errors: &mut E,
@@ -82,13 +82,13 @@ fn exit_after<A: Allocator + Copy, E: Sink>(
 {
     match outcome {
         Ok(()) => 0,
-        // The report went there, too, and the sink is down.
+        // The report used the same sink, and the sink is down.
         Err(ProgramFault::WriteFailed) => 1,
         Err(fault) => cmd_failed(fault, errors),
     }
 }
 
-// Fetches, and answers how that came out.
+// Fetches, and returns the outcome.
 fn fetch_stored<A: Allocator + Copy, T: Storage, S: Source, W: Sink, R: Sink>(
     alloc: A,
     file: &mut T,
@@ -113,7 +113,7 @@ fn fetch_stored<A: Allocator + Copy, T: Storage, S: Source, W: Sink, R: Sink>(
     }
 }
 
-// The same for a file that is opened.
+// Does the same for an opened file.
 fn fetch_opened<A: Allocator + Copy, T: Storage, S: Source, W: Sink, R: Sink>(
     opened: &mut OpenedFile<A>,
     file: &mut T,
@@ -153,8 +153,8 @@ fn fetch_opened<A: Allocator + Copy, T: Storage, S: Source, W: Sink, R: Sink>(
 
 /// Locks a client's file, reads it, and opens its repository.
 ///
-/// It fails with `File` where the file can't be locked or read, with `Memory`, and as `open_client`. This run holds no
-/// lockfile then.
+/// Fails with `File` if the file can't be locked or read, with `Memory`, and as `open_client`. This
+/// run holds no lockfile then.
 pub fn open_stored<A: Allocator + Copy, T: Storage>(
     alloc: A,
     file: &mut T,
@@ -189,7 +189,7 @@ fn open_text<A: Allocator + Copy, T: Storage>(
     }
 }
 
-// Unlocks a file that stays as it is.
+// Unlocks a file without changing it.
 fn give_up<A: Allocator + Copy, T: Storage, X>(
     file: &mut T,
     fault: ProgramFault<A>,
@@ -203,11 +203,13 @@ fn give_up<A: Allocator + Copy, T: Storage, X>(
     Err(fault)
 }
 
-/// Ends a fetch into a locked file whose text is `old`, once the refs are settled: replaces the file by the text of the
-/// repository, and only then reports. This run holds no lockfile at the end.
+/// Ends a fetch into a locked file whose text is `old`, after the refs are settled. Replaces the
+/// file by the text of the repository, and only then reports. This run holds no lockfile at the
+/// end.
 ///
-/// It fails with `Memory` or `File` where the file can't be replaced; then nothing is reported, and the file has the
-/// old text or the whole new one. Once the file has the new text it fails as `send_report`.
+/// Fails with `Memory` or `File` if the file can't be replaced. Then nothing is reported, and the
+/// file has the old text or the whole new one. After the file has the new text it fails as
+/// `send_report`.
 pub fn conclude_stored<A: Allocator + Copy, T: Storage, R: Sink>(
     file: &mut T,
     old: &[u8],

@@ -14,14 +14,14 @@ use gpkt::{Sink, Source};
 use gserve::{End, OnePack, serve};
 use std::alloc::Allocator;
 
-/// `gitv2 upload [--response-end] FILE`: serves one connection from `input` to `output`: the advertisement, and then
-/// the reply to each request, from the repository whose text is `file` (gitprotocol-v2(5),
-/// "Capability Advertisement", "Command Request"). With `Ends::Response` each reply ends with a response-end. A fault
-/// is one line on `errors`.
+/// `gitv2 upload [--response-end] FILE`: serves one connection from `input` to `output`, from the
+/// repository whose text is `file`. Writes the advertisement, and then the reply to each request
+/// (gitprotocol-v2(5), "Capability Advertisement", "Command Request"). With `Ends::Response` each
+/// reply ends with a response-end packet. A fault is one line on `errors`.
 ///
-/// It answers the exit status: 0 where the client ended the connection by a lone flush, the input ended before a
-/// request, or there were 4,294,967,295 requests; 1 where a fault was met. What is written is passed on before the
-/// call returns.
+/// Returns the exit status: 0 if the client ended the connection by a lone flush packet, the input
+/// ended before a request, or there were 4,294,967,295 requests; 1 if there was a fault. All output
+/// is flushed before the call returns.
 pub fn cmd_upload<A: Allocator + Copy, S: Source, W: Sink, E: Sink>(
     alloc: A,
     file: &[u8],
@@ -60,7 +60,7 @@ fn answer_all<A: Allocator + Copy, S: Source, W: Sink>(
     outcome_of(serve(&server, &mut packer, ends, input, output).end)
 }
 
-// How the work comes out at the end of the connection.
+// Returns the outcome of a connection.
 fn outcome_of<A: Allocator + Copy>(ended: End) -> Result<(), ProgramFault<A>>
     ensures { result ≡ outcome_of_connection ended }
 {

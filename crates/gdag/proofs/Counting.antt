@@ -10,14 +10,14 @@ use Rattle.std.proofs.lemmas.Map.Made.{length-le_from_is_member}
 use Rattle.gobject.specs.declared.node.Entry.{Entry}
 use Rattle.gobject.specs.Objects.{has_id, node_at, IdsDiffer}
 use Rattle.gdag.specs.Graphs.{Holds}
-use Rattle.gdag.specs.Reach.{SomeReaches, IsFull, Grows}
+use Rattle.gdag.specs.Reach.{SomeReaches, IsConnected, Grows}
 use Rattle.gdag.specs.Selecting.{Selects}
 use Rattle.gdag.specs.Walks.{CountsReached}
 use Rattle.gdag.proofs.Choosing.{chosen_or_not, selects_same, selects_before}
 use Rattle.gdag.proofs.Growing.{grows_keeps, keeps_reaching, other_id}
 use Rattle.gdag.proofs.Holding.{node_there, absent_head, absent_tail}
 use Rattle.gdag.proofs.IdLists.{nothing_in_nil, contains_head, contains_tail, contains_cases, any_from_contains, contains_from_any}
-use Rattle.gdag.proofs.Reaching.{place_at}
+use Rattle.gdag.proofs.Reaching.{position_at}
 pub use Rattle.gdag.proofs.Reaching.{ids_of}
 use Rattle.gdag.proofs.Sharing.{reached_already}
 
@@ -33,7 +33,7 @@ id_among {A} (first ∷ list) entry among =
 
 reached_among : {A : Type 0} (g list : List (Entry A)) (tips : List (List ℕ)) (a : List ℕ) → Selects (λ entry. SomeReaches g tips entry.id) g list → Holds g a → SomeReaches g tips a → Contains (ids_of list) a
 reached_among {A} g list tips a reached held some =
-    let at = place_at g a held in
+    let at = position_at g a held in
     elim (chosen_or_not (λ (entry : Entry A). SomeReaches g tips entry.id) g list at.0 at.1 reached at.2) [
       | inl among ↦ subst (λ (x : List ℕ). Contains (ids_of list) x) at.3 (id_among list at.1 among)
       | inr left_out ↦ absurd (left_out (subst (SomeReaches g tips) (sym at.3) some))
@@ -65,18 +65,18 @@ new_after (first ∷ g) more entry differ among =
     node_there first g entry.id (other_id entry first (absent_member (g ++ more) first.id entry differ.0 (Contains-append_right g more entry among)))
     ∙ new_after g more entry differ.1 among
 
-module _ {A : Type 0} (g h : List (Entry A)) (tips : List (List ℕ)) (grows : Grows g h) (differ : IdsDiffer h) (full : All (IsFull g) tips) where
+module _ {A : Type 0} (g h : List (Entry A)) (tips : List (List ℕ)) (grows : Grows g h) (differ : IdsDiffer h) (connected : All (IsConnected g) tips) where
   reached_later : (a : List ℕ) → SomeReaches g tips a → SomeReaches h tips a
   reached_later a some = (some.0, some.1, keeps_reaching g h (grows_keeps g h grows) some.0 a some.2)
 
   reached_earlier : (a : List ℕ) → SomeReaches h tips a → SomeReaches g tips a
   reached_earlier a some =
-      (some.0, some.1, reached_already g h some.0 a (grows_keeps g h grows) (All-contains (IsFull g) tips some.0 full some.1) some.2)
+      (some.0, some.1, reached_already g h some.0 a (grows_keeps g h grows) (All-contains (IsConnected g) tips some.0 connected some.1) some.2)
 
   not_reached : (entry : Entry A) → Contains grows.0 entry → ¬ (SomeReaches h tips entry.id)
   not_reached entry among some =
       let before = reached_earlier entry.id some in
-      let held : Holds g entry.id = All-contains (IsFull g) tips before.0 full before.1 entry.id before.2 in
+      let held : Holds g entry.id = All-contains (IsConnected g) tips before.0 connected before.1 entry.id before.2 in
       false≢true (sym (ap is_some (new_after g grows.0 entry (subst (λ (xs : List (Entry A)). IdsDiffer xs) grows.1 differ) among)) ∙ held)
 
   pub counts_stay : (held parents : ℕ) → CountsReached g tips held parents → CountsReached h tips held parents

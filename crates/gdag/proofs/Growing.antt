@@ -12,7 +12,7 @@ use Rattle.gobject.specs.declared.node.Node.{Node}
 use Rattle.gobject.specs.declared.node.Entry.{Entry}
 use Rattle.gobject.specs.Objects.{has_id, node_at, IdsDiffer, IsShaped}
 use Rattle.gdag.specs.Graphs.{History, Holds, IsNode, HasParent, HasIdsOf, IsGraph, max_nodes}
-use Rattle.gdag.specs.Reach.{Reaches, here, onward, IsFull, Grows, Keeps}
+use Rattle.gdag.specs.Reach.{Reaches, here, onward, IsConnected, Grows, Keeps}
 use Rattle.gdag.specs.Insert.{ComesIn, Inserts, IsRefused, IsCause}
 use Rattle.gname.specs.declared.formats.Format.{Format}
 use Rattle.gdag.proofs.Reaching.{kept_along, reaches_parent}
@@ -94,16 +94,16 @@ keeps_reaching g h keeps a b (onward {b = m} p r) =
     onward (p.0, keeps a p.0 p.1, p.2) (keeps_reaching g h keeps m b r)
 
 -- nothing new is reached from an id that was connected
-pub reached_before : {A : Type 0} (g h : List (Entry A)) → Keeps g h → (a : List ℕ) → IsFull g a → (b c : List ℕ) → Reaches g a b → HasParent h b c → Reaches g a c
-reached_before {A} g h keeps a full b c r p =
-    let n = held_node g b (full b r) in
+pub reached_before : {A : Type 0} (g h : List (Entry A)) → Keeps g h → (a : List ℕ) → IsConnected g a → (b c : List ℕ) → Reaches g a b → HasParent h b c → Reaches g a c
+reached_before {A} g h keeps a connected b c r p =
+    let n = held_node g b (connected b r) in
     let same : n.0 ≡ p.0 = same_Some n.0 p.0 (sym (keeps b n.0 n.1) ∙ p.1) in
     reaches_parent g a b c r (n.0, n.1, rw (← same) at p.2)
 
-pub keeps_full : {A : Type 0} (g h : List (Entry A)) → Keeps g h → (a : List ℕ) → IsFull g a → IsFull h a
-keeps_full g h keeps a full b r =
-    let before = kept_along h (Reaches g a) (reached_before g h keeps a full) a b r here in
-    let n = held_node g b (full b before) in
+pub keeps_connected : {A : Type 0} (g h : List (Entry A)) → Keeps g h → (a : List ℕ) → IsConnected g a → IsConnected h a
+keeps_connected g h keeps a connected b r =
+    let before = kept_along h (Reaches g a) (reached_before g h keeps a connected) a b r here in
+    let n = held_node g b (connected b before) in
     rw (keeps b n.0 n.1) refl
 
 -- ---- inserting

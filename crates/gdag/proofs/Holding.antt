@@ -8,7 +8,7 @@ use Rattle.std.proofs.lemmas.Bool.{cases_Bool, false≢true}
 use Rattle.std.proofs.lemmas.Bool.Decides.{nat_tests}
 use Rattle.gobject.specs.declared.node.Node.{Node}
 use Rattle.gobject.specs.declared.node.Entry.{Entry}
-use Rattle.gobject.specs.Objects.{has_id, node_at, place_of, IdsDiffer}
+use Rattle.gobject.specs.Objects.{has_id, node_at, position_of, IdsDiffer}
 use Rattle.gdag.specs.Graphs.{IsNode, Holds}
 
 pub has_id_is : {A : Type 0} (a : List ℕ) (entry : Entry A) → has_id a entry ≡ true → entry.id ≡ a
@@ -45,22 +45,22 @@ absent_at (first ∷ g) a zero entry none at same =
 absent_at (first ∷ g) a (suc k) entry none at same = absent_at g a k entry (absent_tail first g a none) at same
 
 -- where ids differ, the position of an entry's id is the entry's own
-own_place_from : {A : Type 0} (g : List (Entry A)) (k : ℕ) (entry : Entry A) → IdsDiffer g → slice_get g k ≡ Some entry → (position_or_len (has_id entry.id) g ≡ k) × (k < length g)
-own_place_from [] k entry differ at = absurd (none-some entry at)
-own_place_from (first ∷ g) zero entry differ at =
+own_position_from : {A : Type 0} (g : List (Entry A)) (k : ℕ) (entry : Entry A) → IdsDiffer g → slice_get g k ≡ Some entry → (position_or_len (has_id entry.id) g ≡ k) × (k < length g)
+own_position_from [] k entry differ at = absurd (none-some entry at)
+own_position_from (first ∷ g) zero entry differ at =
     let is : first ≡ entry = same_Some first entry at in
     let same = is_has_id entry.id first (ap (λ x. x.id) is) in
     (rw same refl, omega arith)
-own_place_from (first ∷ g) (suc k) entry differ at =
-    let rest = own_place_from g k entry differ.1 at in
+own_position_from (first ∷ g) (suc k) entry differ at =
+    let rest = own_position_from g k entry differ.1 at in
     elim (id_cases entry.id first) [
       | inl same ↦ absurd (absent_at g first.id k entry differ.0 at (sym (has_id_is entry.id first same)))
       | inr other ↦ (let e = rest.0 in rw other (omega (arith, e)), let h = rest.1 in omega arith)
     ]
 
-pub own_place : {A : Type 0} (g : List (Entry A)) (k : ℕ) (entry : Entry A) → IdsDiffer g → slice_get g k ≡ Some entry → place_of g entry.id ≡ Some k
-own_place g k entry differ at =
-    let h = own_place_from g k entry differ at in
+pub own_position : {A : Type 0} (g : List (Entry A)) (k : ℕ) (entry : Entry A) → IdsDiffer g → slice_get g k ≡ Some entry → position_of g entry.id ≡ Some k
+own_position g k entry differ at =
+    let h = own_position_from g k entry differ at in
     let same = h.0 in let inside = h.1 in
     rw same (grind (arith, nat_tests))
 

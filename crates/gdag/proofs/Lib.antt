@@ -11,7 +11,7 @@ pub mod OrderLemmas
 pub mod Ordering
 pub mod Pairs
 pub mod PeelLemmas
-pub mod Places
+pub mod Positions
 pub mod Reaching
 pub mod Refusing
 pub mod Sharing

@@ -7,11 +7,11 @@ use Rattle.std.proofs.Math.Seq.{take-append_seam}
 use Rattle.std.proofs.lemmas.Option.{same_Some, none-some, slice_get_within}
 use Rattle.gobject.specs.declared.node.Node.{Node}
 use Rattle.gobject.specs.declared.node.Entry.{Entry}
-use Rattle.gobject.specs.Objects.{place_of, IdsDiffer}
+use Rattle.gobject.specs.Objects.{position_of, IdsDiffer}
 use Rattle.gdag.specs.Graphs.{IsNode, Holds, HasParent, IsOrdered}
 use Rattle.gdag.specs.Reach.{Reaches, here, onward, IsClosed}
-use Rattle.gdag.proofs.Reaching.{node_at_place, held_at_place, place_at, place_of_node}
-use Rattle.gdag.proofs.Holding.{mapped_from, own_place}
+use Rattle.gdag.proofs.Reaching.{node_at_position, held_at_position, position_at, position_of_node}
+use Rattle.gdag.proofs.Holding.{mapped_from, own_position}
 
 -- ---- one entry more
 
@@ -65,37 +65,37 @@ in_take (first ∷ xs) (suc n) zero x at = (at, omega arith)
 in_take (first ∷ xs) (suc n) (suc p) x at = let h = in_take xs n p x at in (h.0, let l = h.1 in omega arith)
 
 -- what the entries before a position hold has a smaller position
-pub place_before : {A : Type 0} (g : List (Entry A)) (p : ℕ) (a : List ℕ) → IdsDiffer g → Holds (take p g) a → (q : ℕ) × (place_of g a ≡ Some q) × (q < p)
-place_before {A} g p a differ held =
-    let at = place_at (take p g) a held in
+pub position_before : {A : Type 0} (g : List (Entry A)) (p : ℕ) (a : List ℕ) → IdsDiffer g → Holds (take p g) a → (q : ℕ) × (position_of g a ≡ Some q) × (q < p)
+position_before {A} g p a differ held =
+    let at = position_at (take p g) a held in
     let inside = in_take g p at.0 at.1 at.2 in
-    (at.0, (rw at.3 at (own_place g at.0 at.1 differ inside.0)), inside.1)
+    (at.0, (rw at.3 at (own_position g at.0 at.1 differ inside.0)), inside.1)
 
 -- an id's node is that of the entry at its position
-pub entry_at_place : {A : Type 0} (g : List (Entry A)) (a : List ℕ) (p : ℕ) (node : Node A) → place_of g a ≡ Some p → IsNode g a node → (entry : Entry A) × (slice_get g p ≡ Some entry) × (entry.node ≡ node)
-entry_at_place g a p node place is =
-    mapped_from (λ entry. entry.node) (slice_get g p) node (sym (node_at_place g a p place) ∙ is)
+pub entry_at_position : {A : Type 0} (g : List (Entry A)) (a : List ℕ) (p : ℕ) (node : Node A) → position_of g a ≡ Some p → IsNode g a node → (entry : Entry A) × (slice_get g p ≡ Some entry) × (entry.node ≡ node)
+entry_at_position g a p node position is =
+    mapped_from (λ entry. entry.node) (slice_get g p) node (sym (node_at_position g a p position) ∙ is)
 
 -- the parents of the entry at a position have smaller positions
-pub parent_place : {A : Type 0} (g : List (Entry A)) (p : ℕ) (entry : Entry A) (b : List ℕ) → IdsDiffer g → IsOrdered g → slice_get g p ≡ Some entry → Contains entry.node.parents b → (q : ℕ) × (place_of g b ≡ Some q) × (q < p)
-parent_place g p entry b differ ordered at among =
-    place_before g p b differ (All-contains (Holds (take p g)) entry.node.parents b (ordered p entry at) among)
+pub parent_position : {A : Type 0} (g : List (Entry A)) (p : ℕ) (entry : Entry A) (b : List ℕ) → IdsDiffer g → IsOrdered g → slice_get g p ≡ Some entry → Contains entry.node.parents b → (q : ℕ) × (position_of g b ≡ Some q) × (q < p)
+parent_position g p entry b differ ordered at among =
+    position_before g p b differ (All-contains (Holds (take p g)) entry.node.parents b (ordered p entry at) among)
 
-pub step_down : {A : Type 0} (g : List (Entry A)) (a b : List ℕ) (p : ℕ) → IdsDiffer g → IsOrdered g → HasParent g a b → place_of g a ≡ Some p → (q : ℕ) × (place_of g b ≡ Some q) × (q < p)
-step_down {A} g a b p differ ordered parent place =
-    let at = entry_at_place g a p parent.0 place parent.1 in
-    parent_place g p at.0 b differ ordered at.1 (rw (← at.2) at parent.2)
+pub step_down : {A : Type 0} (g : List (Entry A)) (a b : List ℕ) (p : ℕ) → IdsDiffer g → IsOrdered g → HasParent g a b → position_of g a ≡ Some p → (q : ℕ) × (position_of g b ≡ Some q) × (q < p)
+step_down {A} g a b p differ ordered parent position =
+    let at = entry_at_position g a p parent.0 position parent.1 in
+    parent_position g p at.0 b differ ordered at.1 (rw (← at.2) at parent.2)
 
 -- reaching goes down
-pub reaching_down : {A : Type 0} (g : List (Entry A)) (a b : List ℕ) (p : ℕ) → IdsDiffer g → IsOrdered g → Reaches g a b → place_of g a ≡ Some p → (q : ℕ) × (place_of g b ≡ Some q) × (q ≤ p)
-reaching_down g a b p differ ordered here place = (p, place, omega arith)
-reaching_down g a b p differ ordered (onward {b = m} parent rest) place =
-    let step = step_down g a m p differ ordered parent place in
+pub reaching_down : {A : Type 0} (g : List (Entry A)) (a b : List ℕ) (p : ℕ) → IdsDiffer g → IsOrdered g → Reaches g a b → position_of g a ≡ Some p → (q : ℕ) × (position_of g b ≡ Some q) × (q ≤ p)
+reaching_down g a b p differ ordered here position = (p, position, omega arith)
+reaching_down g a b p differ ordered (onward {b = m} parent rest) position =
+    let step = step_down g a m p differ ordered parent position in
     let on = reaching_down g m b step.0 differ ordered rest step.1 in
     (on.0, on.1, let l = on.2 in let k = step.2 in omega arith)
 
 pub ordered_is_closed : {A : Type 0} (g : List (Entry A)) → IdsDiffer g → IsOrdered g → IsClosed g
 ordered_is_closed g differ ordered a b parent =
-    let place = place_of_node g a parent.0 parent.1 in
-    let step = step_down g a b place.0 differ ordered parent place.1 in
-    held_at_place g b step.0 step.1
+    let position = position_of_node g a parent.0 parent.1 in
+    let step = step_down g a b position.0 differ ordered parent position.1 in
+    held_at_position g b step.0 step.1

@@ -10,7 +10,7 @@ use Rattle.std.proofs.lemmas.Cmp.{nat_list_eq_equiv}
 use Rattle.std.proofs.lemmas.Option.{slice_get-map, none-some}
 use Rattle.gobject.specs.declared.node.Node.{Node}
 use Rattle.gobject.specs.declared.node.Entry.{Entry}
-use Rattle.gobject.specs.Objects.{has_id, node_at, place_of, entry_of, IsShaped}
+use Rattle.gobject.specs.Objects.{has_id, node_at, position_of, entry_of, IsShaped}
 use Rattle.gdag.specs.Graphs.{entries_of, pairs_of, IsGraph, IsOrdered, Holds, HasIdsOf, max_nodes}
 use Rattle.std.proofs.lemmas.List.{map-append, take-map}
 use Rattle.indexmap.specs.IndexMap.{IndexMap, insert_entry}
@@ -41,13 +41,13 @@ length_keys : {A : Type 0} (pairs : List (List ℕ × Node A)) → length (keys_
 length_keys [] = refl
 length_keys (pair ∷ pairs) = let e = length_keys pairs in omega arith
 
-first_place : {A : Type 0} (pairs : List (List ℕ × Node A)) (a : List ℕ) → position_or_len (pointwise nat_eq a) (keys_of pairs) ≡ position_or_len (has_id a) (entries_of pairs)
-first_place [] a = refl
-first_place (pair ∷ pairs) a = rw (same_test a pair.0, first_place pairs a) refl
+first_position : {A : Type 0} (pairs : List (List ℕ × Node A)) (a : List ℕ) → position_or_len (pointwise nat_eq a) (keys_of pairs) ≡ position_or_len (has_id a) (entries_of pairs)
+first_position [] a = refl
+first_position (pair ∷ pairs) a = rw (same_test a pair.0, first_position pairs a) refl
 
 -- and the index of an id is the position of its entry
-pub place_of_pairs : {A : Type 0} (pairs : List (List ℕ × Node A)) (a : List ℕ) → position (pointwise nat_eq a) (keys_of pairs) ≡ place_of (entries_of pairs) a
-place_of_pairs pairs a = rw (first_place pairs a, length_keys pairs) refl
+pub position_of_pairs : {A : Type 0} (pairs : List (List ℕ × Node A)) (a : List ℕ) → position (pointwise nat_eq a) (keys_of pairs) ≡ position_of (entries_of pairs) a
+position_of_pairs pairs a = rw (first_position pairs a, length_keys pairs) refl
 
 -- the pairs of the map's entries are the map's
 pub pairs_again : {A : Type 0} (pairs : List (List ℕ × Node A)) → pairs_of (entries_of pairs) ≡ pairs

@@ -9,9 +9,9 @@ use Rattle.std.proofs.lemmas.Bool.{false≢true}
 use Rattle.std.proofs.lemmas.Bool.Decides.{nat_tests}
 use Rattle.gobject.specs.declared.node.Node.{Node}
 use Rattle.gobject.specs.declared.node.Entry.{Entry}
-use Rattle.gobject.specs.Objects.{has_id, node_at, place_of}
+use Rattle.gobject.specs.Objects.{has_id, node_at, position_of}
 use Rattle.gdag.specs.Graphs.{IsNode, Holds, HasParent}
-use Rattle.gdag.specs.Reach.{Reaches, here, onward, SomeReaches, IsFull, IsClosed}
+use Rattle.gdag.specs.Reach.{Reaches, here, onward, SomeReaches, IsConnected, IsClosed}
 use Rattle.gdag.proofs.Holding.{has_id_is, held_node}
 
 -- ---- reaching
@@ -30,64 +30,64 @@ kept_along g P step a b here h = h
 kept_along g P step a b (onward {b = m} q r) h = kept_along g P step m b r (step a m h q)
 
 -- in a closed graph each id that is held is connected
-pub full_in_closed : {A : Type 0} (g : List (Entry A)) → IsClosed g → (a : List ℕ) → Holds g a → IsFull g a
-full_in_closed g closed a held b r = kept_along g (Holds g) (λ x y _ p. closed x y p) a b r held
+pub connected_in_closed : {A : Type 0} (g : List (Entry A)) → IsClosed g → (a : List ℕ) → Holds g a → IsConnected g a
+connected_in_closed g closed a held b r = kept_along g (Holds g) (λ x y _ p. closed x y p) a b r held
 
 pub some_reaches : {A : Type 0} (g : List (Entry A)) (ids : List (List ℕ)) (a b : List ℕ) → SomeReaches g ids a → HasParent g a b → SomeReaches g ids b
 some_reaches g ids a b s p = (s.0, s.1, reaches_parent g s.0 a b s.2 p)
 
 -- ---- positions
 
-pub place_inside : {A : Type 0} (g : List (Entry A)) (a : List ℕ) (p : ℕ) → place_of g a ≡ Some p → p < length g
-place_inside [] a p e = absurd (none-some p e)
-place_inside (entry ∷ g) a p e = (position-Some (has_id a) (entry ∷ g) p entry e).0
+pub position_inside : {A : Type 0} (g : List (Entry A)) (a : List ℕ) (p : ℕ) → position_of g a ≡ Some p → p < length g
+position_inside [] a p e = absurd (none-some p e)
+position_inside (entry ∷ g) a p e = (position-Some (has_id a) (entry ∷ g) p entry e).0
 
 -- a position is that of one id
-pub place_same : {A : Type 0} (g : List (Entry A)) (a b : List ℕ) (p : ℕ) → place_of g a ≡ Some p → place_of g b ≡ Some p → a ≡ b
-place_same [] a b p e f = absurd (none-some p e)
-place_same (entry ∷ g) a b p e f =
+pub position_same : {A : Type 0} (g : List (Entry A)) (a b : List ℕ) (p : ℕ) → position_of g a ≡ Some p → position_of g b ≡ Some p → a ≡ b
+position_same [] a b p e f = absurd (none-some p e)
+position_same (entry ∷ g) a b p e f =
     let x = get_or (entry ∷ g) p entry in
     sym (has_id_is a x (position-Some (has_id a) (entry ∷ g) p entry e).1)
     ∙ has_id_is b x (position-Some (has_id b) (entry ∷ g) p entry f).1
 
-place_is : {A : Type 0} (g : List (Entry A)) (a : List ℕ) (p : ℕ) → place_of g a ≡ Some p → position_or_len (has_id a) g ≡ p
-place_is g a p e = (cond_some _ (position_or_len (has_id a) g) p e).1
+position_is : {A : Type 0} (g : List (Entry A)) (a : List ℕ) (p : ℕ) → position_of g a ≡ Some p → position_or_len (has_id a) g ≡ p
+position_is g a p e = (cond_some _ (position_or_len (has_id a) g) p e).1
 
-pub node_at_place : {A : Type 0} (g : List (Entry A)) (a : List ℕ) (p : ℕ) → place_of g a ≡ Some p → node_at g a ≡ option_map (λ entry. entry.node) (slice_get g p)
-node_at_place g a p e =
-    ap (option_map (λ entry. entry.node)) (find_at (has_id a) g ∙ ap (slice_get g) (place_is g a p e))
+pub node_at_position : {A : Type 0} (g : List (Entry A)) (a : List ℕ) (p : ℕ) → position_of g a ≡ Some p → node_at g a ≡ option_map (λ entry. entry.node) (slice_get g p)
+node_at_position g a p e =
+    ap (option_map (λ entry. entry.node)) (find_at (has_id a) g ∙ ap (slice_get g) (position_is g a p e))
 
 -- an id without a position is not held
-pub node_at_none : {A : Type 0} (g : List (Entry A)) (a : List ℕ) → place_of g a ≡ None → node_at g a ≡ None
+pub node_at_none : {A : Type 0} (g : List (Entry A)) (a : List ℕ) → position_of g a ≡ None → node_at g a ≡ None
 node_at_none {A} g a e =
     let n = position_or_len (has_id a) g in
     let past : length g ≤ n = grind (arith, nat_tests) in
     ap (option_map (λ (entry : Entry A). entry.node)) (find_at (has_id a) g ∙ slice_get_past g n past)
 
 -- an id with a position is held
-pub held_at_place : {A : Type 0} (g : List (Entry A)) (a : List ℕ) (p : ℕ) → place_of g a ≡ Some p → Holds g a
-held_at_place [] a p e = absurd (none-some p e)
-held_at_place {A} (entry ∷ g) a p e =
-    let at = slice_get-get_or (entry ∷ g) p entry (place_inside (entry ∷ g) a p e) in
-    rw (node_at_place (entry ∷ g) a p e, at) refl
+pub held_at_position : {A : Type 0} (g : List (Entry A)) (a : List ℕ) (p : ℕ) → position_of g a ≡ Some p → Holds g a
+held_at_position [] a p e = absurd (none-some p e)
+held_at_position {A} (entry ∷ g) a p e =
+    let at = slice_get-get_or (entry ∷ g) p entry (position_inside (entry ∷ g) a p e) in
+    rw (node_at_position (entry ∷ g) a p e, at) refl
 
 -- an id that is held has a position
-pub place_of_node : {A : Type 0} (g : List (Entry A)) (a : List ℕ) (node : Node A) → IsNode g a node → (p : ℕ) × (place_of g a ≡ Some p)
-place_of_node {A} g a node is = by (place_of g a) refl
+pub position_of_node : {A : Type 0} (g : List (Entry A)) (a : List ℕ) (node : Node A) → IsNode g a node → (p : ℕ) × (position_of g a ≡ Some p)
+position_of_node {A} g a node is = by (position_of g a) refl
   where
-    by : (o : Option ℕ) → place_of g a ≡ o → (p : ℕ) × (place_of g a ≡ Some p)
+    by : (o : Option ℕ) → position_of g a ≡ o → (p : ℕ) × (position_of g a ≡ Some p)
     by None none = absurd (none-some node (sym (node_at_none g a none) ∙ is))
     by (Some p) at = (p, at)
 
 -- its entry is there
-pub place_at : {A : Type 0} (g : List (Entry A)) (a : List ℕ) → Holds g a → (p : ℕ) × (entry : Entry A) × (slice_get g p ≡ Some entry) × (entry.id ≡ a)
-place_at [] a held = absurd (false≢true held)
-place_at {A} (first ∷ g) a held =
+pub position_at : {A : Type 0} (g : List (Entry A)) (a : List ℕ) → Holds g a → (p : ℕ) × (entry : Entry A) × (slice_get g p ≡ Some entry) × (entry.id ≡ a)
+position_at [] a held = absurd (false≢true held)
+position_at {A} (first ∷ g) a held =
     let node = held_node (first ∷ g) a held in
-    let place = place_of_node (first ∷ g) a node.0 node.1 in
-    let inside = place_inside (first ∷ g) a place.0 place.1 in
-    let entry = get_or (first ∷ g) place.0 first in
-    (place.0, entry, slice_get-get_or (first ∷ g) place.0 first inside, has_id_is a entry (position-Some (has_id a) (first ∷ g) place.0 first place.1).1)
+    let position = position_of_node (first ∷ g) a node.0 node.1 in
+    let inside = position_inside (first ∷ g) a position.0 position.1 in
+    let entry = get_or (first ∷ g) position.0 first in
+    (position.0, entry, slice_get-get_or (first ∷ g) position.0 first inside, has_id_is a entry (position-Some (has_id a) (first ∷ g) position.0 first position.1).1)
 
 abbrev pub ids_of : {A : Type 0} → List (Entry A) → List (List ℕ)
 ids_of list = map (λ entry. entry.id) list
@@ -99,6 +99,6 @@ standing_among xs k x at = (k, slice_get_within xs k x at, get_or_from_slice_get
 -- an id that is held is one of the entries'
 pub held_among : {A : Type 0} (g : List (Entry A)) (a : List ℕ) → Holds g a → Contains (ids_of g) a
 held_among {A} g a held =
-    let at = place_at g a held in
+    let at = position_at g a held in
     let id : Entry A → List ℕ = λ entry. entry.id in
     rw (← at.3) (standing_among (ids_of g) at.0 at.1.id (slice_get-map id g at.0 ∙ ap (option_map id) at.2))

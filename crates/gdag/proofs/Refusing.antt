@@ -65,8 +65,8 @@ comes_refused : {A : Type 0} (format : Format) (old : List (Entry A)) (entry : E
 comes_refused format old entry new fault comes cause =
     elim (fit_fault format old entry fault comes.ids comes.shaped (λ other held. grind arith) cause) [
       | inl many ↦
-          let full = subst (IsCause format old entry) many cause in
-          let room = comes.room full.1 in absurd (omega (arith, full.2))
+          let connected = subst (IsCause format old entry) many cause in
+          let room = comes.room connected.1 in absurd (omega (arith, connected.2))
       | inr memory ↦ memory
     ]
 

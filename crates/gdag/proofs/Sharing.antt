@@ -12,15 +12,15 @@ use Rattle.gobject.specs.Packs.{AreEntries}
 use Rattle.gname.specs.Laws.{IdsHaveOneFormat}
 use Rattle.gname.specs.declared.formats.Format.{Format}
 use Rattle.gdag.specs.Graphs.{History, IsNode, IsGraph, Holds, HoldsParents, HasIdsOf, HasParent}
-use Rattle.gdag.specs.Reach.{Reaches, here, onward, SomeReaches, IsFull, IsClosed, Agree, Keeps}
+use Rattle.gdag.specs.Reach.{Reaches, here, onward, SomeReaches, IsConnected, IsClosed, Agree, Keeps}
 use Rattle.gdag.specs.Insert.{ComesIn, Inserts, Lists, AddsOnly, AddsOnlyParents}
 use Rattle.gdag.specs.Peeling.{IsTagOf, IsCommit, Tags, PeelsTo}
 use Rattle.gdag.specs.Selecting.{Selects, none, keep, skip}
 use Rattle.gdag.specs.Sending.{IsToSend, IsListToSend}
 use Rattle.gdag.specs.Laws.{AgreesWith, HasAll}
-use Rattle.gdag.proofs.Reaching.{kept_along, reaches_parent, full_in_closed, place_at, node_at_place, standing_among}
+use Rattle.gdag.proofs.Reaching.{kept_along, reaches_parent, connected_in_closed, position_at, node_at_position, standing_among}
 use Rattle.gdag.proofs.PeelLemmas.{peel_ends}
-use Rattle.gdag.proofs.Holding.{one_node, held_node, own_place, has_id_is, id_cases, node_here, node_there, absent_head, absent_tail}
+use Rattle.gdag.proofs.Holding.{one_node, held_node, own_position, has_id_is, id_cases, node_here, node_there, absent_head, absent_tail}
 use Rattle.gdag.proofs.IdLists.{nothing_in_nil, contains_cases}
 use Rattle.gdag.proofs.Choosing.{chosen_or_not, chosen_all, chosen_few}
 use Rattle.gdag.proofs.Growing.{grows_keeps, comes_grows, inserts_grows, inserts_held, node_in_front, node_after, reached_before}
@@ -31,11 +31,11 @@ holds_node g a node is = ap is_some is
 
 -- ---- closed, connected, reached before
 
-pub closed_from_full : {A : Type 0} (g : List (Entry A)) → ((a : List ℕ) → Holds g a → IsFull g a) → IsClosed g
-closed_from_full g full a b parent = full a (holds_node g a parent.0 parent.1) b (onward parent here)
+pub closed_from_connected : {A : Type 0} (g : List (Entry A)) → ((a : List ℕ) → Holds g a → IsConnected g a) → IsClosed g
+closed_from_connected g connected a b parent = connected a (holds_node g a parent.0 parent.1) b (onward parent here)
 
-pub reached_already : {A : Type 0} (g h : List (Entry A)) (a b : List ℕ) → Keeps g h → IsFull g a → Reaches h a b → Reaches g a b
-reached_already g h a b keeps full r = kept_along h (Reaches g a) (reached_before g h keeps a full) a b r here
+pub reached_already : {A : Type 0} (g h : List (Entry A)) (a b : List ℕ) → Keeps g h → IsConnected g a → Reaches h a b → Reaches g a b
+reached_already g h a b keeps connected r = kept_along h (Reaches g a) (reached_before g h keeps a connected) a b r here
 
 -- ---- agreeing
 
@@ -46,9 +46,9 @@ parent_shared {A} g h a b agree held parent =
     let same : parent.0 ≡ there.0 = agree a parent.0 there.0 parent.1 there.1 in
     (there.0, there.1, rw same at parent.2)
 
-pub path_shared : {A : Type 0} (g h : List (Entry A)) (a b : List ℕ) → Agree g h → IsFull h a → Reaches g a b → Reaches h a b
-path_shared g h a b agree full r =
-    kept_along g (Reaches h a) (λ x y way parent. reaches_parent h a x y way (parent_shared g h x y agree (full x way) parent)) a b r here
+pub path_shared : {A : Type 0} (g h : List (Entry A)) (a b : List ℕ) → Agree g h → IsConnected h a → Reaches g a b → Reaches h a b
+path_shared g h a b agree connected r =
+    kept_along g (Reaches h a) (λ x y way parent. reaches_parent h a x y way (parent_shared g h x y agree (connected x way) parent)) a b r here
 
 -- ---- nothing else comes in
 
@@ -141,7 +141,7 @@ chosen_graph {A} P g list graph chosen = record {
 -- where ids differ, each entry is the node of its id
 pub own_node : {A : Type 0} (g : List (Entry A)) (k : ℕ) (entry : Entry A) → IdsDiffer g → slice_get g k ≡ Some entry → IsNode g entry.id entry.node
 own_node {A} g k entry differ at =
-    node_at_place g entry.id k (own_place g k entry differ at) ∙ ap (option_map (λ (e : Entry A). e.node)) at
+    node_at_position g entry.id k (own_position g k entry differ at) ∙ ap (option_map (λ (e : Entry A). e.node)) at
 
 pub own_nodes : {A : Type 0} (g : List (Entry A)) → IdsDiffer g → All (λ entry. IsNode g entry.id entry.node) g
 own_nodes g differ k d inside = own_node g k (get_or g k d) differ (slice_get-get_or g k d inside)
@@ -166,7 +166,7 @@ graph_entries one g graph = record { differ = graph.differ; ids = ids_of_any one
 -- ---- the list to send is enough
 
 module _ {A : Type 0} (s c list new : List (Entry A)) (wants commons tips : List (List ℕ)) (format : Format)
-    (differ : IdsDiffer s) (closed : IsClosed s) (agree : Agree s c) (held : All (Holds s) wants) (full : All (IsFull c) commons)
+    (differ : IdsDiffer s) (closed : IsClosed s) (agree : Agree s c) (held : All (Holds s) wants) (connected : All (IsConnected c) commons)
     (sent : IsListToSend s wants commons tips list) (inserts : Inserts format c list new) where
   keeps : Keeps c new
   keeps = grows_keeps c new (inserts_grows format c list new inserts)
@@ -175,12 +175,12 @@ module _ {A : Type 0} (s c list new : List (Entry A)) (wants commons tips : List
   agrees = agree_inserted s c list new format agree (nodes_agree s list (chosen_nodes (IsToSend s wants commons tips) s list differ sent)) inserts
 
   wanted_held : (a : List ℕ) → SomeReaches s wants a → Holds s a
-  wanted_held a (want, among, way) = full_in_closed s closed want (All-contains (Holds s) wants want held among) a way
+  wanted_held a (want, among, way) = connected_in_closed s closed want (All-contains (Holds s) wants want held among) a way
 
   -- what a common id reaches was held before
   known_held : (a : List ℕ) → SomeReaches s commons a → Holds new a
   known_held a (common, among, way) =
-      let whole : IsFull c common = All-contains (IsFull c) commons common full among in
+      let whole : IsConnected c common = All-contains (IsConnected c) commons common connected among in
       let there = held_node c a (whole a (path_shared s c common a agree whole way)) in
       holds_node new a there.0 (keeps a there.0 there.1)
 
@@ -201,7 +201,7 @@ module _ {A : Type 0} (s c list new : List (Entry A)) (wants commons tips : List
   -- all that the wants reach in the one graph is held in the other
   pub arrives : (a : List ℕ) → SomeReaches s wants a → Holds new a
   arrives a wanted =
-      let at = place_at s a (wanted_held a wanted) in
+      let at = position_at s a (wanted_held a wanted) in
       elim (chosen_or_not (IsToSend s wants commons tips) s list at.0 at.1 sent at.2) [
         | inl among ↦ subst (Holds new) at.3 (sent_held at.1 among)
         | inr left_out ↦ not_sent_held a at.1 at.3 wanted left_out
@@ -218,9 +218,9 @@ module _ {A : Type 0} (s c list new : List (Entry A)) (wants commons tips : List
       (λ b way. arrives b (want, among, wanted_there want among b way), λ b way. arrives b (want, among, way))
 
 -- it still is once the graph from which they are sent has more
-has_still : {A : Type 0} (s t h : List (Entry A)) (want : List ℕ) → IsClosed s → Keeps s t → Holds s want → IsFull h want × ((a : List ℕ) → Reaches s want a → Holds h a) → IsFull h want × ((a : List ℕ) → Reaches t want a → Holds h a)
+has_still : {A : Type 0} (s t h : List (Entry A)) (want : List ℕ) → IsClosed s → Keeps s t → Holds s want → IsConnected h want × ((a : List ℕ) → Reaches s want a → Holds h a) → IsConnected h want × ((a : List ℕ) → Reaches t want a → Holds h a)
 has_still s t h want closed keeps held has =
-    (has.0, λ a way. has.1 a (reached_already s t want a keeps (full_in_closed s closed want held) way))
+    (has.0, λ a way. has.1 a (reached_already s t want a keeps (connected_in_closed s closed want held) way))
 
 pub has_all_still : {A : Type 0} (s t h : List (Entry A)) (wants : List (List ℕ)) → IsClosed s → Keeps s t → All (Holds s) wants → HasAll s wants h → HasAll t wants h
 has_all_still s t h wants closed keeps held has k d inside =

@@ -56,7 +56,7 @@ HoldsParents g entry = All (Holds g) entry.node.parents
 -- parents come first: each parent of an entry is held by the entries before it
 abbrev pub IsOrdered : {A : Type 0} → List (Entry A) → Type 0
 IsOrdered {A} g =
-    (place : ℕ) (entry : Entry A) → slice_get g place ≡ Some entry → HoldsParents (take place g) entry
+    (position : ℕ) (entry : Entry A) → slice_get g position ≡ Some entry → HoldsParents (take position g) entry
 
 -- the entries of a map's pairs, and the pairs of entries
 abbrev pub entries_of : {A : Type 0} → List (Id × Node A) → List (Entry A)

@@ -4,14 +4,14 @@ use Rattle.std.specs.List.{IsDistinct}
 use Rattle.std.specs.Str.{bytes_eq}
 use Rattle.gname.specs.Ids.{Id}
 use Rattle.gobject.specs.declared.node.Entry.{Entry}
-use Rattle.gobject.specs.Objects.{node_at, place_of, entry_of, IdsDiffer, IsShaped}
+use Rattle.gobject.specs.Objects.{node_at, position_of, entry_of, IdsDiffer, IsShaped}
 use Rattle.gname.specs.declared.formats.Format.{Format}
 use Rattle.gdag.specs.declared.fault.GraphFault.{GraphFault}
 use Rattle.gdag.specs.declared.fault.GraphFault.TheVariants.{TooMany, Memory}
 use Rattle.gdag.specs.Graphs.{History, Holds, HoldsParents, IsNode, IsGraph, IsOrdered, HasIdsOf, max_nodes}
 use Rattle.gobject.specs.declared.node.Node.{Node}
 use Rattle.gobject.specs.Packs.{AreEntries}
-use Rattle.gdag.specs.Reach.{Reaches, IsFull, IsClosed, Agree, Grows, Keeps, SomeReaches}
+use Rattle.gdag.specs.Reach.{Reaches, IsConnected, IsClosed, Agree, Grows, Keeps, SomeReaches}
 use Rattle.gdag.specs.Insert.{ComesIn, Inserts, IsCause, IsRefused}
 use Rattle.gdag.specs.Peeling.{IsTagOf, PeelsTo}
 use Rattle.gdag.specs.Sending.{IsListToSend}
@@ -54,22 +54,22 @@ WholeListsComeIn A =
     × ((other : List (Entry A)) → Inserts format old entries other → new ≡ other)
 
 -- a graph is closed exactly where each id that it holds is connected
-abbrev pub ClosedIsFull : Type 0 → Type 0
-ClosedIsFull A = (g : List (Entry A)) → IsClosed g ↔ ((a : Id) → Holds g a → IsFull g a)
+abbrev pub ClosedIsConnected : Type 0 → Type 0
+ClosedIsConnected A = (g : List (Entry A)) → IsClosed g ↔ ((a : Id) → Holds g a → IsConnected g a)
 
 -- what is reached from what is reached is reached
 abbrev pub ReachingGoesOn : Type 0 → Type 0
 ReachingGoesOn A = (g : List (Entry A)) (a b c : Id) → Reaches g a b → Reaches g b c → Reaches g a c
 
 -- where a graph keeps what it held, an id that was connected is so, and reaches nothing new
-abbrev pub FullStaysFull : Type 0 → Type 0
-FullStaysFull A =
-    (g h : List (Entry A)) (a : Id) → Keeps g h → IsFull g a
-    → IsFull h a × ((b : Id) → Reaches h a b → Reaches g a b)
+abbrev pub ConnectedStaysConnected : Type 0 → Type 0
+ConnectedStaysConnected A =
+    (g h : List (Entry A)) (a : Id) → Keeps g h → IsConnected g a
+    → IsConnected h a × ((b : Id) → Reaches h a b → Reaches g a b)
 
 -- where two graphs agree, a path in the one from an id that is connected in the other is a path in the other
 abbrev pub PathsAreShared : Type 0 → Type 0
-PathsAreShared A = (g h : List (Entry A)) (a b : Id) → Agree g h → IsFull h a → Reaches g a b → Reaches h a b
+PathsAreShared A = (g h : List (Entry A)) (a b : Id) → Agree g h → IsConnected h a → Reaches g a b → Reaches h a b
 
 -- what grows keeps what it held
 abbrev pub GrowingKeeps : Type 0 → Type 0
@@ -132,7 +132,7 @@ OrderedIsClosed A = (g : List (Entry A)) → IdsDiffer g → IsOrdered g → IsC
 abbrev pub ReachingGoesDown : Type 0 → Type 0
 ReachingGoesDown A =
     (g : List (Entry A)) (a b : Id) (p : ℕ)
-    → IdsDiffer g → IsOrdered g → Reaches g a b → place_of g a ≡ Some p → (q : ℕ) × (place_of g b ≡ Some q) × (q ≤ p)
+    → IdsDiffer g → IsOrdered g → Reaches g a b → position_of g a ≡ Some p → (q : ℕ) × (position_of g b ≡ Some q) × (q ≤ p)
 
 -- a closed graph stays so as an entry comes in whose parents are held
 abbrev pub ClosedStays : Type 0 → Type 0
@@ -142,14 +142,14 @@ ClosedStays A =
 
 -- the id and its node stand at the position in store order
 abbrev pub IsAt : {A : Type 0} → List (Entry A) → ℕ → Id → Node A → Type 0
-IsAt g place a node = slice_get g place ≡ Some (entry_of a node)
+IsAt g position a node = slice_get g position ≡ Some (entry_of a node)
 
 -- an id has a node exactly where it stands at some position with that node, and it has one position
-abbrev pub PlacesAreNodes : Type 0 → Type 0
-PlacesAreNodes A =
+abbrev pub PositionsAreNodes : Type 0 → Type 0
+PositionsAreNodes A =
     (g : List (Entry A)) → IdsDiffer g
-    → ((a : Id) (node : Node A) → IsNode g a node ↔ ((place : ℕ) × IsAt g place a node))
-    × ((a : Id) (place : ℕ) → (place_of g a ≡ Some place) ↔ ((node : Node A) × IsAt g place a node))
+    → ((a : Id) (node : Node A) → IsNode g a node ↔ ((position : ℕ) × IsAt g position a node))
+    × ((a : Id) (position : ℕ) → (position_of g a ≡ Some position) ↔ ((node : Node A) × IsAt g position a node))
 
 -- there is one list to send
 abbrev pub OneListToSend : Type 0 → Type 0
@@ -168,7 +168,7 @@ SentAreEntries A =
 
 -- the ids are connected, and all that they reach in another graph is held
 abbrev pub HasAll : {A : Type 0} → List (Entry A) → List Id → List (Entry A) → Type 0
-HasAll s wants h = All (λ want. IsFull h want × ((a : Id) → Reaches s want a → Holds h a)) wants
+HasAll s wants h = All (λ want. IsConnected h want × ((a : Id) → Reaches s want a → Holds h a)) wants
 
 -- what a server's graph `s` sends to a client's graph `c` makes the wants connected there. `s` is closed, the two
 -- agree, `s` holds the wants, and the common ids are connected in `c`: once a list to send comes in, the wants are
@@ -176,7 +176,7 @@ HasAll s wants h = All (λ want. IsFull h want × ((a : Id) → Reaches s want a
 abbrev pub SendingIsEnough : Type 0 → Type 0
 SendingIsEnough A =
     (s c list new : List (Entry A)) (wants commons tips : List Id) (format : Format)
-    → IdsDiffer s → IsClosed s → Agree s c → All (Holds s) wants → All (IsFull c) commons
+    → IdsDiffer s → IsClosed s → Agree s c → All (Holds s) wants → All (IsConnected c) commons
     → IsListToSend s wants commons tips list → Inserts format c list new → HasAll s wants new
 
 -- what connects the wants of a closed graph still does once that graph has more: the wants reach nothing new there
@@ -198,7 +198,7 @@ ReachedAreCounted A =
 abbrev pub CountsStay : Type 0 → Type 0
 CountsStay A =
     (g h : List (Entry A)) (tips : List Id) (held parents : ℕ)
-    → Grows g h → IdsDiffer h → All (IsFull g) tips
+    → Grows g h → IdsDiffer h → All (IsConnected g) tips
     → CountsReached g tips held parents → CountsReached h tips held parents
 
 -- ---- levels, offers and common ids

@@ -16,8 +16,8 @@ abbrev pub SomeReaches : {A : Type 0} → List (Entry A) → List Id → Id → 
 SomeReaches g ids b = (a : Id) × Contains ids a × Reaches g a b
 
 -- the id is connected: it is held, and so is all that it reaches
-abbrev pub IsFull : {A : Type 0} → List (Entry A) → Id → Type 0
-IsFull g a = (b : Id) → Reaches g a b → Holds g b
+abbrev pub IsConnected : {A : Type 0} → List (Entry A) → Id → Type 0
+IsConnected g a = (b : Id) → Reaches g a b → Holds g b
 
 -- the graph is closed: it holds each parent of each object
 abbrev pub IsClosed : {A : Type 0} → List (Entry A) → Type 0

@@ -4,14 +4,14 @@ use Rattle.std.specs.List.{Any}
 use Rattle.gname.specs.Ids.{Id}
 use Rattle.gobject.specs.declared.node.Entry.{Entry}
 use Rattle.gobject.specs.Objects.{node_at}
-use Rattle.gdag.specs.Reach.{Reaches, SomeReaches, IsFull}
+use Rattle.gdag.specs.Reach.{Reaches, SomeReaches, IsConnected}
 use Rattle.gdag.specs.Levels.{distinct_of}
 use Rattle.gdag.specs.Selecting.{Selects}
 
 -- what is missing of the ancestries of some ids: nothing, and each of them is connected; or an id that one of them
 -- reaches and that is not held
 abbrev pub Misses : {A : Type 0} → List (Entry A) → List Id → Option Id → Type 0
-Misses g ids None = All (IsFull g) ids
+Misses g ids None = All (IsConnected g) ids
 Misses g ids (Some b) = SomeReaches g ids b × (node_at g b ≡ None)
 
 -- so many held ids do some ids reach, and so many parents do their nodes have

@@ -8,7 +8,7 @@ use crate::graph::Graph;
 use std::alloc::Allocator;
 
 impl<A: Allocator + Copy> Graph<A> {
-    /// Whether the graph is closed: it holds each parent of each object. It takes no memory.
+    /// Whether the graph is closed: it contains each parent of each object. It does not allocate.
     pub fn is_closed(&self) -> bool
         ensures { IsTrue result ↔ IsClosed self.now.entries }
     {
@@ -18,14 +18,14 @@ impl<A: Allocator + Copy> Graph<A> {
         self.holds_parents()
     }
 
-    // Whether the graph holds the parents of each of its nodes.
+    // Whether the graph contains the parents of each of its nodes.
     #[tactic(auto, using(crate::proofs::ClosedLemmas::holds_at, crate::proofs::ClosedLemmas::holds_more))]
     fn holds_parents(&self) -> bool
         ensures graph { IsGraph self.now }
         ensures answer { IsTrue result ↔ All (HoldsParents self.now.entries) self.now.entries }
     {
-        for place in 0..self.len() {
-            if !self.contains_all(self.parents(place)) {
+        for position in 0..self.len() {
+            if !self.contains_all(self.parents(position)) {
                 return false;
             }
         }

@@ -9,9 +9,9 @@ use indexmap::IndexSet;
 use std::alloc::{AllocError, Allocator};
 use std::hash::BuildHasherDefault;
 
-/// The distinct ids of a list, in the order in which each comes first.
+/// Returns the distinct ids of a list, in the order of their first occurrences.
 ///
-/// It fails where there is no memory.
+/// Fails only if out of memory.
 pub fn distinct_ids<A: Allocator + Copy>(alloc: A, ids: &[Oid]) -> Result<Vec<Oid, A>, AllocError>
     ensures { IfOk result (λ list. list.items ≡ distinct_of ids.now) }
 {

@@ -1,4 +1,4 @@
-//! What a call on a graph refuses.
+//! Why a call on a graph fails.
 
 ghost use Rattle.std.specs.Prelude.{◌≡◌, Some};
 ghost use Rattle.gdag.specs.Faults.{graph_fault_row, graph_fault_text};
@@ -9,40 +9,40 @@ use std::alloc::{AllocError, AllocFailed};
 use std::error::Error;
 use std::fmt;
 
-/// Why a call on a graph was refused.
+/// Why a call on a graph failed.
 #[derive(Clone, Copy, Debug, PartialEq, Eq, Drop)]
 pub enum GraphFault {
-    /// The entry under this id, or one of its parents, is of another object format than the graph.
+    /// The entry under this id, or one of its parents, has another object format than the graph.
     OtherFormat { id: Oid },
-    /// The id stands for another node already, in the graph or earlier in the list.
+    /// The id already has another node, in the graph or earlier in the list.
     Conflict { id: Oid },
     /// The graph would have more than `MAX_NODES` nodes.
     TooMany,
     /// The node has more than `MAX_PARENTS` parents.
     TooManyParents,
-    /// A tag whose parents are not exactly one.
+    /// A tag does not have exactly one parent.
     TagShape,
     /// Out of memory.
     Memory,
 }
 
 impl GraphFault {
-    /// The number of the fault.
+    /// Returns the number of the fault.
     pub fn code(&self) -> u32
         ensures { result ≡ (graph_fault_row self.now).0 }
     {
-        self.row().0
+        self.fault_row().0
     }
 
-    /// The name of the fault.
+    /// Returns the name of the fault.
     pub fn name(&self) -> &'static str
         ensures { result.now ≡ (graph_fault_row self.now).1 }
     {
-        self.row().1
+        self.fault_row().1
     }
 
-    /// The table: the number and the name of each fault.
-    pub fn row(&self) -> (u32, &'static str)
+    /// Returns the row of the fault in the table: its number and its name.
+    pub fn fault_row(&self) -> (u32, &'static str)
         ensures { (result.0, result.1.now) ≡ graph_fault_row self.now }
     {
         match self {

@@ -1,8 +1,8 @@
-//! The graph: a map from ids to nodes, in the order in which they first came.
+//! The graph: a map from ids to nodes, in the order of their insertion.
 
 ghost use Rattle.std.specs.Prelude.{◌≡◌, [], length, IsTrue, ◌↔◌, slice_get, take, MatchOption, OnOk, OnErr, IfOk, IfErr, All, None, Some, ◌≤◌, ◌<◌, ◌++◌, ◌∷◌};
 ghost use Rattle.std.specs.Option.{option_copied, option_map};
-ghost use Rattle.gobject.specs.Objects.{IsShaped, entry_of, node_at, place_of};
+ghost use Rattle.gobject.specs.Objects.{IsShaped, entry_of, node_at, position_of};
 ghost use Rattle.gname.specs.declared.formats.Format.TheVariants.{Sha1};
 ghost use Rattle.gdag.specs.declared.fault.GraphFault.TheVariants.{Memory};
 ghost use Rattle.gdag.specs.Graphs.{IsGraph, IsOrdered, Holds, IsFirstAbsent, HasIdsOf, max_nodes, pairs_of};
@@ -15,20 +15,20 @@ use std::alloc::{AllocError, Allocator, Global};
 use std::hash::{BuildHasherDefault, DefaultHasher};
 use std::marker::Model;
 
-/// The most nodes that a graph has.
+/// The maximum number of nodes of a graph.
 pub const MAX_NODES: usize = 1_048_576;
 
-/// How the ids of a graph are hashed. Ids come from peers, who may choose them: for `DefaultHasher` ids that
-/// collide have to be searched for one by one, where for std's fast hasher they can be written down.
+/// The hasher for the ids of a graph. Peers may choose ids. An attacker has to search for
+/// collisions of `DefaultHasher` one by one, but can write down collisions of std's fast hasher.
 pub type IdHasher = BuildHasherDefault<DefaultHasher>;
 
-/// The commits and tags of a repository, each id once, in the order in which they first came. All ids
-/// are of one format.
+/// The commits and tags of a repository, each id once, in the order of their insertion. All ids
+/// have one format.
 #[derive(Debug, Drop)]
 pub struct Graph<A: Allocator + Copy = Global> {
     format: Format,
     nodes: IndexMap<Oid, Node<A>, IdHasher, A>,
-    // Whether each node came after all its parents.
+    // Whether each node was inserted after all its parents.
     ordered: bool,
 }
 
@@ -44,7 +44,7 @@ impl<A: Allocator + Copy> Model for Graph<A> {
 }
 
 impl<A: Allocator + Copy> Graph<A> {
-    /// A graph without nodes, for ids of the format. It takes no memory.
+    /// Returns a graph without nodes, for ids of the format. It does not allocate.
     pub fn new_in(alloc: A, format: Format) -> Graph<A>
         ensures { result ≡ record { format = format; entries = [] } }
     {
@@ -55,15 +55,15 @@ impl<A: Allocator + Copy> Graph<A> {
         }
     }
 
-    /// A graph without nodes, for SHA-1 ids. It takes no memory.
+    /// Returns a graph without nodes, for SHA-1 ids. It does not allocate.
     pub fn new(alloc: A) -> Graph<A>
         ensures { result ≡ record { format = Sha1; entries = [] } }
     {
         Graph::new_in(alloc, Format::Sha1)
     }
 
-    /// Makes room for so many more nodes, so that adding them moves none. Where there is no memory for that, it gives
-    /// back what it took. The graph is the same.
+    /// Reserves room for `more` nodes, so that adding them moves none. If there is not enough
+    /// memory, it frees what it allocated. The graph is unchanged.
     pub fn make_room(&mut self, more: usize)
         ensures { self.new ≡ self.old }
     {
@@ -73,14 +73,14 @@ impl<A: Allocator + Copy> Graph<A> {
         }
     }
 
-    /// The format of the graph's ids.
+    /// Returns the format of the graph's ids.
     pub fn format(&self) -> Format
         ensures { result ≡ self.now.format }
     {
         self.format
     }
 
-    /// How many nodes there are.
+    /// Returns the number of nodes.
     pub fn len(&self) -> usize
         ensures len { result ≡ length self.now.entries }
         ensures graph { IsGraph self.now }
@@ -88,7 +88,7 @@ impl<A: Allocator + Copy> Graph<A> {
         self.nodes.len()
     }
 
-    /// A law: what is true of each graph.
+    /// A law: the properties of each graph.
     pub fn laws(&self)
         ensures { IsGraph self.now }
     {
@@ -102,8 +102,8 @@ impl<A: Allocator + Copy> Graph<A> {
         self.nodes.is_empty()
     }
 
-    /// Whether each node came after all its parents. Then the graph is closed, and an id reaches no
-    /// id at a higher position. It takes no memory.
+    /// Whether each node was inserted after all its parents. Then the graph is closed, and an id
+    /// reaches no id at a higher position. It does not allocate.
     pub fn is_ordered(&self) -> bool
         ensures graph { IsGraph self.now }
         ensures ordered { IsTrue result ↔ IsOrdered self.now.entries }
@@ -111,7 +111,7 @@ impl<A: Allocator + Copy> Graph<A> {
         self.ordered
     }
 
-    /// Whether the id is held. It takes no memory.
+    /// Whether the graph contains the id. It does not allocate.
     #[tactic(auto, using(crate::proofs::Pairs::node_at_pairs))]
     pub fn contains(&self, id: &Oid) -> bool
         ensures { IsTrue result ↔ Holds self.now.entries id.now }
@@ -119,14 +119,14 @@ impl<A: Allocator + Copy> Graph<A> {
         self.nodes.contains_key(id)
     }
 
-    /// Whether the graph holds each of the ids. It takes no memory.
+    /// Whether the graph contains each of the ids. It does not allocate.
     pub fn contains_all(&self, ids: &[Oid]) -> bool
         ensures { IsTrue result ↔ All (Holds self.now.entries) ids.now }
     {
         ids.iter().all(|id| self.contains(id))
     }
 
-    /// The first of the ids that the graph does not hold. It takes no memory.
+    /// Returns the first of the ids that the graph does not contain. It does not allocate.
     pub fn first_absent(&self, ids: &[Oid]) -> Option<Oid>
         ensures { MatchOption result (All (Holds self.now.entries) ids.now)
             (IsFirstAbsent self.now.entries ids.now) }
@@ -139,7 +139,7 @@ impl<A: Allocator + Copy> Graph<A> {
         None
     }
 
-    /// The node under the id; `None` where it is not held.
+    /// Returns the node under the id, or `None` if the graph does not contain the id.
     #[tactic(auto, using(crate::proofs::Pairs::node_at_pairs))]
     pub fn node(&self, id: &Oid) -> Option<&Node<A>>
         ensures { option_copied result ≡ node_at self.now.entries id.now }
@@ -147,25 +147,27 @@ impl<A: Allocator + Copy> Graph<A> {
         self.nodes.get(id)
     }
 
-    /// The position of the id in store order, counted from 0; `None` where it is not held.
-    #[tactic(auto, using(crate::proofs::Pairs::place_of_pairs))]
-    pub fn number(&self, id: &Oid) -> Option<usize>
-        ensures { result ≡ place_of self.now.entries id.now }
+    /// Returns the position of the id in store order, counted from 0, or `None` if the graph does
+    /// not contain it.
+    #[tactic(auto, using(crate::proofs::Pairs::position_of_pairs))]
+    pub fn position(&self, id: &Oid) -> Option<usize>
+        ensures { result ≡ position_of self.now.entries id.now }
     {
         self.nodes.get_index_of(id)
     }
 
-    /// The id and the node at a position in store order, counted from 0; `None` past the end.
+    /// Returns the id and the node at a position in store order, counted from 0, or `None` after
+    /// the end.
     #[tactic(auto, using(crate::proofs::Pairs::at_pair))]
-    pub fn at(&self, place: usize) -> Option<(&Oid, &Node<A>)>
-        ensures at { MatchOption result (length self.now.entries ≤ place) (λ pair.
-            slice_get self.now.entries place ≡ Some (entry_of pair.0.now pair.1.now)) }
+    pub fn at(&self, position: usize) -> Option<(&Oid, &Node<A>)>
+        ensures at { MatchOption result (length self.now.entries ≤ position) (λ pair.
+            slice_get self.now.entries position ≡ Some (entry_of pair.0.now pair.1.now)) }
         ensures graph { IsGraph self.now }
     {
-        self.nodes.get_index(place)
+        self.nodes.get_index(position)
     }
 
-    /// The map from ids to nodes. Its pairs are the graph's in store order.
+    /// Returns the map from ids to nodes. Its pairs are the graph's in store order.
     #[tactic(auto, using(crate::proofs::Pairs::pairs_again))]
     pub fn as_map(&self) -> &IndexMap<Oid, Node<A>, IdHasher, A>
         ensures { result.now.entries ≡ pairs_of self.now.entries }
@@ -173,50 +175,51 @@ impl<A: Allocator + Copy> Graph<A> {
         &self.nodes
     }
 
-    /// The allocator that the graph's memory comes from.
+    /// Returns the allocator of the graph.
     pub fn allocator(&self) -> A {
         *self.nodes.allocator()
     }
 
-    /// The parents of the node at a position in store order, in the order of the object.
+    /// Returns the parents of the node at a position in store order, in the order of the object.
     #[tactic(auto, using(crate::proofs::Pairs::parents_at_value))]
-    pub fn parents(&self, place: usize) -> &[Oid]
-        requires { place < length self.now.entries }
-        ensures { option_map (λ entry. entry.node.parents) (slice_get self.now.entries place)
+    pub fn parents(&self, position: usize) -> &[Oid]
+        requires { position < length self.now.entries }
+        ensures { option_map (λ entry. entry.node.parents) (slice_get self.now.entries position)
             ≡ Some result.now }
     {
-        self.nodes[place].parents.as_slice()
+        self.nodes[position].parents.as_slice()
     }
 
-    /// The id at a position in store order.
-    pub fn id_at(&self, place: usize) -> &Oid
-        requires { place < length self.now.entries }
-        ensures { option_map (λ entry. entry.id) (slice_get self.now.entries place)
+    /// Returns the id at a position in store order.
+    pub fn id_at(&self, position: usize) -> &Oid
+        requires { position < length self.now.entries }
+        ensures { option_map (λ entry. entry.id) (slice_get self.now.entries position)
             ≡ Some result.now }
     {
-        self.at(place).unwrap().0
+        self.at(position).unwrap().0
     }
 
-    /// A copy of the entry at a position in store order. It fails where there is no memory.
-    pub fn entry_in(&self, place: usize, alloc: A) -> Result<Entry<A>, AllocError>
-        requires { place < length self.now.entries }
-        ensures { IfOk result (λ entry. slice_get self.now.entries place ≡ Some entry) }
+    /// Returns a copy of the entry at a position in store order. Fails only if out of memory.
+    pub fn entry_in(&self, position: usize, alloc: A) -> Result<Entry<A>, AllocError>
+        requires { position < length self.now.entries }
+        ensures { IfOk result (λ entry. slice_get self.now.entries position ≡ Some entry) }
     {
-        let (id, node) = self.at(place).unwrap();
+        let (id, node) = self.at(position).unwrap();
         let node = node.copy_in(alloc)?;
         Ok(Entry { id: *id, node })
     }
 
-    // Whether each node came after all its parents, one more too that is added where its parents are held, or are not.
+    // Whether each node was inserted after all its parents, including the next one. `parents_held`
+    // says whether the graph contains the parents of the next one.
     fn stays_ordered(&self, parents_held: bool) -> bool
         ensures { IsTrue result ↔ (IsOrdered self.now.entries × IsTrue parents_held) }
     {
         self.is_ordered() && parents_held
     }
 
-    /// Adds an entry after the others. Where there is no memory the graph stays as it was.
+    /// Appends an entry. If out of memory, the graph is unchanged.
     ///
-    /// It fails with `Memory` alone.
+    /// Fails only with `Memory`.
     pub(crate) fn push(&mut self, entry: Entry<A>) -> Result<(), GraphFault>
         requires new { node_at self.old.entries entry.id ≡ None }
         requires ids { HasIdsOf self.old.format entry }
@@ -232,10 +235,10 @@ impl<A: Allocator + Copy> Graph<A> {
         self.push_after(entry, parents_held)
     }
 
-    /// Adds an entry after the others, for a caller who has looked up whether the graph holds its parents. Where there is
-    /// no memory the graph stays as it was.
+    /// Appends an entry, for a caller who has looked up whether the graph contains its parents. If
+    /// out of memory, the graph is unchanged.
     ///
-    /// It fails with `Memory` alone.
+    /// Fails only with `Memory`.
     #[tactic(auto, using(crate::proofs::Pairs::pushed_pairs))]
     pub fn push_after(&mut self, entry: Entry<A>, parents_held: bool) -> Result<(), GraphFault>
         requires new { node_at self.old.entries entry.id ≡ None }
@@ -255,7 +258,8 @@ impl<A: Allocator + Copy> Graph<A> {
         Ok(())
     }
 
-    /// Keeps the first entries, as many as `count`, which came with their parents first as `ordered` says.
+    /// Keeps the first `count` entries. `ordered` says whether each of them has its parents before
+    /// it.
     #[tactic(auto, using(crate::proofs::Pairs::taken_pairs))]
     pub(crate) fn cut_back(&mut self, count: usize, ordered: bool)
         requires { IsTrue ordered ↔ IsOrdered (take count self.old.entries) }

@@ -4,7 +4,7 @@ ghost use Rattle.std.specs.Prelude.{◌≡◌, ◌<◌, ◌++◌, ◌∷◌, ◌
 ghost use Rattle.gobject.specs.Objects.{IsShaped, node_at};
 ghost use Rattle.gname.specs.Ids.{Id, IsIdOf};
 ghost use Rattle.gdag.specs.Graphs.{HasIdsOf, IsGraph, IsNode};
-ghost use Rattle.gdag.specs.Reach.{Reaches, IsFull, Grows, Keeps};
+ghost use Rattle.gdag.specs.Reach.{Reaches, IsConnected, Grows, Keeps};
 ghost use Rattle.gdag.specs.Insert.{IsMisshapen, IsCause, Admits, Adds, AddsCopy, AddsOne, AddsOnly, AddsOnlyParents};
 ghost use Rattle.gdag.specs.declared.fault.GraphFault.TheVariants.{OtherFormat};
 
@@ -15,10 +15,10 @@ use gobject::{Entry, Kind, MAX_PARENTS, Node};
 use std::alloc::Allocator;
 
 impl<A: Allocator + Copy> Graph<A> {
-    /// Adds an entry at the end of the store order, and answers whether its id is new. Where it is there
-    /// with the same node nothing changes.
+    /// Appends an entry in store order, and returns whether its id is new. If the id already has
+    /// the same node, nothing changes.
     ///
-    /// It is refused as `insert_all` refuses the entries of a list, and then the graph is as it was.
+    /// Fails as `insert_all` does for an entry of a list, and then the graph is unchanged.
     pub fn insert(&mut self, entry: Entry<A>) -> Result<bool, GraphFault>
         ensures adds { AddsOne self.old entry self.new result }
         ensures only { AddsOnly self.old.entries (entry ∷ []) self.new.entries }
@@ -28,7 +28,7 @@ impl<A: Allocator + Copy> Graph<A> {
         ensures keeps { Keeps self.old.entries self.new.entries }
         ensures reaches { (a b : Id) → Reaches self.old.entries a b
             → Reaches self.new.entries a b }
-        ensures full { (a : Id) → IsFull self.old.entries a → IsFull self.new.entries a }
+        ensures connected { (a : Id) → IsConnected self.old.entries a → IsConnected self.new.entries a }
         ensures graph { IsGraph self.new }
     {
         let is_new = self.admits(&entry)?;
@@ -38,15 +38,19 @@ impl<A: Allocator + Copy> Graph<A> {
         Ok(is_new)
     }
 
-    /// Adds copies of the entries, all or none, and answers how many ids are new. An id that comes again
-    /// with the same node adds nothing; new ones come at the end of the store order, in the order of the
-    /// list.
+    /// Adds copies of the entries, all or none, and returns the number of new ids. A repeated id
+    /// with the same node adds nothing. New entries are appended in store order, in the order of
+    /// the list.
     ///
-    /// Entries are judged in order. The first that can't be added is refused, and then the graph is as it
-    /// was: with `OtherFormat` where its id or a parent is of another format than the graph's, else with
-    /// `TooManyParents`, else with `TagShape` where it is a tag whose parents are not exactly one, else
-    /// with `Conflict` where its id stands for another node in the graph or earlier in the list, else with
-    /// `TooMany` where its id would be one more than a graph holds, else with `Memory`.
+    /// Entries are checked in order. The call fails at the first one that can't be added, and then
+    /// the graph is unchanged. The fault is the first of these that applies to the entry:
+    ///
+    /// - `OtherFormat`: its id or a parent has another format than the graph.
+    /// - `TooManyParents`.
+    /// - `TagShape`: it is a tag without exactly one parent.
+    /// - `Conflict`: its id has another node in the graph or earlier in the list.
+    /// - `TooMany`: the graph already has the maximum number of nodes.
+    /// - `Memory`.
     pub fn insert_all(&mut self, entries: &[Entry<A>]) -> Result<usize, GraphFault>
         ensures adds { Adds self.old entries.now self.new result }
         ensures only { AddsOnly self.old.entries entries.now self.new.entries }
@@ -57,7 +61,7 @@ impl<A: Allocator + Copy> Graph<A> {
         ensures keeps { Keeps self.old.entries self.new.entries }
         ensures reaches { (a b : Id) → Reaches self.old.entries a b
             → Reaches self.new.entries a b }
-        ensures full { (a : Id) → IsFull self.old.entries a → IsFull self.new.entries a }
+        ensures connected { (a : Id) → IsConnected self.old.entries a → IsConnected self.new.entries a }
         ensures graph { IsGraph self.new }
     {
         let before = self.len();
@@ -82,7 +86,8 @@ impl<A: Allocator + Copy> Graph<A> {
         Ok(())
     }
 
-    // Whether the entry is to be pushed: its id is new. It is not where the graph has it with the same node.
+    // Whether to push the entry: its id is new. It is not new if the graph has it with the same
+    // node.
     fn admits(&self, entry: &Entry<A>) -> Result<bool, GraphFault>
         ensures graph { IsGraph self.now }
         ensures admits { MatchResult result
@@ -105,21 +110,21 @@ impl<A: Allocator + Copy> Graph<A> {
     }
 }
 
-// Whether the id is of the format.
+// Whether the id has the format.
 fn is_of(format: Format, id: &Oid) -> bool
     ensures { IsTrue result ↔ IsIdOf format id.now }
 {
     id.format() == format
 }
 
-// Whether all ids are of the format.
+// Whether all ids have the format.
 fn are_of(format: Format, ids: &[Oid]) -> bool
     ensures { IsTrue result ↔ All (IsIdOf format) ids.now }
 {
     ids.iter().all(|id| is_of(format, id))
 }
 
-// Whether an entry's ids are of the format.
+// Checks that an entry's ids have the format.
 fn check_ids<A: Allocator + Copy>(format: Format, entry: &Entry<A>) -> Result<(), GraphFault>
     ensures { MatchResult result
         (λ _. HasIdsOf format entry.now)
@@ -131,7 +136,7 @@ fn check_ids<A: Allocator + Copy>(format: Format, entry: &Entry<A>) -> Result<()
     Err(GraphFault::OtherFormat { id: entry.id })
 }
 
-// Whether a node has the shape of a graph's.
+// Checks that a node has the right shape for a graph.
 fn check_shape<A: Allocator + Copy>(node: &Node<A>) -> Result<(), GraphFault>
     ensures { MatchResult result (λ _. IsShaped node.now) (IsMisshapen node.now) }
 {

@@ -1,4 +1,4 @@
-//! From a tag to the commit at the end of its chain.
+//! Peeling: from a tag to the commit at the end of its chain.
 
 ghost use Rattle.std.specs.Prelude.{◌≡◌, IfSome, Some};
 ghost use Rattle.gname.specs.Ids.{Id};
@@ -10,14 +10,15 @@ use gobject::Kind;
 use std::alloc::Allocator;
 
 impl<A: Allocator + Copy> Graph<A> {
-    /// The commit at the end of the chain of tags that begins at the id, or the id itself where it
-    /// is a commit (gitrevisions(7), `<rev>^{}`). `None` where the chain leaves the graph or never
-    /// ends. It takes no memory.
+    /// Returns the commit at the end of the chain of tags that begins at the id, or the id itself
+    /// if it is a commit (gitrevisions(7), `<rev>^{}`). Returns `None` if the chain leaves the
+    /// graph or never ends. It does not allocate.
     pub fn peel(&self, id: &Oid) -> Option<Oid>
         ensures found { IfSome result (PeelsTo self.now.entries id.now) }
         ensures only { (c : Id) → PeelsTo self.now.entries id.now c → result ≡ Some c }
     {
-        // An id of the chain is kept, a later one at each power of two. A chain that comes back to it never ends.
+        // One id of the chain is kept, and replaced at each power of two. A chain that returns to
+        // it never ends.
         let mut at = *id;
         let mut kept = *id;
         for steps in 0..self.len() {

@@ -8,7 +8,7 @@ use Rattle.ggrammar.specs.declared.message.Step.{Step}
 use Rattle.ggrammar.specs.declared.message.Step.TheVariants as step
 use Rattle.ggrammar.specs.declared.fault.Why.{Why}
 use Rattle.ggrammar.specs.declared.fault.MessageFault.{MessageFault}
-use Rattle.gtalk.specs.Talks.{Talk, Says, hearing, no_talk, stopping}
+use Rattle.gtalk.specs.Talks.{Talk, Says, talk_after, no_talk, stop_talk}
 use Rattle.gtalk.specs.declared.conversation.Stop.{Stop}
 use Rattle.gdialogue.specs.Sides.{LeadsTo, MayAnswer, SaysSome}
 use Rattle.gdialogue.specs.declared.side.Said.{Said}
@@ -17,8 +17,8 @@ use Rattle.gdialogue.specs.declared.side.Answer.{Answer}
 use Rattle.gdialogue.specs.declared.side.Answer.TheVariants as answer
 use Rattle.gdialogue.specs.Dialogues.{Answered, HasEnded, HoldsEnding, HoldsHearing, HoldsSaying, HoldsStage, IsRefused, IsSoFar, reason_of}
 use Rattle.gdialogue.specs.Dialogues as dialogue
-use Rattle.gdialogue.specs.declared.dialogue.Stage.{Stage}
-use Rattle.gdialogue.specs.declared.dialogue.Stage.TheVariants as stage
+use Rattle.gdialogue.specs.declared.dialogue.DialogueStage.{DialogueStage}
+use Rattle.gdialogue.specs.declared.dialogue.DialogueStage.TheVariants as stage
 
 module _ {S M R : Type 0} (judge : S → Judge) (brings : S → List Packet → Packet → Bool)
     (opens : S → List Packet → Bool → Type 0) (answers : S → List Packet → List Packet → Bool → S → Type 0)
@@ -33,7 +33,7 @@ module _ {S M R : Type 0} (judge : S → Judge) (brings : S → List Packet → 
   abbrev Ending : S → R → Talk → Type 0
   Ending = HoldsEnding judge brings opens answers refuses judge_of brings_of message_holds may
 
-  abbrev Stands : S → Stage M R → Talk → Type 0
+  abbrev Stands : S → DialogueStage M R → Talk → Type 0
   Stands = HoldsStage judge brings opens answers refuses judge_of brings_of message_holds may
 
   abbrev SoFar : S → Bool → List Packet → Option Stop → List Packet → S → Type 0
@@ -85,7 +85,7 @@ module _ {S M R : Type 0} (judge : S → Judge) (brings : S → List Packet → 
       → Takes message new packet result → result ≡ Ok step.Open
       → ((front : List Packet) → IsOpen (judge_of message) front → length front < 2 ^ 60)
       → (frame < 2 ^ 60 → next ≡ frame + 1)
-      → (talk : Talk) → Hearing side message frame talk → Hearing side new next (hearing talk packet)
+      → (talk : Talk) → Hearing side message frame talk → Hearing side new next (talk_after talk packet)
   goes_on_hearing side message new frame next packet result laws judged brought takes is bounded counts talk h =
       let t = taken side message new frame packet result (Ok step.Open) talk takes is h in
       let there = open_there side message frame talk h in
@@ -157,7 +157,7 @@ module _ {S M R : Type 0} (judge : S → Judge) (brings : S → List Packet → 
 
   pub answers_message : (side after : S) (message new : M) (frame : ℕ) (packet : Packet) (result : Result Step Why) (answered : Answer R) (reply : R)
       → Takes message new packet result → judge_of new ≡ judge_of message → result ≡ Ok step.Whole → AnswersIt side new answered after → answered ≡ answer.GoesOn reply
-      → (talk : Talk) → Hearing side message frame talk → Saying after reply (hearing talk packet)
+      → (talk : Talk) → Hearing side message frame talk → Saying after reply (talk_after talk packet)
   answers_message side after message new frame packet result answered reply takes stays is does same talk h =
       let w = whole_message side message new frame packet result talk takes is h in
       let lines = h.front ++ packet ∷ [] in
@@ -171,7 +171,7 @@ module _ {S M R : Type 0} (judge : S → Judge) (brings : S → List Packet → 
 
   pub answers_last : (side after : S) (message new : M) (frame : ℕ) (packet : Packet) (result : Result Step Why) (answered : Answer R) (reply : R)
       → Takes message new packet result → judge_of new ≡ judge_of message → result ≡ Ok step.Whole → AnswersIt side new answered after → answered ≡ answer.Last reply
-      → (talk : Talk) → Hearing side message frame talk → Ending after reply (hearing talk packet)
+      → (talk : Talk) → Hearing side message frame talk → Ending after reply (talk_after talk packet)
   answers_last side after message new frame packet result answered reply takes stays is does same talk h =
       let w = whole_message side message new frame packet result talk takes is h in
       let lines = h.front ++ packet ∷ [] in
@@ -200,7 +200,7 @@ module _ {S M R : Type 0} (judge : S → Judge) (brings : S → List Packet → 
 
   pub refuses_packet : (side after : S) (message new : M) (frame : ℕ) (packet : Packet) (result : Result Step Why) (why : Why) (reply : R)
       → Takes message new packet result → result ≡ Err why → RefusesIt side (record { frame = frame; why = why }) reply after
-      → (talk : Talk) → Hearing side message frame talk → Ending after reply (hearing talk packet)
+      → (talk : Talk) → Hearing side message frame talk → Ending after reply (talk_after talk packet)
   refuses_packet side after message new frame packet result why reply takes is says talk h =
       let t = taken side message new frame packet result (Err why) talk takes is h in
       let reason : IsReason (judge side h.front packet) (brings side h.front packet) why =
@@ -215,7 +215,7 @@ module _ {S M R : Type 0} (judge : S → Judge) (brings : S → List Packet → 
 
   pub refuses_stop : (side after : S) (message : M) (frame : ℕ) (stop : Stop) (reply : R)
       → RefusesIt side (record { frame = frame; why = reason_of stop }) reply after
-      → (talk : Talk) → Hearing side message frame talk → Ending after reply (stopping talk stop)
+      → (talk : Talk) → Hearing side message frame talk → Ending after reply (stop_talk talk stop)
   refuses_stop side after message frame stop reply says talk h = record {
     first = h.first;
     due = λ rest goes may_say.

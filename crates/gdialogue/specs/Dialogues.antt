@@ -1,7 +1,7 @@
 -- A dialogue: messages that were heard, and what was said to each.
 use Rattle.std.specs.Prelude.{◌≡◌, ℕ, ◌+◌, ◌-◌, ◌^◌, Bool, true, false, List, [], ◌∷◌, ◌++◌, length, Option, Some, None}
 use Rattle.gpkt.specs.Packets.{Packet}
-use Rattle.gpkt.specs.declared.fault.LineFault.TheVariants.{Io}
+use Rattle.gpkt.specs.declared.fault.PacketFault.TheVariants.{Io}
 use Rattle.ggrammar.specs.Grammar.{Judge, IsOpen, IsWhole}
 use Rattle.ggrammar.specs.MessageReading.{IsReason}
 use Rattle.ggrammar.specs.declared.fault.Why.{Why}
@@ -13,8 +13,8 @@ use Rattle.gtalk.specs.declared.conversation.Turn.TheVariants.{Listens, Speaks, 
 use Rattle.gtalk.specs.declared.conversation.Stop.{Stop}
 use Rattle.gtalk.specs.declared.conversation.Stop.TheVariants as stop
 use Rattle.gdialogue.specs.declared.dialogue.Dialogue.{Dialogue}
-use Rattle.gdialogue.specs.declared.dialogue.Stage.{Stage}
-use Rattle.gdialogue.specs.declared.dialogue.Stage.TheVariants as stage
+use Rattle.gdialogue.specs.declared.dialogue.DialogueStage.{DialogueStage}
+use Rattle.gdialogue.specs.declared.dialogue.DialogueStage.TheVariants as stage
 
 -- why a message is refused of which no packet comes any more
 abbrev pub reason_of : Stop → Why
@@ -33,7 +33,7 @@ pub data IsRefused (judge : Judge) (brings : List Packet → Packet → Bool)
 
 -- ---- the turns of a dialogue
 
-abbrev pub turn_of : {M R : Type 0} → Stage M R → Turn
+abbrev pub turn_of : {M R : Type 0} → DialogueStage M R → Turn
 turn_of (stage.Hears message frame) = Listens
 turn_of (stage.Says reply) = Speaks
 turn_of (stage.Ends reply) = Speaks
@@ -41,7 +41,7 @@ turn_of stage.Over = Done
 
 -- how much is left: two turns for each message that is answered, and the packets of this one, of which there are fewer
 -- than 2^60
-abbrev pub left_of : {M R : Type 0} → (R → ℕ) → ℕ → Stage M R → Left
+abbrev pub left_of : {M R : Type 0} → (R → ℕ) → ℕ → DialogueStage M R → Left
 left_of calls messages (stage.Hears message frame) = record { turns = messages + messages + 2; steps = 2 ^ 60 - frame }
 left_of calls messages (stage.Says reply) = record { turns = messages + messages + 3; steps = calls reply }
 left_of calls messages (stage.Ends reply) = record { turns = 1; steps = calls reply }
@@ -107,7 +107,7 @@ module _ {S : Type 0} (judge : S → Judge) (brings : S → List Packet → Pack
       pub first : S
       pub ended : HasEnded first talk.heard talk.stopped talk.said side
 
-    abbrev pub HoldsStage : S → Stage M R → Talk → Type 0
+    abbrev pub HoldsStage : S → DialogueStage M R → Talk → Type 0
     HoldsStage side (stage.Hears message frame) talk = HoldsHearing side message frame talk
     HoldsStage side (stage.Says reply) talk = HoldsSaying side reply talk
     HoldsStage side (stage.Ends reply) talk = HoldsEnding side reply talk

@@ -1,52 +1,52 @@
-//! A dialogue, as one end holds it.
+//! A dialogue, from one end.
 
 ghost use Rattle.std.specs.Prelude.{◌≡◌, [], Bool, List, true};
 ghost use Rattle.gpkt.specs.Packets.{Packet, packet_of};
-ghost use Rattle.gtalk.specs.Talks.{Says, Talk, hearing, no_talk, stopping};
+ghost use Rattle.gtalk.specs.Talks.{Says, Talk, talk_after, no_talk, stop_talk};
 ghost use Rattle.gdialogue.specs.Dialogues.{Holds, HoldsEnding, HoldsHearing, HoldsSaying, HoldsStage, left_of, reason_of, turn_of};
 ghost use Rattle.gdialogue.specs.steps.Stages.{IsNearerStage};
-ghost use Rattle.gdialogue.specs.declared.dialogue.Stage.TheVariants as stage;
+ghost use Rattle.gdialogue.specs.declared.dialogue.DialogueStage.TheVariants as stage;
 
 use crate::side::{Answer, Reply, Said, Side};
 use ggrammar::laws::grammars_are_exact;
 use ggrammar::{Message, MessageFault, Step, Why};
-use gpkt::{Line, LineFault};
+use gpkt::PacketFault;
 use gtalk::{Conversation, Outgoing, Stop, Turn};
 use std::alloc::Allocator;
 use std::mem;
 
-// The part of a dialogue that is next.
+// The next part of a dialogue.
 #[derive(Drop)]
-enum Stage<M, R> {
-    // A message, of which so many packets have come.
+enum DialogueStage<M, R> {
+    // A message, and the number of its packets so far.
     Hears(M, u64),
-    // A reply, after which it may go on.
+    // A reply, after which the dialogue may continue.
     Says(R),
     // The last reply.
     Ends(R),
     Over,
 }
 
-/// A dialogue, as one end holds it: a conversation of packets ([`Conversation`]).
+/// One end of a dialogue: a conversation of packets ([`Conversation`]).
 ///
-/// It hears one message after the other and says the answer of its [`Side`] to each, as long as answers go on. A message
-/// is refused at the first packet that does not fit, or where no packet comes any more. The side's words on that
-/// are the last.
+/// It hears one message after another and says the answer of its [`Side`] to each, until a last
+/// answer. A message is refused at the first packet that does not fit, or if the packets stop. The
+/// side's answer to a refused message is the last.
 #[derive(Drop)]
 pub struct Dialogue<S, M, R> {
     side: S,
-    stage: Stage<M, R>,
+    stage: DialogueStage<M, R>,
 }
 
 impl<S, M, R> Dialogue<S, M, R> {
-    /// The end that holds it.
+    /// Returns the side.
     pub fn side(&self) -> &S
         ensures { result.now ≡ self.now.side }
     {
         &self.side
     }
 
-    /// The end that held it, as the dialogue left it.
+    /// Returns the side, as the dialogue left it.
     pub fn into_side(self) -> S
     where
         S: Drop,
@@ -60,7 +60,7 @@ impl<S, M, R> Dialogue<S, M, R> {
 }
 
 impl<S: Side<M, R>, M: Message + Drop, R: Reply + Drop> Dialogue<S, M, R> {
-    /// A dialogue in which the other end speaks first.
+    /// Returns a dialogue in which the other end speaks first.
     pub fn new(side: S) -> Dialogue<S, M, R>
         ensures holds { S.opens side [] true
             → Holds S.judge S.brings S.opens S.answers S.refuses M.judge M.brings M.holds R.may result no_talk }
@@ -71,29 +71,34 @@ impl<S: Side<M, R>, M: Message + Drop, R: Reply + Drop> Dialogue<S, M, R> {
         let message = side.message();
         Dialogue {
             side,
-            stage: Stage::Hears(message, 0),
+            stage: DialogueStage::Hears(message, 0),
         }
     }
 
-    /// A dialogue that this end opens, with a reply to nothing.
-    pub fn speaking(side: S, reply: R) -> Dialogue<S, M, R>
+    /// Returns a dialogue that this end opens, with a reply to nothing.
+    pub fn speak_first(side: S, reply: R) -> Dialogue<S, M, R>
         ensures holds { ((said : List Packet) (goes : Bool) → R.may reply said goes → S.opens side said goes)
             → Holds S.judge S.brings S.opens S.answers S.refuses M.judge M.brings M.holds R.may result no_talk }
         ensures side { result.side ≡ side }
     {
         Dialogue {
             side,
-            stage: Stage::Says(reply),
+            stage: DialogueStage::Says(reply),
         }
     }
 
     // Takes the next packet of a message.
-    fn take(&mut self, mut message: M, frame: u64, line: Line<'_>) -> Stage<M, R>
+    fn hear_packet(
+        &mut self,
+        mut message: M,
+        frame: u64,
+        line: gpkt::Packet<'_>,
+    ) -> DialogueStage<M, R>
         ensures heard { (talk : Talk)
             → HoldsHearing S.judge S.brings S.opens S.answers S.refuses M.judge M.brings M.holds R.may
             self.old.side message frame talk
             → HoldsStage S.judge S.brings S.opens S.answers S.refuses M.judge M.brings M.holds R.may
-            self.new.side result (hearing talk (packet_of line.entry)) }
+            self.new.side result (talk_after talk (packet_of line.entry)) }
         ensures nearer { (talk : Talk)
             → HoldsHearing S.judge S.brings S.opens S.answers S.refuses M.judge M.brings M.holds R.may
             self.old.side message frame talk
@@ -103,33 +108,37 @@ impl<S: Side<M, R>, M: Message + Drop, R: Reply + Drop> Dialogue<S, M, R> {
         // Laws.
         M::laws();
         grammars_are_exact();
-        match message.take(line) {
-            Ok(Step::Open) => Stage::Hears(message, frame.saturating_add(1)),
+        match message.accept_packet(line) {
+            Ok(Step::Open) => DialogueStage::Hears(message, frame.saturating_add(1)),
             Ok(Step::Whole) => match self.side.answer(message) {
-                Answer::GoesOn(reply) => Stage::Says(reply),
-                Answer::Last(reply) => Stage::Ends(reply),
+                Answer::GoesOn(reply) => DialogueStage::Says(reply),
+                Answer::Last(reply) => DialogueStage::Ends(reply),
             },
-            Err(why) => Stage::Ends(self.side.refuse(MessageFault { frame, why })),
+            Err(why) => DialogueStage::Ends(self.side.refuse(MessageFault { frame, why })),
         }
     }
 
-    // Refuses a message of which no packet comes any more.
-    fn refuse(&mut self, message: M, frame: u64, why: Stop) -> Stage<M, R>
+    // Refuses a message because the packets stopped.
+    fn refuse(&mut self, message: M, frame: u64, why: Stop) -> DialogueStage<M, R>
         ensures stopped { (talk : Talk)
             → HoldsHearing S.judge S.brings S.opens S.answers S.refuses M.judge M.brings M.holds R.may
             self.old.side message frame talk
             → HoldsStage S.judge S.brings S.opens S.answers S.refuses M.judge M.brings M.holds R.may
-            self.new.side result (stopping talk why) }
+            self.new.side result (stop_talk talk why) }
         ensures nearer { IsNearerStage R.calls (S.messages self.old.side) (stage.Hears message frame)
             (S.messages self.new.side) result }
     {
         drop(message);
         let why = reason_of(why);
-        Stage::Ends(self.side.refuse(MessageFault { frame, why }))
+        DialogueStage::Ends(self.side.refuse(MessageFault { frame, why }))
     }
 
     // Says some of a reply.
-    fn say_some<A: Allocator + Copy>(&self, mut reply: R, out: &mut Outgoing<A>) -> Stage<M, R>
+    fn say_some<A: Allocator + Copy>(
+        &self,
+        mut reply: R,
+        out: &mut Outgoing<A>,
+    ) -> DialogueStage<M, R>
         requires { out.old ≡ [] }
         ensures said { (talk : Talk)
             → HoldsSaying S.judge S.brings S.opens S.answers S.refuses M.judge M.brings M.holds R.may
@@ -142,14 +151,18 @@ impl<S: Side<M, R>, M: Message + Drop, R: Reply + Drop> Dialogue<S, M, R> {
         // Laws.
         grammars_are_exact();
         match reply.say(out) {
-            Said::More => Stage::Says(reply),
-            Said::Whole => Stage::Hears(self.side.message(), 0),
-            Said::Last => Stage::Over,
+            Said::More => DialogueStage::Says(reply),
+            Said::Whole => DialogueStage::Hears(self.side.message(), 0),
+            Said::Last => DialogueStage::Over,
         }
     }
 
     // Says some of the last reply.
-    fn say_last<A: Allocator + Copy>(&self, mut reply: R, out: &mut Outgoing<A>) -> Stage<M, R>
+    fn say_last<A: Allocator + Copy>(
+        &self,
+        mut reply: R,
+        out: &mut Outgoing<A>,
+    ) -> DialogueStage<M, R>
         requires { out.old ≡ [] }
         ensures said { (talk : Talk)
             → HoldsEnding S.judge S.brings S.opens S.answers S.refuses M.judge M.brings M.holds R.may
@@ -160,8 +173,8 @@ impl<S: Side<M, R>, M: Message + Drop, R: Reply + Drop> Dialogue<S, M, R> {
             (S.messages self.now.side) result }
     {
         match reply.say(out) {
-            Said::More => Stage::Ends(reply),
-            Said::Whole | Said::Last => Stage::Over,
+            Said::More => DialogueStage::Ends(reply),
+            Said::Whole | Said::Last => DialogueStage::Over,
         }
     }
 }
@@ -175,42 +188,42 @@ impl<S: Side<M, R>, M: Message + Drop, R: Reply + Drop> Conversation for Dialogu
 
     fn turn(&self) -> Turn {
         match &self.stage {
-            Stage::Hears(..) => Turn::Listens,
-            Stage::Says(_) | Stage::Ends(_) => Turn::Speaks,
-            Stage::Over => Turn::Done,
+            DialogueStage::Hears(..) => Turn::Listens,
+            DialogueStage::Says(_) | DialogueStage::Ends(_) => Turn::Speaks,
+            DialogueStage::Over => Turn::Done,
         }
     }
 
-    fn hear(&mut self, line: Line<'_>) {
-        self.stage = match mem::replace(&mut self.stage, Stage::Over) {
-            Stage::Hears(message, frame) => self.take(message, frame, line),
+    fn hear(&mut self, line: gpkt::Packet<'_>) {
+        self.stage = match mem::replace(&mut self.stage, DialogueStage::Over) {
+            DialogueStage::Hears(message, frame) => self.hear_packet(message, frame, line),
             stage => stage,
         };
     }
 
     fn stop(&mut self, why: Stop) {
-        self.stage = match mem::replace(&mut self.stage, Stage::Over) {
-            Stage::Hears(message, frame) => self.refuse(message, frame, why),
+        self.stage = match mem::replace(&mut self.stage, DialogueStage::Over) {
+            DialogueStage::Hears(message, frame) => self.refuse(message, frame, why),
             stage => stage,
         };
     }
 
     fn say<A: Allocator + Copy>(&mut self, out: &mut Outgoing<A>) {
-        self.stage = match mem::replace(&mut self.stage, Stage::Over) {
-            Stage::Says(reply) => self.say_some(reply, out),
-            Stage::Ends(reply) => self.say_last(reply, out),
+        self.stage = match mem::replace(&mut self.stage, DialogueStage::Over) {
+            DialogueStage::Says(reply) => self.say_some(reply, out),
+            DialogueStage::Ends(reply) => self.say_last(reply, out),
             stage => stage,
         };
     }
 }
 
-// Why a message is refused of which no packet comes any more.
+// Returns the reason why a message is refused if the packets stop.
 fn reason_of(why: Stop) -> Why
     ensures { result ≡ reason_of why }
 {
     match why {
         Stop::Ended => Why::Ended,
         Stop::Refused(fault) => Why::Line(fault),
-        Stop::Failed => Why::Line(LineFault::Io),
+        Stop::Failed => Why::Line(PacketFault::Io),
     }
 }

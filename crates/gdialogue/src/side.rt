@@ -1,4 +1,4 @@
-//! One end: what it hears, and what it says to that.
+//! One end of a dialogue: the messages that it hears, and its answers.
 
 ghost use Rattle.std.specs.Prelude.{◌≡◌, ◌<◌, [], Bool, List, ℕ};
 ghost use Rattle.gpkt.specs.Packets.{Packet};
@@ -9,12 +9,12 @@ use ggrammar::{Message, MessageFault};
 use gtalk::Outgoing;
 use std::alloc::Allocator;
 
-/// How much a call has said of a reply.
+/// The part of a reply that a call has said.
 #[derive(Clone, Copy, Debug, PartialEq, Eq)]
 pub enum Said {
     /// Some of it, and more follows.
     More,
-    /// The rest of it, and the dialogue goes on.
+    /// The rest of it, and the dialogue continues.
     Whole,
     /// The rest of it, and nothing more is heard.
     Last,
@@ -22,13 +22,15 @@ pub enum Said {
 
 /// A reply: packets that are said one after the other.
 ///
-/// They need not be known beforehand. A pack that is read while it is sent may fail in its middle: the reply then ends
-/// with the packet that reports so, and the dialogue with it. `SaysExactly` is `may` for a reply whose packets are known.
+/// They need not be known beforehand. A pack that is read while it is sent may fail in the middle.
+/// The reply then ends with the packet that reports this, and so does the dialogue. `SaysExactly`
+/// is `may` for a reply whose packets are known.
 pub trait Reply {
-    // From here it may say exactly these packets, and then the dialogue goes on, or not.
+    // From here it may say exactly these packets, and the boolean says whether the dialogue
+    // continues.
     ghost may: { Self → List Packet → Bool → Type 0 };
 
-    // How many more calls say some of it, at most.
+    // The maximum number of further calls that say some of it.
     ghost calls: { Self → ℕ };
 
     /// Says the next packets, as many as it likes, into an empty queue.
@@ -41,9 +43,9 @@ pub trait Reply {
 /// The answer to a message.
 #[derive(Drop)]
 pub enum Answer<R> {
-    /// This, and then the next message is heard, unless the reply itself ends the dialogue.
+    /// This reply. Then the next message is heard, unless the reply itself ends the dialogue.
     GoesOn(R),
-    /// This, and then nothing more.
+    /// This reply, and nothing after it.
     Last(R),
 }
 
@@ -54,28 +56,30 @@ pub trait Side<M: Message, R: Reply> {
     // The grammar of the next message.
     ghost judge: { Self → Judge };
 
-    // Whether a packet of it brings something to keep, which takes memory.
+    // Whether a packet of it has contents to store, which needs memory.
     ghost brings: { Self → List Packet → Packet → Bool };
 
-    // Before the first message it says these packets, and goes on or not. An end that only answers `SaysNothing`.
+    // The packets that it may say before the first message, and whether it then continues. For an
+    // end that only answers, this is `SaysNothing`.
     ghost opens: { Self → List Packet → Bool → Type 0 };
 
-    // It answers this message with these packets, goes on or not, and is left so.
+    // The packets that may answer a message, whether the dialogue then continues, and the side's
+    // new state.
     ghost answers: { Self → List Packet → List Packet → Bool → Self → Type 0 };
 
-    // It answers a refused message with these packets, and is left so.
+    // The packets that may answer a refused message, and the side's new state.
     ghost refuses: { Self → MessageFault → List Packet → Self → Type 0 };
 
-    // How many more messages it answers and then goes on, at most.
+    // The maximum number of further messages that it answers and then continues.
     ghost messages: { Self → ℕ };
 
-    /// The next message, of which nothing has come.
+    /// Returns the next message, before its first packet.
     fn message(&self) -> M
         ensures holds { M.holds result [] }
         ensures judge { M.judge result ≡ judge self.now }
         ensures brings { M.brings result ≡ brings self.now };
 
-    /// Answers a message. After an answer with which the dialogue goes on, fewer are left.
+    /// Answers a message. If the dialogue continues, fewer messages are left.
     fn answer(&mut self, message: M) -> Answer<R>
         ensures answers { (lines said : List Packet) (goes : Bool) → M.judge message ≡ judge self.old
             → IsWhole (judge self.old) lines → M.holds message lines → MayAnswer R.may result said goes
@@ -83,7 +87,7 @@ pub trait Side<M: Message, R: Reply> {
         ensures fewer { (reply : R) → result ≡ Answer.GoesOn reply
             → messages self.new < messages self.old };
 
-    /// Answers a message that was refused. Nothing more is heard then.
+    /// Answers a refused message. Nothing is heard after that.
     fn refuse(&mut self, fault: MessageFault) -> R
         ensures { (said : List Packet) (goes : Bool) → R.may result said goes
             → refuses self.old fault said self.new };

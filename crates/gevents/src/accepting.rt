@@ -1,4 +1,4 @@
-//! Those who connect.
+//! Accepting peers.
 
 ghost use Rattle.std.specs.Prelude.{◌≡◌, []};
 ghost use Rattle.gtalk.specs.Connections.{pending_of};
@@ -15,15 +15,16 @@ use std::alloc::Allocator;
 use std::io::{self, ErrorKind, Write};
 use std::net::{IpAddr, SocketAddr};
 
-// The system's numbers for no more open files, in the process and in all, no memory, no buffer, and no streams (errno(3)).
+// The system's error numbers for too many open files, in the process or in total, and for no
+// memory, no buffer or no streams (errno(3)).
 const STARVED: [i32; 5] = [24, 23, 12, 105, 63];
 
-// Its numbers for faults of the network that are not faults of the listener (accept(2), "Error handling"): EPROTO,
-// ENOPROTOOPT, EHOSTDOWN, ENONET, EOPNOTSUPP and ETIMEDOUT.
+// The error numbers for faults of the network, and not of the listener (accept(2), "Error
+// handling"): EPROTO, ENOPROTOOPT, EHOSTDOWN, ENONET, EOPNOTSUPP and ETIMEDOUT.
 const NETWORK: [i32; 6] = [71, 92, 112, 64, 95, 110];
 
 impl<C: Conversation + Drop, A: Allocator + Copy> EventLoop<'_, C, A> {
-    /// Begins a conversation with the peer of the last event, if that was [`Event::Connected`].
+    /// Starts a conversation with the peer of the last event, if that was [`Event::Connected`].
     pub fn begin(&mut self, conversation: C)
         requires { C.holds conversation no_talk }
     {
@@ -40,8 +41,8 @@ impl<C: Conversation + Drop, A: Allocator + Copy> EventLoop<'_, C, A> {
         }
     }
 
-    /// Sends bytes to the peer of the last event, if that was [`Event::Refused`], and closes it. As many
-    /// are sent as the socket takes at once.
+    /// Sends bytes to the peer of the last event, if that was [`Event::Refused`], and closes it. It
+    /// sends only the bytes that the socket takes at once.
     pub fn refuse(&mut self, bytes: &[u8]) {
         if let Some(Caller::Refused(mut stream)) = self.caller.take() {
             let _ = stream.write(bytes);
@@ -49,7 +50,7 @@ impl<C: Conversation + Drop, A: Allocator + Copy> EventLoop<'_, C, A> {
         }
     }
 
-    /// Accepts a connection, if one waits.
+    /// Accepts a connection, if one is pending.
     pub(crate) fn accept(&mut self) -> io::Result<Option<Event<C, A>>> {
         match self.listener.accept() {
             Ok((stream, address)) => Ok(Some(self.receive(stream, address))),
@@ -60,7 +61,7 @@ impl<C: Conversation + Drop, A: Allocator + Copy> EventLoop<'_, C, A> {
         }
     }
 
-    // Takes in a caller, or refuses it.
+    // Accepts a caller, or refuses it.
     fn receive(&mut self, stream: TcpStream, address: SocketAddr) -> Event<C, A> {
         self.calls = Calls::Some;
         match self.refusal(address.ip()) {
@@ -77,7 +78,7 @@ impl<C: Conversation + Drop, A: Allocator + Copy> EventLoop<'_, C, A> {
         }
     }
 
-    // Why a peer from this IP address is refused, if it is.
+    // Returns the reason why a peer from this IP address is refused, if it is.
     fn refusal(&self, ip: IpAddr) -> Option<Refusal> {
         let peers = self.slots.len().saturating_sub(self.leavers as usize);
         if peers >= self.limits.at_once {
@@ -89,7 +90,7 @@ impl<C: Conversation + Drop, A: Allocator + Copy> EventLoop<'_, C, A> {
         }
     }
 
-    // Takes a peer among those that are served. It has its first turn once its socket is ready.
+    // Adds a peer to the served ones. It has its first turn when its socket is ready.
     fn admit(&mut self, peer: Peer<C, A>)
         requires { pending_of peer.connection ≡ [] }
     {
@@ -112,7 +113,8 @@ impl<C: Conversation + Drop, A: Allocator + Copy> EventLoop<'_, C, A> {
     }
 }
 
-// Whether connections may still wait after one was not accepted (accept(2)). It fails if no other can be accepted.
+// Whether more connections may be pending after an accept failed (accept(2)). Fails if no
+// connection can be accepted any more.
 fn calls_after(error: io::Error) -> io::Result<Calls> {
     match error.kind() {
         ErrorKind::WouldBlock => Ok(Calls::None),

@@ -1,26 +1,26 @@
-//! How many peers there are of each IP address.
+//! The number of peers of each IP address.
 
 ghost use Rattle.std.specs.Prelude.{◌<◌, IfSome, vec_len};
 
 use std::alloc::{AllocError, Allocator};
 use std::net::IpAddr;
 
-/// How many peers there are of each IP address. A search looks at each address once, not at each peer.
+/// The number of peers of each IP address. A search looks at each address once, not at each peer.
 #[derive(Drop)]
 pub(crate) struct Addresses<A: Allocator + Copy> {
-    // No address is there twice.
+    // Each address occurs once.
     counts: Vec<(IpAddr, usize), A>,
 }
 
 impl<A: Allocator + Copy> Addresses<A> {
-    /// No peers, which take no memory.
+    /// Returns an empty table. It does not allocate.
     pub(crate) fn new(alloc: A) -> Addresses<A> {
         Addresses {
             counts: Vec::new(alloc),
         }
     }
 
-    /// How many peers have this address.
+    /// Returns the number of peers with this address.
     pub(crate) fn count(&self, ip: IpAddr) -> usize {
         match self.position(ip) {
             Some(at) => self.counts[at].1,
@@ -28,7 +28,7 @@ impl<A: Allocator + Copy> Addresses<A> {
         }
     }
 
-    /// Counts a peer more. It fails only out of memory, and the peer is not counted then.
+    /// Counts one more peer. Fails only if out of memory, and then the peer is not counted.
     pub(crate) fn add(&mut self, ip: IpAddr) -> Result<(), AllocError> {
         match self.position(ip) {
             Some(at) => {
@@ -43,7 +43,7 @@ impl<A: Allocator + Copy> Addresses<A> {
         }
     }
 
-    /// Counts a peer less.
+    /// Counts one peer less.
     pub(crate) fn remove(&mut self, ip: IpAddr) {
         let Some(at) = self.position(ip) else {
             return;
@@ -56,7 +56,7 @@ impl<A: Allocator + Copy> Addresses<A> {
         }
     }
 
-    // The position of an address, if a peer has it.
+    // Returns the position of an address, if a peer has it.
     fn position(&self, ip: IpAddr) -> Option<usize>
         ensures { IfSome result (λ at. at < vec_len self.now.counts) }
     {

@@ -1,4 +1,4 @@
-//! The loop.
+//! The event loop.
 
 ghost use Rattle.gtalk.specs.Talks.{no_talk};
 
@@ -15,54 +15,54 @@ use std::io::{self, ErrorKind};
 use std::net::{Net, SocketAddr};
 use std::time::{Clock, Duration, Instant};
 
-// The listener's name among the sockets.
+// The listener's token among the sockets.
 const LISTENER: Token = Token(usize::MAX);
 
-// How often deadlines are looked at while there are peers, in milliseconds.
+// The interval at which deadlines are checked while there are peers, in milliseconds.
 const TICK: u64 = 100;
 
-// The most sockets that are reported at once.
+// The maximum number of sockets that are reported at once.
 const EVENTS: usize = 256;
 
-// The most connections that are accepted before the peers have their turn.
+// The maximum number of connections that are accepted before the peers have their turn.
 const ACCEPTS: u32 = 64;
 
-/// Whether connections may wait to be accepted.
+/// Whether connections may be pending.
 #[derive(Clone, Copy, PartialEq, Eq)]
 pub(crate) enum Calls {
-    /// None does.
+    /// None is pending.
     None,
-    /// Some may.
+    /// Some may be pending.
     Some,
-    /// Some may, and the system accepts none for now.
+    /// Some may be pending, but the system accepts none for now.
     Later,
 }
 
-/// A peer that was accepted, until the next event is asked for.
+/// An accepted peer, until the request for the next event.
 #[derive(Drop)]
 pub(crate) enum Caller {
-    /// A conversation may begin with it.
+    /// A conversation may start with it.
     Welcome(TcpStream, SocketAddr),
-    /// It is one too many.
+    /// It exceeds a limit.
     Refused(TcpStream),
 }
 
-// The part of a round that is next.
+// The next part of a round.
 #[derive(Clone, Copy)]
 enum Part {
     // Wait for sockets.
     Polls,
-    // Give those their turn that were reported.
+    // Give the reported sockets their turn.
     Moves,
-    // Accept so many connections more.
+    // Accept at most this number of further connections.
     Accepts(u32),
-    // Give up those that had their time, from this key on.
+    // Give up the peers whose time is over, starting at this key.
     GivesUp(usize),
 }
 
-/// Conversations with those who connect at a listener, many at once.
+/// Conversations with the peers of a listener, many at once.
 ///
-/// Ask it for one event after the other by [`next`](EventLoop::next).
+/// Call [`next`](EventLoop::next) for each event.
 #[derive(Drop)]
 pub struct EventLoop<'l, C: Conversation, A: Allocator + Copy> {
     pub(crate) alloc: A,
@@ -70,28 +70,29 @@ pub struct EventLoop<'l, C: Conversation, A: Allocator + Copy> {
     pub(crate) poll: Poll,
     pub(crate) listener: TcpListener,
     events: Events<A>,
-    // The keys of the sockets that were reported and had no turn yet. There is room for as many as are reported at once.
+    // The keys of the reported sockets that had no turn yet. There is room for all that are
+    // reported at once.
     ready: Vec<usize, A>,
     part: Part,
     pub(crate) calls: Calls,
     pub(crate) caller: Option<Caller>,
-    // A connection that ended as it began.
+    // A connection that ended as it started.
     pub(crate) failed: Option<Ended<C, A>>,
     pub(crate) slots: Slab<Slot<C, A>, A>,
-    /// How many peers are served from each IP address.
+    /// The number of served peers from each IP address.
     pub(crate) addresses: Addresses<A>,
-    /// How many of the slots are those of peers that leave.
+    /// The number of slots of leaving peers.
     pub(crate) leavers: u32,
-    /// How many connections were accepted. It stays at the greatest number if there are more.
+    /// The number of accepted connections. It saturates at the maximum.
     pub(crate) accepted: u32,
     pub(crate) now: Instant,
-    // When deadlines are looked at next.
+    // The time of the next check of the deadlines.
     next: Instant,
 }
 
 impl<'l, C: Conversation + Drop, A: Allocator + Copy> EventLoop<'l, C, A> {
-    /// A loop over a listener. It fails if the system cannot tell which sockets are ready, if the clock
-    /// fails, and out of memory.
+    /// Returns a loop over a listener. Fails if the system cannot report ready sockets, if the
+    /// clock fails, or if out of memory.
     pub fn new<R: Net + Clock>(
         rt: &R,
         alloc: A,
@@ -123,11 +124,11 @@ impl<'l, C: Conversation + Drop, A: Allocator + Copy> EventLoop<'l, C, A> {
         })
     }
 
-    /// Waits for the next event. `None` comes once as many connections were accepted as
-    /// [`Limits::accepted`] says, and all have ended. It comes again if the loop is asked again.
+    /// Waits for the next event. Returns `None` after as many connections were accepted as
+    /// [`Limits::accepted`] says, and all have ended. Later calls then also return `None`.
     ///
-    /// It fails if the system does not tell which sockets are ready, and if no connection can be accepted any
-    /// more. It may be asked again then.
+    /// Fails if the system does not report ready sockets, or if no connection can be accepted any
+    /// more. It may be called again after that.
     pub fn next<R: Clock>(&mut self, rt: &R) -> io::Result<Option<Event<C, A>>> {
         self.caller = None;
         if let Some(ended) = self.failed.take() {
@@ -198,7 +199,7 @@ impl<'l, C: Conversation + Drop, A: Allocator + Copy> EventLoop<'l, C, A> {
         Ok(())
     }
 
-    // How long to wait for a socket. Without peers there is no deadline.
+    // Returns the time to wait for a socket. Without peers there is no deadline.
     fn timeout(&self) -> Option<Duration> {
         match self.calls {
             Calls::Some => Some(Duration::ZERO),
@@ -207,14 +208,14 @@ impl<'l, C: Conversation + Drop, A: Allocator + Copy> EventLoop<'l, C, A> {
         }
     }
 
-    // Looks at the clock. If it fails, the time is as before.
+    // Reads the clock. If it fails, the time is unchanged.
     fn look<R: Clock>(&mut self, rt: &R) {
         if let Ok(now) = Instant::now(rt) {
             self.now = now;
         }
     }
 
-    // Gives a socket its turn that was reported.
+    // Gives a reported socket its turn.
     fn move_one(&mut self) -> Option<Event<C, A>> {
         match self.ready.pop() {
             Some(key) => self.advance(key),
@@ -225,7 +226,7 @@ impl<'l, C: Conversation + Drop, A: Allocator + Copy> EventLoop<'l, C, A> {
         }
     }
 
-    // Accepts a connection, if one waits and there may be one more.
+    // Accepts a connection, if one is pending and another is allowed.
     fn accept_one(&mut self, left: u32) -> io::Result<Option<Event<C, A>>> {
         if left == 0 || self.is_full() || self.calls == Calls::None {
             if self.is_full() {
@@ -242,7 +243,7 @@ impl<'l, C: Conversation + Drop, A: Allocator + Copy> EventLoop<'l, C, A> {
         Ok(accepted)
     }
 
-    // Deadlines are looked at now and then.
+    // Returns the part after the accepts. Deadlines are checked at intervals.
     fn after_accepts(&mut self) -> Part {
         if self.now < self.next {
             return Part::Polls;
@@ -252,7 +253,7 @@ impl<'l, C: Conversation + Drop, A: Allocator + Copy> EventLoop<'l, C, A> {
         Part::GivesUp(0)
     }
 
-    // Gives up the peer of a key, if it had its time.
+    // Gives up the peer of a key, if its time is over.
     fn give_up_next(&mut self, key: usize) -> Option<Event<C, A>> {
         if key >= self.slots.capacity() {
             self.part = Part::Polls;

@@ -1,4 +1,4 @@
-//! A peer whose connection has ended, until it closes its end.
+//! A peer whose connection has ended, until the peer closes its end.
 
 use crate::event::End;
 use crate::moving::After;
@@ -9,13 +9,14 @@ use std::time::{Duration, Instant};
 // The seconds that a peer has to close its end.
 const SECONDS: u64 = 2;
 
-// The most bytes of one read, and the most reads before another peer has its turn.
+// The maximum number of bytes of one read, and of reads before another peer has its turn.
 const PIECE: usize = 4_096;
 
 const READS: u32 = 64;
 
-/// A peer whose connection has ended. The bytes that it still sends are dropped. A socket that is closed over such bytes
-/// resets the connection, and the peer might then lose the last that was sent to it.
+/// A peer whose connection has ended. Further bytes from it are dropped. A socket that is closed
+/// with such bytes unread resets the connection. The peer might then lose the last bytes that were
+/// sent to it.
 #[derive(Drop)]
 pub(crate) struct Leaver {
     pub(crate) stream: TcpStream,
@@ -23,7 +24,7 @@ pub(crate) struct Leaver {
 }
 
 impl Leaver {
-    /// A peer to which nothing more is sent.
+    /// Returns a peer to which nothing more is sent.
     pub(crate) fn new(stream: TcpStream, now: Instant) -> Leaver {
         Leaver {
             stream,
@@ -31,7 +32,7 @@ impl Leaver {
         }
     }
 
-    /// Gives it up, if it had its time.
+    /// Gives it up, if its time is over.
     pub(crate) fn give_up(&self, now: Instant) -> After {
         if self.until <= now {
             After::Ends(End::Over)
@@ -40,7 +41,7 @@ impl Leaver {
         }
     }
 
-    /// Drops what came.
+    /// Drops the received bytes.
     pub(crate) fn advance(&mut self) -> After {
         let mut piece = [0; PIECE];
         for _ in 0..READS {

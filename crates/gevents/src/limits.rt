@@ -2,26 +2,26 @@
 
 use std::time::Duration;
 
-/// How many connections a loop has, and how long each peer may take. A time of `Duration::MAX` never ends.
+/// The number of connections of a loop, and the time limits of a peer. `Duration::MAX` is no limit.
 #[derive(Clone, Copy, Debug, Drop)]
 pub struct Limits {
-    /// How many connections are accepted before the loop ends. `None` if it goes on.
+    /// The number of connections that are accepted before the loop ends, or `None` for no end.
     pub accepted: Option<u32>,
-    /// The most connections at once.
+    /// The maximum number of connections at once.
     pub at_once: usize,
-    /// The most connections at once from one IP address.
+    /// The maximum number of connections at once from one IP address.
     pub at_once_of_address: usize,
-    /// The time for all that comes before the first answer, from the accept on.
+    /// The time for all packets before the first answer, since the accept.
     pub first_line: Duration,
-    /// The time until the first byte of a request, from the end of the last answer on.
+    /// The time until the first byte of a request, since the end of the last answer.
     pub silence: Duration,
-    /// The time for the rest of a request, from its first byte on.
+    /// The time for the rest of a request, since its first byte.
     pub request: Duration,
-    /// The time in which a peer takes no byte while some wait to be sent.
+    /// The maximum time for which a peer takes no byte while some are pending.
     pub taking: Duration,
     /// The time of the whole connection, to which `pace` adds.
     pub whole: Duration,
-    /// For each so many bytes that were sent the whole connection has a second more. If this is 0, it has none.
+    /// The number of sent bytes for which the whole connection has another second, or 0 for none.
     pub pace: u64,
 }
 

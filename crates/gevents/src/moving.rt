@@ -1,4 +1,4 @@
-//! The bytes of one peer, on a socket that does not block.
+//! Moving the bytes of one peer, on a nonblocking socket.
 
 ghost use Rattle.std.specs.Prelude.{◌≡◌, ◌<◌, ◌≤◌, [], Ok, IfOk, OnErr, Some, drop, length, take};
 ghost use Rattle.std.specs.Io.KnownBytes.{Consumes, IsAtEnd, Keeps};
@@ -18,11 +18,11 @@ use std::alloc::Allocator;
 use std::io::{self, ErrorKind, Read, Write};
 use std::time::Instant;
 
-// The most bytes of one read.
+// The maximum number of bytes of one read.
 const PIECE: usize = 4_096;
 
-// How often bytes are moved before another peer has its turn, and how often the conversation may say more
-// until then.
+// The maximum number of moves before another peer has its turn, and of times that the conversation
+// may say more until then.
 const MOVES: u32 = 256;
 
 const SAYINGS: u32 = 16;
@@ -32,7 +32,7 @@ const SAYINGS: u32 = 16;
 pub(crate) enum After {
     /// It waits for its socket.
     Waits,
-    /// More can be moved at once.
+    /// More bytes can be moved at once.
     GoesOn,
     /// Its connection has ended.
     Ends(End),
@@ -40,21 +40,22 @@ pub(crate) enum After {
 
 // One move of bytes.
 enum Move {
-    // It can go on.
+    // It can continue.
     Moved,
     // The peer said more.
     Heard,
     // The conversation said more.
     Spoke,
-    // The socket does not go on now.
+    // The socket can't continue now.
     Blocked,
     // The connection has ended.
     Ended(End),
 }
 
 impl<C: Conversation, A: Allocator + Copy> Peer<C, A> {
-    /// Moves bytes until the socket would block, or the connection has ended. An answer may take long to make,
-    /// so the turn is over, too, once the peer was heard after the conversation said something.
+    /// Moves bytes until the socket would block, or the connection has ended. An answer may take
+    /// long to compute. So the turn also ends if the peer is heard after the conversation said
+    /// something.
     pub(crate) fn advance(&mut self, now: Instant, limits: &Limits) -> After
         ensures { EndsBy C.turn self.new.connection result }
     {
@@ -72,8 +73,8 @@ impl<C: Conversation, A: Allocator + Copy> Peer<C, A> {
         After::GoesOn
     }
 
-    /// Gives the peer up, if it had its time. It has a turn before that, since its socket may be ready and not be
-    /// reported yet.
+    /// Gives the peer up, if its time is over. It has a turn before that, since its socket may be
+    /// ready but not reported yet.
     pub(crate) fn give_up(&mut self, now: Instant, limits: &Limits) -> After
         ensures { EndsBy C.turn self.new.connection result }
     {
@@ -90,7 +91,8 @@ impl<C: Conversation, A: Allocator + Copy> Peer<C, A> {
         }
     }
 
-    // Gives up a peer that had its time. If it is listened to, the conversation may say a last word.
+    // Gives up a peer whose time is over. If the loop listens to it, the conversation may say its
+    // last packets.
     fn give_up_late(&mut self, now: Instant, limits: &Limits) -> After
         ensures { EndsBy C.turn self.new.connection result }
     {
@@ -106,7 +108,7 @@ impl<C: Conversation, A: Allocator + Copy> Peer<C, A> {
         self.advance(now, limits)
     }
 
-    /// The connection, as it is handed back, and the socket.
+    /// Returns the ended connection, and the socket.
     pub(crate) fn end(self, end: End, now: Instant) -> (Ended<C, A>, TcpStream)
         requires { HasEnded C.turn self.connection end }
         ensures { IsEndOf self end result.0 }
@@ -151,10 +153,10 @@ impl<C: Conversation, A: Allocator + Copy> Peer<C, A> {
         match self.write_once() {
             Ok(0) => Move::Ended(End::Lost),
             Ok(_) => {
-                self.patience.sent(now, limits);
+                self.patience.note_sent(now, limits);
                 Move::Moved
             }
-            Err(error) => failed(error.kind()),
+            Err(error) => failed_move(error.kind()),
         }
     }
 
@@ -184,12 +186,12 @@ impl<C: Conversation, A: Allocator + Copy> Peer<C, A> {
         self.patience.listens(now, limits);
         match self.read_once() {
             Ok(()) => {
-                self.patience.received(now, limits);
+                self.patience.note_received(now, limits);
                 Move::Heard
             }
             Err(error) if is_passing(error.kind()) => {
                 self.rest();
-                failed(error.kind())
+                failed_move(error.kind())
             }
             Err(_) => {
                 self.fail();
@@ -205,12 +207,12 @@ impl<C: Conversation, A: Allocator + Copy> Peer<C, A> {
         read_some(&mut self.connection, &mut self.stream)
     }
 
-    // Keeps no room for what is said while the peer is silent.
+    // Frees the buffer for said packets while the peer is silent.
     fn rest(&mut self) {
         self.connection.give_back();
     }
 
-    // Has the conversation hear that nothing more comes.
+    // Reports a failed device to the conversation.
     fn fail(&mut self)
         requires { IsTurn C.turn self.old.connection Turn.Listens }
         ensures { has_stopped self.new.connection ≡ Some stop.Failed }
@@ -219,13 +221,13 @@ impl<C: Conversation, A: Allocator + Copy> Peer<C, A> {
     }
 }
 
-// Whether a socket that failed so may be tried again.
+// Whether a socket that failed with this error may be tried again.
 fn is_passing(kind: ErrorKind) -> bool {
     matches!(kind, ErrorKind::WouldBlock | ErrorKind::Interrupted)
 }
 
-// The move that failed so.
-fn failed(kind: ErrorKind) -> Move
+// Returns the move that failed with this error.
+fn failed_move(kind: ErrorKind) -> Move
     ensures { LosesAtMost result }
 {
     match kind {
@@ -235,7 +237,7 @@ fn failed(kind: ErrorKind) -> Move
     }
 }
 
-// How many bytes a write took.
+// Returns the number of bytes that a write took.
 fn written_count(written: &io::Result<usize>) -> usize
     ensures { result ≡ written_count written.now }
 {
@@ -245,7 +247,8 @@ fn written_count(written: &io::Result<usize>) -> usize
     }
 }
 
-// Writes once. So many bytes as the writer took are gone from those that wait; if it failed, all are still there.
+// Writes once. The bytes that the writer took are removed from the pending ones. If it failed, all
+// remain.
 fn write_some<C: Conversation, A: Allocator + Copy, W: Write>(
     connection: &mut Connection<C, A>,
     writer: &mut W,
@@ -259,14 +262,15 @@ fn write_some<C: Conversation, A: Allocator + Copy, W: Write>(
 {
     match writer.write(connection.output()) {
         Ok(count) => {
-            connection.sent(count);
+            connection.note_sent(count);
             Ok(count)
         }
         Err(error) => Err(error),
     }
 }
 
-// Reads once, and no further than the packet that is coming. Bytes are received, or the end of the input is.
+// Reads once, and not past the end of the current packet. It receives bytes, or the end of the
+// input.
 fn read_some<C: Conversation, A: Allocator + Copy, R: Read>(
     connection: &mut Connection<C, A>,
     reader: &mut R,
@@ -278,7 +282,7 @@ fn read_some<C: Conversation, A: Allocator + Copy, R: Read>(
     ensures err { OnErr result (connection.new ≡ connection.old) }
 {
     let mut piece = [0; PIECE];
-    let most = connection.wanted().min(PIECE);
+    let most = connection.receive_limit().min(PIECE);
     match read_front(reader, &mut piece, most) {
         Ok(0) => connection.receive_end(),
         Ok(count) => connection.receive(&piece[..count]),
@@ -287,7 +291,7 @@ fn read_some<C: Conversation, A: Allocator + Copy, R: Read>(
     Ok(())
 }
 
-// Reads so many bytes at most, into the front of `piece`.
+// Reads at most `most` bytes into the front of `piece`.
 fn read_front<R: Read>(reader: &mut R, piece: &mut [u8], most: usize) -> io::Result<usize>
     requires { most ≤ length piece.old }
     ensures few { IfOk result (λ n. n ≤ most) }

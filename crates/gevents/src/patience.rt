@@ -1,12 +1,12 @@
-//! How long a peer may take.
+//! The time limits of a peer.
 
 use crate::limits::Limits;
 use std::time::{Duration, Instant};
 
-// The next thing that a peer is to do.
+// The next action of a peer.
 #[derive(Clone, Copy, PartialEq, Eq)]
 enum Due {
-    // Send all that comes before the first answer.
+    // Send all packets before the first answer.
     FirstLine,
     // Send the first byte of a request.
     Request,
@@ -16,17 +16,17 @@ enum Due {
     Take,
 }
 
-/// The next thing that a peer is to do, and until when.
+/// The next action of a peer, and its deadline.
 #[derive(Clone, Copy)]
 pub(crate) struct Patience {
     began: Instant,
     due: Due,
-    // None if the clock does not go so far.
+    // `None` if the deadline is outside the range of the clock.
     until: Option<Instant>,
 }
 
 impl Patience {
-    /// A peer that connects now sends its first message next.
+    /// Returns the state of a peer that connects now: it sends its first message next.
     pub(crate) fn new(now: Instant, limits: &Limits) -> Patience {
         Patience {
             began: now,
@@ -35,12 +35,12 @@ impl Patience {
         }
     }
 
-    /// When the peer connected.
+    /// Returns the time at which the peer connected.
     pub(crate) fn began(&self) -> Instant {
         self.began
     }
 
-    /// Notes that the peer is listened to now.
+    /// Records that the loop listens to the peer now.
     pub(crate) fn listens(&mut self, now: Instant, limits: &Limits) {
         if self.due == Due::Take {
             self.due = Due::Request;
@@ -48,28 +48,28 @@ impl Patience {
         }
     }
 
-    /// Notes that bytes came.
-    pub(crate) fn received(&mut self, now: Instant, limits: &Limits) {
+    /// Records that bytes arrived.
+    pub(crate) fn note_received(&mut self, now: Instant, limits: &Limits) {
         if self.due == Due::Request {
             self.due = Due::Rest;
             self.until = after(now, limits.request);
         }
     }
 
-    /// Notes that bytes are to be sent.
+    /// Records that bytes are to be sent.
     pub(crate) fn speaks(&mut self, now: Instant, limits: &Limits) {
         if self.due != Due::Take {
-            self.sent(now, limits);
+            self.note_sent(now, limits);
         }
     }
 
-    /// Notes that bytes were sent.
-    pub(crate) fn sent(&mut self, now: Instant, limits: &Limits) {
+    /// Records that bytes were sent.
+    pub(crate) fn note_sent(&mut self, now: Instant, limits: &Limits) {
         self.due = Due::Take;
         self.until = after(now, limits.taking);
     }
 
-    /// Whether the peer had its time for what it is to do.
+    /// Whether the time for the peer's next action is over.
     pub(crate) fn is_late(&self, now: Instant) -> bool {
         match self.until {
             Some(until) => until <= now,
@@ -77,14 +77,14 @@ impl Patience {
         }
     }
 
-    /// Whether the whole connection had its time, on which so many bytes were sent.
+    /// Whether the time of the whole connection is over, after `sent` bytes were sent.
     pub(crate) fn is_overdue(&self, now: Instant, limits: &Limits, sent: u64) -> bool {
         let more = Duration::from_secs(sent.checked_div(limits.pace).unwrap_or(0));
         now.duration_since(self.began) >= limits.whole.saturating_add(more)
     }
 }
 
-// The moment after so much time, if the clock goes so far.
+// Returns the moment after this time, if the clock can represent it.
 fn after(now: Instant, time: Duration) -> Option<Instant> {
     now.checked_add(time)
 }

@@ -15,9 +15,9 @@ pub(crate) struct Peer<C: Conversation, A: Allocator + Copy> {
     pub(crate) address: SocketAddr,
     pub(crate) connection: Connection<C, A>,
     pub(crate) patience: Patience,
-    // How many bytes were sent. It stays at the greatest number if there are more.
+    // The number of bytes sent. It saturates at the maximum.
     pub(crate) sent: u64,
-    // Whether it was given up while it was listened to.
+    // Whether the loop was listening to it when it gave it up.
     pub(crate) was_silent: bool,
     ghost held: { ∥ IsCounted C.holds connection sent ∥₁ },
 }

@@ -1,4 +1,4 @@
-//! Those that are served.
+//! The slots of the served peers.
 
 ghost use Rattle.slab.specs.Slab.{get};
 ghost use Rattle.gevents.specs.Turns.{EndsAt, EndsSlot, HandsOut, HandsOutAfter, ended_in};
@@ -17,7 +17,7 @@ use std::alloc::Allocator;
 use std::net::Shutdown;
 use std::time::Instant;
 
-// The most peers that have time to close their ends.
+// The maximum number of peers that have time to close their ends.
 const LEAVERS: u32 = 256;
 
 /// A peer with a socket.
@@ -47,7 +47,7 @@ impl<C: Conversation, A: Allocator + Copy> Slot<C, A> {
         }
     }
 
-    // Gives it up, if it had its time.
+    // Gives it up, if its time is over.
     fn give_up(&mut self, now: Instant, limits: &Limits) -> After
         ensures { EndsSlot C.turn self.new result }
     {
@@ -65,7 +65,7 @@ impl<C: Conversation + Drop, A: Allocator + Copy> EventLoop<'_, C, A> {
         self.settle(key, after)
     }
 
-    /// Gives one up, if it had its time.
+    /// Gives up a slot, if its time is over.
     pub(crate) fn give_up_one(&mut self, key: usize) -> Option<Event<C, A>> {
         let after = give_up_at(&mut self.slots, key, self.now, self.limits);
         self.settle(key, after)
@@ -76,14 +76,14 @@ impl<C: Conversation + Drop, A: Allocator + Copy> EventLoop<'_, C, A> {
         requires { EndsAt C.turn (get self.old.slots key) after }
         ensures { HandsOutAfter (get self.old.slots key) after (ended_in result) }
     {
-        match self.settled(key, after) {
+        match self.end_of_turn(key, after) {
             Some(ended) => Some(Event::Ended(ended)),
             None => None,
         }
     }
 
-    // The connection that has ended with a turn.
-    fn settled(&mut self, key: usize, after: After) -> Option<Ended<C, A>>
+    // Returns the connection that ended with a turn.
+    fn end_of_turn(&mut self, key: usize, after: After) -> Option<Ended<C, A>>
         requires { EndsAt C.turn (get self.old.slots key) after }
         ensures { HandsOutAfter (get self.old.slots key) after result }
     {
@@ -95,7 +95,7 @@ impl<C: Conversation + Drop, A: Allocator + Copy> EventLoop<'_, C, A> {
         }
     }
 
-    /// Has a socket reported once it is ready, also if it is so now.
+    /// Has a socket reported when it is ready, even if it is ready now.
     pub(crate) fn watch(&mut self, key: usize, is_new: bool) -> bool {
         let Some(slot) = self.slots.get_mut(key) else {
             return false;
@@ -110,7 +110,7 @@ impl<C: Conversation + Drop, A: Allocator + Copy> EventLoop<'_, C, A> {
         watched.is_ok()
     }
 
-    /// Parts with one. A peer with which the conversation came to its end has time to close its end.
+    /// Removes a peer. It has time to close its end if its conversation is over.
     pub(crate) fn part_with(&mut self, key: usize, end: End) -> Option<Ended<C, A>>
         requires { EndsAt C.turn (get self.old.slots key) (After.Ends end) }
         ensures { HandsOut (get self.old.slots key) end result }
@@ -132,7 +132,8 @@ impl<C: Conversation + Drop, A: Allocator + Copy> EventLoop<'_, C, A> {
         }
     }
 
-    /// Sends nothing more to a peer, and lets it close its end. If too many leave, the connection is closed at once.
+    /// Sends nothing more to a peer, and lets it close its end. If too many peers leave, it closes
+    /// the connection at once.
     pub(crate) fn let_leave(&mut self, stream: TcpStream, is_new: bool) {
         let _ = stream.shutdown(Shutdown::Write);
         let mut leaver = Leaver::new(stream, self.now);
@@ -149,7 +150,7 @@ impl<C: Conversation + Drop, A: Allocator + Copy> EventLoop<'_, C, A> {
     }
 }
 
-// Gives the one at a key its turn.
+// Gives the slot at a key its turn.
 fn advance_at<C: Conversation, A: Allocator + Copy>(
     slots: &mut Slab<Slot<C, A>, A>,
     key: usize,
@@ -164,7 +165,7 @@ fn advance_at<C: Conversation, A: Allocator + Copy>(
     }
 }
 
-// Gives up the one at a key, if it had its time.
+// Gives up the slot at a key, if its time is over.
 fn give_up_at<C: Conversation, A: Allocator + Copy>(
     slots: &mut Slab<Slot<C, A>, A>,
     key: usize,

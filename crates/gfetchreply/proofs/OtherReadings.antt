@@ -4,12 +4,12 @@ use Rattle.std.specs.Prelude.{◌⊎◌, ◌&&◌, nat_le}
 use Rattle.std.proofs.lemmas.Bool.{and_parts, and_from, leb-true, le-leb}
 use Rattle.std.proofs.lemmas.Bool.Decides.{leb_tells}
 use Rattle.gpkt.specs.Change.{Change}
-use Rattle.gpkt.specs.LineReading.{Reads}
+use Rattle.gpkt.specs.PacketReading.{Reads}
 use Rattle.gpkt.specs.Packets.{Packet, Data, Flush, text}
 use Rattle.gpkt.specs.Bands.{BandPacket, band_form, Data as BandData}
 use Rattle.gpkt.specs.declared.fault.BandFault.{BandFault}
 use Rattle.ggrammar.specs.Grammar.{Judge, LawsOf, Open, Refused, Verdict, IsOpen, IsWhole, if_room}
-use Rattle.ggrammar.specs.MessageBytes.{known, IsOfBytes, LawsOfBytes}
+use Rattle.ggrammar.specs.MessageBytes.{known_bytes, IsOfBytes, LawsOfBytes}
 use Rattle.ggrammar.specs.MessageReading.{IsReasonAfter, ReadsRefused}
 use Rattle.ggrammar.specs.PeerErrors.{peer_error, unless_error}
 use Rattle.ggrammar.specs.declared.fault.MessageFault.{MessageFault}
@@ -17,7 +17,7 @@ use Rattle.ggrammar.specs.declared.fault.Why.{Why}
 use Rattle.ggrammar.specs.declared.fault.Why.TheVariants as why
 use Rattle.ggrammar.proofs.VerdictLemmas.{room_goes_on}
 use Rattle.gfetchreply.specs.FetchManual.{IsBody, IsPackSection}
-use Rattle.gfetchreply.specs.FetchReplies.{Reading, State, Place, Start, Acking, AfterNak, AfterReady, BeforePack, InPack}
+use Rattle.gfetchreply.specs.FetchReplies.{Reading, State, Point, Start, Acking, AfterNak, AfterReady, BeforePack, InPack}
 use Rattle.gfetchreply.specs.FetchReplies.{FetchReply, Acks, Ready, Pack, Says, brings, judge, judge_at, judge_band, judge_there, state_of, first_place}
 use Rattle.gfetchreply.specs.FetchReplies.{ReplyForm, Acknowledgments, Packfile, reply_form}
 use Rattle.gfetchreply.specs.FetchHeads.{pack_of}
@@ -140,7 +140,7 @@ error_more : (said : Option (List ℕ)) (limit more : ℕ) (state : State) (form
 error_more (Some said) limit more state form v longer e = inr e
 error_more None limit more state form v longer e = band_more limit more state form v longer e
 
-judge_more : (reading : Reading) (limit : ℕ) (state : State) (place : Place) (packet : Packet) (v : Verdict) → reading.limit ≤ limit → judge_there reading place state packet ≡ v
+judge_more : (reading : Reading) (limit : ℕ) (state : State) (place : Point) (packet : Packet) (v : Verdict) → reading.limit ≤ limit → judge_there reading place state packet ≡ v
     → (v ≡ Refused why.Limit) ⊎ (judge_there (record reading { limit = limit }) place state packet ≡ v)
 judge_more reading limit state InPack (Data payload) v more e = error_more (peer_error payload) reading.limit limit state (band_form payload) v more e
 judge_more reading limit state Start Flush v more e = inr e
@@ -210,7 +210,7 @@ over_limit laws bytes_laws reading limit packets front reply bytes new rest faul
           (let is = manual_from_says (record reading { limit = limit }) packets reply said in
           let short = body_short (record reading { limit = limit }) is.body reply is.is_body in
           let over = h.1 in
-          elim (refused_more reading limit front (known bytes new) fault (laws (judge (record reading { limit = limit }))) (omega arith) certain refused) [
+          elim (refused_more reading limit front (known_bytes bytes new) fault (laws (judge (record reading { limit = limit }))) (omega arith) certain refused) [
             | inl e ↦ e
             | inr r ↦
                 absurd ((bytes_laws (judge (record reading { limit = limit }))).refused (brings (record reading { limit = limit })) front packets bytes new rest fault r certain at said.whole)

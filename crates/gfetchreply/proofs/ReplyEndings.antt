@@ -8,7 +8,7 @@ use Rattle.ggrammar.specs.declared.ends.Ends.{Ends}
 use Rattle.ggrammar.specs.declared.ends.Ends.TheVariants.{Plain, Response}
 use Rattle.ggrammar.specs.declared.fault.Why.{Why}
 use Rattle.gfetchreply.proofs.ReplyForms.{word_there, form_reports_none}
-use Rattle.gfetchreply.specs.FetchReplies.{Reading, State, Place, Start, Acking, AfterNak, AfterReady, BeforePack, InPack, Over}
+use Rattle.gfetchreply.specs.FetchReplies.{Reading, State, Point, Start, Acking, AfterNak, AfterReady, BeforePack, InPack, Over}
 use Rattle.gfetchreply.specs.FetchReplies.{ReplyForm, Acknowledgments, Nak, Readiness, Packfile, Ack, reply_form}
 use Rattle.gfetchreply.specs.FetchReplies.{max_acks, max_packets, state_of, judge, judge_at, judge_start, judge_before_pack, next_place, bands_there}
 use Rattle.gfetchreply.proofs.ReplyVerdicts.{state_after, OpenFrom-from_open, IsWhole-from_left, WholeFrom-after_open}
@@ -74,7 +74,7 @@ as_ending reading state more few whole =
       whole = whole;
     }
 
-ending : (reading : Reading) (state : State) (place : Place) → state.place ≡ place → Ending reading state
+ending : (reading : Reading) (state : State) (place : Point) → state.place ≡ place → Ending reading state
 ending reading state Start here =
     as_ending reading state (Data heading_line ∷ []) (omega arith) (ends_start reading state here)
 ending reading state AfterReady here =
@@ -108,7 +108,7 @@ HasEndings-judge reading front opened = let last = short_ending reading front op
 -- ---- few packets
 
 -- how many packets may come that are neither acknowledged ids nor of the pack
-due : Place → ℕ
+due : Point → ℕ
 due Start = 5
 due Acking = 4
 due AfterNak = 1
@@ -130,7 +130,7 @@ record Step (reading : Reading) (old new : State) : Type 0 where
 as_step : (reading : Reading) (old a b : State) → a ≡ b → Step reading old b → Step reading old a
 as_step reading old a b e h = subst (λ (s : State). Step reading old s) (sym e) h
 
-move_step : (reading : Reading) (state : State) (from to : Place) → state.place ≡ from → Within reading state → due to < due from → Step reading state (moved state to)
+move_step : (reading : Reading) (state : State) (from to : Point) → state.place ≡ from → Within reading state → due to < due from → Step reading state (moved state to)
 move_step reading state from to here within less =
     let same : due state.place ≡ due from = ap due here in record { fewer = omega arith; within = record { ack_count = within.ack_count; band_count = within.band_count; byte_count = within.byte_count } }
 
@@ -157,7 +157,7 @@ band_step reading state payload here within on =
     let few = on.few in
     as_step reading state _ _ (state-band reading.format state payload here) (record { fewer = omega arith; within = record { ack_count = within.ack_count; band_count = omega arith; byte_count = on.short } })
 
-flush_step : (reading : Reading) (state : State) (place : Place) → state.place ≡ place → Within reading state
+flush_step : (reading : Reading) (state : State) (place : Point) → state.place ≡ place → Within reading state
     → acks_there reading.format place Flush ≡ [] → bands_there place Flush ≡ [] → next_place place Flush ≡ Over
     → 0 < due place
     → Step reading state (next_state reading.format state Flush)
@@ -169,7 +169,7 @@ flush_step reading state place here within no_acks no_bands over some =
 no_step : (reading : Reading) (state new : State) (v : Verdict) (why : Why) → v ≡ Refused why → v ≡ Open → Step reading state new
 no_step reading state new v why is e = absurd cc
 
-step_at : (reading : Reading) (state : State) (place : Place) (packet : Packet) → state.place ≡ place → Within reading state → judge_at reading state packet ≡ Open
+step_at : (reading : Reading) (state : State) (place : Point) (packet : Packet) → state.place ≡ place → Within reading state → judge_at reading state packet ≡ Open
     → Step reading state (next_state reading.format state packet)
 unfolding due
 step_at reading state Start (Data payload) here within goes =
@@ -193,7 +193,7 @@ step_at reading state AfterReady Delim here within goes =
 step_at reading state place packet here within goes =
     no_step reading state _ _ _ (at_place reading state place packet here) goes
 
-due_few : (place : Place) → due place ≤ 5
+due_few : (place : Point) → due place ≤ 5
 unfolding due
 due_few Start = omega arith
 due_few place = omega arith

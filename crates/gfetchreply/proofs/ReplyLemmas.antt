@@ -8,7 +8,7 @@ use Rattle.ggrammar.specs.Grammar.{IsWhole, Whole}
 use Rattle.ggrammar.specs.Kinds.{ReadsMessage, ReadsOrRefuses, SaysWhole, ReadsExactly, ReadsBack}
 use Rattle.ggrammar.specs.MessageReading.{ReadsWhole, ReadsRefused}
 use Rattle.ggrammar.specs.declared.fault.MessageFault.{MessageFault}
-use Rattle.gfetchreply.specs.FetchReplies.{Reading, State, Place, InPack, judge_at, place_of, state_of, brings_into}
+use Rattle.gfetchreply.specs.FetchReplies.{Reading, State, Point, InPack, judge_at, place_of, state_of, brings_into}
 use Rattle.gfetchreply.specs.FetchReplies.{judge, Says, FetchReply, reply_of, ack_texts, acks_of, band_payloads}
 use Rattle.gfetchreply.specs.FetchReplies.{data_of, is_ready, Acks, Ready, Pack, IsCanonical, canonical_reply}
 use Rattle.gfetchreply.specs.FetchHeads.{FetchHead, head_of, pack_of}
@@ -19,7 +19,7 @@ use Rattle.gfetchreply.proofs.StateLemmas.{pack_push}
 use Rattle.gfetchreply.proofs.ReplyEndings.{open_keeps_limit}
 use Rattle.gfetchreply.proofs.ReplyManual.{said_pack}
 use Rattle.gfetchreply.proofs.ReplyVerdicts.{data_not_whole}
-use Rattle.ggrammar.specs.MessageBytes.{known, IsOfBytes}
+use Rattle.ggrammar.specs.MessageBytes.{known_bytes, IsOfBytes}
 use Rattle.gfetchreply.specs.Laws.{HasReadInto, ReadsBackInto, ReadsIntoOnlySaid, ReadsIntoWhereSaid}
 use Rattle.gfetchreply.specs.WellFormed.{IsReplyIn}
 
@@ -35,7 +35,7 @@ head_is reading packets =
     heads reading.direct (is_ready (ack_texts reading.direct packets)) (acks_of reading.format (ack_texts reading.direct packets)) (data_of (band_payloads reading.direct packets))
 
 -- the last packet brings nothing of the pack
-last_none : (reading : Reading) (state : State) (place : Place) (packet : Packet) → state.place ≡ place → judge_at reading state packet ≡ Whole → data_there place packet ≡ []
+last_none : (reading : Reading) (state : State) (place : Point) (packet : Packet) → state.place ≡ place → judge_at reading state packet ≡ Whole → data_there place packet ≡ []
 last_none reading state InPack (Data payload) here e = absurd (data_not_whole reading state InPack payload here e)
 last_none reading state place (Data payload) here e = refl
 last_none reading state place packet here e = refl
@@ -111,12 +111,12 @@ module _ (refuses : Bool) (reading : Reading) where
   -- whatever is read of these bytes is this reply, and this is left of them
   abbrev IsRead : List ℕ → List ℕ → List ℕ → FetchReply → Type 0
   IsRead bytes new rest reply = (answer : Result FetchReply MessageFault)
-      → ReadsOrRefuses (judge reading) (brings_into refuses reading) (Says reading) (known bytes new) answer → IfErr answer (λ fault. IsOfBytes fault.why)
+      → ReadsOrRefuses (judge reading) (brings_into refuses reading) (Says reading) (known_bytes bytes new) answer → IfErr answer (λ fault. IsOfBytes fault.why)
       → (answer ≡ Ok reply) × (new ≡ rest)
 
   module _ {S : Type 0} (taken : S → List ℕ → Type 0) where
     read_into : (bytes new rest : List ℕ) (old sink : S) (result : Result FetchHead MessageFault) (reply : FetchReply)
-        → ReadsReply taken refuses reading (known bytes new) (taken old) sink result → IfErr result (λ fault. IsOfBytes fault.why)
+        → ReadsReply taken refuses reading (known_bytes bytes new) (taken old) sink result → IfErr result (λ fault. IsOfBytes fault.why)
         → IsRead bytes new rest reply → HasReadInto taken rest new old sink result reply
     read_into bytes new rest old sink (Ok head) reply read certain is =
         let h = is (Ok read.reply) read.read tt in

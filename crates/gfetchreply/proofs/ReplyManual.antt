@@ -7,13 +7,13 @@ use Rattle.std.proofs.lemmas.List.Elements.{All-head, All-tail}
 use Rattle.gpkt.specs.Packets.{Packet, Data, Flush, Delim, text}
 use Rattle.gname.specs.declared.formats.Format.{Format}
 use Rattle.ggrammar.specs.Grammar.{Judge, IsWhole}
-use Rattle.ggrammar.specs.Places.{collected}
+use Rattle.ggrammar.specs.Places.{collect}
 use Rattle.ggrammar.specs.Endings.{ends_with}
 use Rattle.ggrammar.specs.declared.ends.Ends.{Ends}
 use Rattle.ggrammar.specs.declared.ends.Ends.TheVariants.{Plain, Response}
 use Rattle.gfetchreply.specs.FetchManual.{IsAck, IsAckSection, IsPackSection, IsBody, IsFetchReply}
 use Rattle.gfetchreply.proofs.ReplyForms.{word_there}
-use Rattle.gfetchreply.specs.FetchReplies.{Reading, State, Place, Start, Acking, BeforePack, InPack, Over}
+use Rattle.gfetchreply.specs.FetchReplies.{Reading, State, Point, Start, Acking, BeforePack, InPack, Over}
 use Rattle.gfetchreply.specs.FetchReplies.{Acknowledgments, Nak, Readiness, Packfile}
 use Rattle.gfetchreply.specs.FetchReplies.{FetchReply, Acks, Ready, Pack, ReplyForm, reply_form, ack_id, is_readiness, is_ready}
 use Rattle.gfetchreply.specs.FetchReplies.{judge, judge_at, next_place, after_text, first_place, texts_there, bands_there, ack_texts, band_payloads, acks_of, data_of, reply_by, reply_of, Says}
@@ -26,11 +26,11 @@ use Rattle.gfetchreply.proofs.StateLemmas.{moved, next_state, acks_of-append, ac
 
 -- ---- what packets give
 
-abbrev texts : Place → List Packet → List (List ℕ)
-texts place packets = collected next_place texts_there place packets
+abbrev texts : Point → List Packet → List (List ℕ)
+texts place packets = collect next_place texts_there place packets
 
-abbrev bands : Place → List Packet → List (List ℕ)
-bands place packets = collected next_place bands_there place packets
+abbrev bands : Point → List Packet → List (List ℕ)
+bands place packets = collect next_place bands_there place packets
 
 over_texts : (ends : Ends) → texts Over (ends_with ends) ≡ []
 over_texts Plain = refl
@@ -61,14 +61,14 @@ packfile_there heading e = ap (after_text BeforePack) (word_there (text heading)
 section_texts : (ends : Ends) (limit : ℕ) (section : List Packet) (pack : List ℕ) → IsPackSection limit section pack → texts BeforePack (section ++ ends_with ends) ≡ []
 section_texts ends limit section pack is =
     ap (texts BeforePack) (section_parts ends limit section pack is)
-    ∙ (ap (λ (p : Place). texts p (map Data is.payloads ++ Flush ∷ ends_with ends)) (packfile_there is.heading is.is_heading)
+    ∙ (ap (λ (p : Point). texts p (map Data is.payloads ++ Flush ∷ ends_with ends)) (packfile_there is.heading is.is_heading)
     ∙ pack_texts ends is.payloads)
 
 section_bands : (ends : Ends) (limit : ℕ) (section : List Packet) (pack : List ℕ) → (is : IsPackSection limit section pack)
     → bands BeforePack (section ++ ends_with ends) ≡ is.payloads
 section_bands ends limit section pack is =
     ap (bands BeforePack) (section_parts ends limit section pack is)
-    ∙ (ap (λ (p : Place). bands p (map Data is.payloads ++ Flush ∷ ends_with ends)) (packfile_there is.heading is.is_heading)
+    ∙ (ap (λ (p : Point). bands p (map Data is.payloads ++ Flush ∷ ends_with ends)) (packfile_there is.heading is.is_heading)
     ∙ pack_bands ends is.payloads)
 
 ack_there : (format : Format) (ack : List ℕ) → IsAck format (text ack) → next_place Acking (Data ack) ≡ Acking
@@ -79,14 +79,14 @@ acks_texts : (format : Format) (acks : List (List ℕ)) (tail : List Packet) →
 acks_texts format [] tail are = refl
 acks_texts format (ack ∷ acks) tail are =
     ap (λ (xs : List (List ℕ)). text ack ∷ xs)
-    (ap (λ (p : Place). texts p (map Data acks ++ tail)) (ack_there format ack (All-head (IsAck format) (text ack) (map text acks) are))
+    (ap (λ (p : Point). texts p (map Data acks ++ tail)) (ack_there format ack (All-head (IsAck format) (text ack) (map text acks) are))
     ∙ acks_texts format acks tail (All-tail (IsAck format) (text ack) (map text acks) are))
 
 acks_bands : (format : Format) (acks : List (List ℕ)) (tail : List Packet) → All (IsAck format) (map text acks)
     → bands Acking (map Data acks ++ tail) ≡ bands Acking tail
 acks_bands format [] tail are = refl
 acks_bands format (ack ∷ acks) tail are =
-    ap (λ (p : Place). bands p (map Data acks ++ tail)) (ack_there format ack (All-head (IsAck format) (text ack) (map text acks) are))
+    ap (λ (p : Point). bands p (map Data acks ++ tail)) (ack_there format ack (All-head (IsAck format) (text ack) (map text acks) are))
     ∙ acks_bands format acks tail (All-tail (IsAck format) (text ack) (map text acks) are)
 
 heading_there : (heading : List ℕ) → text heading ≡ codes "acknowledgments" → next_place Start (Data heading) ≡ Acking
@@ -100,12 +100,12 @@ module _ (format : Format) (section : List Packet) (ids : List (List ℕ)) (is :
   headed_texts : texts Start (section ++ tail) ≡ map text is.acks ++ texts Acking tail
   headed_texts =
       ap (texts Start) headed_parts
-      ∙ (ap (λ (p : Place). texts p (map Data is.acks ++ tail)) (heading_there is.heading is.is_heading) ∙ acks_texts format is.acks tail is.are_acks)
+      ∙ (ap (λ (p : Point). texts p (map Data is.acks ++ tail)) (heading_there is.heading is.is_heading) ∙ acks_texts format is.acks tail is.are_acks)
 
   headed_bands : bands Start (section ++ tail) ≡ bands Acking tail
   headed_bands =
       ap (bands Start) headed_parts
-      ∙ (ap (λ (p : Place). bands p (map Data is.acks ++ tail)) (heading_there is.heading is.is_heading) ∙ acks_bands format is.acks tail is.are_acks)
+      ∙ (ap (λ (p : Point). bands p (map Data is.acks ++ tail)) (heading_there is.heading is.is_heading) ∙ acks_bands format is.acks tail is.are_acks)
 
 -- ---- what texts say
 
@@ -188,9 +188,9 @@ gives_by reading body (Acks ids) (direct, inl (no_ids, is)) =
     subst (λ (xs : List (List ℕ)). Gives reading (body ++ ends_with reading.ends) (Acks xs)) (sym no_ids)
     (gives_acks reading body is.section (Data is.nak ∷ Flush ∷ []) []
     (text is.nak ∷ []) [] false direct is.acks is.parts
-    (ap (λ (p : Place). text is.nak ∷ texts p (Flush ∷ ends_with reading.ends)) after
+    (ap (λ (p : Point). text is.nak ∷ texts p (Flush ∷ ends_with reading.ends)) after
     ∙ ap (λ (xs : List (List ℕ)). text is.nak ∷ xs) (over_texts reading.ends))
-    (ap (λ (p : Place). bands p (Flush ∷ ends_with reading.ends)) after ∙ over_bands reading.ends)
+    (ap (λ (p : Point). bands p (Flush ∷ ends_with reading.ends)) after ∙ over_bands reading.ends)
     (acks_of-one reading.format (text is.nak) None (ap (ack_id reading.format) form))
     (ap (λ (f : ReplyForm). is_readiness f || false) form) refl)
 gives_by reading body (Acks ids) (direct, inr is) =
@@ -204,9 +204,9 @@ gives_by reading body (Ready ids pack) (direct, is) =
     (gives_acks reading body is.section (Data is.readiness ∷ Delim ∷ is.rest) ids
     (text is.readiness ∷ []) is.packs.payloads true
     direct is.acks is.parts
-    (ap (λ (p : Place). text is.readiness ∷ texts p rest) after
+    (ap (λ (p : Point). text is.readiness ∷ texts p rest) after
     ∙ ap (λ (xs : List (List ℕ)). text is.readiness ∷ xs) (section_texts reading.ends reading.limit is.rest pack is.packs))
-    (ap (λ (p : Place). bands p rest) after ∙ section_bands reading.ends reading.limit is.rest pack is.packs)
+    (ap (λ (p : Point). bands p rest) after ∙ section_bands reading.ends reading.limit is.rest pack is.packs)
     (acks_of-one reading.format (text is.readiness) None (ap (ack_id reading.format) form))
     (ap (λ (f : ReplyForm). is_readiness f || false) form) refl)
 gives_by reading body (Pack pack) (direct, is) = record {

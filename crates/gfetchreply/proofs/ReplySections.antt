@@ -13,7 +13,7 @@ use Rattle.ggrammar.specs.declared.ends.Ends.TheVariants.{Plain, Response}
 use Rattle.ggrammar.specs.declared.fault.Why.{Why}
 use Rattle.gfetchreply.specs.FetchManual.{IsDataOrProgress, IsPackSection, IsAck}
 use Rattle.gfetchreply.proofs.ReplyForms.{form_there, word_there, form_reports_none, band_reports_none}
-use Rattle.gfetchreply.specs.FetchReplies.{Reading, State, Place, Start, Acking, AfterReady, BeforePack, InPack, Over}
+use Rattle.gfetchreply.specs.FetchReplies.{Reading, State, Point, Start, Acking, AfterReady, BeforePack, InPack, Over}
 use Rattle.gfetchreply.specs.FetchReplies.{Acknowledgments, Packfile, reply_form, max_packets, data_in, data_of}
 use Rattle.gfetchreply.specs.FetchReplies.{judge_at, judge_before_pack, next_place, after_text}
 use Rattle.gfetchreply.specs.FetchReplies.{AfterNak, ReplyForm, Nak, Readiness, Ack, ack_id, max_acks}
@@ -41,7 +41,7 @@ goes_on v never (inl h) = absurd (never h.0)
 goes_on v never (inr h) = h
 
 -- data goes on, where it is due
-pub data_goes : (reading : Reading) (state : State) (place : Place) (payload : List ℕ) (rest : List Packet) → state.place ≡ place
+pub data_goes : (reading : Reading) (state : State) (place : Point) (payload : List ℕ) (rest : List Packet) → state.place ≡ place
     → IsWholeAt reading state (Data payload ∷ rest)
     → (judge_payload reading place state payload ≡ Open)
     × IsWholeAt reading (next_state reading.format state (Data payload)) rest
@@ -83,7 +83,7 @@ rest_by Response rest (inl h) = let no = h.0 in cc
 rest_by Response rest (inr h) = h.1
 
 -- what follows a flush that ends the reply, and completes it
-pub flush_rest : (reading : Reading) (state : State) (place : Place) (rest : List Packet) → state.place ≡ place
+pub flush_rest : (reading : Reading) (state : State) (place : Point) (rest : List Packet) → state.place ≡ place
     → judge_there reading place state Flush ≡ at_flush reading.ends → next_place place Flush ≡ Over
     → IsWholeAt reading state (Flush ∷ rest) → Flush ∷ rest ≡ Flush ∷ ends_with reading.ends
 flush_rest reading state place rest here judged over h = ap (λ (xs : List Packet). Flush ∷ xs) (by_end h) where
@@ -97,7 +97,7 @@ flush_rest reading state place rest here judged over h = ap (λ (xs : List Packe
       (inr (
         sym at ∙ k.0,
         over_rest reading (next_state reading.format state Flush) rest
-            (ap (λ (p : Place). next_place p Flush) here ∙ over) k.1,
+            (ap (λ (p : Point). next_place p Flush) here ∙ over) k.1,
       ))
 
 by_rest : (reading : Reading) (state next : State) (ends : Ends) → next.place ≡ Over → judge_at reading state Flush ≡ at_flush ends
@@ -105,12 +105,12 @@ by_rest : (reading : Reading) (state next : State) (ends : Ends) → next.place 
 by_rest reading state next Plain over at = inl (at, refl)
 by_rest reading state next Response over at = inr (at, inl (at_place reading next Over ResponseEnd over, refl))
 
-pub rest_flush : (reading : Reading) (state : State) (place : Place) → state.place ≡ place
+pub rest_flush : (reading : Reading) (state : State) (place : Point) → state.place ≡ place
     → judge_there reading place state Flush ≡ at_flush reading.ends → next_place place Flush ≡ Over
     → IsWholeAt reading state (Flush ∷ ends_with reading.ends)
 rest_flush reading state place here judged over =
     by_rest reading state (next_state reading.format state Flush) reading.ends
-    (ap (λ (p : Place). next_place p Flush) here ∙ over) (at_place reading state place Flush here ∙ judged)
+    (ap (λ (p : Point). next_place p Flush) here ∙ over) (at_place reading state place Flush here ∙ judged)
 
 -- ---- the bytes of the pack
 

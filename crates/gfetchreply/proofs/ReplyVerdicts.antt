@@ -18,7 +18,7 @@ use Rattle.ggrammar.specs.declared.ends.Ends.TheVariants.{Plain, Response}
 use Rattle.ggrammar.specs.declared.fault.Why.TheVariants as why
 use Rattle.ggrammar.proofs.VerdictLemmas.{open_unless, past_error, room_goes_on, room_left, whole_unless}
 use Rattle.gfetchreply.specs.FetchManual.{IsDataOrProgress}
-use Rattle.gfetchreply.specs.FetchReplies.{Reading, State, Place, Start, Acking, AfterNak, BeforePack, InPack, Over}
+use Rattle.gfetchreply.specs.FetchReplies.{Reading, State, Point, Start, Acking, AfterNak, BeforePack, InPack, Over}
 use Rattle.gfetchreply.specs.FetchReplies.{ReplyForm, Acknowledgments, Nak, Readiness, Packfile, Ack, OtherForm}
 use Rattle.gfetchreply.specs.FetchReplies.{max_acks, max_packets, data_in, judge, judge_at, judge_there, judge_acking}
 use Rattle.gfetchreply.specs.FetchReplies.{judge_start, judge_before_pack, judge_late, judge_band, judge_payload}
@@ -140,27 +140,27 @@ judge_is reading = λ i. λ front packet. judge_at reading (state_from_start rea
 
 -- ---- by place
 
-pub at_place : (reading : Reading) (state : State) (place : Place) (packet : Packet) → state.place ≡ place
+pub at_place : (reading : Reading) (state : State) (place : Point) (packet : Packet) → state.place ≡ place
     → judge_at reading state packet ≡ judge_there reading place state packet
 unfolding judge_at
-at_place reading state place packet here = ap (λ (p : Place). judge_there reading p state packet) here
+at_place reading state place packet here = ap (λ (p : Point). judge_there reading p state packet) here
 
-data_there : (reading : Reading) (place : Place) (state : State) (payload : List ℕ)
+data_there : (reading : Reading) (place : Point) (state : State) (payload : List ℕ)
     → judge_there reading place state (Data payload) ≡ unless_error (peer_error payload) (judge_payload reading place state payload)
 data_there reading Start state payload = refl
 data_there reading place state payload = refl
 
-pub data_judged : (reading : Reading) (state : State) (place : Place) (payload : List ℕ) → state.place ≡ place
+pub data_judged : (reading : Reading) (state : State) (place : Point) (payload : List ℕ) → state.place ≡ place
     → judge_at reading state (Data payload) ≡ unless_error (peer_error payload) (judge_payload reading place state payload)
 data_judged reading state place payload here =
     at_place reading state place (Data payload) here ∙ data_there reading place state payload
 
-pub data_open : (reading : Reading) (state : State) (place : Place) (payload : List ℕ) → state.place ≡ place
+pub data_open : (reading : Reading) (state : State) (place : Point) (payload : List ℕ) → state.place ≡ place
     → judge_at reading state (Data payload) ≡ Open → judge_payload reading place state payload ≡ Open
 data_open reading state place payload here e =
     open_unless (peer_error payload) _ (sym (data_judged reading state place payload here) ∙ e)
 
-pub open_data : (reading : Reading) (state : State) (place : Place) (payload : List ℕ) → state.place ≡ place
+pub open_data : (reading : Reading) (state : State) (place : Point) (payload : List ℕ) → state.place ≡ place
     → peer_error payload ≡ None → judge_payload reading place state payload ≡ Open → judge_at reading state (Data payload) ≡ Open
 open_data reading state place payload here none e =
     data_judged reading state place payload here
@@ -201,7 +201,7 @@ part_band limit state (Ok (Fatal bytes)) = tt
 part_band limit state (Ok band) = part_room _
 part_band limit state (Err fault) = tt
 
-part_payload : (reading : Reading) (place : Place) (state : State) (payload : List ℕ) → IsPart (judge_payload reading place state payload)
+part_payload : (reading : Reading) (place : Point) (state : State) (payload : List ℕ) → IsPart (judge_payload reading place state payload)
 part_payload reading Start state payload = part_start _
 part_payload reading Acking state payload = part_acking reading.format state _
 part_payload reading BeforePack state payload = part_before _
@@ -213,7 +213,7 @@ part_not_whole : (verdict : Verdict) → IsPart verdict → verdict ≡ Whole �
 part_not_whole Whole h e = h
 part_not_whole verdict h e = cc
 
-pub data_not_whole : (reading : Reading) (state : State) (place : Place) (payload : List ℕ) → state.place ≡ place
+pub data_not_whole : (reading : Reading) (state : State) (place : Point) (payload : List ℕ) → state.place ≡ place
     → judge_at reading state (Data payload) ≡ Whole → ⊥
 data_not_whole reading state place payload here e =
     part_not_whole _ (part_payload reading place state payload)
@@ -227,7 +227,7 @@ flush_for_packet : (ends : Ends) → IsForPacket (at_flush ends)
 flush_for_packet Plain = tt
 flush_for_packet Response = tt
 
-there_for_packet : (reading : Reading) (place : Place) (state : State) (packet : Packet)
+there_for_packet : (reading : Reading) (place : Point) (state : State) (packet : Packet)
     → IsForPacket (judge_there reading place state packet)
 there_for_packet reading place state (Data payload) =
     subst IsForPacket (sym (data_there reading place state payload))

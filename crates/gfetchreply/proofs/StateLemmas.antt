@@ -8,8 +8,8 @@ use Rattle.gpkt.specs.Packets.{Packet, Data, text, Flush, Delim, ResponseEnd}
 use Rattle.gpkt.specs.Bands.{band_form}
 use Rattle.gname.specs.declared.formats.Format.{Format}
 use Rattle.ggrammar.specs.Ids.{id_of_text}
-use Rattle.ggrammar.proofs.PlaceLemmas.{place_after-push, collected-push}
-use Rattle.gfetchreply.specs.FetchReplies.{Reading, State, Place, Acking, InPack, ReplyForm, Ack, after_text}
+use Rattle.ggrammar.proofs.PlaceLemmas.{place_after-push, collect-push}
+use Rattle.gfetchreply.specs.FetchReplies.{Reading, State, Point, Acking, InPack, ReplyForm, Ack, after_text}
 use Rattle.gfetchreply.specs.FetchReplies.{first_place, next_place, place_of, texts_there, bands_there, ack_texts}
 use Rattle.gfetchreply.specs.FetchReplies.{band_payloads, acks_of, ack_id, data_of, data_in, reply_form, state_of}
 use Rattle.gfetchreply.specs.FetchReplies.{Start, AfterNak, AfterReady, BeforePack, Over, Acknowledgments, Nak}
@@ -35,12 +35,12 @@ place_of-push direct front packet = place_after-push next_place (first_place dir
 pub ack_texts-push : (direct : Bool) (front : List Packet) (packet : Packet)
     → ack_texts direct (front ++ packet ∷ []) ≡ ack_texts direct front ++ texts_there (place_of direct front) packet
 unfolding ack_texts
-ack_texts-push direct front packet = collected-push next_place texts_there (first_place direct) front packet
+ack_texts-push direct front packet = collect-push next_place texts_there (first_place direct) front packet
 
 pub band_payloads-push : (direct : Bool) (front : List Packet) (packet : Packet)
     → band_payloads direct (front ++ packet ∷ []) ≡ band_payloads direct front ++ bands_there (place_of direct front) packet
 unfolding band_payloads
-band_payloads-push direct front packet = collected-push next_place bands_there (first_place direct) front packet
+band_payloads-push direct front packet = collect-push next_place bands_there (first_place direct) front packet
 
 pub ack_texts-nil : (direct : Bool) → ack_texts direct [] ≡ []
 unfolding ack_texts
@@ -59,7 +59,7 @@ pub data_of-append : (xs ys : List (List ℕ)) → data_of (xs ++ ys) ≡ data_o
 data_of-append xs ys = flat_map-append (λ payload. data_in (band_form payload)) xs ys
 
 -- the ids that a packet acknowledges at a place
-abbrev pub acks_there : Format → Place → Packet → List (List ℕ)
+abbrev pub acks_there : Format → Point → Packet → List (List ℕ)
 acks_there format place packet = acks_of format (texts_there place packet)
 
 pub acks-push : (reading : Reading) (front : List Packet) (packet : Packet)
@@ -121,11 +121,11 @@ pub data_of-one : (payload : List ℕ) → data_of (payload ∷ []) ≡ data_in 
 data_of-one payload = append-nil (data_in (band_form payload))
 
 -- at another place
-abbrev pub moved : State → Place → State
+abbrev pub moved : State → Point → State
 moved state place = record { place = place; ack_count = state.ack_count; band_count = state.band_count; byte_count = state.byte_count }
 
 -- what a packet gives where the place is known
-gives : (format : Format) (state : State) (place to : Place) (packet : Packet) (acks bands : List (List ℕ))
+gives : (format : Format) (state : State) (place to : Point) (packet : Packet) (acks bands : List (List ℕ))
     → state.place ≡ place
     → next_place place packet ≡ to → acks_there format place packet ≡ acks → bands_there place packet ≡ bands
     → next_state format state packet
@@ -136,14 +136,14 @@ gives : (format : Format) (state : State) (place to : Place) (packet : Packet) (
       byte_count = state.byte_count + length (data_of bands);
     }
 gives format state place to packet acks bands here over is are =
-    same_state (ap (λ (p : Place). next_place p packet) here ∙ over)
-    (ap (λ (p : Place). state.ack_count + length (acks_there format p packet)) here ∙ ap (λ (xs : List (List ℕ)). state.ack_count + length xs) is)
-    (ap (λ (p : Place). state.band_count + length (bands_there p packet)) here ∙ ap (λ (xs : List (List ℕ)). state.band_count + length xs) are)
-    (ap (λ (p : Place). state.byte_count + length (data_of (bands_there p packet))) here
+    same_state (ap (λ (p : Point). next_place p packet) here ∙ over)
+    (ap (λ (p : Point). state.ack_count + length (acks_there format p packet)) here ∙ ap (λ (xs : List (List ℕ)). state.ack_count + length xs) is)
+    (ap (λ (p : Point). state.band_count + length (bands_there p packet)) here ∙ ap (λ (xs : List (List ℕ)). state.band_count + length xs) are)
+    (ap (λ (p : Point). state.byte_count + length (data_of (bands_there p packet))) here
     ∙ ap (λ (xs : List (List ℕ)). state.byte_count + length (data_of xs)) are)
 
 -- a packet that gives nothing changes at most the place
-pub moves : (format : Format) (state : State) (place to : Place) (packet : Packet) → state.place ≡ place
+pub moves : (format : Format) (state : State) (place to : Point) (packet : Packet) → state.place ≡ place
     → next_place place packet ≡ to → acks_there format place packet ≡ [] → bands_there place packet ≡ []
     → next_state format state packet ≡ moved state to
 moves format state place to packet here over is are =
@@ -195,7 +195,7 @@ kept_of-nil format direct =
     (ap (λ xs. length (data_of xs)) (sym (band_payloads-nil direct)))
 
 -- at this place, with these texts of the acknowledgments and payloads of the pack more
-grown : Kept → Place → List (List ℕ) → List (List ℕ) → Kept
+grown : Kept → Point → List (List ℕ) → List (List ℕ) → Kept
 grown kept place texts payloads = record {
   place = place;
   acks = record { format = kept.acks.format; ids = kept.acks.ids ++ acks_of kept.acks.format texts };
@@ -216,17 +216,17 @@ kept_of-push format direct front packet =
     (ap length (data-push direct front packet) ∙ length-append (data_of (band_payloads direct front)) (data_of (bands_there (place_of direct front) packet)))
 
 -- a packet that gives nothing changes at most the place
-grown-none : (kept : Kept) (place : Place) → grown kept place [] [] ≡ record kept { place = place }
+grown-none : (kept : Kept) (place : Point) → grown kept place [] [] ≡ record kept { place = place }
 unfolding grown
 grown-none kept place =
     same_kept refl (same_acks refl (append-nil kept.acks.ids)) (or-false kept.ready) (add-zero kept.band_count) (add-zero kept.byte_count)
 
 -- and none at all where the place stays
-grown-same : (kept : Kept) (place : Place) → kept.place ≡ place → grown kept place [] [] ≡ kept
+grown-same : (kept : Kept) (place : Point) → kept.place ≡ place → grown kept place [] [] ≡ kept
 grown-same kept place here = grown-none kept place ∙ same_kept (sym here) refl refl refl refl
 
 -- a text of the acknowledgments
-grown-text : (kept : Kept) (place : Place) (line : List ℕ) (ids : List (List ℕ)) (ready : Bool) → acks_of kept.acks.format (line ∷ []) ≡ ids
+grown-text : (kept : Kept) (place : Point) (line : List ℕ) (ids : List (List ℕ)) (ready : Bool) → acks_of kept.acks.format (line ∷ []) ≡ ids
     → is_readiness (reply_form line) ≡ ready
     → grown kept place (line ∷ []) []
     ≡ record { place = place; acks = record { format = kept.acks.format; ids = kept.acks.ids ++ ids }; ready = kept.ready || ready; band_count = kept.band_count; byte_count = kept.byte_count }
@@ -236,13 +236,13 @@ grown-text kept place line ids ready acks is =
     (ap (λ (b : Bool). kept.ready || b) (or-false (is_readiness (reply_form line)) ∙ is)) (add-zero kept.band_count) (add-zero kept.byte_count)
 
 -- one that acknowledges nothing
-grown-word : (kept : Kept) (place : Place) (line : List ℕ) (form : ReplyForm) → reply_form line ≡ form → ack_id kept.acks.format form ≡ None
+grown-word : (kept : Kept) (place : Point) (line : List ℕ) (form : ReplyForm) → reply_form line ≡ form → ack_id kept.acks.format form ≡ None
     → is_readiness form ≡ false → grown kept place (line ∷ []) [] ≡ record kept { place = place }
 grown-word kept place line form is none word =
     grown-text kept place line [] false (acks_of-one kept.acks.format line None (ap (ack_id kept.acks.format) is ∙ none)) (ap is_readiness is ∙ word)
     ∙ same_kept refl (same_acks refl (append-nil kept.acks.ids)) (or-false kept.ready) refl refl
 
-stays : (kept : Kept) (place : Place) → kept.place ≡ place → record kept { place = place } ≡ kept
+stays : (kept : Kept) (place : Point) → kept.place ≡ place → record kept { place = place } ≡ kept
 stays kept place here = same_kept (sym here) refl refl refl refl
 
 -- a text where the acknowledgments are due, by its form
@@ -275,7 +275,7 @@ band_adds kept payload here =
     (ap (λ (xs : List ℕ). kept.byte_count + length xs) (data_of-one payload))
 
 -- any packet, by where it stands
-packet_adds : (kept : Kept) (place : Place) (packet : Packet)
+packet_adds : (kept : Kept) (place : Point) (packet : Packet)
     → grown (record kept { place = place }) (next_place place packet) (texts_there place packet) (bands_there place packet) ≡ with_packet (record kept { place = place }) packet
 packet_adds kept Start (Data payload) = start_adds (record kept { place = Start }) (reply_form (text payload)) refl
 packet_adds kept Acking (Data payload) = acking_adds (record kept { place = Acking }) (text payload) (reply_form (text payload)) refl refl
@@ -292,7 +292,7 @@ kept_push format direct front packet =
     kept_of-push format direct front packet ∙ packet_adds (kept_of format direct front) (place_of direct front) packet
 
 -- the pack's data of a packet more
-bands_data : (packet : Packet) (place : Place) → data_of (bands_there place packet) ≡ data_there place packet
+bands_data : (packet : Packet) (place : Point) → data_of (bands_there place packet) ≡ data_there place packet
 bands_data (Data payload) InPack = data_of-one payload
 bands_data Flush InPack = refl
 bands_data Delim InPack = refl

@@ -5,11 +5,11 @@ use Rattle.std.proofs.Common.{subst}
 use Rattle.std.specs.Prelude.{IfErr, IsErrAnd, IsErrOf, All, ◌&&◌}
 use Rattle.gpkt.specs.Bands.{max_band}
 use Rattle.gpkt.specs.Laws.{Fits}
-use Rattle.gpkt.specs.LineWriting.{Writer, HasWritten}
+use Rattle.gpkt.specs.PacketWriting.{Writer, HasWritten}
 use Rattle.gpkt.specs.Packets.{Packet, canonical, max_payload, payload_of}
 use Rattle.gpkt.specs.declared.fault.WriteFault.{WriteFault}
 use Rattle.gpkt.specs.declared.fault.WriteFault.TheVariants.{Payload}
-use Rattle.ggrammar.specs.Writing.{IsWriting, WritesLines, WritesLine, WritesFitting, LinesArePart, StartsWriting}
+use Rattle.ggrammar.specs.Writing.{IsWriting, WritesPackets, WritesPacket, WritesFitting, PacketsArePart, StartsWriting}
 use Rattle.ggrammar.specs.Writing.{GoesOnWriting, GoesOnAfterPart, FailsWriting, EndsWriting}
 use Rattle.gfetchreply.specs.FetchReplies.{ack_packet}
 use Rattle.std.specs.List.{list_all}
@@ -50,12 +50,12 @@ fits_band (Ok done) bytes h short = tt
 fits_band (Err fault) bytes h short = λ e. let long = (h.0 cc).1 in omega (arith, long, short)
 
 module _ {W : Type 0} (contents passed_on : W → Option (List ℕ)) (is_down : W → Bool) (loans : W → List ℕ) where
-  -- the laws of writing, as `writes_lines` has them
+  -- the laws of writing, as `writes_packets` has them
   abbrev Laws : Type 0
   Laws = record {
-    line : WritesLine contents passed_on is_down loans;
+    line : WritesPacket contents passed_on is_down loans;
     fitting : WritesFitting contents passed_on is_down loans;
-    part : LinesArePart contents passed_on is_down loans;
+    part : PacketsArePart contents passed_on is_down loans;
     starts : StartsWriting contents passed_on is_down loans;
     goes_on : GoesOnWriting contents passed_on is_down loans;
     after_part : GoesOnAfterPart contents passed_on is_down loans;
@@ -83,7 +83,7 @@ module _ {W : Type 0} {contents passed_on : W → Option (List ℕ)} {is_down : 
       → {start new : Writer W} {fault : WriteFault} {result : Result (Unit {0}) WriteFault} (line : Packet)
       (rest : List Packet) → WritesText contents passed_on is_down loans start new (Err fault) line → Fits line
       → IsErrAnd result (λ other. other ≡ fault)
-      → WritesLines contents passed_on is_down loans start new result (line ∷ rest)
+      → WritesPackets contents passed_on is_down loans start new result (line ∷ rest)
   heading_fails law line rest text short =
       law.fails _ _ _ _ _ (line ∷ []) rest _ _ (law.starts _ _) refl
       (law.fitting _ _ (Err _) line text.written text.too_long short)

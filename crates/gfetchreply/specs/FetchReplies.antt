@@ -19,7 +19,7 @@ use Rattle.gname.specs.declared.formats.Format.{Format}
 use Rattle.ggrammar.specs.Grammar.{Verdict, Open, Refused, IsWhole, if_room}
 use Rattle.ggrammar.specs.Endings.{ends_with, at_flush, after_flush}
 use Rattle.ggrammar.specs.declared.ends.Ends.{Ends}
-use Rattle.ggrammar.specs.Places.{place_after, collected}
+use Rattle.ggrammar.specs.Places.{place_after, collect}
 use Rattle.ggrammar.specs.Texts.{text_packet}
 use Rattle.ggrammar.specs.Faults.{kept_text}
 use Rattle.ggrammar.specs.Ids.{id_of_text}
@@ -65,35 +65,35 @@ reply_form line =
 
 -- ---- where a packet stands
 
-pub data Place : Type 0 where
+pub data Point : Type 0 where
   -- the acknowledgments' heading is due
-  Start : Place
+  Start : Point
   -- after it, and after acknowledged ids
-  Acking : Place
+  Acking : Point
   -- after NAK: nothing was common
-  AfterNak : Place
+  AfterNak : Point
   -- after `ready`: the delimiter is due
-  AfterReady : Place
+  AfterReady : Point
   -- the pack's heading is due
-  BeforePack : Place
+  BeforePack : Point
   -- its bytes
-  InPack : Place
+  InPack : Point
   -- a response-end is due
-  Over : Place
+  Over : Point
 
-abbrev pub first_place : Bool → Place
+abbrev pub first_place : Bool → Point
 first_place true = BeforePack
 first_place false = Start
 
 -- a text of the acknowledgments leads on
-abbrev pub after_text : Place → ReplyForm → Place
+abbrev pub after_text : Point → ReplyForm → Point
 after_text Start Acknowledgments = Acking
 after_text Acking Nak = AfterNak
 after_text Acking Readiness = AfterReady
 after_text BeforePack Packfile = InPack
 after_text place line = place
 
-abbrev pub next_place : Place → Packet → Place
+abbrev pub next_place : Point → Packet → Point
 next_place InPack (Data payload) = InPack
 next_place Over (Data payload) = Over
 next_place place (Data payload) = after_text place (reply_form (text payload))
@@ -105,7 +105,7 @@ next_place InPack Flush = Over
 next_place place Flush = place
 next_place place ResponseEnd = place
 
-abbrev pub place_of : Bool → List Packet → Place
+abbrev pub place_of : Bool → List Packet → Point
 place_of direct packets = place_after next_place (first_place direct) packets
 
 -- ---- what the packets so far say
@@ -115,21 +115,21 @@ abbrev pub ack_id : Format → ReplyForm → Option Id
 ack_id format (Ack id) = id_of_text format id
 ack_id format _ = None
 
-abbrev pub texts_there : Place → Packet → List Bytes
+abbrev pub texts_there : Point → Packet → List Bytes
 texts_there Acking (Data payload) = text payload ∷ []
 texts_there place packet = []
 
-abbrev pub bands_there : Place → Packet → List Bytes
+abbrev pub bands_there : Point → Packet → List Bytes
 bands_there InPack (Data payload) = payload ∷ []
 bands_there place packet = []
 
 -- the texts of the acknowledgments, without the heading
 unfoldable pub ack_texts : Bool → List Packet → List Bytes
-ack_texts direct packets = collected next_place texts_there (first_place direct) packets
+ack_texts direct packets = collect next_place texts_there (first_place direct) packets
 
 -- the payloads of the pack's section, without the heading
 unfoldable pub band_payloads : Bool → List Packet → List Bytes
-band_payloads direct packets = collected next_place bands_there (first_place direct) packets
+band_payloads direct packets = collect next_place bands_there (first_place direct) packets
 
 abbrev pub acks_of : Format → List Bytes → List Id
 acks_of format texts = filter_map (λ line. ack_id format (reply_form line)) texts
@@ -162,7 +162,7 @@ reply_of reading packets = reply_by reading (ack_texts reading.direct packets) (
 
 -- what the packets so far count for
 pub record State : Type 0 where
-  pub place : Place
+  pub place : Point
   pub ack_count : ℕ
   pub band_count : ℕ
   pub byte_count : ℕ
@@ -213,7 +213,7 @@ judge_band limit state (Ok (BandData bytes)) =
     if_room (nat_lt state.band_count max_packets && nat_le (state.byte_count + length bytes) limit)
 judge_band limit state (Ok (Progress bytes)) = if_room (nat_lt state.band_count max_packets)
 
-abbrev pub judge_payload : Reading → Place → State → Bytes → Verdict
+abbrev pub judge_payload : Reading → Point → State → Bytes → Verdict
 judge_payload reading Start state payload = judge_start (reply_form (text payload))
 judge_payload reading Acking state payload = judge_acking reading.format state (reply_form (text payload))
 judge_payload reading AfterNak state payload = judge_late (reply_form (text payload))
@@ -222,17 +222,17 @@ judge_payload reading BeforePack state payload = judge_before_pack (reply_form (
 judge_payload reading InPack state payload = judge_band reading.limit state (band_form payload)
 judge_payload reading Over state payload = Refused why.UnexpectedFrame
 
-abbrev pub judge_flush : Ends → Place → Verdict
+abbrev pub judge_flush : Ends → Point → Verdict
 judge_flush ends Acking = at_flush ends
 judge_flush ends AfterNak = at_flush ends
 judge_flush ends InPack = at_flush ends
 judge_flush ends _ = Refused why.WrongSection
 
-abbrev pub judge_delim : Place → Verdict
+abbrev pub judge_delim : Point → Verdict
 judge_delim AfterReady = Open
 judge_delim _ = Refused why.WrongSection
 
-abbrev pub judge_there : Reading → Place → State → Packet → Verdict
+abbrev pub judge_there : Reading → Point → State → Packet → Verdict
 judge_there reading Over state packet = after_flush packet
 judge_there reading place state (Data payload) =
     judge_unless_error (λ bytes. judge_payload reading place state bytes) payload
@@ -258,7 +258,7 @@ abbrev pub band_brings : Bool → Result BandPacket BandFault → Bool
 band_brings refuses (Ok (BandData bytes)) = refuses && nat_lt 0 (length bytes)
 band_brings refuses _ = false
 
-abbrev pub payload_brings : Bool → Place → Bytes → Bool
+abbrev pub payload_brings : Bool → Point → Bytes → Bool
 payload_brings refuses Acking payload = form_brings (reply_form (text payload))
 payload_brings refuses InPack payload = band_brings refuses (band_form payload)
 payload_brings refuses _ payload = false

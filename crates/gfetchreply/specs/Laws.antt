@@ -3,7 +3,7 @@ use Rattle.std.specs.Prelude.{◌≡◌, ℕ, ◌≤◌, Bool, List, [], ◌++�
 use Rattle.gpkt.specs.Packets.{Bytes, Packet, canonical_all}
 use Rattle.ggrammar.specs.Grammar.{IsOpen, IsWhole}
 use Rattle.ggrammar.specs.Kinds.{SaysAtFront}
-use Rattle.ggrammar.specs.MessageBytes.{known, IsFront, IsOfBytes}
+use Rattle.ggrammar.specs.MessageBytes.{known_bytes, IsFront, IsOfBytes}
 use Rattle.ggrammar.specs.MessageReading.{ReadsRefused}
 use Rattle.ggrammar.specs.declared.fault.MessageFault.{MessageFault}
 use Rattle.ggrammar.specs.declared.fault.Why.TheVariants.{Limit}
@@ -42,7 +42,7 @@ abbrev pub IsRefusedOverLimit : Type 0
 IsRefusedOverLimit =
     (reading : Reading) (limit : ℕ) (packets front : List Packet) (reply : FetchReply) (bytes new rest : Bytes)
     (fault : MessageFault) → Says (record reading { limit = limit }) packets reply → IsFront packets bytes rest
-    → ReadsRefused (judge reading) (brings reading) front (known bytes new) fault → IsOfBytes fault.why
+    → ReadsRefused (judge reading) (brings reading) front (known_bytes bytes new) fault → IsOfBytes fault.why
     → fault.why ≡ Limit
 
 -- ---- reading into a sink
@@ -60,7 +60,7 @@ module _ {S : Type 0} (taken : S → Bytes → Type 0) where
   abbrev pub ReadsIntoWhereSaid : Bool → Reading → Type 0
   ReadsIntoWhereSaid refuses reading =
       (bytes new rest : Bytes) (old sink : S) (result : Result FetchHead MessageFault) (reply : FetchReply)
-      → ReadsReply taken refuses reading (known bytes new) (taken old) sink result
+      → ReadsReply taken refuses reading (known_bytes bytes new) (taken old) sink result
       → IfErr result (λ fault. IsOfBytes fault.why) → SaysAtFront (Says reading) bytes rest reply
       → HasReadInto rest new old sink result reply
 
@@ -68,7 +68,7 @@ module _ {S : Type 0} (taken : S → Bytes → Type 0) where
   abbrev pub ReadsIntoOnlySaid : Reading → Type 0
   ReadsIntoOnlySaid reading =
       (bytes new : Bytes) (old sink : S) (head : FetchHead)
-      → TakesReply taken reading (known bytes new) (taken old) sink head
+      → TakesReply taken reading (known_bytes bytes new) (taken old) sink head
       → (reply : FetchReply) × SaysAtFront (Says reading) bytes new reply
       × HasReadInto new new old sink (Ok head) reply
 
@@ -77,5 +77,5 @@ module _ {S : Type 0} (taken : S → Bytes → Type 0) where
   ReadsBackInto refuses reading =
       (rest new : Bytes) (old sink : S) (result : Result FetchHead MessageFault) (reply : FetchReply)
       → IsReplyIn reading reply
-      → ReadsReply taken refuses reading (known (canonical_all (canonical_reply reading.ends reply) ++ rest) new)
+      → ReadsReply taken refuses reading (known_bytes (canonical_all (canonical_reply reading.ends reply) ++ rest) new)
       (taken old) sink result → IfErr result (λ fault. IsOfBytes fault.why) → HasReadInto rest new old sink result reply

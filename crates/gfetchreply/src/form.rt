@@ -7,19 +7,19 @@ ghost use Rattle.ggrammar.specs.PeerErrors.{after_word};
 
 use ggrammar::after_word;
 
-/// What a text of a reply to fetch says (gitprotocol-v2(5), "fetch").
+/// The kinds of a text in a reply to fetch (gitprotocol-v2(5), "fetch").
 #[derive(Clone, Copy, Debug, PartialEq, Eq)]
 pub(crate) enum ReplyForm<'a> {
     Acknowledgments,
     Nak,
     Readiness,
     Packfile,
-    /// `ACK ` and what follows, of whatever form.
+    /// `ACK ` and the text after it, of any form.
     Ack(&'a [u8]),
     Other,
 }
 
-/// What a text says.
+/// Returns the kind of a text.
 #[tactic(auto, unfolding(crate::specs::FetchReplies::reply_form))]
 pub(crate) fn reply_form(text: &[u8]) -> ReplyForm<'_>
     ensures { form_in result ≡ reply_form text.now }

@@ -1,5 +1,5 @@
-//! The laws of replies to fetch. Each function does nothing, and its contract is the law: a caller that calls it
-//! may rely on the law from there on.
+//! The laws of replies to fetch. Each function does nothing, and its contract is the law. A caller
+//! may rely on the law after the call.
 
 ghost use Rattle.std.specs.Prelude.{◌≡◌, ◌≤◌};
 ghost use Rattle.gname.specs.Limits.{max_pack};
@@ -13,15 +13,15 @@ ghost use Rattle.gfetchreply.specs.WellFormed.{IsReplyIn};
 
 use crate::sink::PackSink;
 use crate::value::MAX_ACKS;
-use ggrammar::Kind;
+use ggrammar::MessageKind;
 use ggrammar::laws::{grammars_are_exact, kinds_are_read, messages_are_read};
 use gname::laws::{ids_have_one_format, ids_have_texts};
 use gpkt::laws::text_reads_back;
 
-// Replies as they are read, as a kind of message: whether the sink may refuse a piece, and how they are read.
+// Replies as a kind of message: whether the sink may refuse a piece, and how they are read.
 struct Replies;
 
-impl Kind for Replies {
+impl MessageKind for Replies {
     ghost use Rattle.std.specs.Prelude.{Bool};
     ghost use Rattle.gfetchreply.specs.FetchReplies.{FetchReply, IsCanonical, Reading, Says, brings_into, judge};
     ghost use Rattle.gfetchreply.specs.WellFormed.{IsReplyIn};
@@ -41,24 +41,24 @@ impl Kind for Replies {
     ghost is_canonical = { λ given. IsCanonical given.1.ends };
 }
 
-/// The constant is the limit that the definitions name.
+/// The constant is the limit that the definitions use.
 pub fn limits_are_the_constants()
     ensures acks { MAX_ACKS ≡ max_acks }
 {}
 
-/// The lists of packets that are read as a reply are those of the manual's grammar, and they say the same
-/// (gitprotocol-v2(5), "fetch").
+/// The lists of packets that are read as a reply are those of the manual's grammar, and they say
+/// the same (gitprotocol-v2(5), "fetch").
 pub fn manual()
     ensures { (reading : Reading) → AsInManual (Says reading) (IsFetchReply reading) }
 {}
 
-/// Packets say one reply, and exactly those that are a complete reply say one.
+/// Packets say at most one reply, and exactly the complete replies say one.
 pub fn one_meaning()
     ensures meaning { (reading : Reading) → OneMeaning (Says reading) }
     ensures whole { (reading : Reading) → SaysWhole (judge reading) (Says reading) }
 {}
 
-/// No reply begins another, and no spelling of one does: its end is known without what follows it.
+/// No reply is a prefix of another, as packets or as bytes, so its end is known without the rest.
 pub fn prefix_free()
     ensures packets { (reading : Reading) → IsPrefixFree (judge reading) }
     ensures spellings { (reading : Reading) → SpellingsPrefixFree (judge reading) }
@@ -67,7 +67,8 @@ pub fn prefix_free()
     messages_are_read();
 }
 
-/// A reply that goes on has an ending of at most four packets, and a refused packet is the first that does not fit.
+/// An open reply has an ending of at most four packets, and a refused packet is the first that does
+/// not fit.
 pub fn endings()
     ensures endings { (reading : Reading) → HasEndings (judge reading) }
     ensures short { (reading : Reading) → HasShortEndings reading }
@@ -76,7 +77,8 @@ pub fn endings()
     grammars_are_exact();
 }
 
-/// A packet is refused for its own sake alone. All bytes begin with a reply, or are refused for a reason in them.
+/// A packet is refused only for a reason in the packet. All bytes begin with a reply, or are
+/// refused for a reason in the bytes.
 pub fn every_input()
     ensures packets { (reading : Reading) → RefusesPackets (judge reading) }
     ensures bytes { (reading : Reading) → BeginsOrIsRefused (judge reading) (brings reading) }
@@ -85,8 +87,8 @@ pub fn every_input()
     messages_are_read();
 }
 
-/// What is written of a reply says it, and each payload fits a packet. The limit within which it is read is one
-/// that a [`PackLimit`](crate::PackLimit) can have.
+/// A reply is written as packets that say it, and each payload fits a packet. The limit for reading
+/// it is one that a [`PackLimit`](crate::PackLimit) can have.
 pub fn canonical_says()
     ensures { (reading : Reading) → reading.limit ≤ max_pack
         → CanonicalSays (Says reading) (IsReplyIn reading) (IsCanonical reading.ends) }
@@ -96,8 +98,8 @@ pub fn canonical_says()
     text_reads_back();
 }
 
-/// A reply is read, as [`crate::read_fetch_reply_in`] reads it, exactly where a front of the bytes spells packets that
-/// say it.
+/// [`crate::read_fetch_reply_in`] reads a reply exactly when a prefix of the bytes spells packets
+/// that say it.
 pub fn reads_exactly()
     ensures { (reading : Reading) → ReadsExactly (judge reading) (brings reading) (Says reading) }
 {
@@ -105,8 +107,8 @@ pub fn reads_exactly()
     kinds_are_read::<Replies>();
 }
 
-/// What is written of a reply reads back, whatever follows it, within any limit that a
-/// [`PackLimit`](crate::PackLimit) can have and its pack keeps.
+/// A written reply reads back, whatever follows, within any limit that a
+/// [`PackLimit`](crate::PackLimit) can have and its pack does not exceed.
 pub fn reads_back()
     ensures { (reading : Reading) → reading.limit ≤ max_pack
         → ReadsBack (judge reading) (brings reading) (Says reading) (IsReplyIn reading)
@@ -117,7 +119,7 @@ pub fn reads_back()
     kinds_are_read::<Replies>();
 }
 
-/// A reply is read into a sink, as [`crate::read_fetch_reply_into_in`] reads it, exactly where a front of the bytes
+/// [`crate::read_fetch_reply_into_in`] reads a reply into a sink exactly when a prefix of the bytes
 /// spells packets that say it.
 pub fn reads_into_exactly<T: PackSink>()
     ensures said { (reading : Reading) → ReadsIntoWhereSaid T.taken T.refuses reading }
@@ -127,7 +129,7 @@ pub fn reads_into_exactly<T: PackSink>()
     kinds_are_read::<Replies>();
 }
 
-/// What is written of a reply reads back into a sink, whatever follows it.
+/// A written reply reads back into a sink, whatever follows.
 pub fn reads_back_into<T: PackSink>()
     ensures { (reading : Reading) → reading.limit ≤ max_pack
         → ReadsBackInto T.taken T.refuses reading }
@@ -137,9 +139,9 @@ pub fn reads_back_into<T: PackSink>()
     kinds_are_read::<Replies>();
 }
 
-/// A reply that is delivered as the answer to another request, or read within another limit. Whatever way some packets
-/// are read, at most one front of them is a reply, and it says the same. A reply is read within each limit that its
-/// pack keeps; within another one it is refused for the limit alone.
+/// A reply may be delivered for another request, or read within another limit. However some packets
+/// are read, at most one prefix of them is a reply, and it says the same. A reply is read within
+/// each limit that its pack does not exceed. Within another limit it is refused only for the limit.
 pub fn other_readings()
     ensures whatever_reading { OneInWhateverReading }
     ensures any_limit { IsInAnyLimit }

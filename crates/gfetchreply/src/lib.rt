@@ -1,42 +1,47 @@
-//! The reply to fetch (gitprotocol-v2(5), "fetch"): acknowledgments, a pack on side bands, or both. It is read packet
-//! by packet, and its pack goes to a [`PackSink`] piece by piece, from the buffer of the reader.
+//! The reply to fetch (gitprotocol-v2(5), "fetch"): acknowledgments, a pack on side bands, or both.
+//! It is read packet by packet. Its pack goes to a [`PackSink`] in pieces, from the buffer of the
+//! reader.
 //!
 //! # Proved
 //!
-//! - [`read_fetch_reply_into_in`] reads a reply exactly to its end, in whatever pieces its bytes come, and answers the
-//!   head of what it says, whose ids have the format that was asked for; the sink has taken the reply's pack after what
-//!   it had, at most as many bytes as the limit allows. Else the reply is refused at the first packet that does not
-//!   fit, with the grammar's reason (`judge` in `specs/FetchReplies.antt`), and the sink has taken exactly the data
-//!   of the packets before, within the limit too. Whatever is answered, the sink is still the same one, as its
-//!   [`PackSink`] says what that is. A sink gets no empty piece. Out of memory is reported for no other fault: it
-//!   comes only at a packet that the grammar takes, and that brings an acknowledged id; or some of the pack, where
-//!   the sink is of a kind that may refuse a piece. A [`PackSink`] says which it is; a vector may refuse one.
-//!   [`read_fetch_reply_into`] does the same in SHA-1; [`read_fetch_reply_in`] and [`read_fetch_reply`] keep the pack
-//!   in memory.
-//! - [`Acks`] holds ids of one format, at most 4,096, [`PackBytes`] at most `gname::MAX_PACK` bytes, and a
-//!   [`PackLimit`] is at most that; a building call reports another format first, then the limit, and changes
-//!   nothing then. A reply is built of ids and of a pack that are there, as they are.
-//! - [`write_fetch_reply`] writes exactly the bytes of the packets of a reply (`canonical_reply`), and where the sink
-//!   fails a beginning of them. A payload is never too long, and the reply is one that reads back, as the answer to a
-//!   request of its kind and within a limit that its pack keeps.
-//! - [`laws`]: the lists of packets that are replies are those of the manual (`specs/FetchManual.antt`), and what they
-//!   say is the same; packets say one reply, no reply and no spelling of one begins another, each beginning has a short
-//!   ending, and a refused packet is the first that does not fit. What is written says the reply and reads back,
-//!   whatever follows; a reply is read exactly where a front of the bytes spells it, and all bytes have such a front or
-//!   are refused for a reason in them. Read as the answer to another request, the same bytes are the same reply or
-//!   none; within another limit they are the same reply or are refused for the limit alone. The constant is the limit
-//!   of the definitions.
+//! - [`read_fetch_reply_into_in`] reads a reply exactly to its end, however its bytes are split
+//!   into pieces. It returns the head of the reply, and its ids have the requested format. The sink
+//!   has taken the reply's pack after its previous bytes, and no more bytes than the limit.
+//!   Otherwise the reply is refused at the first packet that does not fit, for the grammar's reason
+//!   (`judge` in `specs/FetchReplies.antt`). The sink has then taken exactly the data of the
+//!   packets before, also within the limit. With any result, the sink is still the same one, as its
+//!   [`PackSink`] defines. A sink gets no empty piece.
+//! - Out of memory is reported for no other fault, and only at a packet that the grammar accepts.
+//!   The packet then has an acknowledged id, or a piece of the pack if the sink's type may refuse a
+//!   piece. A [`PackSink`] says whether it may, and a vector may. [`read_fetch_reply_into`] does
+//!   the same for SHA-1. [`read_fetch_reply_in`] and [`read_fetch_reply`] store the pack in memory.
+//! - [`Acks`] has ids of one format, at most 4,096. [`PackBytes`] has at most `gname::MAX_PACK`
+//!   bytes, and a [`PackLimit`] is at most that. A building call reports another format first, then
+//!   the limit, and then changes nothing. A reply is built from existing ids and an existing pack,
+//!   unchanged.
+//! - [`write_fetch_reply`] writes exactly the bytes of a reply's packets (`canonical_reply`), or a
+//!   prefix of them if the sink fails. A payload is never too long. The reply reads back, for a
+//!   request of its kind and within a limit that its pack does not exceed.
+//! - By [`laws`], the lists of packets that are replies are those of the manual
+//!   (`specs/FetchManual.antt`), and they say the same. Packets say at most one reply, and no reply
+//!   is a prefix of another, as packets or as bytes. Each prefix has a short ending, and a refused
+//!   packet is the first that does not fit. A reply is written as packets that say it, and reads
+//!   back, whatever follows. A reply is read exactly when a prefix of the bytes spells it. All
+//!   bytes have such a prefix or are refused for a reason in the bytes. For another request, the
+//!   same bytes are the same reply or none. Within another limit they are the same reply or are
+//!   refused only for the limit. The constant is the limit of the definitions.
 //!
 //! # Only tested
 //!
-//! That memory is found where there is some, and that writing, and building of ids and of a pack that are there, take
-//! none.
+//! No call reports out of memory if there is enough. Writing does not allocate, and neither does
+//! building a reply from existing ids and an existing pack.
 //!
 //! # What the contracts do not rule out
 //!
-//! It may report out of memory at any id. Where the pack is kept in memory, it may do so at any packet with data; with
-//! a sink of the caller's, at a packet with data once that sink has refused a piece, which it may be given again. Any
-//! call may take memory. It may take as long as it likes.
+//! It may report out of memory at any id. If the pack is stored in memory, it may do so at any
+//! packet with data. With a sink of the caller's, it may do so at a packet with data after the sink
+//! has refused a piece. The sink may be given that piece again. Any call may allocate. It may take
+//! as long as it likes.
 //!
 //! # Stands on
 //!

@@ -1,4 +1,4 @@
-//! The most bytes of a pack that is read.
+//! The maximum length of a pack that is read.
 
 ghost use Rattle.std.specs.Prelude.{◌≡◌, ◌≤◌, nat_le, if◌then◌else◌, Some, None};
 ghost use Rattle.gname.specs.Limits.{max_pack};
@@ -7,10 +7,10 @@ ghost use Rattle.gfetchreply.specs.Values.{default_limit};
 use gname::MAX_PACK;
 use std::marker::Model;
 
-// The limit where none is asked for.
+// The default limit.
 const DEFAULT_LIMIT: usize = 16_777_216;
 
-/// The most bytes of a pack that is read, at most [`MAX_PACK`].
+/// The maximum length of a pack that is read in bytes, at most [`MAX_PACK`].
 #[derive(Clone, Copy, Debug, PartialEq, Eq, Drop)]
 pub struct PackLimit {
     bytes: usize,
@@ -32,7 +32,7 @@ impl Model for PackLimit {
 }
 
 impl PackLimit {
-    /// A limit of so many bytes, which may be none. `None` over [`MAX_PACK`].
+    /// Returns a limit of `bytes` bytes, which may be 0, or `None` above [`MAX_PACK`].
     pub fn new(bytes: usize) -> Option<PackLimit>
         ensures { result ≡ if nat_le bytes max_pack then Some bytes else None }
     {
@@ -43,7 +43,7 @@ impl PackLimit {
         }
     }
 
-    /// The number of bytes, at most [`MAX_PACK`].
+    /// Returns the number of bytes, at most [`MAX_PACK`].
     pub fn bytes(self) -> usize
         ensures bytes { result ≡ self }
         ensures within { result ≤ max_pack }
@@ -51,7 +51,7 @@ impl PackLimit {
         self.bytes
     }
 
-    /// A law: what is true of each limit.
+    /// A law: the properties of each limit.
     pub fn laws(self)
         ensures { self ≤ max_pack }
     {

@@ -17,12 +17,12 @@ ghost use Rattle.gfetchreply.specs.steps.Views.{head_after, reading_with};
 
 use crate::form::reply_form;
 use crate::limit::PackLimit;
-use crate::sections::{Place, Sections, late};
+use crate::sections::{Point, Sections, late};
 use crate::sink::PackSink;
 use crate::value::{FetchHead, FetchReply};
 use ggrammar::{Ends, Message, MessageFault, PeerText, Step, Why, peer_error, read_message};
 use gname::Format;
-use gpkt::{Band, Line, LineReader, Source, band_of, text_of};
+use gpkt::{Band, Packet, PacketReader, Source, band_of, text_of};
 use std::alloc::Allocator;
 use std::marker::{Brand, PhantomData};
 
@@ -31,16 +31,17 @@ use std::marker::{Brand, PhantomData};
 pub struct FetchReading {
     /// The format of the ids.
     pub format: Format,
-    /// Whether the pack comes at once, as after a request with `done` or without haves.
+    /// Whether the reply starts with the pack, as after a request with `done` or without haves.
     pub direct: bool,
-    /// The most bytes of the pack.
+    /// The maximum length of the pack in bytes.
     pub limit: PackLimit,
     /// How the reply ends.
     pub ends: Ends,
 }
 
-// The sink that a reading was lent, what it was and had taken before, and how the reply is read. A call at `Brand` picks
-// these members in its `Invariants.antt`; a type has them, since `Message` speaks of a reader and its packets alone.
+// The sink that a reading borrows, its previous state and bytes, and how the reply is read. A call
+// at `Brand` picks these members in its `Invariants.antt`. They belong to a type, since `Message`
+// is only about a reader and its packets.
 trait Lent<T> {
     ghost use Rattle.gfetchreply.specs.FetchReplies.{Reading};
 
@@ -66,7 +67,7 @@ impl<T> Lent<T> for Brand {
     ghost starts = { λ _. ⊥ };
 }
 
-// A reply that is being read: what its packets have said, and the sink that has their data.
+// A reply that is being read: the contents of its packets, and the sink that has their data.
 #[derive(Drop)]
 struct ReplyReader<'s, T, A: Allocator + Copy, L> {
     reading: FetchReading,
@@ -76,7 +77,7 @@ struct ReplyReader<'s, T, A: Allocator + Copy, L> {
 }
 
 impl<'s, T: PackSink, A: Allocator + Copy, L: Lent<T>> ReplyReader<'s, T, A, L> {
-    // A reply without packets.
+    // Returns a reply without packets.
     fn new(alloc: A, reading: FetchReading, sink: &'s mut T) -> ReplyReader<'s, T, A, L>
         ensures in_place { result.sink.ghost_name ≡ sink.entry.ghost_name }
         ensures sink { result.sink.now ≡ sink.old }
@@ -91,7 +92,7 @@ impl<'s, T: PackSink, A: Allocator + Copy, L: Lent<T>> ReplyReader<'s, T, A, L> 
         }
     }
 
-    fn take_packet(&mut self, line: Line<'_>) -> Result<Step, Why>
+    fn take_packet(&mut self, line: Packet<'_>) -> Result<Step, Why>
         ensures reading { self.new.reading ≡ self.old.reading }
         ensures in_place { self.new.sink.ghost_name ≡ self.old.sink.ghost_name }
         ensures same { T.same self.old.sink.now self.new.sink.now }
@@ -107,10 +108,10 @@ impl<'s, T: PackSink, A: Allocator + Copy, L: Lent<T>> ReplyReader<'s, T, A, L> 
         // Laws.
         T::laws();
         match line {
-            Line::Data(payload) => self.take_payload(payload),
-            Line::Flush => self.sections.take_flush(self.reading.ends),
-            Line::Delim => self.sections.take_delim(),
-            Line::ResponseEnd => self.sections.take_response_end(),
+            Packet::Data(payload) => self.take_payload(payload),
+            Packet::Flush => self.sections.take_flush(self.reading.ends),
+            Packet::Delim => self.sections.take_delim(),
+            Packet::ResponseEnd => self.sections.take_response_end(),
         }
     }
 
@@ -135,12 +136,12 @@ impl<'s, T: PackSink, A: Allocator + Copy, L: Lent<T>> ReplyReader<'s, T, A, L> 
         }
         let form = reply_form(text_of(payload));
         match self.sections.place {
-            Place::Start => self.sections.take_start(form),
-            Place::Acking => self.sections.take_acking(form),
-            Place::AfterNak | Place::AfterReady => Err(late(form)),
-            Place::BeforePack => self.sections.take_before_pack(form),
-            Place::InPack => self.take_band(payload),
-            Place::Over => Err(Why::UnexpectedFrame),
+            Point::Start => self.sections.take_start(form),
+            Point::Acking => self.sections.take_acking(form),
+            Point::AfterNak | Point::AfterReady => Err(late(form)),
+            Point::BeforePack => self.sections.take_before_pack(form),
+            Point::InPack => self.take_band(payload),
+            Point::Over => Err(Why::UnexpectedFrame),
         }
     }
 
@@ -206,17 +207,17 @@ impl<T: PackSink, A: Allocator + Copy, L: Lent<T>> Message for ReplyReader<'_, T
 
     fn laws() {}
 
-    fn take(&mut self, line: Line<'_>) -> Result<Step, Why> {
+    fn accept_packet(&mut self, line: Packet<'_>) -> Result<Step, Why> {
         // Laws.
         T::laws();
         self.take_packet(line)
     }
 }
 
-/// Reads the reply to fetch of a repository whose ids are SHA-1, as [`read_fetch_reply_into_in`] does: whether the
-/// pack comes at once, the most bytes of it, and how the reply ends.
+/// Reads the reply to fetch of a repository with SHA-1 ids, as [`read_fetch_reply_into_in`] does.
+/// The arguments say whether the pack is first, its maximum length, and how the reply ends.
 pub fn read_fetch_reply_into<S: Source, T: PackSink, A: Allocator + Copy, B: Allocator + Copy>(
-    reader: &mut LineReader<S, A>,
+    reader: &mut PacketReader<S, A>,
     direct: bool,
     limit: PackLimit,
     ends: Ends,
@@ -240,18 +241,22 @@ pub fn read_fetch_reply_into<S: Source, T: PackSink, A: Allocator + Copy, B: All
     read_fetch_reply_into_in(reader, reading, sink, alloc)
 }
 
-/// Reads one reply to fetch to its end, and nothing after it (gitprotocol-v2(5), "fetch"). The pack goes to the sink,
-/// piece by piece, from the reader's buffer; a sink gets no empty piece. The ids are kept where `alloc` says.
+/// Reads one reply to fetch to its end, and nothing after it (gitprotocol-v2(5), "fetch"). The pack
+/// goes to the sink in pieces, from the reader's buffer. A sink gets no empty piece. The ids are
+/// stored in memory of `alloc`.
 ///
-/// The fault has the position of the first packet that does not fit, and why. What the reader refuses comes first
-/// ([`Why::Line`]), then the end of the input ([`Why::Ended`]), then an error that the peer reports
-/// ([`Why::RemoteErr`]), then what the grammar refuses: a 4,097th id, and the packet with which the pack would pass its
-/// limit, with [`Why::Limit`] where their form is right. [`Why::Memory`] comes only at an acknowledged id and, where
-/// the sink may refuse a piece, at a packet with some of the pack. After a refusal the sink has taken the data of the
-/// packets before, and no more than the limit, and the reader has failed exactly where it refused the packet itself.
-/// Whatever is answered, the sink is still the same one.
+/// The fault has the reason, and the position of the first packet that does not fit. A fault of the
+/// packet reader ([`Why::Packet`]) takes precedence, then the end of the input ([`Why::Ended`]).
+/// Next is an error that the peer reports ([`Why::RemoteErr`]), and then a refusal by the grammar.
+/// A 4,097th id, and the packet with which the pack would exceed its limit, are refused with
+/// [`Why::Limit`] if their form is right. [`Why::Memory`] is reported only at an acknowledged id
+/// and, if the sink may refuse a piece, at a packet with some of the pack.
+///
+/// After a refusal the sink has taken the data of the packets before, and no more than the limit.
+/// The reader has failed exactly if it refused the packet itself. With any result, the sink is
+/// still the same one.
 pub fn read_fetch_reply_into_in<S: Source, T: PackSink, A: Allocator + Copy, B: Allocator + Copy>(
-    reader: &mut LineReader<S, A>,
+    reader: &mut PacketReader<S, A>,
     reading: FetchReading,
     sink: &mut T,
     alloc: B,
@@ -281,10 +286,10 @@ pub fn read_fetch_reply_into_in<S: Source, T: PackSink, A: Allocator + Copy, B: 
     }
 }
 
-/// Reads the reply to fetch of a repository whose ids are SHA-1 with its pack in memory, as [`read_fetch_reply_in`]
-/// does.
+/// Reads the reply to fetch of a repository with SHA-1 ids with its pack in memory, as
+/// [`read_fetch_reply_in`] does.
 pub fn read_fetch_reply<S: Source, A: Allocator + Copy, B: Allocator + Copy>(
-    reader: &mut LineReader<S, A>,
+    reader: &mut PacketReader<S, A>,
     direct: bool,
     limit: PackLimit,
     ends: Ends,
@@ -307,10 +312,10 @@ pub fn read_fetch_reply<S: Source, A: Allocator + Copy, B: Allocator + Copy>(
     read_fetch_reply_in(reader, reading, alloc)
 }
 
-/// Reads one reply to fetch with its pack in memory, as [`read_fetch_reply_into_in`] does. The ids and the pack are
-/// kept where `alloc` says; after a refusal nothing is.
+/// Reads one reply to fetch with its pack in memory, as [`read_fetch_reply_into_in`] does. The ids
+/// and the pack are stored in memory of `alloc`. After a refusal nothing is stored.
 pub fn read_fetch_reply_in<S: Source, A: Allocator + Copy, B: Allocator + Copy>(
-    reader: &mut LineReader<S, A>,
+    reader: &mut PacketReader<S, A>,
     reading: FetchReading,
     alloc: B,
 ) -> Result<FetchReply<B>, MessageFault>
@@ -331,9 +336,9 @@ pub fn read_fetch_reply_in<S: Source, A: Allocator + Copy, B: Allocator + Copy>(
     }
 }
 
-// Reads a reply to its end into a sink that is named, with what it was and had taken before.
+// Reads a reply to its end into a named sink, with its previous state and bytes.
 fn read_to_end<S: Source, T: PackSink, A: Allocator + Copy, B: Allocator + Copy, L: Lent<T>>(
-    reader: &mut LineReader<S, A>,
+    reader: &mut PacketReader<S, A>,
     reply: &mut ReplyReader<'_, T, B, L>,
 ) -> Result<(), MessageFault>
     requires kept { kept_in reply.old.sections

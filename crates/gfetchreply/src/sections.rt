@@ -1,4 +1,4 @@
-//! The sections of a reply to fetch, and what is kept of them.
+//! The sections of a reply to fetch, and their contents.
 
 ghost use Rattle.std.specs.Prelude.{◌≡◌, ◌+◌, ◌<◌, ◌&&◌, nat_le, nat_lt, if◌then◌else◌, false, true, Some, None};
 ghost use Rattle.gpkt.specs.Packets.{Flush, Delim, ResponseEnd};
@@ -19,49 +19,49 @@ use gname::Format;
 use gname::laws::texts_have_one_reading;
 use std::alloc::Allocator;
 
-/// The most packets of a pack's section.
+/// The maximum number of packets in a pack's section.
 const MAX_PACKETS: u32 = 4_294_967_295;
 
-/// Where a packet stands in a reply.
+/// The position of a packet in a reply.
 #[derive(Clone, Copy, Debug, PartialEq, Eq)]
-pub(crate) enum Place {
-    /// The heading of the acknowledgments is due.
+pub(crate) enum Point {
+    /// The heading of the acknowledgments is expected.
     Start,
     /// After it, and after acknowledged ids.
     Acking,
     /// After `NAK`.
     AfterNak,
-    /// After `ready`: the delimiter is due.
+    /// After `ready`: the delimiter is expected.
     AfterReady,
-    /// The heading of the pack is due.
+    /// The heading of the pack is expected.
     BeforePack,
-    /// Its bytes.
+    /// In the bytes of the pack.
     InPack,
-    /// A response-end is due.
+    /// A response-end is expected.
     Over,
 }
 
-/// What the packets of a reply have said so far, the pack's bytes aside.
+/// The contents of a reply so far, without the pack's bytes.
 #[derive(Drop)]
 pub(crate) struct Sections<A: Allocator + Copy> {
-    pub(crate) place: Place,
+    pub(crate) place: Point,
     acks: Acks<A>,
     ready: bool,
-    // The packets of the pack's section so far, those of progress too.
+    // The number of packets of the pack's section so far, including progress.
     band_count: u32,
     byte_count: usize,
 }
 
 impl<A: Allocator + Copy> Sections<A> {
-    /// A reply without packets.
+    /// Returns a reply without packets.
     pub(crate) fn new(alloc: A, format: Format, direct: bool) -> Sections<A>
         ensures { kept_in result ≡ first_kept format direct }
     {
         Sections {
             place: if direct {
-                Place::BeforePack
+                Point::BeforePack
             } else {
-                Place::Start
+                Point::Start
             },
             acks: Acks::new(alloc, format),
             ready: false,
@@ -70,14 +70,14 @@ impl<A: Allocator + Copy> Sections<A> {
         }
     }
 
-    /// Takes a text where the heading of the acknowledgments is due.
+    /// Takes the heading of the acknowledgments, and refuses any other text.
     pub(crate) fn take_start(&mut self, form: ReplyForm<'_>) -> Result<Step, Why>
         ensures { TakesAs (judge_start (form_in form.entry)) false
             (kept_in self.new ≡ with_text Start (kept_in self.old) (form_in form.entry)) result }
     {
         match form {
             ReplyForm::Acknowledgments => {
-                self.place = Place::Acking;
+                self.place = Point::Acking;
                 Ok(Step::Open)
             }
             ReplyForm::Packfile => Err(Why::WrongSection),
@@ -95,7 +95,7 @@ impl<A: Allocator + Copy> Sections<A> {
             ReplyForm::Ack(id) => self.take_ack(id),
             ReplyForm::Nak => self.take_nak(),
             ReplyForm::Readiness => {
-                self.place = Place::AfterReady;
+                self.place = Point::AfterReady;
                 self.ready = true;
                 Ok(Step::Open)
             }
@@ -125,14 +125,14 @@ impl<A: Allocator + Copy> Sections<A> {
             (kept_in self.new ≡ with_text Acking (kept_in self.old) Nak) result }
     {
         if self.acks.ids().is_empty() {
-            self.place = Place::AfterNak;
+            self.place = Point::AfterNak;
             Ok(Step::Open)
         } else {
             Err(Why::WrongSection)
         }
     }
 
-    /// Takes a text where the heading of the pack is due.
+    /// Takes the heading of the pack, and refuses any other text.
     pub(crate) fn take_before_pack(&mut self, form: ReplyForm<'_>) -> Result<Step, Why>
         ensures { TakesAs (judge_before_pack (form_in form.entry)) false
             (kept_in self.new ≡ with_text BeforePack (kept_in self.old) (form_in form.entry))
@@ -140,7 +140,7 @@ impl<A: Allocator + Copy> Sections<A> {
     {
         match form {
             ReplyForm::Packfile => {
-                self.place = Place::InPack;
+                self.place = Point::InPack;
                 Ok(Step::Open)
             }
             ReplyForm::Acknowledgments => Err(Why::WrongSection),
@@ -148,7 +148,8 @@ impl<A: Allocator + Copy> Sections<A> {
         }
     }
 
-    /// How many bytes the pack has with some more. `None` where there is no room for them in a packet more.
+    /// Returns the length of the pack with `more` bytes, or `None` if there is no room for them in
+    /// one more packet.
     pub(crate) fn with_room(&self, limit: PackLimit, more: usize) -> Option<usize>
         ensures { result ≡ (if nat_lt self.now.band_count max_packets && nat_le
             (self.now.byte_count + more) limit then Some (self.now.byte_count + more) else None) }
@@ -159,7 +160,7 @@ impl<A: Allocator + Copy> Sections<A> {
         }
     }
 
-    /// Counts a packet of the pack's section, with which the pack has so many bytes.
+    /// Counts a packet of the pack's section. The pack then has `bytes` bytes.
     pub(crate) fn count(&mut self, bytes: usize)
         requires { self.old.band_count < max_packets }
         ensures { kept_in self.new
@@ -192,12 +193,12 @@ impl<A: Allocator + Copy> Sections<A> {
             false (kept_in self.new ≡ with_packet (kept_in self.old) Flush) result }
     {
         match self.place {
-            Place::Acking | Place::AfterNak | Place::InPack => {
-                self.place = Place::Over;
+            Point::Acking | Point::AfterNak | Point::InPack => {
+                self.place = Point::Over;
                 Ok(after_flush(ends))
             }
-            Place::Start | Place::AfterReady | Place::BeforePack => Err(Why::WrongSection),
-            Place::Over => Err(Why::UnexpectedFrame),
+            Point::Start | Point::AfterReady | Point::BeforePack => Err(Why::WrongSection),
+            Point::Over => Err(Why::UnexpectedFrame),
         }
     }
 
@@ -208,11 +209,11 @@ impl<A: Allocator + Copy> Sections<A> {
             false (kept_in self.new ≡ with_packet (kept_in self.old) Delim) result }
     {
         match self.place {
-            Place::AfterReady => {
-                self.place = Place::BeforePack;
+            Point::AfterReady => {
+                self.place = Point::BeforePack;
                 Ok(Step::Open)
             }
-            Place::Over => Err(Why::UnexpectedFrame),
+            Point::Over => Err(Why::UnexpectedFrame),
             _ => Err(Why::WrongSection),
         }
     }
@@ -225,12 +226,12 @@ impl<A: Allocator + Copy> Sections<A> {
             (kept_in self.now ≡ with_packet (kept_in self.now) ResponseEnd) result }
     {
         match self.place {
-            Place::Over => Ok(Step::Whole),
+            Point::Over => Ok(Step::Whole),
             _ => Err(Why::UnexpectedFrame),
         }
     }
 
-    /// What the complete reply says, without its pack.
+    /// Returns the contents of the complete reply, without its pack.
     pub(crate) fn into_head(self, direct: bool) -> FetchHead<A>
         ensures head { head_in result ≡ head_by direct self.ready self.acks.ids }
         ensures format { IsHeadOf self.acks.format result }
@@ -246,7 +247,7 @@ impl<A: Allocator + Copy> Sections<A> {
     }
 }
 
-// What the flush of a reply is to it.
+// Returns the state of a reply after its flush.
 fn after_flush(ends: Ends) -> Step
     ensures { verdict_of result ≡ at_flush ends }
 {
@@ -256,7 +257,7 @@ fn after_flush(ends: Ends) -> Step
     }
 }
 
-/// Why a text is refused after `NAK` and after `ready`, where none is due.
+/// Returns the reason why a text is refused after `NAK` or `ready`, where no text is allowed.
 pub(crate) fn late(form: ReplyForm<'_>) -> Why
     ensures { judge_late (form_in form.entry) ≡ Refused result }
 {

@@ -1,23 +1,23 @@
-//! What takes the pack of a reply.
+//! Sinks for the pack of a reply.
 
 ghost use Rattle.std.specs.Prelude.{◌≡◌, ◌≢◌, ℕ, Bool, true, List, []};
 ghost use Rattle.gfetchreply.specs.PackSinks.{TakesPiece};
 
 use std::alloc::Allocator;
 
-/// Takes the pack of a reply to fetch, piece by piece.
+/// Takes the pack of a reply to fetch, in pieces.
 pub trait PackSink {
     // These bytes were taken, in this order.
     ghost taken: { Self → List ℕ → Type 0 };
 
-    // The second is still the sink that the first is: what pieces leave as it was.
+    // The second is still the same sink as the first: the state that pieces do not change.
     ghost same: { Self → Self → Type 0 };
 
     // Whether a sink of this type may ever refuse a piece.
     ghost refuses: { Bool };
 
-    /// Takes the next piece of the pack, which is never empty. `false` where it is out of memory for it; then
-    /// nothing of it is taken. A sink that never refuses a piece never answers that.
+    /// Takes the next piece of the pack, which is never empty. Returns `false` if out of memory for
+    /// it, and then takes no byte of it. A sink that never refuses a piece never returns `false`.
     fn piece(&mut self, bytes: &[u8]) -> bool
         requires not_empty { bytes.now ≢ [] }
         ensures takes { TakesPiece taken refuses self.old self.new bytes.now result }
@@ -30,7 +30,7 @@ pub trait PackSink {
             → same second third → same first third };
 }
 
-/// A vector takes a pack after the bytes that it has. It may refuse a piece, out of memory.
+/// A vector takes a pack after its previous bytes. It may refuse a piece if out of memory.
 impl<A: Allocator + Copy> PackSink for Vec<u8, A> {
     ghost taken = { λ bytes taken. bytes.items ≡ taken };
 

@@ -1,4 +1,4 @@
-//! What a reply to fetch says.
+//! The reply to fetch as a value.
 
 ghost use Rattle.std.specs.Prelude.{◌≡◌, ◌≤◌, [], length, nat_lt, All, IsTrue};
 ghost use Rattle.std.specs.List.{list_all};
@@ -18,11 +18,11 @@ use gname::{Format, MAX_PACK, Oid};
 use std::alloc::Allocator;
 use std::marker::Model;
 
-/// The most ids that a reply acknowledges.
+/// The maximum number of ids that a reply acknowledges.
 pub const MAX_ACKS: usize = 4_096;
 
-/// The ids that a server acknowledges: those that it holds of the haves of a request. At most 4,096, of one format, in
-/// order.
+/// The ids that a server acknowledges: the haves of a request that it has. They are at most 4,096,
+/// of one format, in order.
 #[derive(Debug, Drop)]
 pub struct Acks<A: Allocator + Copy> {
     format: Format,
@@ -41,7 +41,7 @@ impl<A: Allocator + Copy> Model for Acks<A> {
 }
 
 impl<A: Allocator + Copy> Acks<A> {
-    /// No ids. It takes no memory.
+    /// Returns an empty list of ids. It does not allocate.
     pub fn new(alloc: A, format: Format) -> Acks<A>
         ensures { result ≡ record { format = format; ids = [] } }
     {
@@ -51,10 +51,10 @@ impl<A: Allocator + Copy> Acks<A> {
         }
     }
 
-    /// These ids, which are not copied. It takes no memory.
+    /// Returns these ids, without a copy. It does not allocate.
     ///
-    /// It fails at packet 0 with [`Why::BadText`] where one of them has another format, else with
-    /// [`Why::Limit`] where there are more than 4,096. The ids are let go then.
+    /// Fails at packet 0 with [`Why::BadText`] if one of them has another format. Otherwise fails
+    /// with [`Why::Limit`] if there are more than 4,096. After a failure the ids are dropped.
     pub fn from_ids(format: Format, ids: Vec<Oid, A>) -> Result<Acks<A>, MessageFault>
         ensures { MakesAcks format ids.items result }
     {
@@ -68,14 +68,14 @@ impl<A: Allocator + Copy> Acks<A> {
         }
     }
 
-    /// The format of the ids.
+    /// Returns the format of the ids.
     pub fn format(&self) -> Format
         ensures { result ≡ self.now.format }
     {
         self.format
     }
 
-    /// The ids, at most 4,096.
+    /// Returns the ids, at most 4,096.
     pub fn ids(&self) -> &[Oid]
         ensures ids { result.now ≡ self.now.ids }
         ensures well_formed { AreAcks self.now.format result.now }
@@ -83,10 +83,11 @@ impl<A: Allocator + Copy> Acks<A> {
         self.ids.as_slice()
     }
 
-    /// Adds an id at the end.
+    /// Appends an id.
     ///
-    /// It fails at packet 0 with [`Why::BadText`] where the id has another format, else with
-    /// [`Why::Limit`] where there are 4,096 ids, else with [`Why::Memory`]. Nothing changes then.
+    /// Fails at packet 0 with [`Why::BadText`] if the id has another format. Otherwise fails with
+    /// [`Why::Limit`] if there are 4,096 ids, or with [`Why::Memory`]. After a failure nothing has
+    /// changed.
     pub fn push(&mut self, id: Oid) -> Result<(), MessageFault>
         ensures { Builds (has_format self.old.format id) (nat_lt (length self.old.ids) max_acks)
             self.old self.new (with_id self.old id) result }
@@ -100,7 +101,7 @@ impl<A: Allocator + Copy> Acks<A> {
         }
     }
 
-    // Adds an id of the format at the end.
+    // Appends an id of the format.
     pub(crate) fn add(&mut self, id: Oid) -> Result<(), Why>
         requires { IsIdOf self.old.format id }
         ensures { AddsId self.old self.new id result }
@@ -154,9 +155,9 @@ impl<A: Allocator + Copy> Model for PackBytes<A> {
 }
 
 impl<A: Allocator + Copy> PackBytes<A> {
-    /// A pack of these bytes. It takes no memory.
+    /// Returns a pack of these bytes. It does not allocate.
     ///
-    /// It fails at packet 0 with [`Why::Limit`] where there are more than [`MAX_PACK`] bytes.
+    /// Fails at packet 0 with [`Why::Limit`] if there are more than [`MAX_PACK`] bytes.
     pub fn new(bytes: Vec<u8, A>) -> Result<PackBytes<A>, MessageFault>
         ensures { MakesPack bytes.items result }
     {
@@ -167,7 +168,7 @@ impl<A: Allocator + Copy> PackBytes<A> {
         }
     }
 
-    /// The bytes.
+    /// Returns the bytes.
     pub fn as_bytes(&self) -> &[u8]
         ensures bytes { result.now ≡ self.now }
         ensures short { length result.now ≤ max_pack }
@@ -175,7 +176,7 @@ impl<A: Allocator + Copy> PackBytes<A> {
         self.bytes.as_slice()
     }
 
-    /// The bytes, as a vector.
+    /// Returns the bytes, as a vector.
     pub fn into_vec(self) -> Vec<u8, A>
         ensures bytes { result.items ≡ self }
         ensures short { length result.items ≤ max_pack }
@@ -188,16 +189,16 @@ impl<A: Allocator + Copy> PackBytes<A> {
 /// The reply to fetch (gitprotocol-v2(5), "fetch").
 #[derive(Debug, Drop)]
 pub enum FetchReply<A: Allocator + Copy> {
-    /// These ids are common, and it is not enough.
+    /// These ids are common, but not enough.
     Acks(Acks<A>),
     /// These ids are common, which is enough, and this is the pack.
     Ready(Acks<A>, PackBytes<A>),
-    /// The pack alone, to a request with `done` or without haves.
+    /// Only the pack, for a request with `done` or without haves.
     Pack(PackBytes<A>),
 }
 
 impl<A: Allocator + Copy> FetchReply<A> {
-    // The reply of a head and the bytes of its pack.
+    // Returns the reply of a head and the bytes of its pack.
     pub(crate) fn with_pack(head: FetchHead<A>, pack: Vec<u8, A>) -> FetchReply<A>
         requires { length pack.items ≤ max_pack }
         ensures reply { reply_in result ≡ reply_with (head_in head) pack.items }
@@ -214,10 +215,10 @@ impl<A: Allocator + Copy> FetchReply<A> {
 /// The reply to fetch without its pack.
 #[derive(Debug, Drop)]
 pub enum FetchHead<A: Allocator + Copy> {
-    /// These ids are common, and it is not enough. There is no pack.
+    /// These ids are common, but not enough. There is no pack.
     Acks(Acks<A>),
     /// These ids are common, which is enough for the pack.
     Ready(Acks<A>),
-    /// The pack alone.
+    /// Only the pack.
     Pack,
 }

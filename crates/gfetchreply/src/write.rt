@@ -5,7 +5,7 @@ ghost use Rattle.std.specs.Slice.Iter.{chunks_rest, chunks_size};
 ghost use Rattle.gpkt.specs.Bands.{max_band};
 ghost use Rattle.gpkt.specs.Packets.{Delim, Flush};
 ghost use Rattle.ggrammar.specs.Endings.{ends_with};
-ghost use Rattle.ggrammar.specs.Writing.{WritesLines, WritesPart};
+ghost use Rattle.ggrammar.specs.Writing.{WritesPackets, WritesPart};
 ghost use Rattle.gfetchreply.specs.FetchReplies.{Reading, ack_packet, canonical_reply, data_packet, heading_packet, nak_if_none, pack_section, pieces, ready_packet};
 ghost use Rattle.gfetchreply.specs.FetchHeads.{is_alone, pack_of};
 ghost use Rattle.gfetchreply.specs.Views.{IsReplyOf, reply_in};
@@ -13,25 +13,27 @@ ghost use Rattle.gfetchreply.specs.WellFormed.{IsReplyIn};
 
 use crate::value::FetchReply;
 use ggrammar::Ends;
-use ggrammar::laws::writes_lines;
+use ggrammar::laws::writes_packets;
 use gname::{MAX_ID_TEXT, Oid};
-use gpkt::{Band, LineWriter, MAX_BAND, Sink, WriteFault};
+use gpkt::{Band, MAX_BAND, PacketWriter, Sink, WriteFault};
 use std::alloc::Allocator;
 use std::slice::Chunks;
 
-/// Writes a reply in its one list of packets (gitprotocol-v2(5), "fetch"): the pack in pieces of the largest size, and no
-/// progress. The ids and the pack are written from where they are, and it takes no memory.
+/// Writes a reply in its one list of packets (gitprotocol-v2(5), "fetch"). The pack is in pieces of
+/// the maximum size, and there is no progress. The ids and the pack are not copied, and it does not
+/// allocate.
 ///
-/// It fails with `Io` where the sink fails, and then a beginning of the reply stands written; with `Failed`
-/// where the writer had failed before. A reply is what [`reads_back`](crate::laws::reads_back) asks of one, so what is
-/// written of it reads back, as the answer to a request of its kind and within a limit that its pack keeps.
+/// Fails with `Io` if the sink fails, and a prefix of the reply was then written. Fails with
+/// `Failed` if the writer had failed before. A reply meets the conditions of
+/// [`reads_back`](crate::laws::reads_back). So a written reply reads back, for a request of its
+/// kind and within a limit that its pack does not exceed.
 #[tactic(auto, unfolding(crate::specs::FetchReplies::canonical_reply))]
 pub fn write_fetch_reply<A: Allocator + Copy, W: Sink>(
     reply: &FetchReply<A>,
     ends: Ends,
-    writer: &mut LineWriter<W>,
+    writer: &mut PacketWriter<W>,
 ) -> Result<(), WriteFault>
-    ensures lines { WritesLines W.contents W.passed_on W.is_down W.loans writer.old writer.new
+    ensures lines { WritesPackets W.contents W.passed_on W.is_down W.loans writer.old writer.new
         result (canonical_reply ends (reply_in reply.now)) }
     ensures form { (reading : Reading) → IsReplyOf reading.format reply.now
         → reading.direct ≡ is_alone (reply_in reply.now)
@@ -45,36 +47,36 @@ pub fn write_fetch_reply<A: Allocator + Copy, W: Sink>(
     }
 }
 
-// Writes that ids are acknowledged, or that none is, and the end of the reply.
+// Writes acknowledged ids, or that there is none, and the end of the reply.
 fn write_acks<W: Sink>(
     ids: &[Oid],
     ends: Ends,
-    writer: &mut LineWriter<W>,
+    writer: &mut PacketWriter<W>,
 ) -> Result<(), WriteFault>
-    ensures { WritesLines W.contents W.passed_on W.is_down W.loans writer.old writer.new result
+    ensures { WritesPackets W.contents W.passed_on W.is_down W.loans writer.old writer.new result
         ((heading_packet ∷ (nak_if_none (map ack_packet ids.now) ++ Flush ∷ []))
         ++ ends_with ends) }
 {
     // Laws.
-    writes_lines::<W>();
+    writes_packets::<W>();
     writer.text(b"acknowledgments")?;
     write_ids_or_nak(ids, writer)?;
     write_end(ends, writer)
 }
 
-// Writes that ids are acknowledged, which are enough, and the pack.
+// Writes acknowledged ids, which are enough, and the pack.
 fn write_ready<W: Sink>(
     ids: &[Oid],
     pack: &[u8],
     ends: Ends,
-    writer: &mut LineWriter<W>,
+    writer: &mut PacketWriter<W>,
 ) -> Result<(), WriteFault>
-    ensures { WritesLines W.contents W.passed_on W.is_down W.loans writer.old writer.new result
+    ensures { WritesPackets W.contents W.passed_on W.is_down W.loans writer.old writer.new result
         ((heading_packet ∷ (map ack_packet ids.now
         ++ ready_packet ∷ Delim ∷ pack_section pack.now)) ++ ends_with ends) }
 {
     // Laws.
-    writes_lines::<W>();
+    writes_packets::<W>();
     writer.text(b"acknowledgments")?;
     write_ids(ids, writer)?;
     writer.text(b"ready")?;
@@ -86,32 +88,32 @@ fn write_ready<W: Sink>(
 fn write_pack<W: Sink>(
     pack: &[u8],
     ends: Ends,
-    writer: &mut LineWriter<W>,
+    writer: &mut PacketWriter<W>,
 ) -> Result<(), WriteFault>
-    ensures { WritesLines W.contents W.passed_on W.is_down W.loans writer.old writer.new result
+    ensures { WritesPackets W.contents W.passed_on W.is_down W.loans writer.old writer.new result
         (pack_section pack.now ++ ends_with ends) }
 {
     // Laws.
-    writes_lines::<W>();
+    writes_packets::<W>();
     writer.text(b"packfile")?;
     write_pieces(pack, writer)?;
     write_end(ends, writer)
 }
 
-// Writes the bytes of the pack on band 1, in pieces of the largest size.
-fn write_pieces<W: Sink>(pack: &[u8], writer: &mut LineWriter<W>) -> Result<(), WriteFault>
+// Writes the bytes of the pack on band 1, in pieces of the maximum size.
+fn write_pieces<W: Sink>(pack: &[u8], writer: &mut PacketWriter<W>) -> Result<(), WriteFault>
     ensures { WritesPart W.contents W.passed_on W.is_down W.loans writer.old writer.new result
         (map data_packet (pieces pack.now)) }
 {
     // Laws.
-    writes_lines::<W>();
+    writes_packets::<W>();
     for piece in in_pieces(pack) {
         writer.put_band(&Band::Data(piece))?;
     }
     Ok(())
 }
 
-// The pack, to be cut into pieces of the largest size.
+// Returns the pack in pieces of the maximum size.
 fn in_pieces(pack: &[u8]) -> Chunks<'_, u8>
     ensures size { chunks_size result ≡ max_band }
     ensures rest { chunks_rest result ≡ pack.now }
@@ -119,13 +121,13 @@ fn in_pieces(pack: &[u8]) -> Chunks<'_, u8>
     pack.chunks(MAX_BAND)
 }
 
-// Writes the acknowledged ids, or `NAK` where there are none.
-fn write_ids_or_nak<W: Sink>(ids: &[Oid], writer: &mut LineWriter<W>) -> Result<(), WriteFault>
+// Writes the acknowledged ids, or `NAK` if there are none.
+fn write_ids_or_nak<W: Sink>(ids: &[Oid], writer: &mut PacketWriter<W>) -> Result<(), WriteFault>
     ensures { WritesPart W.contents W.passed_on W.is_down W.loans writer.old writer.new result
         (nak_if_none (map ack_packet ids.now)) }
 {
     // Laws.
-    writes_lines::<W>();
+    writes_packets::<W>();
     if ids.is_empty() {
         writer.text(b"NAK")
     } else {
@@ -134,12 +136,12 @@ fn write_ids_or_nak<W: Sink>(ids: &[Oid], writer: &mut LineWriter<W>) -> Result<
 }
 
 // Writes the acknowledged ids.
-fn write_ids<W: Sink>(ids: &[Oid], writer: &mut LineWriter<W>) -> Result<(), WriteFault>
+fn write_ids<W: Sink>(ids: &[Oid], writer: &mut PacketWriter<W>) -> Result<(), WriteFault>
     ensures { WritesPart W.contents W.passed_on W.is_down W.loans writer.old writer.new result
         (map ack_packet ids.now) }
 {
     // Laws.
-    writes_lines::<W>();
+    writes_packets::<W>();
     for id in ids {
         write_id(id, writer)?;
     }
@@ -147,24 +149,24 @@ fn write_ids<W: Sink>(ids: &[Oid], writer: &mut LineWriter<W>) -> Result<(), Wri
 }
 
 // Writes one acknowledged id.
-fn write_id<W: Sink>(id: &Oid, writer: &mut LineWriter<W>) -> Result<(), WriteFault>
-    ensures { WritesLines W.contents W.passed_on W.is_down W.loans writer.old writer.new result
+fn write_id<W: Sink>(id: &Oid, writer: &mut PacketWriter<W>) -> Result<(), WriteFault>
+    ensures { WritesPackets W.contents W.passed_on W.is_down W.loans writer.old writer.new result
         (ack_packet id.now ∷ []) }
 {
     // Laws.
-    writes_lines::<W>();
+    writes_packets::<W>();
     let mut digits = [0; MAX_ID_TEXT];
     let count = id.to_hex(&mut digits);
     writer.text2(b"ACK ", &digits[..count])
 }
 
-// Writes the flush, and what follows it.
-fn write_end<W: Sink>(ends: Ends, writer: &mut LineWriter<W>) -> Result<(), WriteFault>
-    ensures { WritesLines W.contents W.passed_on W.is_down W.loans writer.old writer.new result
+// Writes the flush, and the packet after it, if any.
+fn write_end<W: Sink>(ends: Ends, writer: &mut PacketWriter<W>) -> Result<(), WriteFault>
+    ensures { WritesPackets W.contents W.passed_on W.is_down W.loans writer.old writer.new result
         (Flush ∷ ends_with ends) }
 {
     // Laws.
-    writes_lines::<W>();
+    writes_packets::<W>();
     match ends {
         Ends::Plain => writer.flush_pkt(),
         Ends::Response => {

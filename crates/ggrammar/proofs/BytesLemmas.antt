@@ -3,13 +3,13 @@ use Rattle.std.proofs.Common.{◌≡◌, ℕ, Bool, List, [], ◌∷◌, ◌++�
 use Rattle.std.proofs.Common.{subst, ap, ◌∙◌, append_assoc, append-nil, length-append, arith, zero, suc, ◌<◌, ◌⊎◌, drop}
 use Rattle.std.proofs.Common.{Result, refl}
 use Rattle.gpkt.specs.Packets.{Packet, Spells, SpellsAll, digit_count}
-use Rattle.gpkt.specs.LineReading.{Reads, ReadsLines, Gives, NoLine}
-use Rattle.gpkt.specs.Laws.{OneReading, OneBegins, RefusedIsNoLine, HasFourBytes, EveryFront, OneOutcome}
-use Rattle.gpkt.specs.declared.fault.LineFault.{LineFault}
-use Rattle.gpkt.specs.declared.fault.LineFault.TheVariants as line_fault
+use Rattle.gpkt.specs.PacketReading.{Reads, ReadsPackets, Gives, NoPacket}
+use Rattle.gpkt.specs.Laws.{OneReading, OneBegins, RefusedIsNoPacket, HasFourBytes, EveryFront, OneOutcome}
+use Rattle.gpkt.specs.declared.fault.PacketFault.{PacketFault}
+use Rattle.gpkt.specs.declared.fault.PacketFault.TheVariants as packet_fault
 use Rattle.ggrammar.specs.Grammar.{Judge, Whole, Refused, IsOpen, IsUnfinished, IsWhole, Verdict, Open, HasEndings}
 use Rattle.ggrammar.specs.MessageReading.{IsReasonAfter, IsReason, ReadsRefused}
-use Rattle.ggrammar.specs.MessageBytes.{known, IsFront, IsOfBytes, ReadsFront, ReadsNoOther, RefusedIsNoMessage}
+use Rattle.ggrammar.specs.MessageBytes.{known_bytes, IsFront, IsOfBytes, ReadsFront, ReadsNoOther, RefusedIsNoMessage}
 use Rattle.ggrammar.specs.MessageBytes.{EndedIsNoMessage, SpellingsPrefixFree, IsForPacket, IsOfPacket, RefusesPackets}
 use Rattle.ggrammar.specs.MessageBytes.{BeginsWithMessage, IsRefused, LawsOfBytes}
 use Rattle.ggrammar.specs.declared.fault.Why.{Why}
@@ -18,7 +18,7 @@ use Rattle.ggrammar.proofs.GrammarLemmas.{nil_has_none, split_push, IsOpen-never
 use Rattle.ggrammar.proofs.GrammarLemmas.{IsOpen-nil, IsOpen-push, OpenIsUnfinished-by_endings}
 use Rattle.gpkt.specs.Laws as lines
 use Rattle.ggrammar.specs.declared.fault.MessageFault.{MessageFault}
-use Rattle.ggrammar.proofs.ReadingLemmas.{ReadsLines-nil, ReadsLines-push, reason_after}
+use Rattle.ggrammar.proofs.ReadingLemmas.{ReadsPackets-nil, ReadsPackets-push, reason_after}
 
 module _ (judge : Judge) where
   pub reads_front : ReadsFront judge
@@ -61,37 +61,37 @@ module _ (judge : Judge) where
         | inr h ↦ IsOpen-never_refuses front packet h.0 reason (subst (IsOpen judge) h.1 whole.goes) refuses
       ]
 
-  module _ (one : OneReading) (no_line : RefusedIsNoLine) (four : HasFourBytes) (brings : List Packet → Packet → Bool) where
+  module _ (one : OneReading) (no_packet : RefusedIsNoPacket) (four : HasFourBytes) (brings : List Packet → Packet → Bool) where
     -- a packet is spelt where a message goes on
     module _ (front : List Packet) (line : Packet) (mid new spelling rest : List ℕ) (parts : mid ≡ spelling ++ rest)
         (spelt : Spells line spelling) (fits : (reason : Why) → judge front line ≡ Refused reason → ⊥) where
-      refuses_packet : (reason : Why) (packet : Packet) → Reads (known mid new) (Ok (Some packet)) → judge front packet ≡ Refused reason → ⊥
+      refuses_packet : (reason : Why) (packet : Packet) → Reads (known_bytes mid new) (Ok (Some packet)) → judge front packet ≡ Refused reason → ⊥
       refuses_packet reason packet read refuses =
           let same : line ≡ packet = (one line packet spelling read.0 rest new spelt read.2 (sym parts ∙ read.1)).0 in
           fits reason (ap (judge front) same ∙ refuses)
 
-      refuses_line : (fault : LineFault) → IsOfBytes (why.Line fault) → Reads (known mid new) (Err fault) → ⊥
-      refuses_line line_fault.Io certain read = certain
-      refuses_line line_fault.Failed certain read = certain
-      refuses_line line_fault.Memory certain read = read
-      refuses_line fault certain read = no_line fault line mid spelling rest read.0 (sym parts) spelt
+      refuses_packet_fault : (fault : PacketFault) → IsOfBytes (why.Line fault) → Reads (known_bytes mid new) (Err fault) → ⊥
+      refuses_packet_fault packet_fault.Io certain read = certain
+      refuses_packet_fault packet_fault.Failed certain read = certain
+      refuses_packet_fault packet_fault.Memory certain read = read
+      refuses_packet_fault fault certain read = no_packet fault line mid spelling rest read.0 (sym parts) spelt
 
-      ends : Reads (known mid new) (Ok None) → ⊥
+      ends : Reads (known_bytes mid new) (Ok None) → ⊥
       ends read =
           let bytes = ap length parts ∙ length-append spelling rest in
           let none : length mid ≡ 0 = ap length read.0 in
           let some = four line spelling spelt in
           omega (arith, bytes, none, some)
 
-      pub refuses : (reason : Why) → IsOfBytes reason → IsReasonAfter judge brings front (known mid new) reason → ⊥
-      refuses (why.Line fault) certain h = refuses_line fault certain h
+      pub refuses : (reason : Why) → IsOfBytes reason → IsReasonAfter judge brings front (known_bytes mid new) reason → ⊥
+      refuses (why.Line fault) certain h = refuses_packet_fault fault certain h
       refuses why.Ended certain h = ends h
       refuses why.Memory certain h = certain
       refuses reason certain h = refuses_packet reason h.0 h.1 h.2
 
     -- where the bytes between are known
     refused_at : OneBegins → (front lines : List Packet) (bytes new rest : List ℕ) (between : Option (List ℕ)) (reason : Why)
-        → IsUnfinished judge front → ReadsLines (record { old = Some bytes; new = between }) front
+        → IsUnfinished judge front → ReadsPackets (record { old = Some bytes; new = between }) front
         → IsReasonAfter judge brings front (record { old = between; new = Some new }) reason → IsOfBytes reason
         → IsFront lines bytes rest → IsWhole judge lines → ⊥
     refused_at begins front lines bytes new rest None reason before read h certain at whole = read
@@ -106,9 +106,9 @@ module _ (judge : Judge) where
               (λ why is. refused_is_not_whole front more line why is (subst (IsWhole judge) longer whole)) reason certain h
         ]
 
-  pub refused_is_no_message : OneBegins → OneReading → RefusedIsNoLine → HasFourBytes → RefusedIsNoMessage judge
-  refused_is_no_message begins one no_line four brings front lines bytes new rest fault h certain at =
-      refused_at one no_line four brings begins front lines bytes new rest h.between fault.why h.unfinished h.before
+  pub refused_is_no_message : OneBegins → OneReading → RefusedIsNoPacket → HasFourBytes → RefusedIsNoMessage judge
+  refused_is_no_message begins one no_packet four brings front lines bytes new rest fault h certain at =
+      refused_at one no_packet four brings begins front lines bytes new rest h.between fault.why h.unfinished h.before
       h.reason certain at
 
   pub ended_is_no_message : HasFourBytes → EndedIsNoMessage judge
@@ -127,22 +127,22 @@ module _ (judge : Judge) (brings : List Packet → Packet → Bool) where
   -- ---- one refusal
 
   -- what a packet's reading says of a refusal after these packets
-  abbrev Explains : List Packet → Result (Option Packet) LineFault → Why → Type 0
+  abbrev Explains : List Packet → Result (Option Packet) PacketFault → Why → Type 0
   Explains front (Err fault) reason = reason ≡ why.Line fault
   Explains front (Ok None) reason = reason ≡ why.Ended
   Explains front (Ok (Some packet)) reason = judge front packet ≡ Refused reason
 
   record Reason (front : List Packet) (mid new : List ℕ) (reason : Why) : Type 0 where
-    outcome : Result (Option Packet) LineFault
+    outcome : Result (Option Packet) PacketFault
     gives : Gives mid new outcome
     certain : lines.IsOfBytes outcome
     explains : Explains front outcome reason
 
-  reason_of : (front : List Packet) (mid new : List ℕ) (reason : Why) → IsOfBytes reason → IsReasonAfter judge brings front (known mid new) reason
+  reason_of : (front : List Packet) (mid new : List ℕ) (reason : Why) → IsOfBytes reason → IsReasonAfter judge brings front (known_bytes mid new) reason
       → Reason front mid new reason
-  reason_of front mid new (why.Line line_fault.Io) certain h = absurd certain
-  reason_of front mid new (why.Line line_fault.Failed) certain h = absurd certain
-  reason_of front mid new (why.Line line_fault.Memory) certain h = absurd h
+  reason_of front mid new (why.Line packet_fault.Io) certain h = absurd certain
+  reason_of front mid new (why.Line packet_fault.Failed) certain h = absurd certain
+  reason_of front mid new (why.Line packet_fault.Memory) certain h = absurd h
   reason_of front mid new (why.Line fault) certain h =
       record { outcome = Err fault; gives = h; certain = (λ e. cc, λ e. cc); explains = refl }
   reason_of front mid new why.Ended certain h = record { outcome = Ok None; gives = h; certain = (λ e. cc, λ e. cc); explains = refl }
@@ -150,7 +150,7 @@ module _ (judge : Judge) (brings : List Packet → Packet → Bool) where
   reason_of front mid new reason certain h =
       record { outcome = Ok (Some h.0); gives = h.1; certain = (λ e. cc, λ e. cc); explains = h.2 }
 
-  one_explained : (front : List Packet) (outcome : Result (Option Packet) LineFault) (one other : Why)
+  one_explained : (front : List Packet) (outcome : Result (Option Packet) PacketFault) (one other : Why)
       → Explains front outcome one → Explains front outcome other → one ≡ other
   one_explained front (Err fault) one other a b = a ∙ sym b
   one_explained front (Ok None) one other a b = a ∙ sym b
@@ -164,7 +164,7 @@ module _ (judge : Judge) (brings : List Packet → Packet → Bool) where
     certain : IsOfBytes fault.why
 
   -- a list that is refused is not gone on with
-  module _ (law : OneOutcome) (one : OneReading) (no_line : RefusedIsNoLine) (four : HasFourBytes) where
+  module _ (law : OneOutcome) (one : OneReading) (no_packet : RefusedIsNoPacket) (four : HasFourBytes) where
     one_after : (front : List Packet) (mid new after : List ℕ) (fault other : MessageFault)
         → Refuses front (Some mid) new fault → Refuses front (Some mid) after other → (fault ≡ other) × (new ≡ after)
     one_after front mid new after fault other h k =
@@ -184,15 +184,15 @@ module _ (judge : Judge) (brings : List Packet → Packet → Bool) where
         (subst (λ ls. Refuses ls (Some mid) after other) (longer ∙ append-nil front)
         (subst (λ xs. Refuses others (Some xs) after other) (sym (left ∙ ap (λ xs. xs ++ next) spelt)) k))
     one_further front others (line ∷ more) mid next new after bytes fault other longer spelt left h k =
-        absurd (refuses judge one no_line four brings front line mid new spelt.0 (spelt.1 ++ next)
+        absurd (refuses judge one no_packet four brings front line mid new spelt.0 (spelt.1 ++ next)
         (left ∙ ap (λ xs. xs ++ next) spelt.2 ∙ append_assoc spelt.0 spelt.1 next) spelt.3
         (λ why is. IsOpen-never_refuses front line more why (subst (IsOpen judge) longer k.goes) is)
         fault.why h.certain h.reason)
 
     -- where the bytes between are known
     one_between : OneBegins → (front others : List Packet) (bytes new after : List ℕ) (fault other : MessageFault)
-        (between beyond : Option (List ℕ)) → ReadsLines (record { old = Some bytes; new = between }) front
-        → ReadsLines (record { old = Some bytes; new = beyond }) others → Refuses front between new fault
+        (between beyond : Option (List ℕ)) → ReadsPackets (record { old = Some bytes; new = between }) front
+        → ReadsPackets (record { old = Some bytes; new = beyond }) others → Refuses front between new fault
         → Refuses others beyond after other → (fault ≡ other) × (new ≡ after)
     one_between begins front others bytes new after fault other None beyond read also h k = absurd read
     one_between begins front others bytes new after fault other (Some mid) None read also h k = absurd also
@@ -204,8 +204,8 @@ module _ (judge : Judge) (brings : List Packet → Packet → Bool) where
         ]
 
     pub one_refusal : OneBegins → (front others : List Packet) (bytes new after : List ℕ) (fault other : MessageFault)
-        → ReadsRefused judge brings front (known bytes new) fault
-        → ReadsRefused judge brings others (known bytes after) other
+        → ReadsRefused judge brings front (known_bytes bytes new) fault
+        → ReadsRefused judge brings others (known_bytes bytes after) other
         → IsOfBytes fault.why → IsOfBytes other.why → (fault ≡ other) × (new ≡ after)
     one_refusal begins front others bytes new after fault other h k certain sure =
         one_between begins front others bytes new after fault other h.between k.between h.before k.before
@@ -221,19 +221,19 @@ module _ (judge : Judge) (brings : List Packet → Packet → Bool) where
   packet_reason front packet why.Memory is h = absurd h
   packet_reason front packet reason is h = (is, tt)
 
-  no_line_read : (fault : LineFault) (mid : List ℕ) → NoLine fault mid → (new : List ℕ) × Reads (known mid new) (Err fault) × IsOfBytes (why.Line fault)
-  no_line_read line_fault.Truncated mid none = ([], (none, refl), tt)
-  no_line_read line_fault.Io mid none = absurd none
-  no_line_read line_fault.Failed mid none = absurd none
-  no_line_read line_fault.Memory mid none = absurd none
-  no_line_read fault mid none = (drop digit_count mid, (none, refl), tt)
+  no_packet_read : (fault : PacketFault) (mid : List ℕ) → NoPacket fault mid → (new : List ℕ) × Reads (known_bytes mid new) (Err fault) × IsOfBytes (why.Line fault)
+  no_packet_read packet_fault.Truncated mid none = ([], (none, refl), tt)
+  no_packet_read packet_fault.Io mid none = absurd none
+  no_packet_read packet_fault.Failed mid none = absurd none
+  no_packet_read packet_fault.Memory mid none = absurd none
+  no_packet_read fault mid none = (drop digit_count mid, (none, refl), tt)
 
   module _ (four : HasFourBytes) (every_front : EveryFront) (endings : HasEndings judge) (of_packets : RefusesPackets judge) (bytes : List ℕ) where
     Found : Type 0
     Found = BeginsWithMessage judge bytes ⊎ IsRefused judge brings bytes
 
     refused_after : (front : List Packet) (mid new : List ℕ) (reason : Why) → IsOpen judge front
-        → ReadsLines (known bytes mid) front → IsReasonAfter judge brings front (known mid new) reason → IsOfBytes reason
+        → ReadsPackets (known_bytes bytes mid) front → IsReasonAfter judge brings front (known_bytes mid new) reason → IsOfBytes reason
         → Found
     unfolding Found
     refused_after front mid new reason opened read h certain = inr (record {
@@ -252,11 +252,11 @@ module _ (judge : Judge) (brings : List Packet → Packet → Bool) where
     })
 
     whole_after : (front : List Packet) (packet : Packet) (mid new : List ℕ) → IsOpen judge front
-        → ReadsLines (known bytes mid) front → Reads (known mid new) (Ok (Some packet)) → judge front packet ≡ Whole
+        → ReadsPackets (known_bytes bytes mid) front → Reads (known_bytes mid new) (Ok (Some packet)) → judge front packet ≡ Whole
         → Found
     unfolding Found
     whole_after front packet mid new opened read next ends =
-        let all = ReadsLines-push (Some bytes) (Some mid) (Some new) front packet read next in
+        let all = ReadsPackets-push (Some bytes) (Some mid) (Some new) front packet read next in
         inl (
           front ++ packet ∷ [],
           new,
@@ -265,16 +265,16 @@ module _ (judge : Judge) (brings : List Packet → Packet → Bool) where
         )
 
     by_verdict : (verdict : Verdict) (front : List Packet) (packet : Packet) (mid new : List ℕ) → judge front packet ≡ verdict → IsOpen judge front
-        → ReadsLines (known bytes mid) front → Reads (known mid new) (Ok (Some packet))
-        → (IsOpen judge (front ++ packet ∷ []) → ReadsLines (known bytes new) (front ++ packet ∷ []) → Found) → Found
+        → ReadsPackets (known_bytes bytes mid) front → Reads (known_bytes mid new) (Ok (Some packet))
+        → (IsOpen judge (front ++ packet ∷ []) → ReadsPackets (known_bytes bytes new) (front ++ packet ∷ []) → Found) → Found
     by_verdict Open front packet mid new is opened read next more =
-        more (IsOpen-push opened is) (ReadsLines-push (Some bytes) (Some mid) (Some new) front packet read next)
+        more (IsOpen-push opened is) (ReadsPackets-push (Some bytes) (Some mid) (Some new) front packet read next)
     by_verdict Whole front packet mid new is opened read next more = whole_after front packet mid new opened read next is
     by_verdict (Refused reason) front packet mid new is opened read next more =
         let h = packet_reason front packet reason is (subst IsForPacket is (of_packets front packet)) in
-        refused_after front mid new reason opened read (reason_after judge brings front (known mid new) packet reason next h.0) h.1
+        refused_after front mid new reason opened read (reason_after judge brings front (known_bytes mid new) packet reason next h.0) h.1
 
-    found_within : (steps : ℕ) (front : List Packet) (mid : List ℕ) → length mid < steps → IsOpen judge front → ReadsLines (known bytes mid) front → Found
+    found_within : (steps : ℕ) (front : List Packet) (mid : List ℕ) → length mid < steps → IsOpen judge front → ReadsPackets (known_bytes bytes mid) front → Found
     found_within zero front mid short opened read = absurd (omega (arith, short))
     found_within (suc steps) front mid short opened read =
         elim (every_front mid) [
@@ -284,20 +284,20 @@ module _ (judge : Judge) (brings : List Packet → Packet → Bool) where
               (λ goes more. found_within steps (front ++ line ∷ []) rest
               (omega (arith, short, four line spelling spelt, ap length parts, length-append spelling rest)) goes more)
           | inr (inr (fault, none)) ↦
-              (let h = no_line_read fault mid none in refused_after front mid h.0 (why.Line fault) opened read h.1 h.2)
+              (let h = no_packet_read fault mid none in refused_after front mid h.0 (why.Line fault) opened read h.1 h.2)
         ]
 
     pub every_input : BeginsWithMessage judge bytes ⊎ IsRefused judge brings bytes
     unfolding Found
-    every_input = found_within (suc (length bytes)) [] bytes (omega arith) (IsOpen-nil judge) (ReadsLines-nil (Some bytes))
+    every_input = found_within (suc (length bytes)) [] bytes (omega arith) (IsOpen-nil judge) (ReadsPackets-nil (Some bytes))
 
-pub LawsOfBytes-always : OneBegins → OneReading → RefusedIsNoLine → HasFourBytes → OneOutcome → EveryFront → (judge : Judge) → LawsOfBytes judge
-LawsOfBytes-always begins one no_line four law every_front judge = record {
+pub LawsOfBytes-always : OneBegins → OneReading → RefusedIsNoPacket → HasFourBytes → OneOutcome → EveryFront → (judge : Judge) → LawsOfBytes judge
+LawsOfBytes-always begins one no_packet four law every_front judge = record {
   front = reads_front judge;
   no_other = reads_no_other judge begins;
-  refused = refused_is_no_message judge begins one no_line four;
+  refused = refused_is_no_message judge begins one no_packet four;
   ended = ended_is_no_message judge four;
-  one_refusal = λ brings. one_refusal judge brings law one no_line four begins;
+  one_refusal = λ brings. one_refusal judge brings law one no_packet four begins;
   every = λ endings of_packets brings bytes. every_input judge brings four every_front endings of_packets bytes;
   prefix_free = spellings_prefix_free judge begins;
 }

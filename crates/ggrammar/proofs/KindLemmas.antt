@@ -4,27 +4,27 @@ use Rattle.std.specs.Prelude.{IfErr}
 use Rattle.gpkt.specs.Packets.{Packet, canonical_all}
 use Rattle.gpkt.specs.Laws.{CanonicalSpellsAll}
 use Rattle.ggrammar.specs.Grammar.{Judge}
-use Rattle.ggrammar.specs.MessageBytes.{known, IsOfBytes, LawsOfBytes}
+use Rattle.ggrammar.specs.MessageBytes.{known_bytes, IsOfBytes, LawsOfBytes}
 use Rattle.ggrammar.specs.Kinds.{Meaning, OneMeaning, SaysWhole, CanonicalSays, ReadsMessage, ReadsOrRefuses, ReadsIfAny, SaysAtFront, ReadsExactly, ReadsBack, ReadsExactlyIfAny, ReadsBackIfAny}
 use Rattle.ggrammar.specs.declared.fault.MessageFault.{MessageFault}
 
 module _ {M : Type 0} (judge : Judge) (brings : List Packet → Packet → Bool) (Says : Meaning M) (laws : LawsOfBytes judge)
     (says_whole : SaysWhole judge Says) (one_meaning : OneMeaning Says) where
   -- what was read is what is said at the front
-  read_is_said : (bytes new rest : List ℕ) (message other : M) (read : ReadsMessage judge Says (known bytes new) message)
+  read_is_said : (bytes new rest : List ℕ) (message other : M) (read : ReadsMessage judge Says (known_bytes bytes new) message)
       → SaysAtFront Says bytes rest other → (message ≡ other) × (new ≡ rest)
   read_is_said bytes new rest message other read (lines, at, says) =
       let whole = (says_whole lines).1 (other, says) in
       let same = laws.no_other lines read.lines bytes rest new whole at read.read in
       (one_meaning lines message other (subst (λ (ls : List Packet). Says ls message) same.0 read.says) says, same.1)
 
-  said_at_front : (bytes new rest : List ℕ) (message : M) → ReadsMessage judge Says (known bytes new) message
+  said_at_front : (bytes new rest : List ℕ) (message : M) → ReadsMessage judge Says (known_bytes bytes new) message
       → new ≡ rest → SaysAtFront Says bytes rest message
   said_at_front bytes new rest message read same =
       let at = read.read.bytes in
       (read.lines, record { front = at.0; parts = at.1 ∙ ap (λ xs. at.0 ++ xs) same; spelt = at.2 }, read.says)
 
-  answers : (bytes new rest : List ℕ) (result : Result M MessageFault) (message : M) → ReadsOrRefuses judge brings Says (known bytes new) result
+  answers : (bytes new rest : List ℕ) (result : Result M MessageFault) (message : M) → ReadsOrRefuses judge brings Says (known_bytes bytes new) result
       → IfErr result (λ fault. IsOfBytes fault.why) → SaysAtFront Says bytes rest message → (result ≡ Ok message) × (new ≡ rest)
   answers bytes new rest (Ok other) message read certain at =
       let same = read_is_said bytes new rest other message read at in (ap Ok same.0, same.1)
@@ -47,7 +47,7 @@ module _ {M : Type 0} (judge : Judge) (brings : List Packet → Packet → Bool)
   -- ---- a message that may be missing
 
   answers_if_any : (bytes new rest : List ℕ) (result : Result (Option M) MessageFault) (message : M)
-      → ReadsIfAny judge brings Says (known bytes new) result → IfErr result (λ fault. IsOfBytes fault.why)
+      → ReadsIfAny judge brings Says (known_bytes bytes new) result → IfErr result (λ fault. IsOfBytes fault.why)
       → SaysAtFront Says bytes rest message → (result ≡ Ok (Some message)) × (new ≡ rest)
   answers_if_any bytes new rest (Ok (Some other)) message read certain at =
       let same = read_is_said bytes new rest other message read at in (ap (λ (m : M). Ok (Some m)) same.0, same.1)

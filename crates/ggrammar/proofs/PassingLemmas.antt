@@ -4,13 +4,13 @@ use Rattle.std.specs.Prelude.{OnOk}
 use Rattle.std.proofs.lemmas.Bool.{false≢true}
 use Rattle.gpkt.specs.Devices.{KeepsPassed}
 use Rattle.gpkt.specs.Laws.{PushesWritten}
-use Rattle.gpkt.specs.LineWriting.{Writer, HasPushed}
+use Rattle.gpkt.specs.PacketWriting.{Writer, HasPushed}
 use Rattle.gpkt.specs.Packets.{Packet, canonical_all}
 use Rattle.gpkt.specs.Sending.{Output, output_of, Passes, SendsSome}
 use Rattle.gpkt.specs.declared.fault.WriteFault.{WriteFault}
 use Rattle.gpkt.specs.declared.fault.WriteFault.TheVariants.{Failed, Payload, Io}
 use Rattle.gpkt.proofs.SendingLemmas.{keeps_on, keeps_still}
-use Rattle.ggrammar.specs.Writing.{WritesLines}
+use Rattle.ggrammar.specs.Writing.{WritesPackets}
 
 -- a beginning of what is due stands, and what was passed on before still is
 abbrev pub SendsPart : Output → List Packet → Type 0
@@ -18,7 +18,7 @@ SendsPart output packets = SendsSome output (canonical_all packets) × KeepsPass
 
 module _ {W : Type 0} (contents passed_on : W → Option (List ℕ)) (is_down : W → Bool) (loans : W → List ℕ) where
   abbrev Writes : Writer W → Writer W → Result (Unit {0}) WriteFault → List Packet → Type 0
-  Writes old new result packets = WritesLines contents passed_on is_down loans old new result packets
+  Writes old new result packets = WritesPackets contents passed_on is_down loans old new result packets
 
   abbrev Pushes : Writer W → Writer W → Result (Unit {0}) WriteFault → Type 0
   Pushes old new result = HasPushed contents passed_on is_down loans old new result

@@ -5,7 +5,7 @@ use Rattle.std.specs.Option.{option_to_list}
 use Rattle.std.proofs.lemmas.List.Elements.{filter_map-append}
 use Rattle.gpkt.specs.Packets.{Packet}
 use Rattle.gpkt.specs.Laws.{TextOfLine}
-use Rattle.ggrammar.specs.Places.{place_after, collected}
+use Rattle.ggrammar.specs.Places.{place_after, collect}
 use Rattle.ggrammar.specs.Texts.{text_in, TextsOfMore, TextIsRead}
 
 pub place_after-push : {Place : Type 0} (next : Place → Packet → Place) (place : Place) (front : List Packet) (packet : Packet)
@@ -13,12 +13,12 @@ pub place_after-push : {Place : Type 0} (next : Place → Packet → Place) (pla
 place_after-push next place [] packet = refl
 place_after-push next place (first ∷ front) packet = place_after-push next (next place first) front packet
 
-pub collected-push : {Place X : Type 0} (next : Place → Packet → Place) (give : Place → Packet → List X) (place : Place) (front : List Packet) (packet : Packet)
-    → collected next give place (front ++ packet ∷ []) ≡ collected next give place front ++ give (place_after next place front) packet
-collected-push next give place [] packet = append-nil (give place packet)
-collected-push next give place (first ∷ front) packet =
-    ap (λ xs. give place first ++ xs) (collected-push next give (next place first) front packet)
-    ∙ sym (append_assoc (give place first) (collected next give (next place first) front) (give (place_after next (next place first) front) packet))
+pub collect-push : {Place X : Type 0} (next : Place → Packet → Place) (give : Place → Packet → List X) (place : Place) (front : List Packet) (packet : Packet)
+    → collect next give place (front ++ packet ∷ []) ≡ collect next give place front ++ give (place_after next place front) packet
+collect-push next give place [] packet = append-nil (give place packet)
+collect-push next give place (first ∷ front) packet =
+    ap (λ xs. give place first ++ xs) (collect-push next give (next place first) front packet)
+    ∙ sym (append_assoc (give place first) (collect next give (next place first) front) (give (place_after next (next place first) front) packet))
 
 -- what is given of a list with one more
 pub filter_map-push : {X Y : Type 0} (give : X → Option Y) (xs : List X) (x : X) (found : Option Y) → give x ≡ found

@@ -1,10 +1,10 @@
 -- Packets read one after the other.
 use Rattle.std.proofs.Common.{◌≡◌, ℕ, List, [], ◌∷◌, ◌++◌, length, Option, Some, None, Ok, Result, Bool, true, ◌+◌, refl, sym, subst, ap, ◌∙◌, append_assoc, append-nil}
 use Rattle.gpkt.specs.Packets.{Packet, Spells, SpellsAll, packet_of}
-use Rattle.gpkt.specs.LineReading.{Reads, Reader, ReadsLines, HasRead, read_of}
+use Rattle.gpkt.specs.PacketReading.{Reads, Reader, ReadsPackets, HasRead, read_of}
 use Rattle.ggrammar.specs.Grammar.{Judge, IsOpen, HasEndings}
-use Rattle.gpkt.specs.declared.line.Line.{Line}
-use Rattle.gpkt.specs.declared.fault.LineFault.{LineFault}
+use Rattle.gpkt.specs.declared.packet.Packet.{Packet as LentPacket}
+use Rattle.gpkt.specs.declared.fault.PacketFault.{PacketFault}
 use Rattle.ggrammar.specs.MessageReading.{IsReason, IsReasonAfter, HasTaken, HasRefused, TakesPacket}
 use Rattle.gpkt.specs.Change.{Change}
 use Rattle.ggrammar.specs.declared.fault.Why.{Why}
@@ -20,23 +20,23 @@ SpellsAll-push [] packet bytes more e s = (more, [], ap (λ xs. xs ++ more) e �
 SpellsAll-push (line ∷ lines) packet bytes more h s =
     (h.0, h.1 ++ more, ap (λ xs. xs ++ more) h.2 ∙ append_assoc h.0 h.1 more, h.3, SpellsAll-push lines packet h.1 more h.4 s)
 
-pub ReadsLines-nil : (a : Option (List ℕ)) → ReadsLines (record { old = a; new = a }) []
-ReadsLines-nil None = tt
-ReadsLines-nil (Some old) = ([], refl, refl)
+pub ReadsPackets-nil : (a : Option (List ℕ)) → ReadsPackets (record { old = a; new = a }) []
+ReadsPackets-nil None = tt
+ReadsPackets-nil (Some old) = ([], refl, refl)
 
-pub ReadsLines-push : (a b c : Option (List ℕ)) (lines : List Packet) (packet : Packet) → ReadsLines (record { old = a; new = b }) lines
-    → Reads (record { old = b; new = c }) (Ok (Some packet)) → ReadsLines (record { old = a; new = c }) (lines ++ packet ∷ [])
-ReadsLines-push None b c lines packet p q = tt
-ReadsLines-push (Some x) None c lines packet p q = absurd p
-ReadsLines-push (Some x) (Some y) None lines packet p q = absurd q
-ReadsLines-push (Some x) (Some y) (Some z) lines packet p q =
+pub ReadsPackets-push : (a b c : Option (List ℕ)) (lines : List Packet) (packet : Packet) → ReadsPackets (record { old = a; new = b }) lines
+    → Reads (record { old = b; new = c }) (Ok (Some packet)) → ReadsPackets (record { old = a; new = c }) (lines ++ packet ∷ [])
+ReadsPackets-push None b c lines packet p q = tt
+ReadsPackets-push (Some x) None c lines packet p q = absurd p
+ReadsPackets-push (Some x) (Some y) None lines packet p q = absurd q
+ReadsPackets-push (Some x) (Some y) (Some z) lines packet p q =
     (p.0 ++ q.0, p.1 ∙ ap (λ xs. p.0 ++ xs) q.1 ∙ sym (append_assoc p.0 q.0 z), SpellsAll-push lines packet p.0 q.0 p.2 q.2)
 
 -- what the next packet is
-pub read_some : (result : Result (Option Line) LineFault) (field : Option Line) (line : Line) → result ≡ Ok field → field ≡ Some line → read_of result ≡ Ok (Some (packet_of line))
+pub read_some : (result : Result (Option LentPacket) PacketFault) (field : Option LentPacket) (line : LentPacket) → result ≡ Ok field → field ≡ Some line → read_of result ≡ Ok (Some (packet_of line))
 read_some result field line e f = ap read_of (e ∙ ap (λ x. Ok x) f)
 
-pub read_none : (result : Result (Option Line) LineFault) (field : Option Line) → result ≡ Ok field → field ≡ None → read_of result ≡ Ok None
+pub read_none : (result : Result (Option LentPacket) PacketFault) (field : Option LentPacket) → result ≡ Ok field → field ≡ None → read_of result ≡ Ok None
 read_none result field e f = ap read_of (e ∙ ap (λ x. Ok x) f)
 
 -- a packet that is taken
@@ -52,7 +52,7 @@ pub record IsGoing {M : Type 0} (judge : Judge) (holds : M → List Packet → T
   pub goes : IsOpen judge lines
   pub held : holds message lines
   pub count : frame ≡ length lines
-  pub bytes : ReadsLines (record { old = old; new = new }) lines
+  pub bytes : ReadsPackets (record { old = old; new = new }) lines
 
 -- a message whose grammar stays takes a packet as the first grammar says
 pub takes_as : {M : Type 0} (holds left : M → List Packet → Type 0) (judge first : Judge)
@@ -71,7 +71,7 @@ takes_as holds left judge first brings at_first old new packet result taken same
 module _ {M : Type 0} (judge : Judge) (brings : List Packet → Packet → Bool) (holds left : M → List Packet → Type 0) where
   -- what the message has before its first packet
   pub nothing_yet : (old : Option (List ℕ)) (message : M) → holds message [] → IsGoing judge holds old old message 0
-  nothing_yet old message held = record { lines = []; goes = IsOpen-nil judge; held = held; count = refl; bytes = ReadsLines-nil old }
+  nothing_yet old message held = record { lines = []; goes = IsOpen-nil judge; held = held; count = refl; bytes = ReadsPackets-nil old }
 
   -- the message is refused here
   pub refused_there : HasEndings judge → (old new last : Option (List ℕ)) (message after : M) (frame : ℕ) (reason : Why)
@@ -99,7 +99,7 @@ module _ {M : Type 0} (judge : Judge) (brings : List Packet → Packet → Bool)
     goes = IsOpen-push going.goes taken.0;
     held = taken.1;
     count = ap (λ n. n + 1) going.count ∙ sym (length_push going.lines packet);
-    bytes = ReadsLines-push old new last going.lines packet going.bytes read;
+    bytes = ReadsPackets-push old new last going.lines packet going.bytes read;
   }
 
   -- the message ends
@@ -109,7 +109,7 @@ module _ {M : Type 0} (judge : Judge) (brings : List Packet → Packet → Bool)
     lines = going.lines ++ packet ∷ [];
     read = record {
       whole = record { front = going.lines; last = packet; parts = refl; goes = going.goes; ends = taken.0 };
-      bytes = ReadsLines-push old new last going.lines packet going.bytes read;
+      bytes = ReadsPackets-push old new last going.lines packet going.bytes read;
     };
     held = taken.1;
   }

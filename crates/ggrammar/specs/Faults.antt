@@ -3,10 +3,10 @@
 use Rattle.std.specs.Prelude.{ℕ, ◌++◌, codes, take}
 use Rattle.std.specs.Fmt.{decimal}
 use Rattle.gname.specs.Faults.{out_of_memory_text}
-use Rattle.gpkt.specs.Faults.{FaultRow, band_fault_row, line_fault_row}
+use Rattle.gpkt.specs.Faults.{FaultRow, band_fault_row, packet_fault_row}
 use Rattle.gpkt.specs.Packets.{Bytes, text}
-use Rattle.gpkt.specs.declared.fault.LineFault.{LineFault}
-use Rattle.gpkt.specs.declared.fault.LineFault.TheVariants as line
+use Rattle.gpkt.specs.declared.fault.PacketFault.{PacketFault}
+use Rattle.gpkt.specs.declared.fault.PacketFault.TheVariants as line
 use Rattle.ggrammar.specs.declared.fault.MessageFault.{MessageFault}
 use Rattle.ggrammar.specs.declared.fault.Why.{Why}
 use Rattle.ggrammar.specs.declared.fault.Why.TheVariants as why
@@ -29,7 +29,7 @@ abbrev pub row_of : FaultRow → Bytes → WhyRow
 row_of row phrase = record { code = row.0; name = row.1; phrase = phrase }
 
 -- why no packet is read, in a peer's words
-abbrev pub line_phrase : LineFault → Bytes
+abbrev pub line_phrase : PacketFault → Bytes
 line_phrase line.BadDigits = codes "bad packet line"
 line_phrase line.Reserved = codes "bad packet line"
 line_phrase line.TooLong = codes "bad packet line"
@@ -40,7 +40,7 @@ line_phrase line.Memory = out_of_memory_text
 
 -- why a message is refused
 abbrev pub why_row : Why → WhyRow
-why_row (why.Line fault) = row_of (line_fault_row fault) (line_phrase fault)
+why_row (why.Line fault) = row_of (packet_fault_row fault) (line_phrase fault)
 why_row (why.Band fault) = row_of (band_fault_row fault) (codes "refused")
 why_row why.UnexpectedFrame = row_of (41, codes "UnexpectedFrame") (codes "unexpected packet")
 why_row why.BadText = row_of (42, codes "BadText") (codes "bad line")

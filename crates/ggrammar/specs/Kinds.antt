@@ -3,11 +3,11 @@
 use Rattle.std.specs.Prelude.{◌≡◌, ◌↔◌, All, Bool, List, ◌++◌, Option, Some, None, Result, Ok, Err, IfErr}
 use Rattle.gpkt.specs.Packets.{Bytes, Packet, canonical_all}
 use Rattle.gpkt.specs.Change.{Change}
-use Rattle.gpkt.specs.LineReading.{Reads}
+use Rattle.gpkt.specs.PacketReading.{Reads}
 use Rattle.gpkt.specs.Laws.{Fits}
 use Rattle.ggrammar.specs.Grammar.{Judge, IsWhole}
 use Rattle.ggrammar.specs.MessageReading.{ReadsWhole, ReadsRefused}
-use Rattle.ggrammar.specs.MessageBytes.{known, IsFront, IsOfBytes}
+use Rattle.ggrammar.specs.MessageBytes.{known_bytes, IsFront, IsOfBytes}
 use Rattle.ggrammar.specs.declared.fault.MessageFault.{MessageFault}
 
 -- what packets say of a message, or which packets are written of it
@@ -56,7 +56,7 @@ module _ {M : Type 0} where
   abbrev pub ReadsExactly : Judge → (List Packet → Packet → Bool) → Meaning M → Type 0
   ReadsExactly judge brings Says =
       (bytes new rest : Bytes) (result : Result M MessageFault) (message : M)
-      → ReadsOrRefuses judge brings Says (known bytes new) result → IfErr result (λ fault. IsOfBytes fault.why)
+      → ReadsOrRefuses judge brings Says (known_bytes bytes new) result → IfErr result (λ fault. IsOfBytes fault.why)
       → ((result ≡ Ok message) × (new ≡ rest)) ↔ SaysAtFront Says bytes rest message
 
   -- what is written of a value reads back, whatever follows
@@ -64,7 +64,7 @@ module _ {M : Type 0} where
   ReadsBack judge brings Says IsValue IsCanonical =
       (lines : List Packet) (rest new : Bytes) (result : Result M MessageFault) (message : M) → IsValue message
       → IsCanonical lines message
-      → ReadsOrRefuses judge brings Says (known (canonical_all lines ++ rest) new) result
+      → ReadsOrRefuses judge brings Says (known_bytes (canonical_all lines ++ rest) new) result
       → IfErr result (λ fault. IsOfBytes fault.why) → (result ≡ Ok message) × (new ≡ rest)
 
   -- ---- a message that may be missing
@@ -81,7 +81,7 @@ module _ {M : Type 0} where
   abbrev pub ReadsExactlyIfAny : Judge → (List Packet → Packet → Bool) → Meaning M → Type 0
   ReadsExactlyIfAny judge brings Says =
       (bytes new rest : Bytes) (result : Result (Option M) MessageFault) (message : M)
-      → ReadsIfAny judge brings Says (known bytes new) result → IfErr result (λ fault. IsOfBytes fault.why)
+      → ReadsIfAny judge brings Says (known_bytes bytes new) result → IfErr result (λ fault. IsOfBytes fault.why)
       → ((result ≡ Ok (Some message)) × (new ≡ rest)) ↔ SaysAtFront Says bytes rest message
 
   -- what is written of a value reads back, whatever follows
@@ -89,5 +89,5 @@ module _ {M : Type 0} where
   ReadsBackIfAny judge brings Says IsValue IsCanonical =
       (lines : List Packet) (rest new : Bytes) (result : Result (Option M) MessageFault) (message : M)
       → IsValue message → IsCanonical lines message
-      → ReadsIfAny judge brings Says (known (canonical_all lines ++ rest) new) result
+      → ReadsIfAny judge brings Says (known_bytes (canonical_all lines ++ rest) new) result
       → IfErr result (λ fault. IsOfBytes fault.why) → (result ≡ Ok (Some message)) × (new ≡ rest)

@@ -2,8 +2,8 @@
 use Rattle.std.specs.Prelude.{◌≡◌, ◌⊎◌, Bool, List, [], ◌++◌, Some, None, Ok}
 use Rattle.gpkt.specs.Packets.{Bytes, Packet, SpellsAll}
 use Rattle.gpkt.specs.Change.{Change}
-use Rattle.gpkt.specs.LineReading.{Reads}
-use Rattle.gpkt.specs.declared.fault.LineFault.TheVariants.{Io, Failed}
+use Rattle.gpkt.specs.PacketReading.{Reads}
+use Rattle.gpkt.specs.declared.fault.PacketFault.TheVariants.{Io, Failed}
 use Rattle.ggrammar.specs.Grammar.{Judge, Verdict, Refused, IsWhole, HasEndings}
 use Rattle.ggrammar.specs.MessageReading.{ReadsWhole, ReadsRefused}
 use Rattle.ggrammar.specs.declared.fault.Why.{Why}
@@ -11,8 +11,8 @@ use Rattle.ggrammar.specs.declared.fault.Why.TheVariants.{Line, Memory, Ended}
 use Rattle.ggrammar.specs.declared.fault.MessageFault.{MessageFault}
 
 -- bytes that are known before and after
-abbrev pub known : Bytes → Bytes → Change
-known old new = record { old = Some old; new = Some new }
+abbrev pub known_bytes : Bytes → Bytes → Change
+known_bytes old new = record { old = Some old; new = Some new }
 
 -- these packets are spelt at the front of the bytes, before the rest
 pub record IsFront (lines : List Packet) (bytes rest : Bytes) : Type 0 where
@@ -30,31 +30,31 @@ IsOfBytes why = Unit {0}
 -- a complete message at the front is read
 abbrev pub ReadsFront : Judge → Type 0
 ReadsFront judge = (lines : List Packet) (bytes rest : Bytes) → IsWhole judge lines → IsFront lines bytes rest
-    → ReadsWhole judge (known bytes rest) lines
+    → ReadsWhole judge (known_bytes bytes rest) lines
 
 -- and nothing else is, and the bytes after it stay
 abbrev pub ReadsNoOther : Judge → Type 0
 ReadsNoOther judge = (lines others : List Packet) (bytes rest new : Bytes) → IsWhole judge lines
-    → IsFront lines bytes rest → ReadsWhole judge (known bytes new) others → (others ≡ lines) × (new ≡ rest)
+    → IsFront lines bytes rest → ReadsWhole judge (known_bytes bytes new) others → (others ≡ lines) × (new ≡ rest)
 
 -- where reading is refused for a reason in the bytes, no complete message is at the front
 abbrev pub RefusedIsNoMessage : Judge → Type 0
 RefusedIsNoMessage judge =
     (brings : List Packet → Packet → Bool) (front lines : List Packet) (bytes new rest : Bytes) (fault : MessageFault)
-    → ReadsRefused judge brings front (known bytes new) fault → IsOfBytes fault.why → IsFront lines bytes rest
+    → ReadsRefused judge brings front (known_bytes bytes new) fault → IsOfBytes fault.why → IsFront lines bytes rest
     → ¬ IsWhole judge lines
 
 -- where the input has ended, no complete message is at the front
 abbrev pub EndedIsNoMessage : Judge → Type 0
-EndedIsNoMessage judge = (lines : List Packet) (bytes new rest : Bytes) → Reads (known bytes new) (Ok None)
+EndedIsNoMessage judge = (lines : List Packet) (bytes new rest : Bytes) → Reads (known_bytes bytes new) (Ok None)
     → IsFront lines bytes rest → ¬ IsWhole judge lines
 
 -- bytes that are refused for a reason in them are refused with one fault, and leave one rest
 abbrev pub OneRefusal : Judge → Type 0
 OneRefusal judge =
     (brings : List Packet → Packet → Bool) (front others : List Packet) (bytes new after : Bytes)
-    (fault other : MessageFault) → ReadsRefused judge brings front (known bytes new) fault
-    → ReadsRefused judge brings others (known bytes after) other → IsOfBytes fault.why → IsOfBytes other.why
+    (fault other : MessageFault) → ReadsRefused judge brings front (known_bytes bytes new) fault
+    → ReadsRefused judge brings others (known_bytes bytes after) other → IsOfBytes fault.why → IsOfBytes other.why
     → (fault ≡ other) × (new ≡ after)
 
 -- why a packet is refused for its own sake: no fault of reading it, no end of the input, not out of memory
@@ -83,7 +83,7 @@ pub record IsRefused (judge : Judge) (brings : List Packet → Packet → Bool) 
   pub front : List Packet
   pub rest : Bytes
   pub fault : MessageFault
-  pub refused : ReadsRefused judge brings front (known bytes rest) fault
+  pub refused : ReadsRefused judge brings front (known_bytes bytes rest) fault
   pub certain : IsOfBytes fault.why
 
 -- all bytes begin with a message or are refused

@@ -3,8 +3,8 @@ use Rattle.std.specs.Prelude.{◌≡◌, Bool, true, false, List, [], ◌∷◌,
 use Rattle.std.specs.Prelude.{IsTrue, Ok, Err}
 use Rattle.gpkt.specs.Packets.{Bytes, Packet}
 use Rattle.gpkt.specs.Change.{Change}
-use Rattle.gpkt.specs.LineReading.{Reader, Reads, ReadsLines}
-use Rattle.gpkt.specs.declared.fault.LineFault.TheVariants.{Io, Failed, Memory as LineMemory}
+use Rattle.gpkt.specs.PacketReading.{Reader, Reads, ReadsPackets}
+use Rattle.gpkt.specs.declared.fault.PacketFault.TheVariants.{Io, Failed, Memory as PacketMemory}
 use Rattle.ggrammar.specs.Grammar.{Judge, Verdict, Open, Whole, Refused, IsOpen, IsUnfinished, IsWhole}
 use Rattle.ggrammar.specs.declared.fault.Why.{Why}
 use Rattle.ggrammar.specs.declared.fault.Why.TheVariants.{Line, Memory, Ended}
@@ -15,7 +15,7 @@ use Rattle.ggrammar.specs.declared.message.Step.TheVariants as step
 -- these packets are read, a complete message
 pub record ReadsWhole (judge : Judge) (change : Change) (lines : List Packet) : Type 0 where
   pub whole : IsWhole judge lines
-  pub bytes : ReadsLines change lines
+  pub bytes : ReadsPackets change lines
 
 -- the packet goes on with the message, or ends it
 abbrev pub IsAccepted : Verdict → Type 0
@@ -49,7 +49,7 @@ pub record ReadsRefused (judge : Judge) (brings : List Packet → Packet → Boo
   pub goes : IsOpen judge front
   pub unfinished : IsUnfinished judge front
   pub frame : fault.frame ≡ length front
-  pub before : ReadsLines (record { old = change.old; new = between }) front
+  pub before : ReadsPackets (record { old = change.old; new = between }) front
   pub reason : IsReasonAfter judge brings front (record { old = between; new = change.new }) fault.why
 
 -- ---- what a message that is being read does with a packet
@@ -79,7 +79,7 @@ module _ {M : Type 0} (judge : Judge) (brings : List Packet → Packet → Bool)
 abbrev pub IsReadFailure : Bool → Bool → Why → Type 0
 IsReadFailure failed down (Line Io) = (failed ≡ false) × (down ≡ true)
 IsReadFailure failed down (Line Failed) = failed ≡ true
-IsReadFailure failed down (Line LineMemory) = ⊥
+IsReadFailure failed down (Line PacketMemory) = ⊥
 IsReadFailure failed down why = (failed ≡ false) × (down ≡ false)
 
 -- the reader has failed now exactly where the packet was not read

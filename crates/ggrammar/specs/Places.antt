@@ -9,7 +9,7 @@ place_after next place [] = place
 place_after next place (packet ∷ packets) = place_after next (next place packet) packets
 
 -- what packets give, each at its position, in order
-abbrev pub collected : {Place X : Type 0} → (Place → Packet → Place) → (Place → Packet → List X) → Place
+abbrev pub collect : {Place X : Type 0} → (Place → Packet → Place) → (Place → Packet → List X) → Place
     → List Packet → List X
-collected next give place [] = []
-collected next give place (packet ∷ packets) = give place packet ++ collected next give (next place packet) packets
+collect next give place [] = []
+collect next give place (packet ∷ packets) = give place packet ++ collect next give (next place packet) packets

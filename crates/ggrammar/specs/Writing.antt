@@ -3,7 +3,7 @@ use Rattle.std.specs.Prelude.{◌≡◌, ◌≢◌, ℕ, ◌<◌, ◌↔◌, Boo
 use Rattle.std.specs.Prelude.{IfErr, IsErrAnd, IsErrOf}
 use Rattle.gpkt.specs.Packets.{Bytes, Packet, canonical, canonical_all, max_payload, payload_of}
 use Rattle.gpkt.specs.Laws.{Fits}
-use Rattle.gpkt.specs.LineWriting.{Writer, HasWritten}
+use Rattle.gpkt.specs.PacketWriting.{Writer, HasWritten}
 use Rattle.gpkt.specs.declared.fault.WriteFault.{WriteFault}
 use Rattle.gpkt.specs.declared.fault.WriteFault.TheVariants.{Payload}
 
@@ -12,7 +12,7 @@ module _
     (loans_of : W → List ℕ)
   where
     -- one call of a writer that was to write these packets, of which none is too long
-    pub record WritesLines (old new : Writer W) (result : Result Unit WriteFault) (lines : List Packet) : Type 0 where
+    pub record WritesPackets (old new : Writer W) (result : Result Unit WriteFault) (lines : List Packet) : Type 0 where
       pub written : HasWritten contents_of passed_on_of is_down loans_of old new result (canonical_all lines)
       pub fits : IfErr result (λ fault. fault ≢ Payload)
 
@@ -20,21 +20,21 @@ module _
     -- start written all the packets, and more.
     pub record IsWriting (start now : Writer W) (lines coming : List Packet) : Type 0 where
       pub joins : (more : List Packet) (new : Writer W) (result : Result Unit WriteFault)
-          → WritesLines now new result (coming ++ more) → WritesLines start new result (lines ++ more)
+          → WritesPackets now new result (coming ++ more) → WritesPackets start new result (lines ++ more)
 
     -- one call that was to write a part of a message, which may have no packets
     abbrev pub WritesPart : Writer W → Writer W → Result Unit WriteFault → List Packet → Type 0
     WritesPart old new (Ok done) part = IsWriting old new part []
-    WritesPart old new (Err fault) part = WritesLines old new (Err fault) part
+    WritesPart old new (Err fault) part = WritesPackets old new (Err fault) part
 
     -- ---- laws
 
     -- one packet that is never too long
-    abbrev pub WritesLine : Type 0
-    WritesLine =
+    abbrev pub WritesPacket : Type 0
+    WritesPacket =
         (old new : Writer W) (result : Result Unit WriteFault) (line : Packet)
         → HasWritten contents_of passed_on_of is_down loans_of old new result (canonical line)
-        → IfErr result (λ fault. fault ≢ Payload) → WritesLines old new result (line ∷ [])
+        → IfErr result (λ fault. fault ≢ Payload) → WritesPackets old new result (line ∷ [])
 
     -- one packet that is not too long
     abbrev pub WritesFitting : Type 0
@@ -42,13 +42,13 @@ module _
         (old new : Writer W) (result : Result Unit WriteFault) (line : Packet)
         → HasWritten contents_of passed_on_of is_down loans_of old new result (canonical line)
         → (IsErrOf result Payload ↔ ((old.failed ≡ false) × (max_payload < length (payload_of line)))) → Fits line
-        → WritesLines old new result (line ∷ [])
+        → WritesPackets old new result (line ∷ [])
 
     -- packets are a part
-    abbrev pub LinesArePart : Type 0
-    LinesArePart =
+    abbrev pub PacketsArePart : Type 0
+    PacketsArePart =
         (old new : Writer W) (result : Result Unit WriteFault) (lines : List Packet)
-        → WritesLines old new result lines → WritesPart old new result lines
+        → WritesPackets old new result lines → WritesPart old new result lines
 
     -- before a packet is written all are to come
     abbrev pub StartsWriting : Type 0
@@ -58,7 +58,7 @@ module _
     abbrev pub GoesOnWriting : Type 0
     GoesOnWriting =
         (start now next : Writer W) (lines coming front rest : List Packet) → IsWriting start now lines coming
-        → coming ≡ front ++ rest → WritesLines now next (Ok tt) front → IsWriting start next lines rest
+        → coming ≡ front ++ rest → WritesPackets now next (Ok tt) front → IsWriting start next lines rest
 
     -- nor is a part that was written
     abbrev pub GoesOnAfterPart : Type 0
@@ -71,11 +71,11 @@ module _
     FailsWriting =
         (start now new : Writer W) (lines coming front rest : List Packet) (fault : WriteFault)
         (result : Result Unit WriteFault) → IsWriting start now lines coming → coming ≡ front ++ rest
-        → WritesLines now new (Err fault) front → IsErrAnd result (λ other. other ≡ fault)
-        → WritesLines start new result lines
+        → WritesPackets now new (Err fault) front → IsErrAnd result (λ other. other ≡ fault)
+        → WritesPackets start new result lines
 
     -- whoever writes what is to come has written all the packets
     abbrev pub EndsWriting : Type 0
     EndsWriting =
         (start now new : Writer W) (lines coming : List Packet) (result : Result Unit WriteFault)
-        → IsWriting start now lines coming → WritesLines now new result coming → WritesLines start new result lines
+        → IsWriting start now lines coming → WritesPackets now new result coming → WritesPackets start new result lines

@@ -6,20 +6,20 @@ ghost use Rattle.std.specs.Option.{option_copied, option_map};
 ghost use Rattle.ggrammar.specs.Capabilities.{capability_of, capability_split, key_alone, key_and_value, has_length, is_equals_sign, is_graphic, is_key, is_key_byte, is_printable, is_value, is_word_value};
 ghost use Rattle.ggrammar.specs.CapabilityView.{capability_view};
 
-/// The most bytes of a capability's key, and of its value.
+/// The maximum length of a capability's key, and of its value, in bytes.
 pub const MAX_CAPABILITY: usize = 1_000;
 
-/// A capability, lent from its text.
+/// A capability, borrowed from its text.
 #[derive(Clone, Copy, Debug, PartialEq, Eq)]
 pub struct Capability<'a> {
-    /// What comes before the first `=`, or all of the text.
+    /// The text before the first `=`, or all of the text.
     pub key: &'a [u8],
-    /// What comes after it; `None` where there is no `=`.
+    /// The text after it, or `None` if there is no `=`.
     pub value: Option<&'a [u8]>,
 }
 
-/// The capability (gitprotocol-v2(5), "Capability Advertisement") that a text is: a key, or a key, the
-/// first `=` and a value. `None` where it is none.
+/// Returns the capability (gitprotocol-v2(5), "Capability Advertisement") of a text: a key, or a
+/// key, the first `=` and a value. Returns `None` if the text is not a capability.
 #[tactic(auto, unfolding(crate::specs::Capabilities::capability_of))]
 pub fn capability_of(text: &[u8]) -> Option<Capability<'_>>
     ensures { option_map capability_view result ≡ capability_of text.now }
@@ -56,7 +56,7 @@ fn key_and_value<'a>(key: &'a [u8], value: &'a [u8]) -> Option<Capability<'a>>
     }
 }
 
-// The position of the first `=`.
+// Returns the position of the first `=`.
 fn first_equals_sign(text: &[u8]) -> Option<usize>
     ensures place { result ≡ position is_equals_sign text.now }
     ensures within { IfSome result (λ at. at < length text.now) }
@@ -100,7 +100,7 @@ fn is_key_byte(byte: u8) -> bool
     byte.is_ascii_alphanumeric() || byte == b'-' || byte == b'_'
 }
 
-/// Whether a byte is one from space to `~`.
+/// Whether a byte is from space to `~`.
 pub fn is_printable(byte: u8) -> bool
     ensures { result ≡ is_printable byte }
 {

@@ -1,4 +1,4 @@
-//! Texts of bounded length, put together piece by piece. They take no memory.
+//! Texts of bounded length, composed of pieces. They do not allocate.
 
 ghost use Rattle.std.specs.Prelude.{◌≡◌, ◌+◌, ◌≤◌, ◌++◌, length};
 ghost use Rattle.gname.specs.Formats.{max_id_text};
@@ -7,7 +7,7 @@ ghost use Rattle.gname.specs.Ids.{id_text};
 use arrayvec::ArrayVec;
 use gname::{MAX_ID_TEXT, Oid};
 
-/// Adds a piece at the end of a text that has room for it.
+/// Appends a piece to a text that has room for it.
 pub fn add<const N: usize>(piece: &[u8], text: &mut ArrayVec<u8, N>)
     requires { length text.old.items + length piece.now ≤ N }
     ensures text { text.new.items ≡ text.old.items ++ piece.now }
@@ -16,7 +16,7 @@ pub fn add<const N: usize>(piece: &[u8], text: &mut ArrayVec<u8, N>)
     text.try_extend_from_slice(piece).unwrap()
 }
 
-/// Adds the digits of an id at the end of a text that has room for the most of them.
+/// Appends the digits of an id to a text that has room for any id.
 pub fn add_id<const N: usize>(id: &Oid, text: &mut ArrayVec<u8, N>)
     requires { length text.old.items + max_id_text ≤ N }
     ensures text { text.new.items ≡ text.old.items ++ id_text id.now }

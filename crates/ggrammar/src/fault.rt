@@ -7,15 +7,15 @@ ghost use Rattle.ggrammar.specs.FaultViews.{row_view};
 use crate::compose::add;
 use arrayvec::ArrayVec;
 use gname::OUT_OF_MEMORY_TEXT;
-use gpkt::{BandFault, LineFault, text_of};
+use gpkt::{BandFault, PacketFault, text_of};
 use std::error::Error;
 use std::fmt;
 use std::marker::Model;
 
-/// The most bytes of a peer's error that are kept.
+/// The maximum number of bytes of a peer's error that are kept.
 pub const MAX_PEER_TEXT: usize = 256;
 
-/// The text of a peer's error, of which the first 256 bytes are kept.
+/// The text of a peer's error: its first 256 bytes.
 #[derive(Drop)]
 pub struct PeerText {
     text: ArrayVec<u8, MAX_PEER_TEXT>,
@@ -30,9 +30,9 @@ impl Model for PeerText {
 }
 
 impl PeerText {
-    /// Keeps what a peer says, after the word of an `ERR` packet or on the side band for fatal
-    /// errors: one line feed at its end is left out, and then all after the first 256 bytes. Takes
-    /// no memory.
+    /// Stores the error that a peer reports, after `ERR ` in a packet or on the side band for fatal
+    /// errors. One line feed at its end is removed, and then all bytes after the first 256. It does
+    /// not allocate.
     pub fn new(said: &[u8]) -> PeerText
         ensures { result ≡ kept_text said.now }
     {
@@ -42,7 +42,7 @@ impl PeerText {
         PeerText { text: kept }
     }
 
-    /// The bytes, at most 256.
+    /// Returns the bytes, at most 256.
     pub fn as_bytes(&self) -> &[u8]
         ensures bytes { result.now ≡ self.now }
         ensures short { length result.now ≤ max_peer_text }
@@ -57,17 +57,17 @@ impl fmt::Debug for PeerText {
     }
 }
 
-/// Why a packet, or the end of the input in its place, is no part of the message.
+/// Why a packet, or the end of the input, is not allowed at this position of the message.
 #[derive(Debug, Drop)]
 pub enum Why {
     /// 20 to 25: the packet was not read.
-    Line(LineFault),
-    /// 29, 30: the payload is of no side band.
+    Line(PacketFault),
+    /// 29, 30: the payload has no side band.
     Band(BandFault),
-    /// 41: a flush, delimiter or response-end where the grammar has none; where a response-end is due, any other
-    /// packet.
+    /// 41: a flush, delimiter or response-end that the grammar does not allow here, or any other
+    /// packet instead of a response-end.
     UnexpectedFrame,
-    /// 42: a text that no case of the grammar has.
+    /// 42: a text that matches no case of the grammar.
     BadText,
     /// 43: a command that is not served.
     UnknownCommand,
@@ -75,27 +75,27 @@ pub enum Why {
     UnknownCapability,
     /// 45: an argument that the command does not have.
     UnknownArgument,
-    /// 46: an object id is due.
+    /// 46: an object id was expected.
     BadId,
-    /// 47: a ref name, or a prefix of ref names, is due.
+    /// 47: a ref name, or a prefix of ref names, was expected.
     BadName,
-    /// 48: one more than the most that is taken.
+    /// 48: one more than the limit.
     Limit,
     /// 49: the peer reported an error.
     RemoteErr(PeerText),
     /// 50: the peer gave up, on the side band for fatal errors.
     RemoteFatal(PeerText),
-    /// 51: a section, a packet of one or an end out of order in a reply to fetch.
+    /// 51: a section, a packet of a section or an end is out of order in a reply to fetch.
     WrongSection,
     /// 52: another object format.
     Format,
-    /// 53: out of memory for what the packet brings.
+    /// 53: out of memory for the contents of the packet.
     Memory,
-    /// 54: the input ends where a packet of the message is due.
+    /// 54: the input ends although a packet of the message was expected.
     Ended,
 }
 
-// The number and the name of a fault, and what is reported of it to the peer.
+// The number and the name of a fault, and the text that is reported to the peer.
 #[derive(Clone, Copy)]
 struct WhyRow {
     code: u32,
@@ -103,68 +103,68 @@ struct WhyRow {
     phrase: &'static str,
 }
 
-fn row(code: u32, name: &'static str, phrase: &'static str) -> WhyRow
+fn why_row(code: u32, name: &'static str, phrase: &'static str) -> WhyRow
     ensures { row_view result ≡ row_of (code, name.now) phrase.now }
 {
     WhyRow { code, name, phrase }
 }
 
-// Why no packet was read, in a peer's words.
-fn line_phrase(fault: &LineFault) -> &'static str
+// Returns the reason why no packet was read, as it is reported to a peer.
+fn line_phrase(fault: &PacketFault) -> &'static str
     ensures { result.now ≡ line_phrase fault.now }
 {
     match fault {
-        LineFault::BadDigits | LineFault::Reserved | LineFault::TooLong => "bad packet line",
-        LineFault::Truncated => "unexpected end",
-        LineFault::Io | LineFault::Failed => "read failed",
-        LineFault::Memory => OUT_OF_MEMORY_TEXT,
+        PacketFault::BadDigits | PacketFault::Reserved | PacketFault::TooLong => "bad packet line",
+        PacketFault::Truncated => "unexpected end",
+        PacketFault::Io | PacketFault::Failed => "read failed",
+        PacketFault::Memory => OUT_OF_MEMORY_TEXT,
     }
 }
 
 impl Why {
-    /// The number of the fault.
+    /// Returns the number of the fault.
     pub fn code(&self) -> u32
         ensures { result ≡ (why_row self.now).code }
     {
-        self.row().code
+        self.fault_row().code
     }
 
-    /// The name of the fault.
+    /// Returns the name of the fault.
     pub fn name(&self) -> &'static str
         ensures { result.now ≡ (why_row self.now).name }
     {
-        self.row().name
+        self.fault_row().name
     }
 
-    /// What is reported of the fault to a peer, as in `ERR upload-pack: bad line`; the fault
-    /// displays it, too.
+    /// Returns the text that is reported to a peer, as in `ERR upload-pack: bad line`. The fault
+    /// also displays it.
     pub fn phrase(&self) -> &'static str
         ensures { result.now ≡ (why_row self.now).phrase }
     {
-        self.row().phrase
+        self.fault_row().phrase
     }
 
-    // The table of faults.
-    fn row(&self) -> WhyRow
+    // Returns the row of the fault in the table.
+    fn fault_row(&self) -> WhyRow
         ensures { row_view result ≡ why_row self.now }
     {
         match self {
-            Why::Line(fault) => row(fault.code(), fault.name(), line_phrase(fault)),
-            Why::Band(fault) => row(fault.code(), fault.name(), "refused"),
-            Why::UnexpectedFrame => row(41, "UnexpectedFrame", "unexpected packet"),
-            Why::BadText => row(42, "BadText", "bad line"),
-            Why::UnknownCommand => row(43, "UnknownCommand", "unknown command"),
-            Why::UnknownCapability => row(44, "UnknownCapability", "unknown capability"),
-            Why::UnknownArgument => row(45, "UnknownArgument", "unknown argument"),
-            Why::BadId => row(46, "BadId", "bad object id"),
-            Why::BadName => row(47, "BadName", "bad ref name"),
-            Why::Limit => row(48, "Limit", "limit exceeded"),
-            Why::RemoteErr(_) => row(49, "RemoteErr", "peer reported an error"),
-            Why::RemoteFatal(_) => row(50, "RemoteFatal", "refused"),
-            Why::WrongSection => row(51, "WrongSection", "refused"),
-            Why::Format => row(52, "Format", "object format mismatch"),
-            Why::Memory => row(53, "Memory", OUT_OF_MEMORY_TEXT),
-            Why::Ended => row(54, "Ended", "unexpected end"),
+            Why::Line(fault) => why_row(fault.code(), fault.name(), line_phrase(fault)),
+            Why::Band(fault) => why_row(fault.code(), fault.name(), "refused"),
+            Why::UnexpectedFrame => why_row(41, "UnexpectedFrame", "unexpected packet"),
+            Why::BadText => why_row(42, "BadText", "bad line"),
+            Why::UnknownCommand => why_row(43, "UnknownCommand", "unknown command"),
+            Why::UnknownCapability => why_row(44, "UnknownCapability", "unknown capability"),
+            Why::UnknownArgument => why_row(45, "UnknownArgument", "unknown argument"),
+            Why::BadId => why_row(46, "BadId", "bad object id"),
+            Why::BadName => why_row(47, "BadName", "bad ref name"),
+            Why::Limit => why_row(48, "Limit", "limit exceeded"),
+            Why::RemoteErr(_) => why_row(49, "RemoteErr", "peer reported an error"),
+            Why::RemoteFatal(_) => why_row(50, "RemoteFatal", "refused"),
+            Why::WrongSection => why_row(51, "WrongSection", "refused"),
+            Why::Format => why_row(52, "Format", "object format mismatch"),
+            Why::Memory => why_row(53, "Memory", OUT_OF_MEMORY_TEXT),
+            Why::Ended => why_row(54, "Ended", "unexpected end"),
         }
     }
 }
@@ -179,34 +179,31 @@ impl fmt::Display for Why {
 
 impl Error for Why {}
 
-/// A message that was refused: at which of its packets, and why.
+/// A refused message: the position of the packet, and the reason.
 #[derive(Debug, Drop)]
 pub struct MessageFault {
     /// The position of the packet in the message, from 0.
     pub frame: u64,
-    /// Why it is refused.
+    /// Why the packet is refused.
     pub why: Why,
 }
 
-/// [`MessageFault`] by a shorter name.
-pub type MsgFault = MessageFault;
-
 impl MessageFault {
-    /// The fault of a call that builds a value: no packet brought it, and its position is 0.
+    /// Returns the fault of a call that builds a value. No packet caused it, and its position is 0.
     pub fn of_value(why: Why) -> MessageFault
         ensures { result ≡ record { frame = 0; why = why } }
     {
         MessageFault { frame: 0, why }
     }
 
-    /// The number of the fault.
+    /// Returns the number of the fault.
     pub fn code(&self) -> u32
         ensures { result ≡ (why_row self.now.why).code }
     {
         self.why.code()
     }
 
-    /// The name of the fault.
+    /// Returns the name of the fault.
     pub fn name(&self) -> &'static str
         ensures { result.now ≡ (why_row self.now.why).name }
     {

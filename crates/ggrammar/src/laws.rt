@@ -1,4 +1,4 @@
-//! The laws of every grammar: functions without effect, whose contracts they are.
+//! The laws of every grammar: functions without effect whose contracts are the laws.
 
 ghost use Rattle.std.specs.Prelude.{◌≡◌};
 ghost use Rattle.ggrammar.specs.Capabilities.{CapabilityIsItsText, max_capability};
@@ -8,33 +8,35 @@ ghost use Rattle.ggrammar.specs.Ids.{IdIsSpelt};
 ghost use Rattle.ggrammar.specs.Kinds.{CanonicalSays, OneMeaning, ReadsBack, ReadsBackIfAny, ReadsExactly, ReadsExactlyIfAny, SaysWhole};
 ghost use Rattle.ggrammar.specs.MessageBytes.{LawsOfBytes};
 ghost use Rattle.ggrammar.specs.Texts.{TextIsRead, TextsOfMore};
-ghost use Rattle.ggrammar.specs.Writing.{EndsWriting, FailsWriting, GoesOnAfterPart, GoesOnWriting, LinesArePart, StartsWriting, WritesFitting, WritesLine};
+ghost use Rattle.ggrammar.specs.Writing.{EndsWriting, FailsWriting, GoesOnAfterPart, GoesOnWriting, PacketsArePart, StartsWriting, WritesFitting, WritesPacket};
 
 use crate::capability::MAX_CAPABILITY;
 use crate::fault::MAX_PEER_TEXT;
-use crate::kind::Kind;
+use crate::kind::MessageKind;
 use gpkt::Sink;
 use gpkt::laws::{
     canonical_spells, every_front, has_four_bytes, one_begins, one_outcome, one_reading,
     refused_front, text_reads_back, writes_join,
 };
 
-/// The constants are the limits that the definitions name.
+/// The constants are the limits that the definitions use.
 pub fn limits_are_the_constants()
     ensures capability { MAX_CAPABILITY ≡ max_capability }
     ensures peer_text { MAX_PEER_TEXT ≡ max_peer_text }
 {}
 
-/// Open lists grow packet by packet. No message begins another. Where each open list has an ending, it begins a
-/// message and holds none, and a refused packet is the first that does not fit.
+/// Open lists grow packet by packet. No message is a prefix of another. If each open list has an
+/// ending, it is a prefix of a message and contains no complete message. A refused packet is then
+/// the first that does not fit.
 pub fn grammars_are_exact()
     ensures { (judge : Judge) → LawsOf judge }
 {}
 
-/// A complete message at the front of some bytes is read, and what follows it stays. Where reading
-/// is refused for a reason in the bytes, none is at their front, and there is one fault and one
-/// rest. Where the input has ended none is there either. All bytes begin with a message or are
-/// refused, where each open list has an ending. No spelling of a message begins another.
+/// A complete message at the front of some bytes is read, and the bytes after it are left. If
+/// reading is refused for a reason in the bytes, there is no message at their front, and the fault
+/// and the rest are unique. After the end of the input there is no message either. If each open
+/// list has an ending, all bytes begin with a message or are refused. No spelling of a message is a
+/// prefix of another.
 pub fn messages_are_read()
     ensures { (judge : Judge) → LawsOfBytes judge }
 {
@@ -46,14 +48,14 @@ pub fn messages_are_read()
     every_front();
 }
 
-/// A text is an id of a format exactly where it spells the id, in either case of digits. A text is a capability
-/// exactly where it is the text of one that is well formed.
+/// A text is an id of a format exactly when it spells the id, in either case of digits. A text is a
+/// capability exactly when it is the text of a well-formed one.
 pub fn texts_are_classified()
     ensures ids { IdIsSpelt }
     ensures capabilities { CapabilityIsItsText }
 {}
 
-/// The texts of packets come in their order, and the packet of a text is read as that text.
+/// The texts of packets are in the packets' order, and the packet of a text is read as that text.
 #[tactic(auto, using(crate::proofs::PlaceLemmas::texts_of_more, crate::proofs::PlaceLemmas::text_is_read))]
 pub fn texts_are_read()
     ensures more { TextsOfMore }
@@ -62,13 +64,13 @@ pub fn texts_are_read()
     text_reads_back();
 }
 
-/// Packets that are written one after the other are one write of all of them; where one fails, all
-/// of them do. A writer starts with all its packets to come, goes on after each call, and ends with
-/// its last one.
-pub fn writes_lines<W: Sink>()
-    ensures line { WritesLine W.contents W.passed_on W.is_down W.loans }
+/// Consecutive writes of packets are one write of all of them. If one fails, all of them fail. A
+/// writer starts with all its packets to write, continues after each call, and ends with its last
+/// one.
+pub fn writes_packets<W: Sink>()
+    ensures line { WritesPacket W.contents W.passed_on W.is_down W.loans }
     ensures fitting { WritesFitting W.contents W.passed_on W.is_down W.loans }
-    ensures part { LinesArePart W.contents W.passed_on W.is_down W.loans }
+    ensures part { PacketsArePart W.contents W.passed_on W.is_down W.loans }
     ensures starts { StartsWriting W.contents W.passed_on W.is_down W.loans }
     ensures goes_on { GoesOnWriting W.contents W.passed_on W.is_down W.loans }
     ensures after_part { GoesOnAfterPart W.contents W.passed_on W.is_down W.loans }
@@ -79,10 +81,10 @@ pub fn writes_lines<W: Sink>()
     writes_join::<W>();
 }
 
-/// A kind of message whose complete lists each say one message is read exactly where the bytes
-/// begin with it, and what is written of a value of the kind reads back, whatever follows. The same
-/// where a message may be missing.
-pub fn kinds_are_read<K: Kind>()
+/// Suppose each complete list of a kind of message says one message. The message is read exactly
+/// when the bytes begin with it, and a written value of the kind reads back, whatever follows. The
+/// same holds if a message may be missing.
+pub fn kinds_are_read<K: MessageKind>()
     ensures exactly { (given : K.Given) → SaysWhole (K.judge given) (K.says given)
         → OneMeaning (K.says given)
         → ReadsExactly (K.judge given) (K.brings given) (K.says given) }

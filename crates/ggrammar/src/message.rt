@@ -1,4 +1,4 @@
-//! Reading a message, whatever its kind, packet by packet.
+//! Reading a message of any kind, packet by packet.
 
 ghost use Rattle.std.specs.Prelude.{◌≡◌, ◌<◌, ◌^◌, Bool, List, [], length, MatchResult, IfErr, OnOk, true, false};
 ghost use Rattle.gpkt.specs.Packets.{Packet, packet_of};
@@ -7,35 +7,35 @@ ghost use Rattle.ggrammar.specs.Grammar.{Judge, HasEndings, IsOpen};
 ghost use Rattle.ggrammar.specs.MessageReading.{TakesPacket, HasTaken, HasRefused, LeavesReader};
 
 use crate::fault::{MessageFault, Why};
-use gpkt::{Line, LineReader, Source};
+use gpkt::{PacketReader, Source};
 use std::alloc::Allocator;
 
-/// What a message is with a packet that it took.
+/// The state of a message after a packet.
 #[derive(Clone, Copy, Debug, PartialEq, Eq)]
 pub enum Step {
-    /// It goes on.
+    /// The message continues.
     Open,
-    /// It is complete.
+    /// The message is complete.
     Whole,
 }
 
-/// A message that is being read: what its packets so far have said.
+/// A message that is being read: the contents of its packets so far.
 pub trait Message {
-    // What the grammar says of a packet after those before it.
+    // The grammar's verdict on a packet after the packets before it.
     ghost judge: { Self → Judge };
 
-    // Whether a packet brings something to keep, which takes memory.
+    // Whether a packet has contents to store, which needs memory.
     ghost brings: { Self → List Packet → Packet → Bool };
 
     // These are the packets so far.
     ghost holds: { Self → List Packet → Type 0 };
 
-    // This is left where the message was refused after these packets.
+    // This is left if the message was refused after these packets.
     ghost left: { Self → List Packet → Type 0 };
 
-    /// Takes the next packet. It fails where the grammar refuses the packet, and where it is out of
-    /// memory for what the packet brings.
-    fn take(&mut self, line: Line<'_>) -> Result<Step, Why>
+    /// Takes the next packet. Fails if the grammar refuses the packet, or if out of memory for its
+    /// contents.
+    fn accept_packet(&mut self, line: gpkt::Packet<'_>) -> Result<Step, Why>
         ensures judge { judge self.new ≡ judge self.old }
         ensures brings { brings self.new ≡ brings self.old }
         ensures takes { (front : List Packet) → IsOpen (judge self.old) front
@@ -43,9 +43,9 @@ pub trait Message {
             → TakesPacket (judge self.old) (brings self.old) holds left front
             (packet_of line.entry) self.new result };
 
-    /// Laws of the message; the call has no effect. What has been taken is left where the next packet does
-    /// not come; each beginning has an ending; and a message that goes on has had no more packets than can
-    /// be counted.
+    /// Laws of the message. The call has no effect. If the next packet is missing, the packets so
+    /// far are left. Each prefix has an ending. The number of packets of an open message does not
+    /// overflow.
     fn laws()
         ensures left { (message : Self) (front : List Packet) → holds message front
             → left message front }
@@ -56,12 +56,12 @@ pub trait Message {
 
 /// Reads a message to its end, and nothing after it.
 ///
-/// The fault has the packet's position, from 0. What the packet reader refuses comes first, then
-/// the end of the input, then what the grammar refuses. After a refusal the packet reader has
-/// failed exactly where the packet was not read. A reader that had failed before is refused at
-/// once, at packet 0.
+/// The fault has the packet's position, from 0. A fault of the packet reader takes precedence, then
+/// the end of the input, then a refusal by the grammar. After a refusal the packet reader has
+/// failed exactly when the packet was not read. A reader that had failed before is refused at once,
+/// at packet 0.
 pub fn read_message<S: Source, A: Allocator + Copy, M: Message>(
-    reader: &mut LineReader<S, A>,
+    reader: &mut PacketReader<S, A>,
     message: &mut M,
 ) -> Result<(), MessageFault>
     requires { M.holds message.old [] }
@@ -89,7 +89,7 @@ pub fn read_message<S: Source, A: Allocator + Copy, M: Message>(
                 why: Why::Line(fault),
             }),
         };
-        match message.take(line) {
+        match message.accept_packet(line) {
             Ok(Step::Open) => {}
             Ok(Step::Whole) => return Ok(()),
             Err(why) => return Err(MessageFault { frame, why }),

@@ -5,7 +5,7 @@ pub mod LowerDigits
 pub mod NameLemmas
 pub mod OneReading
 pub mod ReadingLemmas
-pub mod SafeLemmas
+pub mod ConnectedRefsLemmas
 pub mod SaveLemmas
 pub mod Stopping
 pub mod StoppingOnce

@@ -5,8 +5,8 @@ use Rattle.std.proofs.lemmas.Bool.Decides.{nat_tests}
 use Rattle.std.proofs.lemmas.List.{append_assoc, append-nil, length-append, map_push}
 use Rattle.ggraph.specs.declared.text.Order.{Order}
 use Rattle.ggraph.specs.declared.text.reading.Reading.{Reading}
-use Rattle.ggraph.specs.declared.text.reading.Stage.{Stage}
-use Rattle.ggraph.specs.declared.text.reading.Stage.TheVariants.{Done}
+use Rattle.ggraph.specs.declared.text.reading.TextStage.{TextStage}
+use Rattle.ggraph.specs.declared.text.reading.TextStage.TheVariants.{Done}
 use Rattle.ggraph.specs.steps.Reading.{Item, MayCome, ComesNext, after, line_of, nothing_read}
 use Rattle.gobject.specs.PlainPackText.{line, text_of}
 use Rattle.gobject.proofs.PlainPackLines.{text_of-append}
@@ -64,7 +64,7 @@ empty_one (x ∷ xs) e = absurd (grind (arith, nat_tests))
 
 done_same : {A : Type 0} (old : Reading A) → old.stage ≡ Done → old ≡ record { stage = Done; graph = old.graph; refs = old.refs; head = old.head }
 done_same {A} old here =
-    let at_stage : Stage → Reading A = λ s. record { stage = s; graph = old.graph; refs = old.refs; head = old.head } in
+    let at_stage : TextStage → Reading A = λ s. record { stage = s; graph = old.graph; refs = old.refs; head = old.head } in
     ap at_stage here
 
 pub progress_done : {A : Type 0} (order : Order) (text rest : List ℕ) (old : Reading A) (number : ℕ) → Progress order text rest old number → true ≡ (length rest == 0) → old.stage ≡ Done → (items : List (Item A)) × HasRead order text items [] (record { stage = Done; graph = old.graph; refs = old.refs; head = old.head })

@@ -16,8 +16,8 @@ use Rattle.grefs.specs.declared.head.Head.TheVariants as heads_of
 use Rattle.ggraph.specs.RepositoryText.{EachFollows, IsHead, IsLoadable, MayFollow, RefMayFollow, first_line, head_line, last_line, lines_of, ref_line, repository_text}
 use Rattle.ggraph.specs.declared.text.Order.{Order}
 use Rattle.ggraph.specs.declared.text.reading.Reading.{Reading}
-use Rattle.ggraph.specs.declared.text.reading.Stage.{Stage}
-use Rattle.ggraph.specs.declared.text.reading.Stage.TheVariants.{Nodes, Refs, Done}
+use Rattle.ggraph.specs.declared.text.reading.TextStage.{TextStage}
+use Rattle.ggraph.specs.declared.text.reading.TextStage.TheVariants.{Nodes, Refs, Done}
 use Rattle.ggraph.specs.steps.Reading.{Item, MayCome, RefMayCome, after, begins, ends, heads, line_of, node}
 use Rattle.ggraph.specs.steps.Reading.{nothing_read, ref}
 use Rattle.ggraph.specs.steps.TextLaws.{TextLaws}
@@ -60,7 +60,7 @@ module _ (laws : TextLaws) where
   abbrev at_nodes : {A : Type 0} → Format → List (Entry A) → Reading A
   at_nodes format g = record { stage = Nodes; graph = record { format = format; entries = g }; refs = []; head = heads_of.None }
 
-  abbrev at_refs : {A : Type 0} → Stage → History A → RefList → Reading A
+  abbrev at_refs : {A : Type 0} → TextStage → History A → RefList → Reading A
   at_refs stage g refs = record { stage = stage; graph = g; refs = refs; head = heads_of.None }
 
   abbrev pub whole_reading : {A : Type 0} → History A → RefList → Head A → Reading A
@@ -71,7 +71,7 @@ module _ (laws : TextLaws) where
   reads_nodes order format front (x ∷ back) whole parts each =
       ((refl, each front x back parts), reads_nodes order format (front ++ x ∷ []) back whole (parts ∙ sym (append_assoc front (x ∷ []) back)) each)
 
-  reads_refs : {A : Type 0} (order : Order) (stage : Stage) (g : History A) (front back whole : RefList) → RefMayCome stage → whole ≡ front ++ back → EachFollows (RefMayFollow g.format) whole → (last : Stage) × RefMayCome last × ReadsTo order (at_refs stage g front) (map ref back) (at_refs last g whole)
+  reads_refs : {A : Type 0} (order : Order) (stage : TextStage) (g : History A) (front back whole : RefList) → RefMayCome stage → whole ≡ front ++ back → EachFollows (RefMayFollow g.format) whole → (last : TextStage) × RefMayCome last × ReadsTo order (at_refs stage g front) (map ref back) (at_refs last g whole)
   reads_refs order stage g front [] whole due parts each = (stage, due, ap (at_refs stage g) (parts ∙ append-nil front))
   reads_refs order stage g front (x ∷ back) whole due parts each =
       let rest = reads_refs order Refs g (front ++ x ∷ []) back whole (inr refl) (parts ∙ sym (append_assoc front (x ∷ []) back)) each in

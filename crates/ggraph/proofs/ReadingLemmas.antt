@@ -20,7 +20,7 @@ use Rattle.ggraph.specs.declared.fault.LoadFault.{LoadFault}
 use Rattle.ggraph.specs.declared.text.Order.{Order}
 use Rattle.ggraph.specs.declared.text.Order.TheVariants.{Any, ParentsFirst}
 use Rattle.ggraph.specs.declared.text.reading.Reading.{Reading}
-use Rattle.ggraph.specs.declared.text.reading.Stage.TheVariants.{Nodes, Refs}
+use Rattle.ggraph.specs.declared.text.reading.TextStage.TheVariants.{Nodes, Refs}
 use Rattle.ggraph.specs.steps.NoSuchPart.{BeginsWithNoRefId, BeginsWithNoSpacedId, IsHeadOn, IsNoParents}
 use Rattle.ggraph.specs.steps.NoSuchPart.{IsNoHead, IsSymrefLine}
 use Rattle.ggraph.specs.steps.Reading.{Item, MayCome, begins, line_of, node, ref, heads, ends, RefusesLine}

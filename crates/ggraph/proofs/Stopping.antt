@@ -11,7 +11,7 @@ use Rattle.ggraph.specs.declared.text.Order.{Order}
 use Rattle.ggraph.specs.declared.text.Order.TheVariants.{Any, ParentsFirst}
 use Rattle.ggraph.specs.declared.text.Repository.{Repository}
 use Rattle.ggraph.specs.declared.text.reading.Reading.{Reading}
-use Rattle.ggraph.specs.declared.text.reading.Stage.TheVariants.{Done}
+use Rattle.ggraph.specs.declared.text.reading.TextStage.TheVariants.{Done}
 use Rattle.ggraph.specs.steps.Reading.{Item, IsKept, MayCome, RefusesLine, NeverComes, after, heads}
 use Rattle.ggraph.specs.steps.Reading.{line_of, node, nothing_read, ref}
 use Rattle.ggraph.specs.steps.TextLaws.{TextLaws}

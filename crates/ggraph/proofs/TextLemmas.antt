@@ -125,10 +125,10 @@ module _ (laws : TextLaws) (format : Format) where
       stuck (id ∷ others) each same = none id (ids_text others) (All-head (IsIdOf format) id others each) same
 
   pub too_many_ids : (text : List ℕ) (ids : List (List ℕ)) (rest id after : List ℕ) → IdsSoFar format text ids rest → length ids ≡ max_parents → IsIdOf format id → rest ≡ codes " " ++ (id_text id ++ after) → IsNoParents format text
-  too_many_ids text ids rest id after so_far full valid e all each few same =
+  too_many_ids text ids rest id after so_far connected valid e all each few same =
       let before = so_far.left all each same in
       let step = left_step rest id after valid e before.0 before.1 before.2 in
-      omega (arith, before.3, step.3, full, few)
+      omega (arith, before.3, step.3, connected, few)
 
   -- ---- lines of which a part is missing
 

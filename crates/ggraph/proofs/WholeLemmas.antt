@@ -12,8 +12,8 @@ use Rattle.ggraph.specs.RepositoryText.{EachFollows, IsHead, IsLoadable, MayFoll
 use Rattle.ggraph.specs.Loading.{BeginsText}
 use Rattle.ggraph.specs.declared.text.Order.{Order}
 use Rattle.ggraph.specs.declared.text.reading.Reading.{Reading}
-use Rattle.ggraph.specs.declared.text.reading.Stage.{Stage}
-use Rattle.ggraph.specs.declared.text.reading.Stage.TheVariants.{First, Nodes, Refs, Last, Done}
+use Rattle.ggraph.specs.declared.text.reading.TextStage.{TextStage}
+use Rattle.ggraph.specs.declared.text.reading.TextStage.TheVariants.{First, Nodes, Refs, Last, Done}
 use Rattle.ggraph.specs.steps.Reading.{Item, MayCome, RefMayCome, after, begins, ends, heads, line_of, node}
 use Rattle.ggraph.specs.steps.Reading.{nothing_read, ref}
 use Rattle.ggraph.proofs.LoadLemmas.{HasRead, ReadsTo, items_text}
@@ -41,7 +41,7 @@ each_push {X} P (first ∷ xs) last each this (y ∷ ys) x back e =
 abbrev begun : {A : Type 0} → Reading A → List (List ℕ) → List (List ℕ)
 begun r more = first_line r.graph.format ∷ (map node_text r.graph.entries ++ (map ref_line r.refs ++ more))
 
-abbrev ShapeAt : {A : Type 0} → Stage → Reading A → List (List ℕ) → Type 0
+abbrev ShapeAt : {A : Type 0} → TextStage → Reading A → List (List ℕ) → Type 0
 ShapeAt First r lines = (lines ≡ []) × (r ≡ nothing_read)
 ShapeAt Nodes r lines = (lines ≡ first_line r.graph.format ∷ map node_text r.graph.entries) × (r.refs ≡ [])
 ShapeAt Refs r lines = lines ≡ first_line r.graph.format ∷ (map node_text r.graph.entries ++ map ref_line r.refs)
@@ -56,10 +56,10 @@ module _ {A : Type 0} (order : Order) (r : Reading A) (lines : List (List ℕ)) 
   -- the lines of nodes and refs, at either stage where a ref may come
   so_far : RefMayCome r.stage → ShapeAt r.stage r lines → lines ≡ first_line r.graph.format ∷ (map node_text r.graph.entries ++ map ref_line r.refs)
   so_far (inl here) shape =
-      let at_nodes = subst (λ (s : Stage). ShapeAt s r lines) here shape in
+      let at_nodes = subst (λ (s : TextStage). ShapeAt s r lines) here shape in
       at_nodes.0
       ∙ ap (λ (ls : List (List ℕ)). first_line r.graph.format ∷ ls) (sym (append-nil (map node_text r.graph.entries)) ∙ ap (λ (rs : RefList). map node_text r.graph.entries ++ map ref_line rs) (sym at_nodes.1))
-  so_far (inr here) shape = subst (λ (s : Stage). ShapeAt s r lines) here shape
+  so_far (inr here) shape = subst (λ (s : TextStage). ShapeAt s r lines) here shape
 
   line_after : (line : List ℕ) → RefMayCome r.stage → ShapeAt r.stage r lines → lines ++ line ∷ [] ≡ begun r (line ∷ [])
   line_after line due shape =
@@ -68,13 +68,13 @@ module _ {A : Type 0} (order : Order) (r : Reading A) (lines : List (List ℕ)) 
 
   shape_step : (item : Item A) → MayCome order r item → ShapeAt r.stage r lines → ShapeAt (after r item).stage (after r item) (lines ++ line_of item ∷ [])
   shape_step (begins format) may shape =
-      let at_first = subst (λ (s : Stage). ShapeAt s r lines) may shape in (
+      let at_first = subst (λ (s : TextStage). ShapeAt s r lines) may shape in (
         ap (λ (ls : List (List ℕ)). ls ++ first_line format ∷ []) at_first.0,
         ap (λ (x : Reading A). x.refs) at_first.1,
       )
   shape_step (node entry) may shape =
-      let at_nodes = subst (λ (s : Stage). ShapeAt s r lines) may.0 shape in
-      subst (λ (s : Stage). ShapeAt s (after r (node entry)) (lines ++ node_text entry ∷ [])) (sym may.0) (
+      let at_nodes = subst (λ (s : TextStage). ShapeAt s r lines) may.0 shape in
+      subst (λ (s : TextStage). ShapeAt s (after r (node entry)) (lines ++ node_text entry ∷ [])) (sym may.0) (
         ap (λ (ls : List (List ℕ)). ls ++ node_text entry ∷ []) at_nodes.0 ∙ ap (λ (ls : List (List ℕ)). first_line r.graph.format ∷ ls) (sym (map_push node_text r.graph.entries entry)),
         at_nodes.1,
       )
@@ -83,7 +83,7 @@ module _ {A : Type 0} (order : Order) (r : Reading A) (lines : List (List ℕ)) 
       ∙ ap (λ (ls : List (List ℕ)). first_line r.graph.format ∷ (map node_text r.graph.entries ++ ls)) (sym (map_push ref_line r.refs it))
   shape_step (heads head) may shape = line_after (head_line head) may.0 shape
   shape_step ends may shape =
-      let at_last = subst (λ (s : Stage). ShapeAt s r lines) may shape in
+      let at_last = subst (λ (s : TextStage). ShapeAt s r lines) may shape in
       ap (λ (ls : List (List ℕ)). ls ++ last_line ∷ []) at_last
       ∙ ap (λ (ls : List (List ℕ)). first_line r.graph.format ∷ ls) (append_assoc (map node_text r.graph.entries) (map ref_line r.refs ++ head_line r.head ∷ []) (last_line ∷ []))
       ∙ ap (λ (ls : List (List ℕ)). first_line r.graph.format ∷ (map node_text r.graph.entries ++ ls)) (append_assoc (map ref_line r.refs) (head_line r.head ∷ []) (last_line ∷ []))
@@ -97,7 +97,7 @@ module _ {A : Type 0} (order : Order) (r : Reading A) (lines : List (List ℕ)) 
   }
 
   valid_step : (item : Item A) → MayCome order r item → ShapeAt r.stage r lines → IsLoadable order r.graph r.refs r.head → IsLoadable order (after r item).graph (after r item).refs (after r item).head
-  valid_step (begins format) may shape valid = fine_in format (subst (λ (s : Stage). ShapeAt s r lines) may shape).1
+  valid_step (begins format) may shape valid = fine_in format (subst (λ (s : TextStage). ShapeAt s r lines) may shape).1
   valid_step (node entry) may shape valid = record { nodes = each_push (MayFollow order r.graph.format) r.graph.entries entry valid.nodes may.1; refs_follow = valid.refs_follow; stands = valid.stands }
   valid_step (ref it) may shape valid = record { nodes = valid.nodes; refs_follow = each_push (RefMayFollow r.graph.format) r.refs it valid.refs_follow may.1; stands = valid.stands }
   valid_step (heads head) may shape valid = record { nodes = valid.nodes; refs_follow = valid.refs_follow; stands = may.1 }
@@ -163,9 +163,9 @@ at_last order r lines shape valid = record {
       ∙ ap (λ (ls : List (List ℕ)). ls ++ last_line ∷ []) (sym shape);
 }
 
-at_stage : {A : Type 0} (order : Order) (r : Reading A) (lines : List (List ℕ)) (s : Stage) → r.stage ≡ s → ShapeAt s r lines → IsLoadable order r.graph r.refs r.head → BeginsText A order lines
+at_stage : {A : Type 0} (order : Order) (r : Reading A) (lines : List (List ℕ)) (s : TextStage) → r.stage ≡ s → ShapeAt s r lines → IsLoadable order r.graph r.refs r.head → BeginsText A order lines
 at_stage order r lines First here shape valid = at_begin order lines shape.0
-at_stage order r lines Nodes here shape valid = at_refs order r lines (so_far order r lines (inl here) (subst (λ (s : Stage). ShapeAt s r lines) (sym here) shape)) valid
+at_stage order r lines Nodes here shape valid = at_refs order r lines (so_far order r lines (inl here) (subst (λ (s : TextStage). ShapeAt s r lines) (sym here) shape)) valid
 at_stage order r lines Refs here shape valid = at_refs order r lines shape valid
 at_stage order r lines Last here shape valid = at_last order r lines shape valid
 at_stage order r lines Done here shape valid = record {

@@ -1,7 +1,7 @@
 pub mod Faults
 pub mod Loading
 pub mod RepositoryText
-pub mod SafeRefs
+pub mod ConnectedRefs
 pub mod Saving
 pub mod steps
 pub use Rattle.gobject.specs.Objects

@@ -1,4 +1,4 @@
-//! Why a repository text is not loaded, or a repository not saved.
+//! Why a repository text is not loaded, or a repository is not saved.
 
 ghost use Rattle.std.specs.Prelude.{◌≡◌, Some};
 ghost use Rattle.ggraph.specs.Faults.{load_fault_row, load_fault_text, save_fault_row, save_fault_text};
@@ -7,15 +7,15 @@ ghost use Rattle.ggraph.specs.declared.fault.SaveFault.TheVariants as save;
 
 use gdag::GraphFault;
 use gname::{OUT_OF_MEMORY, OUT_OF_MEMORY_TEXT, Oid};
-use std::alloc::AllocError;
+use std::alloc::{AllocError, AllocFailed};
 use std::error::Error;
 use std::fmt;
 
 /// Why a repository text was not loaded.
 #[derive(Clone, Copy, Debug, PartialEq, Eq, Drop)]
 pub enum LoadFault {
-    /// The line of a repository text, counted from 1, that is not as its format says, passes a
-    /// limit or is not there.
+    /// The line of a repository text, counted from 1, that does not have the right form, exceeds a
+    /// limit or is missing.
     Text { line: usize },
     /// The line of a repository text, counted from 1, with a parent that is on no earlier line.
     ParentLater { line: usize },
@@ -24,22 +24,22 @@ pub enum LoadFault {
 }
 
 impl LoadFault {
-    /// The number of the fault.
+    /// Returns the number of the fault.
     pub fn code(&self) -> u32
         ensures { result ≡ (load_fault_row self.now).0 }
     {
-        self.row().0
+        self.fault_row().0
     }
 
-    /// The name of the fault.
+    /// Returns the name of the fault.
     pub fn name(&self) -> &'static str
         ensures { result.now ≡ (load_fault_row self.now).1 }
     {
-        self.row().1
+        self.fault_row().1
     }
 
-    // The table: the number and the name of each fault.
-    fn row(&self) -> (u32, &'static str)
+    // Returns the row of the fault in the table: its number and its name.
+    fn fault_row(&self) -> (u32, &'static str)
         ensures { (result.0, result.1.now) ≡ load_fault_row self.now }
     {
         match self {
@@ -75,36 +75,44 @@ impl From<AllocError> for LoadFault {
     }
 }
 
+impl<T: Drop> From<AllocFailed<T>> for LoadFault {
+    ghost from_gives = { λ _ fault. fault ≡ load.Memory };
+
+    fn from(_refused: AllocFailed<T>) -> LoadFault {
+        LoadFault::Memory
+    }
+}
+
 /// Why a repository was not saved.
 #[derive(Clone, Copy, Debug, PartialEq, Eq, Drop)]
 pub enum SaveFault {
-    /// A ref or HEAD stands at this id, which is of another object format than the graph.
+    /// A ref or HEAD has this id, which has another object format than the graph.
     OtherFormat { id: Oid },
     /// Out of memory.
     Memory,
 }
 
 impl SaveFault {
-    /// The number of the fault.
+    /// Returns the number of the fault.
     pub fn code(&self) -> u32
         ensures { result ≡ (save_fault_row self.now).0 }
     {
-        self.row().0
+        self.fault_row().0
     }
 
-    /// The name of the fault.
+    /// Returns the name of the fault.
     pub fn name(&self) -> &'static str
         ensures { result.now ≡ (save_fault_row self.now).1 }
     {
-        self.row().1
+        self.fault_row().1
     }
 
-    // The table: the number and the name of each fault.
-    fn row(&self) -> (u32, &'static str)
+    // Returns the row of the fault in the table: its number and its name.
+    fn fault_row(&self) -> (u32, &'static str)
         ensures { (result.0, result.1.now) ≡ save_fault_row self.now }
     {
         match self {
-            SaveFault::OtherFormat { id } => GraphFault::OtherFormat { id: *id }.row(),
+            SaveFault::OtherFormat { id } => GraphFault::OtherFormat { id: *id }.fault_row(),
             SaveFault::Memory => OUT_OF_MEMORY,
         }
     }
@@ -129,6 +137,14 @@ impl From<AllocError> for SaveFault {
     ghost from_gives = { λ _ fault. fault ≡ save.Memory };
 
     fn from(_refused: AllocError) -> SaveFault {
+        SaveFault::Memory
+    }
+}
+
+impl<T: Drop> From<AllocFailed<T>> for SaveFault {
+    ghost from_gives = { λ _ fault. fault ≡ save.Memory };
+
+    fn from(_refused: AllocFailed<T>) -> SaveFault {
         SaveFault::Memory
     }
 }

@@ -1,31 +1,31 @@
-//! The laws of repositories: functions without effect, whose contracts they are.
+//! The laws of repositories: functions without effect whose contracts are the laws.
 
 ghost use Rattle.ggraph.specs.Loading.{ParentsFirstIsOrdered, TextsStopOnce};
-ghost use Rattle.ggraph.specs.SafeRefs.{SafeStays, SettingStaysSafe};
+ghost use Rattle.ggraph.specs.ConnectedRefs.{ConnectedRefsStay, SettingKeepsConnectedRefs};
 
 use crate::text::text_laws;
-use gdag::laws::full_stays_full;
+use gdag::laws::connected_stays_connected;
 use std::alloc::Allocator;
 
-/// Refs stay connected where a graph keeps what it held.
-pub fn safe_stays<A: Allocator + Copy>()
-    ensures { SafeStays A }
+/// Refs stay connected if a graph keeps its nodes.
+pub fn connected_refs_stay<A: Allocator + Copy>()
+    ensures { ConnectedRefsStay A }
 {
-    full_stays_full::<A>();
+    connected_stays_connected::<A>();
 }
 
-/// Refs stay connected where one is set to a connected id.
-pub fn setting_stays_safe<A: Allocator + Copy>()
-    ensures { SettingStaysSafe A }
+/// Refs stay connected if one is set to a connected id.
+pub fn setting_keeps_connected_refs<A: Allocator + Copy>()
+    ensures { SettingKeepsConnectedRefs A }
 {}
 
-/// In a repository that is loaded with parents first, each parent of a node came before it.
+/// If a repository is loaded with parents first, each parent of a node is before the node.
 pub fn parents_first_is_ordered<A: Allocator + Copy>()
     ensures { ParentsFirstIsOrdered A }
 {}
 
-/// A text is refused at one line and for one reason, unless out of memory: what [`load`](crate::load) reports
-/// is the first line that is wrong.
+/// Apart from out of memory, a text is refused at one line and for one reason:
+/// [`load`](crate::load) reports the first line that is wrong.
 #[tactic(auto, using(crate::proofs::StoppingOnce::stop_once))]
 pub fn texts_stop_once<A: Allocator + Copy>()
     ensures { TextsStopOnce A }

@@ -1,4 +1,4 @@
-//! The text that keeps a repository, and what it keeps.
+//! The text format of a repository, and the contents of a text.
 
 mod laws;
 mod lines;
@@ -15,22 +15,22 @@ use gdag::Graph;
 use grefs::{Head, Refs};
 use std::alloc::{Allocator, Global};
 
-/// Which order of nodes a text may have.
+/// The order of nodes that a text must have.
 #[derive(Clone, Copy, Debug, PartialEq, Eq)]
 pub enum Order {
-    /// Any.
+    /// Any order.
     Any,
     /// Each parent of a node is on an earlier line.
     ParentsFirst,
 }
 
-/// What a text keeps.
+/// The contents of a text.
 #[derive(Debug, Drop)]
 pub struct Repository<A: Allocator + Copy = Global> {
     /// The commits and tags, in store order.
     pub graph: Graph<A>,
     /// The refs, in name order.
     pub refs: Refs<A>,
-    /// What HEAD stands at.
+    /// HEAD.
     pub head: Head<A>,
 }

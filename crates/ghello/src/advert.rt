@@ -12,33 +12,33 @@ ghost use Rattle.ggrammar.specs.Building.{Builds};
 ghost use Rattle.ggrammar.specs.Kinds.{ReadsOrRefuses};
 ghost use Rattle.ggrammar.specs.MessageReading.{LeavesReader, TakesAs};
 ghost use Rattle.ggrammar.specs.Texts.{text_packet, is_space};
-ghost use Rattle.ggrammar.specs.Writing.{WritesLines, WritesPart};
+ghost use Rattle.ggrammar.specs.Writing.{WritesPackets, WritesPart};
 ghost use Rattle.ghello.specs.Adverts.{AreCapabilities, Says, brings, canonical_advert, capability_packet, version, has_room, is_capability, is_value_or_none, judge, judge_version, judge_capability, max_advertised};
 ghost use Rattle.ghello.specs.Offers.{IsFormatOf, check_fault, first_with, has_feature, is_of_format, has_key, has_word, is_name_of, lacks_command, named_format};
 ghost use Rattle.ghello.specs.steps.AdvertReading.{IsKept, added_by, brings_after, judge_after};
 
 use arrayvec::ArrayVec;
 use ggrammar::compose::add;
-use ggrammar::laws::{grammars_are_exact, texts_are_classified, texts_are_read, writes_lines};
+use ggrammar::laws::{grammars_are_exact, texts_are_classified, texts_are_read, writes_packets};
 use ggrammar::{
     Capability, Message, MessageFault, PeerText, Step, Why, capability_of, is_key, is_value,
     peer_error, read_message,
 };
 use gname::Format;
-use gpkt::{Line, LineReader, LineWriter, Sink, Source, WriteFault, text_of};
+use gpkt::{Packet, PacketReader, PacketWriter, Sink, Source, WriteFault, text_of};
 use std::alloc::{AllocError, Allocator};
 use std::marker::Model;
 
-/// How many capabilities a server advertises at most.
+/// The maximum number of capabilities that a server advertises.
 pub const MAX_ADVERTISED: usize = 64;
 
 // The text of the first line.
 const VERSION: &[u8] = b"version 2";
 
-// The most bytes of a capability's text: a key, an equals sign and a value.
+// The maximum length of a capability's text in bytes: a key, an equals sign and a value.
 const MAX_TEXT: usize = 2_001;
 
-// What a client of this protocol needs of a server: it lists refs, and fetches.
+// The commands that a client of this protocol needs: listing refs, and fetching.
 const LS_REFS: &[u8] = b"ls-refs";
 
 const FETCH: &[u8] = b"fetch";
@@ -46,7 +46,7 @@ const FETCH: &[u8] = b"fetch";
 // The capability that names the hash of the ids.
 const OBJECT_FORMAT: &[u8] = b"object-format";
 
-// A capability that is kept.
+// A capability that an advertisement stores.
 #[derive(Debug, Drop)]
 struct OwnedCapability<A: Allocator + Copy> {
     key: Vec<u8, A>,
@@ -87,13 +87,13 @@ impl<A: Allocator + Copy> OwnedCapability<A> {
     }
 
     // Writes the packet of the capability.
-    fn write<W: Sink>(&self, writer: &mut LineWriter<W>) -> Result<(), WriteFault>
+    fn write<W: Sink>(&self, writer: &mut PacketWriter<W>) -> Result<(), WriteFault>
         requires { IsWellFormed self.now }
-        ensures { WritesLines W.contents W.passed_on W.is_down W.loans writer.old writer.new result
+        ensures { WritesPackets W.contents W.passed_on W.is_down W.loans writer.old writer.new result
             (capability_packet self.now ∷ []) }
     {
         // Laws.
-        writes_lines::<W>();
+        writes_packets::<W>();
         let mut text = ArrayVec::new();
         compose(self.as_capability(), &mut text);
         writer.text(text.as_slice())
@@ -106,8 +106,8 @@ impl<A: Allocator + Copy> OwnedCapability<A> {
     }
 }
 
-/// What a server advertises (gitprotocol-v2(5), "Capability Advertisement"): its capabilities in
-/// order, at most 64.
+/// The advertisement of a server (gitprotocol-v2(5), "Capability Advertisement"): its capabilities
+/// in order, at most 64.
 #[derive(Debug, Drop)]
 pub struct Advert<A: Allocator + Copy> {
     alloc: A,
@@ -127,7 +127,7 @@ impl<A: Allocator + Copy> Model for Advert<A> {
 }
 
 impl<A: Allocator + Copy> Advert<A> {
-    /// An advertisement without capabilities. It takes no memory.
+    /// Returns an advertisement without capabilities. It does not allocate.
     pub fn new(alloc: A) -> Advert<A>
         ensures { result ≡ [] }
     {
@@ -139,10 +139,10 @@ impl<A: Allocator + Copy> Advert<A> {
 
     /// Adds a capability after the others.
     ///
-    /// It fails with `BadText` where the key is not 1 to 1,000 letters, digits, `-` and `_`, or the value
-    /// not 1 to 1,000 bytes from space to `~`; else with `Limit` where there are 64 capabilities; else with
-    /// `Memory` only where the capability could not be kept. The fault's packet is 0, and the
-    /// advertisement is then as before.
+    /// Fails with `BadText` if the key is not 1 to 1,000 letters, digits, `-` and `_`. It also
+    /// fails so if the value is not 1 to 1,000 bytes from space to `~`. Otherwise fails with
+    /// `Limit` if there are 64 capabilities. Otherwise fails with `Memory`, only if the capability
+    /// could not be stored. The fault is at packet 0, and the advertisement is unchanged.
     pub fn push(&mut self, capability: Capability<'_>) -> Result<(), MessageFault>
         ensures { Builds (is_capability (capability_view capability.entry)) (has_room self.old)
             self.old self.new (self.old ++ capability_view capability.entry ∷ []) result }
@@ -171,7 +171,7 @@ impl<A: Allocator + Copy> Advert<A> {
         Ok(())
     }
 
-    /// How many capabilities there are, at most 64.
+    /// Returns the number of capabilities, at most 64.
     pub fn len(&self) -> usize
         ensures count { result ≡ length self.now }
         ensures form { AreCapabilities self.now }
@@ -186,7 +186,8 @@ impl<A: Allocator + Copy> Advert<A> {
         self.capabilities.is_empty()
     }
 
-    /// The capability at a position in their order, counted from 0; `None` where there is none.
+    /// Returns the capability at a position in their order, counted from 0, or `None` if there is
+    /// none.
     pub fn at(&self, place: usize) -> Option<Capability<'_>>
         ensures capability { option_map capability_view result ≡ slice_get self.now place }
         ensures form { AreCapabilities self.now }
@@ -195,15 +196,15 @@ impl<A: Allocator + Copy> Advert<A> {
         Some(kept.as_capability())
     }
 
-    /// The first capability with a key, with the value that it has, if any; `None` where there is none.
+    /// Returns the first capability with a key, with its value, if any, or `None` if there is none.
     pub fn value_of(&self, key: &[u8]) -> Option<Capability<'_>>
         ensures { option_map capability_view result ≡ first_with key.now self.now }
     {
         first_with(key, self.capabilities.as_slice()).map(|kept| kept.as_capability())
     }
 
-    /// Whether the first capability with a key has a value of which a word is a part between spaces: a
-    /// server reports an unborn `HEAD` where its `ls-refs` has the word `unborn` (gitprotocol-v2(5),
+    /// Whether the first capability with a key has a value with a word between spaces. A server
+    /// reports an unborn `HEAD` if its `ls-refs` has the word `unborn` (gitprotocol-v2(5),
     /// "ls-refs").
     pub fn has_feature(&self, key: &[u8], word: &[u8]) -> bool
         ensures { result ≡ has_feature key.now word.now self.now }
@@ -214,8 +215,9 @@ impl<A: Allocator + Copy> Advert<A> {
         }
     }
 
-    /// The format of the server's ids: the one that the first `object-format` names, and SHA-1 where there
-    /// is no `object-format` (gitprotocol-v2(5), "object-format"). `None` where another is named, or none.
+    /// Returns the format of the server's ids. It is the one that the first `object-format` names,
+    /// or SHA-1 if there is no `object-format` (gitprotocol-v2(5), "object-format"). Returns `None`
+    /// if that names another format or none.
     pub fn format(&self) -> Option<Format>
         ensures { IsFormatOf self.now result }
     {
@@ -228,7 +230,7 @@ impl<A: Allocator + Copy> Advert<A> {
         None
     }
 
-    /// Whether a client of SHA-1 ids can go on with the server, as [`check_in`](Self::check_in) says.
+    /// Checks that a client of SHA-1 ids can use the server, as [`check_in`](Self::check_in) does.
     pub fn check(&self) -> Result<(), MessageFault>
         ensures { MatchResult result (λ _. check_fault Sha1 self.now ≡ None)
             (λ fault. (check_fault Sha1 self.now ≡ Some fault.why) × (fault.frame ≡ 0)) }
@@ -236,11 +238,11 @@ impl<A: Allocator + Copy> Advert<A> {
         self.check_in(Format::Sha1)
     }
 
-    /// Whether a client of ids in a format can go on with the server.
+    /// Checks that a client of ids in a format can use the server.
     ///
-    /// It fails with `UnknownCommand` where `ls-refs` or `fetch` is no key of a capability, else with `Format`
-    /// where the first `object-format` names another format or none, or where there is no `object-format` and
-    /// the format is not SHA-1. The fault's packet is 0.
+    /// Fails with `UnknownCommand` if `ls-refs` or `fetch` is not a key of a capability. Otherwise
+    /// fails with `Format` if the first `object-format` names another format or none, or if there
+    /// is no `object-format` and the format is not SHA-1. The fault is at packet 0.
     pub fn check_in(&self, format: Format) -> Result<(), MessageFault>
         ensures { MatchResult result (λ _. check_fault format self.now ≡ None)
             (λ fault. (check_fault format self.now ≡ Some fault.why) × (fault.frame ≡ 0)) }
@@ -266,7 +268,7 @@ impl<A: Allocator + Copy> Advert<A> {
         self.capabilities.iter().any(|kept| kept.has_key(key))
     }
 
-    // An advertisement that names no format is for SHA-1.
+    // Whether the server has the format. An advertisement that names no format is for SHA-1.
     fn is_of_format(&self, format: Format) -> bool
         ensures { result ≡ is_of_format format self.now }
     {
@@ -281,7 +283,7 @@ impl<A: Allocator + Copy> Advert<A> {
     }
 }
 
-// Puts the text of a capability together.
+// Composes the text of a capability.
 fn compose(capability: Capability<'_>, text: &mut ArrayVec<u8, MAX_TEXT>)
     requires key { length capability.key.now ≤ max_capability }
     requires value { IfSome capability.value (λ value. length value.now ≤ max_capability) }
@@ -296,7 +298,7 @@ fn compose(capability: Capability<'_>, text: &mut ArrayVec<u8, MAX_TEXT>)
     }
 }
 
-// The first capability with a key.
+// Returns the first capability with a key.
 fn first_with<'a, A: Allocator + Copy>(
     key: &[u8],
     capabilities: &'a [OwnedCapability<A>],
@@ -321,7 +323,7 @@ fn has_word(value: Option<&[u8]>, word: &[u8]) -> bool
     }
 }
 
-// Whether the key and the value have their forms.
+// Whether the key and the value have the right form.
 fn is_capability(capability: Capability<'_>) -> bool
     ensures { result ≡ is_capability (capability_view capability.entry) }
 {
@@ -339,13 +341,14 @@ fn is_value_or_none(value: Option<&[u8]>) -> bool
 
 /// Reads an advertisement to its flush, and nothing after it.
 ///
-/// The fault has the packet's position, counted from 0. What the line reader refuses comes first, then the
-/// end of the input, then an error that the peer reports. Then it is `UnexpectedFrame` for a delimiter, a
-/// response-end, or a flush at position 0; `BadText` for a first text that is not `version 2`, and for a
-/// later one that is no capability; `Limit` for a 65th capability; and `Memory` only where a capability
-/// could not be kept. After a refusal the line reader has failed exactly where it refused the packet itself.
+/// The fault has the packet's position, counted from 0. A fault of the packet reader takes
+/// precedence, then the end of the input, then an error that the peer reports. Otherwise the fault
+/// is `UnexpectedFrame` for a delimiter, a response-end, or a flush at position 0. It is `BadText`
+/// for a first text other than `version 2`, and for a later one that is not a capability. It is
+/// `Limit` for a 65th capability, and `Memory` only if a capability could not be stored. After a
+/// refusal the packet reader has failed exactly if it refused the packet itself.
 pub fn read_advert<S: Source, A: Allocator + Copy, B: Allocator + Copy>(
-    reader: &mut LineReader<S, B>,
+    reader: &mut PacketReader<S, B>,
     alloc: A,
 ) -> Result<Advert<A>, MessageFault>
     ensures read { ReadsOrRefuses judge brings Says
@@ -359,55 +362,55 @@ pub fn read_advert<S: Source, A: Allocator + Copy, B: Allocator + Copy>(
     Ok(advert)
 }
 
-/// Writes an advertisement: the version, the capabilities in order, and a flush, which then reads back as it
-/// ([`reads_back`](crate::laws::reads_back)). It takes no memory.
+/// Writes an advertisement: the version, the capabilities in order, and a flush. It reads back as
+/// the same advertisement ([`reads_back`](crate::laws::reads_back)). It does not allocate.
 ///
-/// It fails with `Io` where the sink fails, and then a beginning of the advertisement stands written; with
-/// `Failed` where the writer had failed before.
+/// Fails with `Io` if the sink fails, and a prefix of the advertisement was then written. Fails
+/// with `Failed` if the writer had failed before.
 pub fn write_advert<A: Allocator + Copy, W: Sink>(
     advert: &Advert<A>,
-    writer: &mut LineWriter<W>,
+    writer: &mut PacketWriter<W>,
 ) -> Result<(), WriteFault>
-    ensures lines { WritesLines W.contents W.passed_on W.is_down W.loans writer.old writer.new
+    ensures lines { WritesPackets W.contents W.passed_on W.is_down W.loans writer.old writer.new
         result (canonical_advert advert.now) }
     ensures form { AreCapabilities advert.now }
 {
     // Laws.
-    writes_lines::<W>();
+    writes_packets::<W>();
     let capabilities = advert.capabilities.as_slice();
     write_version(writer)?;
     write_capabilities(capabilities, writer)?;
     write_flush(writer)
 }
 
-fn write_version<W: Sink>(writer: &mut LineWriter<W>) -> Result<(), WriteFault>
-    ensures { WritesLines W.contents W.passed_on W.is_down W.loans writer.old writer.new result
+fn write_version<W: Sink>(writer: &mut PacketWriter<W>) -> Result<(), WriteFault>
+    ensures { WritesPackets W.contents W.passed_on W.is_down W.loans writer.old writer.new result
         (text_packet version ∷ []) }
 {
     // Laws.
-    writes_lines::<W>();
+    writes_packets::<W>();
     writer.text(VERSION)
 }
 
-fn write_flush<W: Sink>(writer: &mut LineWriter<W>) -> Result<(), WriteFault>
-    ensures { WritesLines W.contents W.passed_on W.is_down W.loans writer.old writer.new result
+fn write_flush<W: Sink>(writer: &mut PacketWriter<W>) -> Result<(), WriteFault>
+    ensures { WritesPackets W.contents W.passed_on W.is_down W.loans writer.old writer.new result
         (Flush ∷ []) }
 {
     // Laws.
-    writes_lines::<W>();
+    writes_packets::<W>();
     writer.flush_pkt()
 }
 
 fn write_capabilities<A: Allocator + Copy, W: Sink>(
     capabilities: &[OwnedCapability<A>],
-    writer: &mut LineWriter<W>,
+    writer: &mut PacketWriter<W>,
 ) -> Result<(), WriteFault>
     requires { All IsWellFormed capabilities.now }
     ensures { WritesPart W.contents W.passed_on W.is_down W.loans writer.old writer.new result
         (map capability_packet capabilities.now) }
 {
     // Laws.
-    writes_lines::<W>();
+    writes_packets::<W>();
     for kept in capabilities {
         kept.write(writer)?;
     }
@@ -432,7 +435,7 @@ impl<A: Allocator + Copy> AdvertReader<A> {
     }
 
     #[tactic(auto, unfolding(crate::specs::Adverts::judge_at))]
-    fn take_packet(&mut self, line: Line<'_>) -> Result<Step, Why>
+    fn take_packet(&mut self, line: Packet<'_>) -> Result<Step, Why>
         ensures { TakesAs (judge_after self.old.has_version self.old.advert (packet_of line.entry))
             (brings_after self.old.has_version (packet_of line.entry))
             ((self.new.has_version ≡ true)
@@ -441,9 +444,9 @@ impl<A: Allocator + Copy> AdvertReader<A> {
             result }
     {
         match line {
-            Line::Data(payload) => self.take_payload(payload),
-            Line::Flush => self.take_flush(),
-            Line::Delim | Line::ResponseEnd => Err(Why::UnexpectedFrame),
+            Packet::Data(payload) => self.take_payload(payload),
+            Packet::Flush => self.take_flush(),
+            Packet::Delim | Packet::ResponseEnd => Err(Why::UnexpectedFrame),
         }
     }
 
@@ -516,7 +519,7 @@ impl<A: Allocator + Copy> Message for AdvertReader<A> {
 
     ghost left = { λ reader packets. ⊤ };
 
-    fn take(&mut self, line: Line<'_>) -> Result<Step, Why> {
+    fn accept_packet(&mut self, line: Packet<'_>) -> Result<Step, Why> {
         // Laws.
         texts_are_read();
         self.take_packet(line)

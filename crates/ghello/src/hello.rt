@@ -7,40 +7,41 @@ ghost use Rattle.gpkt.specs.Packets.{max_payload, packet_of};
 ghost use Rattle.gpkt.specs.Change.{change_of};
 ghost use Rattle.ggrammar.specs.Kinds.{ReadsOrRefuses};
 ghost use Rattle.ggrammar.specs.MessageReading.{LeavesReader, TakesAs};
-ghost use Rattle.ggrammar.specs.Writing.{WritesLines};
+ghost use Rattle.ggrammar.specs.Writing.{WritesPackets};
 ghost use Rattle.ghello.specs.Hello.{IsHello, MakesHello, Says, brings, canonical_hello, hello_payload, hello_of, hello_of_parts, hello_with, is_host, is_nul, is_path, judge, judge_payload, max_host, max_path};
 ghost use Rattle.ghello.specs.steps.HelloReading.{hello_in, hello_view};
 
 use arrayvec::ArrayVec;
 use ggrammar::compose::add;
-use ggrammar::laws::{grammars_are_exact, writes_lines};
+use ggrammar::laws::{grammars_are_exact, writes_packets};
 use ggrammar::{
     Message, MessageFault, Step, Why, after_word, are_graphic, are_printable, read_message,
 };
-use gpkt::{Line, LineReader, LineWriter, Sink, Source, WriteFault};
+use gpkt::{Packet, PacketReader, PacketWriter, Sink, Source, WriteFault};
 use std::alloc::{AllocError, Allocator};
 use std::marker::Model;
 
-/// The most bytes of a path.
+/// The maximum length of a path in bytes.
 pub const MAX_PATH: usize = 1_000;
 
-/// The most bytes of a host.
+/// The maximum length of a host in bytes.
 pub const MAX_HOST: usize = 255;
 
-// What comes before the path, before the host, and after them.
+// The texts before the path, before the host, and after the host.
 const COMMAND: &[u8] = b"git-upload-pack ";
 
 const HOST: &[u8] = b"host=";
 
 const VERSION: &[u8] = b"version=2";
 
-// What ends each part.
+// The end of each part.
 const NUL: &[u8] = b"\0";
 
-// The most bytes of the payload: its words, a path, a host, and the NULs.
+// The maximum length of the payload in bytes: its words, a path, a host, and the NULs.
 const MAX_LINE: usize = 1_289;
 
-/// The first line of a client on a `git://` connection: which repository it asks for, and of which host.
+/// The first line of a client on a `git://` connection: the repository that it asks for, and the
+/// host.
 #[derive(Debug, Drop)]
 pub struct Hello<A: Allocator + Copy> {
     path: Vec<u8, A>,
@@ -58,11 +59,11 @@ impl<A: Allocator + Copy> Model for Hello<A> {
 }
 
 impl<A: Allocator + Copy> Hello<A> {
-    /// A hello for a path and a host. The path begins with a slash and has at most 1,000 bytes, from
-    /// space to `~`; the host has 1 to 255 bytes, from `!` to `~`.
+    /// Returns a hello for a path and a host. The path begins with a slash and has at most 1,000
+    /// bytes, from space to `~`. The host has 1 to 255 bytes, from `!` to `~`.
     ///
-    /// It fails with `BadText` where one of them is not so, and else with `Memory` only where it could
-    /// not be kept. The fault's packet is 0.
+    /// Fails with `BadText` if one of them has another form. Otherwise fails with `Memory`, only if
+    /// it could not be stored. The fault is at packet 0.
     pub fn new(alloc: A, path: &[u8], host: &[u8]) -> Result<Hello<A>, MessageFault>
         ensures { MakesHello (record { path = path.now; host = host.now }) result }
     {
@@ -75,7 +76,7 @@ impl<A: Allocator + Copy> Hello<A> {
         }
     }
 
-    // Keeps a path and a host.
+    // Stores a path and a host.
     fn keep(alloc: A, path: &[u8], host: &[u8]) -> Result<Hello<A>, AllocError>
         requires { IsHello (record { path = path.now; host = host.now }) }
         ensures { IfOk result (λ hello. hello ≡ record { path = path.now; host = host.now }) }
@@ -85,7 +86,7 @@ impl<A: Allocator + Copy> Hello<A> {
         Ok(Hello { path, host })
     }
 
-    /// The path of the repository, with its slash: at most 1,000 bytes.
+    /// Returns the path of the repository, with its slash: at most 1,000 bytes.
     #[tactic(auto, using(crate::proofs::HelloLemmas::path_within))]
     pub fn path(&self) -> &[u8]
         ensures path { result.now ≡ self.now.path }
@@ -95,7 +96,7 @@ impl<A: Allocator + Copy> Hello<A> {
         self.path.as_slice()
     }
 
-    /// The host that the client means: 1 to 255 bytes.
+    /// Returns the host that the client asks for: 1 to 255 bytes.
     #[tactic(auto, using(crate::proofs::HelloLemmas::host_within))]
     pub fn host(&self) -> &[u8]
         ensures host { result.now ≡ self.now.host }
@@ -124,12 +125,12 @@ pub fn is_host(host: &[u8]) -> bool
 
 /// Reads the first line of a connection, and nothing after it.
 ///
-/// The fault's packet is 0. What the line reader refuses comes first, then the end of the input, then
-/// `UnexpectedFrame` for another kind of packet and `BadText` for a payload of another form, one that
-/// reports an error too; `Memory` comes only where a hello could not be kept. After a refusal the line
-/// reader has failed exactly where it refused the packet itself.
+/// The fault is at packet 0. A fault of the packet reader takes precedence, then the end of the
+/// input. Otherwise the fault is `UnexpectedFrame` for another kind of packet, and `BadText` for a
+/// payload of another form, even if it reports an error. It is `Memory` only if a hello could not
+/// be stored. After a refusal the packet reader has failed exactly if it refused the packet itself.
 pub fn read_hello<S: Source, A: Allocator + Copy, B: Allocator + Copy>(
-    reader: &mut LineReader<S, B>,
+    reader: &mut PacketReader<S, B>,
     alloc: A,
 ) -> Result<Hello<A>, MessageFault>
     ensures read { ReadsOrRefuses judge brings Says
@@ -147,28 +148,28 @@ pub fn read_hello<S: Source, A: Allocator + Copy, B: Allocator + Copy>(
     }
 }
 
-/// Writes the packet of a hello, which then reads back as it
-/// ([`reads_back`](crate::laws::reads_back)). It takes no memory.
+/// Writes the packet of a hello. It reads back as the same hello
+/// ([`reads_back`](crate::laws::reads_back)). It does not allocate.
 ///
-/// It fails with `Io` where the sink fails, and then a beginning of the packet stands written; with `Failed`
-/// where the writer had failed before.
+/// Fails with `Io` if the sink fails, and a prefix of the packet was then written. Fails with
+/// `Failed` if the writer had failed before.
 #[tactic(auto, unfolding(crate::specs::Hello::canonical_hello))]
 pub fn write_hello<A: Allocator + Copy, W: Sink>(
     hello: &Hello<A>,
-    writer: &mut LineWriter<W>,
+    writer: &mut PacketWriter<W>,
 ) -> Result<(), WriteFault>
-    ensures lines { WritesLines W.contents W.passed_on W.is_down W.loans writer.old writer.new
+    ensures lines { WritesPackets W.contents W.passed_on W.is_down W.loans writer.old writer.new
         result (canonical_hello hello.now) }
     ensures form { IsHello hello.now }
 {
     // Laws.
-    writes_lines::<W>();
+    writes_packets::<W>();
     let mut line = ArrayVec::new();
     compose(hello, &mut line);
     writer.put(line.as_slice())
 }
 
-// Puts the payload together.
+// Composes the payload.
 fn compose<A: Allocator + Copy>(hello: &Hello<A>, line: &mut ArrayVec<u8, MAX_LINE>)
     requires { line.old.items ≡ [] }
     ensures line { line.new.items ≡ hello_payload hello.now }
@@ -186,14 +187,14 @@ fn compose<A: Allocator + Copy>(hello: &Hello<A>, line: &mut ArrayVec<u8, MAX_LI
     add(NUL, line);
 }
 
-// What a payload says, lent from it.
+// The contents of a payload, borrowed from it.
 #[derive(Clone, Copy, Debug, PartialEq, Eq)]
 struct HelloText<'a> {
     path: &'a [u8],
     host: &'a [u8],
 }
 
-// What comes before the first NUL, and what after it, if there is one.
+// Returns the text before the first NUL, and the text after it, if there is one.
 fn cut(text: &[u8]) -> (&[u8], Option<&[u8]>)
     ensures { slice_split is_nul text.now
         ≡ result.0.now ∷ option_map_or (λ rest. slice_split is_nul rest.now) result.1 [] }
@@ -204,7 +205,7 @@ fn cut(text: &[u8]) -> (&[u8], Option<&[u8]>)
     }
 }
 
-// The position of the first NUL.
+// Returns the position of the first NUL.
 fn first_nul(text: &[u8]) -> Option<usize>
     ensures place { result ≡ position is_nul text.now }
     ensures within { IfSome result (λ at. at < length text.now) }
@@ -212,7 +213,7 @@ fn first_nul(text: &[u8]) -> Option<usize>
     text.iter().position(|byte| *byte == 0)
 }
 
-// What a payload says, by its parts between NULs.
+// Returns the contents of a payload, by its parts between NULs.
 #[tactic(auto, unfolding(crate::specs::Hello::hello_of))]
 fn hello_of(payload: &[u8]) -> Option<HelloText<'_>>
     ensures { option_map hello_view result ≡ hello_of payload.now }
@@ -231,7 +232,7 @@ fn hello_of(payload: &[u8]) -> Option<HelloText<'_>>
     }
 }
 
-// What a payload of three words says.
+// Returns the contents of a payload of three words.
 fn hello_of_words<'a>(command: &'a [u8], host: &'a [u8], version: &[u8]) -> Option<HelloText<'a>>
     ensures { option_map hello_view result
         ≡ hello_of_parts (command.now ∷ host.now ∷ [] ∷ version.now ∷ [] ∷ []) }
@@ -262,14 +263,14 @@ pub struct HelloReader<A: Allocator + Copy> {
 }
 
 impl<A: Allocator + Copy> HelloReader<A> {
-    /// A hello without packets.
+    /// Returns a hello without packets.
     pub fn new(alloc: A) -> HelloReader<A>
         ensures { result.hello ≡ None }
     {
         HelloReader { alloc, hello: None }
     }
 
-    /// What the packet said, once it is taken.
+    /// Returns the contents of the packet, after it was taken.
     pub fn finish(self) -> Option<Hello<A>>
         ensures { result ≡ self.hello }
     {
@@ -277,13 +278,13 @@ impl<A: Allocator + Copy> HelloReader<A> {
         hello
     }
 
-    fn take_packet(&mut self, line: Line<'_>) -> Result<Step, Why>
+    fn take_packet(&mut self, line: Packet<'_>) -> Result<Step, Why>
         ensures { TakesAs (judge [] (packet_of line.entry)) (brings [] (packet_of line.entry))
             (self.new.hello ≡ hello_in (packet_of line.entry ∷ [])) result }
     {
         match line {
-            Line::Data(payload) => self.take_payload(payload),
-            Line::Flush | Line::Delim | Line::ResponseEnd => Err(Why::UnexpectedFrame),
+            Packet::Data(payload) => self.take_payload(payload),
+            Packet::Flush | Packet::Delim | Packet::ResponseEnd => Err(Why::UnexpectedFrame),
         }
     }
 
@@ -313,7 +314,7 @@ impl<A: Allocator + Copy> Message for HelloReader<A> {
 
     ghost left = { λ reader packets. ⊤ };
 
-    fn take(&mut self, line: Line<'_>) -> Result<Step, Why> {
+    fn accept_packet(&mut self, line: Packet<'_>) -> Result<Step, Why> {
         self.take_packet(line)
     }
 

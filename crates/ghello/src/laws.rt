@@ -1,4 +1,4 @@
-//! The laws of hellos and advertisements: functions without effect, whose contracts they are.
+//! The laws of hellos and advertisements: functions without effect whose contracts are the laws.
 
 ghost use Rattle.std.specs.Prelude.{◌≡◌};
 ghost use Rattle.ggrammar.specs.Grammar.{HasEndings, IsPrefixFree, RefusesFirstMisfits};
@@ -9,7 +9,7 @@ ghost use Rattle.ghello.specs.Hello as hello;
 ghost use Rattle.ghello.specs.Adverts as advert;
 
 use crate::{MAX_ADVERTISED, MAX_HOST, MAX_PATH};
-use ggrammar::Kind;
+use ggrammar::MessageKind;
 use ggrammar::laws::{
     grammars_are_exact, kinds_are_read, messages_are_read, texts_are_classified, texts_are_read,
 };
@@ -18,7 +18,7 @@ use gpkt::laws::text_reads_back;
 // Hellos, as a kind of message.
 struct Hellos;
 
-impl Kind for Hellos {
+impl MessageKind for Hellos {
     ghost use Rattle.ghello.specs.Hello as hello;
 
     ghost Given = { Unit {0} };
@@ -39,7 +39,7 @@ impl Kind for Hellos {
 // Advertisements, as a kind of message.
 struct Adverts;
 
-impl Kind for Adverts {
+impl MessageKind for Adverts {
     ghost use Rattle.std.specs.Prelude.{List};
     ghost use Rattle.ggrammar.specs.Capabilities.{Capability};
     ghost use Rattle.ghello.specs.Adverts as advert;
@@ -59,7 +59,7 @@ impl Kind for Adverts {
     ghost is_canonical = { λ _. advert.IsCanonical };
 }
 
-/// The constants are the limits that the definitions name.
+/// The constants are the limits that the definitions use.
 pub fn limits_are_the_constants()
     ensures path { MAX_PATH ≡ hello.max_path }
     ensures host { MAX_HOST ≡ hello.max_host }
@@ -72,7 +72,7 @@ pub fn one_meaning()
     ensures advert { OneMeaning advert.Says }
 {}
 
-/// No hello begins another, and no advertisement does: neither as packets nor as the bytes that spell them.
+/// No hello is a prefix of another, and no advertisement is, as packets or as bytes.
 pub fn prefix_free()
     ensures hello { IsPrefixFree hello.judge }
     ensures hello_spellings { SpellingsPrefixFree hello.judge }
@@ -83,8 +83,8 @@ pub fn prefix_free()
     messages_are_read();
 }
 
-/// The packets that are read as a hello, or as an advertisement, are those that the manual has, and
-/// they say the same (gitprotocol-pack(5), "Git Transport"; gitprotocol-v2(5), "Capability
+/// The packets that are read as a hello, or as an advertisement, are those of the manual, and they
+/// say the same (gitprotocol-pack(5), "Git Transport"; gitprotocol-v2(5), "Capability
 /// Advertisement").
 pub fn manual()
     ensures hello { SaysWhole hello.judge hello.Says }
@@ -97,8 +97,8 @@ pub fn manual()
     grammars_are_exact();
 }
 
-/// What begins a hello, or an advertisement, can be ended, and a packet that is refused is the first that does
-/// not fit.
+/// Each prefix of a hello, or of an advertisement, has an ending, and a refused packet is the first
+/// that does not fit.
 pub fn endings()
     ensures hello { HasEndings hello.judge }
     ensures hello_first { RefusesFirstMisfits hello.judge }
@@ -108,8 +108,8 @@ pub fn endings()
     grammars_are_exact();
 }
 
-/// A packet is refused for its own sake alone. All bytes begin with a hello, or are refused for a reason in them; and
-/// all begin with an advertisement, or are refused.
+/// A packet is refused only for a reason in the packet. All bytes begin with a hello, or are
+/// refused for a reason in the bytes. All bytes begin with an advertisement, or are refused.
 pub fn every_input()
     ensures hello_packets { RefusesPackets hello.judge }
     ensures hello { BeginsOrIsRefused hello.judge hello.brings }
@@ -120,7 +120,7 @@ pub fn every_input()
     messages_are_read();
 }
 
-/// What is written of a hello, or of an advertisement, says it, and each payload fits a packet.
+/// A hello or an advertisement is written as packets that say it, and each payload fits a packet.
 pub fn canonical_says()
     ensures hello { CanonicalSays hello.Says hello.IsHello hello.IsCanonical }
     ensures advert { CanonicalSays advert.Says advert.AreCapabilities advert.IsCanonical }
@@ -130,7 +130,8 @@ pub fn canonical_says()
     manual();
 }
 
-/// A hello, or an advertisement, is read exactly where the bytes begin with it, and nothing after it is taken.
+/// A hello, or an advertisement, is read exactly when the bytes begin with it, and nothing after it
+/// is read.
 pub fn reads_exactly()
     ensures hello { ReadsExactly hello.judge hello.brings hello.Says }
     ensures advert { ReadsExactly advert.judge advert.brings advert.Says }
@@ -141,7 +142,7 @@ pub fn reads_exactly()
     kinds_are_read::<Adverts>();
 }
 
-/// What is written of a hello, or of an advertisement, reads back as it, whatever follows.
+/// A written hello or advertisement reads back as the same value, whatever follows.
 pub fn reads_back()
     ensures hello { ReadsBack hello.judge hello.brings hello.Says hello.IsHello hello.IsCanonical }
     ensures advert { ReadsBack advert.judge advert.brings advert.Says advert.AreCapabilities

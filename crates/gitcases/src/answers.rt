@@ -1,4 +1,4 @@
-//! The answers of the crates under test, as texts.
+//! The results of the crates under test, as texts.
 
 use crate::arrivals::of_arrival;
 use crate::asked::{of_served, of_url};
@@ -14,14 +14,14 @@ use gname::Oid;
 use std::alloc::{Allocator, Global};
 use std::rt::Files;
 
-/// The answer where nothing is wrong.
+/// The answer if nothing is wrong.
 pub(crate) const OK: &str = "ok";
 
-/// The answer out of memory.
+/// The answer if out of memory.
 pub(crate) const MEMORY: &str = "out of memory";
 
-/// What is tried, with the pack, the files of the store, and others that they become after so many
-/// calls.
+/// The subject of a try, with the pack, the files of the store, and the files that replace them
+/// after some calls.
 #[derive(Clone, Copy)]
 pub(crate) struct Trial<'t, 'a> {
     pub(crate) row: &'t Row<'a>,
@@ -32,7 +32,7 @@ pub(crate) struct Trial<'t, 'a> {
     pub(crate) calls: u64,
 }
 
-/// A visitor that takes all objects.
+/// A visitor that accepts all objects.
 #[derive(Clone, Copy, Drop)]
 struct Anything;
 
@@ -42,7 +42,7 @@ impl ObjectVisitor for Anything {
     }
 }
 
-/// The answer, in this memory.
+/// Returns the answer, with this allocator.
 pub(crate) fn answer_of<R: Files + AllocGlobal, A: Allocator + Copy>(
     rt: &R,
     memory: A,
@@ -61,7 +61,7 @@ pub(crate) fn answer_of<R: Files + AllocGlobal, A: Allocator + Copy>(
     }
 }
 
-// What indexing makes of a pack: `ok` and the number of its objects, or the fault.
+// Indexes a pack, and returns `ok` and the number of its objects, or the fault.
 fn of_index<A: Allocator + Copy>(
     alloc: Global,
     memory: A,
@@ -75,7 +75,7 @@ fn of_index<A: Allocator + Copy>(
     }
 }
 
-// How many objects an index has, if these are among them.
+// Returns the number of objects in an index, if these are among them.
 fn told_index<A: Allocator + Copy>(
     alloc: Global,
     index: &IndexedPack<A>,
@@ -90,7 +90,7 @@ fn told_index<A: Allocator + Copy>(
     Ok(format!(in alloc; "{OK} {count}")?)
 }
 
-// What opening or reading makes of the files: `ok`, or the fault.
+// Opens or reads the files, and returns `ok`, or the fault.
 fn of_reading<A: Allocator + Copy>(
     alloc: Global,
     memory: A,

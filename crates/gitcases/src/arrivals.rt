@@ -1,4 +1,4 @@
-//! Packs that come to a Git directory.
+//! Packs that a Git directory receives.
 
 use crate::answers::{MEMORY, OK, Trial};
 use crate::stores::{GIT_DIR, in_memory};
@@ -9,22 +9,22 @@ use gitrepository::{RepositoryFault, StoreIndexer, Tips};
 use gname::Oid;
 use std::alloc::{Allocator, Global};
 
-// A pack is fed in pieces of so many bytes.
+// The size of the pieces of a pack.
 const PIECE: usize = 1_000;
 
 // Why a pack is refused.
 #[derive(Drop)]
 enum Refused<A: Allocator + Copy> {
-    // By the indexer.
+    // The indexer refused it.
     Repository(RepositoryFault<A>),
-    // By the graph of commits and tags.
+    // The graph of commits and tags refused it.
     Graph(GraphFault),
-    // By the indexer, which keeps a part of it all the same.
+    // The indexer refused it, but kept a part of it.
     Kept,
 }
 
-/// The answer to a pack that comes, in this memory: `ok` and the number of its commits and tags, or
-/// the fault.
+/// Returns the answer to an incoming pack, with this allocator: `ok` and the number of its commits
+/// and tags, or the fault.
 pub(crate) fn of_arrival<A: Allocator + Copy>(
     alloc: Global,
     memory: A,
@@ -42,7 +42,7 @@ pub(crate) fn of_arrival<A: Allocator + Copy>(
     }
 }
 
-// Takes a pack to the store of some files, and answers how many commits and tags it has.
+// Adds a pack to the store of these files, and returns its number of commits and tags.
 fn arrive<F: ObjectFiles, A: Allocator + Copy>(
     files: &F,
     memory: A,
@@ -82,7 +82,7 @@ fn feed_all<A: Allocator + Copy, I: Indexer<A>>(
     indexer.finish(feed)
 }
 
-// The fault for which an indexer refuses a pack. It must not keep a part of the pack.
+// Returns the fault of a refused pack. The indexer must not keep a part of the pack.
 fn refusal_of<F: ObjectFiles, A: Allocator + Copy>(
     indexer: &StoreIndexer<'_, '_, F, A>,
     fault: IndexFault,
@@ -96,7 +96,7 @@ fn refusal_of<F: ObjectFiles, A: Allocator + Copy>(
     }
 }
 
-// Adds the commits and tags to a graph, and answers their number.
+// Adds the commits and tags to a graph, and returns their number.
 fn add_all<A: Allocator + Copy>(memory: A, entries: Vec<Entry<A>, A>) -> Result<usize, Refused<A>> {
     let mut graph = Graph::new(memory);
     for entry in entries {

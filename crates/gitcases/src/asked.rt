@@ -1,14 +1,14 @@
-//! URLs that a user gives, and paths that a client sends.
+//! URLs from a user, and paths from a client.
 
 use crate::answers::{MEMORY, OK};
 use crate::trouble::Trouble;
 use gitwords::{Ending, GitUrl, ServedPath};
 use std::alloc::{Allocator, Global};
 
-// The answer to a path that names no repository.
+// The answer to a path that does not name a repository.
 const NONE: &str = "none";
 
-/// The answer to a URL: `ok`, its host, its port and its path, or the fault.
+/// Returns the answer to a URL: `ok`, its host, its port and its path, or the fault.
 pub(crate) fn of_url(alloc: Global, text: &[u8]) -> Result<String, Trouble> {
     let Ok(text) = str::from_utf8(text) else {
         return Err(Trouble::NoText);
@@ -22,8 +22,8 @@ pub(crate) fn of_url(alloc: Global, text: &[u8]) -> Result<String, Trouble> {
     }
 }
 
-/// The answer to the path of a client: `ok` and the directory below the base that is looked at last, or
-/// `none`.
+/// Returns the answer to the path of a client: `ok` and the last candidate directory below the
+/// base, or `none`.
 pub(crate) fn of_served<A: Allocator + Copy>(
     alloc: Global,
     memory: A,

@@ -4,7 +4,7 @@ use gitobjects::{Cause, FolderTime, MemoryFiles, MemoryPack, ObjectFiles};
 use std::alloc::Allocator;
 use std::cell::Cell;
 
-/// Files that become others after so many calls.
+/// Files that are replaced by others after some calls.
 #[derive(Drop)]
 pub(crate) struct Changing<'f, A: Allocator + Copy> {
     before: &'f MemoryFiles<A>,
@@ -13,7 +13,7 @@ pub(crate) struct Changing<'f, A: Allocator + Copy> {
 }
 
 impl<'f, A: Allocator + Copy> Changing<'f, A> {
-    /// Files that become others after so many calls.
+    /// Files that are replaced by others after some calls.
     pub(crate) fn new(
         before: &'f MemoryFiles<A>,
         after: &'f MemoryFiles<A>,
@@ -26,7 +26,7 @@ impl<'f, A: Allocator + Copy> Changing<'f, A> {
         }
     }
 
-    // The files of the next call.
+    // Returns the files of the next call.
     fn files(&self) -> &'f MemoryFiles<A> {
         match self.calls.get().checked_sub(1) {
             Some(calls) => {
@@ -75,10 +75,10 @@ impl<'f, A: Allocator + Copy> ObjectFiles for Changing<'f, A> {
         self.files().open_pack(path)
     }
 
-    // The folder has another time once the files are others.
-    fn changed(&self, path: &str) -> Result<Option<FolderTime>, Cause> {
+    // The time of the folder changes when the files are replaced.
+    fn change_time(&self, path: &str) -> Result<Option<FolderTime>, Cause> {
         let is_after = self.calls.get() == 0;
-        match self.files().changed(path)? {
+        match self.files().change_time(path)? {
             Some(time) if is_after => Ok(Some(later(time))),
             time => Ok(time),
         }

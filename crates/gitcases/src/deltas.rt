@@ -3,10 +3,10 @@
 use crate::trouble::Trouble;
 use std::alloc::Global;
 
-// The most bytes that one instruction inserts.
+// The maximum number of bytes that one instruction inserts.
 const MAX_INSERT: usize = 127;
 
-/// A size: seven bits a byte, the lowest first.
+/// Appends a size: seven bits per byte, the lowest first.
 pub(crate) fn put_size(out: &mut Vec<u8>, size: usize) -> Result<(), Trouble> {
     let mut rest = size;
     for _ in 0..usize::BITS {
@@ -21,12 +21,12 @@ pub(crate) fn put_size(out: &mut Vec<u8>, size: usize) -> Result<(), Trouble> {
     Ok(())
 }
 
-// The lowest seven bits.
+// Returns the lowest seven bits.
 pub(crate) fn low_bits(number: usize) -> u8 {
     number.to_le_bytes()[0] & 0x7f
 }
 
-/// The instruction that copies so many bytes of the base from an offset on.
+/// Returns the instruction that copies `size` bytes of the base starting at `offset`.
 pub(crate) fn copy_of(alloc: Global, offset: usize, size: usize) -> Result<Vec<u8>, Trouble> {
     let size = if size == 0x10000 { 0 } else { size };
     let [one, two, three, four, ..] = offset.to_le_bytes();
@@ -47,7 +47,7 @@ pub(crate) fn copy_of(alloc: Global, offset: usize, size: usize) -> Result<Vec<u
     Ok(instruction)
 }
 
-// Adds a byte, unless it is 0, and the bit that says so to the first one.
+// Appends a byte unless it is 0, and sets its bit in the first byte.
 fn put_byte(instruction: &mut Vec<u8>, bit: u8, byte: u8) -> Result<(), Trouble> {
     if byte != 0 {
         instruction.push(byte)?;
@@ -58,7 +58,7 @@ fn put_byte(instruction: &mut Vec<u8>, bit: u8, byte: u8) -> Result<(), Trouble>
     Ok(())
 }
 
-/// The instructions that insert some bytes.
+/// Returns the instructions that insert these bytes.
 pub(crate) fn insertions_of(alloc: Global, bytes: &[u8]) -> Result<Vec<u8>, Trouble> {
     let mut instructions = Vec::new(alloc);
     for part in bytes.chunks(MAX_INSERT) {

@@ -1,4 +1,4 @@
-//! Pack indexes that lie (gitformat-pack(5), "Version 2 pack-*.idx files").
+//! Wrong pack indexes (gitformat-pack(5), "Version 2 pack-*.idx files").
 
 use crate::packs::{Pack, TRAILER};
 use crate::trouble::Trouble;
@@ -6,7 +6,7 @@ use gname::Oid;
 use sha1::Sha1;
 use std::alloc::Global;
 
-/// A line of an index.
+/// An entry of an index.
 #[derive(Clone, Copy, Drop)]
 struct Line {
     id: Oid,
@@ -14,7 +14,7 @@ struct Line {
     offset: u64,
 }
 
-/// The lines of an index of a pack.
+/// The entries of the index of a pack.
 #[derive(Drop)]
 pub(crate) struct Lines<'a> {
     pub(crate) name: &'a str,
@@ -25,7 +25,7 @@ pub(crate) struct Lines<'a> {
 }
 
 impl<'a> Lines<'a> {
-    /// No line.
+    /// Returns an index without entries.
     pub(crate) fn new(alloc: Global, name: &'a str, pack: &'a str) -> Lines<'a> {
         Lines {
             name,
@@ -35,18 +35,18 @@ impl<'a> Lines<'a> {
         }
     }
 
-    /// Adds a line.
+    /// Adds an entry.
     pub(crate) fn push(&mut self, id: Oid, crc: u32, offset: u64) -> Result<(), Trouble> {
         self.lines.push(Line { id, crc, offset })?;
         Ok(())
     }
 
-    /// Leaves the lines in the order in which they were added.
+    /// Leaves the entries unsorted, in the order of addition.
     pub(crate) fn set_unsorted(&mut self) {
         self.is_unsorted = true;
     }
 
-    /// The text of the index.
+    /// Returns the text of the index.
     pub(crate) fn bytes(&self, alloc: Global, pack: &Pack<'_>) -> Result<Vec<u8>, Trouble> {
         let mut lines = self.lines.as_slice().to_vec(alloc)?;
         if !self.is_unsorted {
@@ -68,7 +68,7 @@ impl<'a> Lines<'a> {
     }
 }
 
-// The number of ids that begin with each byte or one before it.
+// Appends, for each byte, the number of ids that begin with it or a lower byte.
 fn put_fan_out(text: &mut Vec<u8>, lines: &[Line]) -> Result<(), Trouble> {
     for first in 0..=u8::MAX {
         let count = count_up_to(lines, first);
@@ -101,7 +101,7 @@ fn put_crcs(text: &mut Vec<u8>, lines: &[Line]) -> Result<(), Trouble> {
     Ok(())
 }
 
-// The highest bit says that the others are a place in the table of 64-bit offsets.
+// The bit which means that the other bits are an index into the table of 64-bit offsets.
 const IS_LONG: u32 = 0x8000_0000;
 
 fn put_offsets(text: &mut Vec<u8>, lines: &[Line]) -> Result<(), Trouble> {

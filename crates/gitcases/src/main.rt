@@ -1,25 +1,25 @@
-//! Cases of Git's packs, Git directories, refs, URLs and paths of clients, from files, tried on the
-//! crates that read them.
+//! Test cases from files: packs, Git directories, refs, URLs and client paths, tried on the crates
+//! that read them.
 //!
-//! The arguments name files of cases; FORMAT.md has their lines. A row says which answer a pack,
-//! a store or a text gets. It is tried as it is, cut after each byte, with each bit changed, while its
-//! files change, and with each allocation refused in turn. Packs and stores are in memory. Refs are
-//! files in a folder, which each try makes anew. An answer that is wrong is a line on standard output.
-//! The last lines count the tries.
+//! The arguments name case files; FORMAT.md describes their lines. A row gives the expected answer
+//! for a pack, a store or a text. It is tried unchanged, truncated after each byte, with each bit
+//! changed, while its files change, and with each allocation refused in turn. Packs and stores are
+//! in memory. Refs are files in a folder, which each try recreates. Each wrong answer is a line on
+//! standard output. The last lines count the tries.
 //!
 //! # Proved
 //!
-//! That it is safe and ends.
+//! The program is safe and terminates.
 //!
 //! # What the contracts do not rule out
 //!
-//! Anything else: that wrong answers are noticed was tried with wrong cases and wrong crates.
+//! Anything else. Wrong cases and wrong crates showed that wrong answers are noticed.
 //!
 //! # Stands on
 //!
-//! `gitpack`, `gitobjects`, `gitrefs`, `gitrepository` and `gitwords`, which it tries. `gitobject`,
-//! `gname`, `gzlib` and `sha1` make packs and stores; `ggraph` has graphs, refs and indexers; `scarce`
-//! is memory that ends.
+//! `gitpack`, `gitobjects`, `gitrefs`, `gitrepository` and `gitwords`, which it tests. `gitobject`,
+//! `gname`, `gzlib` and `sha1` make packs and stores. `ggraph` has graphs, refs and indexers, and
+//! `case_text` provides limited memory.
 #![tactic(auto)]
 
 mod answers;
@@ -48,14 +48,14 @@ use std::rt::{Env, Files};
 use std::{env, fs, io};
 
 fn main(rt: HostRuntime) -> ExitCode {
-    match run(&rt) {
+    match run_cases(&rt) {
         Ok(true) => ExitCode::from(0),
         Ok(false) | Err(_) => ExitCode::from(1),
     }
 }
 
-// Tries the cases of the files that the arguments name. It answers whether nothing was wrong.
-fn run<R: AllocGlobal + Env + Files + Print>(rt: &R) -> io::Result<bool> {
+// Tries the cases of the files that the arguments name. Returns whether all answers were right.
+fn run_cases<R: AllocGlobal + Env + Files + Print>(rt: &R) -> io::Result<bool> {
     let names: Vec<String> = env::args(rt)?.skip(1).collect(rt.alloc())?;
     let mut files = Vec::new(rt.alloc());
     for name in &names {
@@ -75,8 +75,8 @@ fn run<R: AllocGlobal + Env + Files + Print>(rt: &R) -> io::Result<bool> {
     }
 }
 
-// Tries the cases of some files, which have these names. At a fault it answers the file, the line and
-// the cause.
+// Tries the cases of the files with these names. On failure it returns the file, the line and the
+// cause.
 fn try_files<'a, R: Files + Print + AllocGlobal>(
     rt: &R,
     names: &'a [String],

@@ -1,4 +1,4 @@
-//! Refs that are read and moved, in a folder that each try makes anew.
+//! Reading and moving refs, in a folder that each try recreates.
 
 use crate::answers::{MEMORY, OK, Trial};
 use crate::row::{Row, Update};
@@ -18,7 +18,7 @@ const FOLDER: &str = "tried";
 
 const GIT_DIR: &str = "tried/r";
 
-// The branch of HEAD of a clone, and the URL in its configuration.
+// The HEAD branch of a clone, and the URL in its configuration.
 const BRANCH: &[u8] = b"refs/heads/main";
 
 const URL: &str = "git://h/r";
@@ -44,7 +44,7 @@ impl<T: Drop, A: Allocator + Copy> From<AllocFailed<T>> for Refused<A> {
     }
 }
 
-/// The answer to reading the refs: `ok` and their names, or the fault.
+/// Returns the answer to reading the refs: `ok` and their names, or the fault.
 pub(crate) fn of_refs<R: Files + AllocGlobal, A: Allocator + Copy>(
     rt: &R,
     memory: A,
@@ -59,7 +59,7 @@ pub(crate) fn of_refs<R: Files + AllocGlobal, A: Allocator + Copy>(
     Ok(answer)
 }
 
-// The refs below `refs/`.
+// Returns the refs below `refs/`.
 fn read_refs<'r, R: Files, A: Allocator + Copy>(
     memory: A,
     rt: &'r R,
@@ -71,7 +71,7 @@ fn read_refs<'r, R: Files, A: Allocator + Copy>(
     }
 }
 
-// `ok`, and the names of refs.
+// Returns `ok` and the names of the refs.
 fn names_of<R: AllocGlobal, A: Allocator + Copy>(
     rt: &R,
     refs: &Refs<A>,
@@ -84,7 +84,8 @@ fn names_of<R: AllocGlobal, A: Allocator + Copy>(
     Ok(text)
 }
 
-/// The answer to moving refs: `ok`, or the fault. No ref may have moved then, and no lock may be left.
+/// Returns the answer to moving refs: `ok`, or the fault. After a fault no ref may have moved, and
+/// no lock may be left.
 pub(crate) fn of_moving<R: Files + AllocGlobal, A: Allocator + Copy>(
     rt: &R,
     memory: A,
@@ -158,7 +159,7 @@ fn name_of<A: Allocator + Copy>(memory: A, update: &Update) -> Result<RefName<A>
     }
 }
 
-// All refs, as they are read with memory.
+// Returns all refs, read with enough memory.
 fn all_refs<R: Files + AllocGlobal>(rt: &R) -> Result<Refs, Trouble> {
     match read_refs(rt.alloc(), rt, GIT_DIR) {
         Ok(refs) => Ok(refs),
@@ -166,7 +167,7 @@ fn all_refs<R: Files + AllocGlobal>(rt: &R) -> Result<Refs, Trouble> {
     }
 }
 
-// Whether each ref is at its new id.
+// Whether each ref has its new id.
 fn has_all(refs: &Refs, updates: &[Update]) -> bool {
     updates.iter().all(|update| is_at(refs, update))
 }
@@ -176,7 +177,7 @@ fn is_at(refs: &Refs, update: &Update) -> bool {
         && pair.1 == update.new)
 }
 
-// Whether the refs are the same.
+// Whether the refs are equal.
 fn is_same(before: &Refs, after: &Refs) -> bool {
     before.len() == after.len()
         && before.as_slice().iter().zip(after.as_slice()).all(|(one, other)| one.0.as_bytes()
@@ -184,7 +185,7 @@ fn is_same(before: &Refs, after: &Refs) -> bool {
             && one.1 == other.1)
 }
 
-// Whether the lock of a ref that was to move is there, though no file of the store is one.
+// Whether a lock of a ref to be moved exists and is not a file of the store.
 fn has_lock<R: Files + AllocGlobal>(rt: &R, updates: &[Update]) -> Result<bool, Trouble> {
     for update in updates {
         if let Ok(name) = str::from_utf8(update.name.as_slice()) {
@@ -197,8 +198,8 @@ fn has_lock<R: Files + AllocGlobal>(rt: &R, updates: &[Update]) -> Result<bool, 
     Ok(false)
 }
 
-/// The answer to a clone that gets the refs: `ok`, or the fault. Nothing of it may be left then. No
-/// allocation of it is refused.
+/// Returns the answer to a clone that receives the refs: `ok`, or the fault. After a fault nothing
+/// may be left. No allocation is refused.
 pub(crate) fn of_cloning<R: Files + AllocGlobal>(rt: &R, row: &Row<'_>) -> Result<String, Trouble> {
     make_folder(rt, &[])?;
     let outcome = clone_refs(rt, row.updates.as_slice());
@@ -238,7 +239,7 @@ fn branch(alloc: Global) -> Result<Option<Target<Global>>, Refused<Global>> {
     }
 }
 
-// Brings the refs to a new repository.
+// Writes the refs to a new repository.
 fn keep<R: Files>(
     alloc: Global,
     new: NewRepository<'_, R, Global>,
@@ -251,7 +252,7 @@ fn keep<R: Files>(
     }
 }
 
-// Makes the folder, with the files of a store. A path with a slash at its end is that of a folder.
+// Creates the folder with the files of a store. A path that ends with a slash names a folder.
 fn make_folder<R: Files + AllocGlobal>(rt: &R, files: &[File]) -> Result<(), Trouble> {
     let _ = fs::remove_dir_all(rt, FOLDER);
     if fs::create_dir(rt, FOLDER).is_err() {

@@ -1,18 +1,18 @@
-//! Texts and objects that lines name.
+//! Named texts and objects.
 
 use crate::trouble::Trouble;
 use gitobject::{ObjectType, id_of};
 use gname::Oid;
 use std::alloc::Global;
 
-/// Bytes that have a name: a text, or a delta.
+/// Named bytes: a text, or a delta.
 #[derive(Drop)]
 struct Text<'a> {
     name: &'a str,
     bytes: Vec<u8>,
 }
 
-/// An object that has a name.
+/// A named object.
 #[derive(Drop)]
 pub(crate) struct Object<'a> {
     pub(crate) name: &'a str,
@@ -21,7 +21,7 @@ pub(crate) struct Object<'a> {
     pub(crate) id: Oid,
 }
 
-/// All texts and objects. Of two with one name the first counts.
+/// All texts and objects. The first one with a name takes precedence.
 #[derive(Drop)]
 pub(crate) struct Names<'a> {
     texts: Vec<Text<'a>>,
@@ -29,7 +29,7 @@ pub(crate) struct Names<'a> {
 }
 
 impl<'a> Names<'a> {
-    /// No text and no object.
+    /// Returns an empty collection of names.
     pub(crate) fn new(alloc: Global) -> Names<'a> {
         Names {
             texts: Vec::new(alloc),
@@ -43,7 +43,7 @@ impl<'a> Names<'a> {
         Ok(())
     }
 
-    /// Adds bytes to the text that was added last.
+    /// Appends bytes to the last added text.
     pub(crate) fn add_to_text(&mut self, bytes: &[u8]) -> Result<(), Trouble> {
         match self.texts.last_mut() {
             Some(text) => Ok(text.bytes.extend_from_slice(bytes)?),
@@ -68,7 +68,7 @@ impl<'a> Names<'a> {
         Ok(())
     }
 
-    /// The bytes of the text with this name.
+    /// Returns the bytes of the text with this name.
     pub(crate) fn text(&self, name: &str) -> Result<&[u8], Trouble> {
         for text in &self.texts {
             if text.name == name {
@@ -78,7 +78,7 @@ impl<'a> Names<'a> {
         Err(Trouble::NoName)
     }
 
-    /// The object with this name.
+    /// Returns the object with this name.
     pub(crate) fn object(&self, name: &str) -> Result<&Object<'a>, Trouble> {
         for object in &self.objects {
             if object.name == name {

@@ -1,4 +1,4 @@
-//! Packs as lines describe them, right or wrong (gitformat-pack(5)).
+//! Packs described by lines, correct or wrong (gitformat-pack(5)).
 
 use crate::deltas::low_bits;
 use crate::names::Object;
@@ -8,21 +8,21 @@ use gzlib::{Deflater, crc32_of, put_stored};
 use sha1::Sha1;
 use std::alloc::Global;
 
-/// The bytes of the header and of the trailer.
+/// The length of the header and of the trailer.
 pub(crate) const HEADER: usize = 12;
 
 pub(crate) const TRAILER: usize = 20;
 
-// The numbers of the types of deltas.
+// The type numbers of deltas.
 const OFFSET_DELTA: u8 = 6;
 
 const REF_DELTA: u8 = 7;
 
-/// A pack: its entries, and a header or a trailer that is not the right one.
+/// A pack: its entries, and a header or trailer that may be wrong.
 #[derive(Drop)]
 pub(crate) struct Pack<'a> {
     pub(crate) name: &'a str,
-    // The entries, and where each begins.
+    // The entries, and the offset of each.
     body: Vec<u8>,
     starts: Vec<usize>,
     magic: Option<Vec<u8>>,
@@ -31,7 +31,7 @@ pub(crate) struct Pack<'a> {
 }
 
 impl<'a> Pack<'a> {
-    /// A pack without entries.
+    /// Returns a pack without entries.
     pub(crate) fn new(alloc: Global, name: &'a str) -> Pack<'a> {
         Pack {
             name,
@@ -43,27 +43,27 @@ impl<'a> Pack<'a> {
         }
     }
 
-    /// Puts other bytes in the place of those before the count.
+    /// Replaces the bytes before the count.
     pub(crate) fn set_magic(&mut self, bytes: Vec<u8>) {
         self.magic = Some(bytes);
     }
 
-    /// Puts another count into the header.
+    /// Replaces the count in the header.
     pub(crate) fn set_count(&mut self, count: usize) {
         self.count = Some(count);
     }
 
-    /// Puts other bytes in the place of the trailer.
+    /// Replaces the trailer.
     pub(crate) fn set_trailer(&mut self, bytes: Vec<u8>) {
         self.trailer = Some(bytes);
     }
 
-    /// Adds bytes as they are.
+    /// Appends bytes unchanged.
     pub(crate) fn put_bytes(&mut self, bytes: &[u8]) -> Result<(), Trouble> {
         Ok(self.body.extend_from_slice(bytes)?)
     }
 
-    /// Begins an entry, by a type and a size.
+    /// Begins an entry with a type and a size.
     pub(crate) fn put_head(&mut self, kind: u8, size: usize) -> Result<(), Trouble> {
         self.starts.push(self.body.len().saturating_add(HEADER))?;
         let low = low_bits(size) & 0xf;
@@ -81,7 +81,7 @@ impl<'a> Pack<'a> {
         Ok(())
     }
 
-    /// Adds the zlib stream of some bytes.
+    /// Appends the zlib stream of these bytes.
     pub(crate) fn put_stream(
         &mut self,
         deflater: &mut Deflater<Global>,
@@ -90,7 +90,7 @@ impl<'a> Pack<'a> {
         Ok(deflater.deflate(bytes, &mut self.body)?)
     }
 
-    /// Adds an object.
+    /// Appends an object.
     pub(crate) fn put_whole(
         &mut self,
         deflater: &mut Deflater<Global>,
@@ -100,7 +100,8 @@ impl<'a> Pack<'a> {
         self.put_stream(deflater, object.body.as_slice())
     }
 
-    /// Adds a delta of the object whose entry begins so many bytes before, in stored blocks.
+    /// Appends a delta of the object whose entry begins this number of bytes before it, in stored
+    /// blocks.
     pub(crate) fn put_offset_delta(
         &mut self,
         distance: usize,
@@ -111,7 +112,7 @@ impl<'a> Pack<'a> {
         Ok(put_stored(&mut self.body, delta)?)
     }
 
-    /// How many bytes before the next entry that one begins that lies so many entries before it.
+    /// Returns the distance in bytes from the next entry to the one `back` entries before it.
     pub(crate) fn distance_of(&self, back: usize) -> Result<usize, Trouble> {
         let next = self.body.len().saturating_add(HEADER);
         let place = self.starts.len().wrapping_sub(back);
@@ -121,7 +122,8 @@ impl<'a> Pack<'a> {
         }
     }
 
-    // Adds a distance: seven bits a byte, the highest first, and one less for each byte more.
+    // Appends a distance: seven bits per byte, the highest first, and one less for each additional
+    // byte.
     fn put_distance(&mut self, distance: usize) -> Result<(), Trouble> {
         let first = self.body.len();
         self.body.push(low_bits(distance))?;
@@ -138,14 +140,14 @@ impl<'a> Pack<'a> {
         Ok(())
     }
 
-    /// Adds a delta of an object, which is named by its id, in stored blocks.
+    /// Appends a delta of an object, named by id, in stored blocks.
     pub(crate) fn put_ref_delta(&mut self, base: &Object<'_>, delta: &[u8]) -> Result<(), Trouble> {
         self.put_head(REF_DELTA, delta.len())?;
         self.put_bytes(base.id.as_bytes())?;
         Ok(put_stored(&mut self.body, delta)?)
     }
 
-    /// All bytes of the pack.
+    /// Returns all bytes of the pack.
     pub(crate) fn bytes(&self, alloc: Global) -> Result<Vec<u8>, Trouble> {
         let mut bytes = Vec::new(alloc);
         match &self.magic {
@@ -166,7 +168,8 @@ impl<'a> Pack<'a> {
         Ok(bytes)
     }
 
-    /// Where the entry with this number begins, the first being 1, and the CRC-32 of its bytes.
+    /// Returns the offset of the entry with this number, counted from 1, and the CRC-32 of its
+    /// bytes.
     pub(crate) fn entry(&self, number: usize) -> Result<(usize, u32), Trouble> {
         let Some(place) = number.checked_sub(1) else {
             return Err(Trouble::NoNumber);
@@ -183,7 +186,7 @@ impl<'a> Pack<'a> {
     }
 }
 
-/// The number of a type in a pack, by its name or by its digit.
+/// Returns the number of a type in a pack, from its name or its digit.
 pub(crate) fn number_of_kind(word: &str) -> Result<u8, Trouble> {
     if let Some(kind) = ObjectType::from_name(word.as_bytes()) {
         return Ok(kind.pack_number());
@@ -194,7 +197,7 @@ pub(crate) fn number_of_kind(word: &str) -> Result<u8, Trouble> {
     }
 }
 
-/// Writes the right trailer over the last bytes of a pack.
+/// Overwrites the last bytes of a pack with the right trailer.
 pub(crate) fn mend_trailer(pack: &mut Vec<u8>) -> Result<(), Trouble> {
     let end = pack.len().saturating_sub(TRAILER);
     pack.truncate(end);

@@ -1,28 +1,28 @@
-//! Rows: what is tried, and what has to come.
+//! Rows: a subject, and its expected answer.
 
 use crate::trouble::Trouble;
 use gitpack::IndexLimits;
 use gname::Oid;
 use std::alloc::Global;
 
-/// What is tried.
+/// The subject of a try.
 #[derive(Clone, Copy, PartialEq, Eq, Drop)]
 pub(crate) enum Subject {
     /// The pack is indexed.
     Index,
-    /// The pack comes to the store.
+    /// The store receives the pack.
     Arrival,
     /// The store is opened.
     Opening,
-    /// An object is read whole, and its id is computed.
+    /// An object is read, and its id is computed.
     Checked,
-    /// An object is read as its entry lies in a pack.
+    /// The unchanged entry of an object is read from a pack.
     Raw,
     /// The refs of the store are read.
     Refs,
     /// Refs of the store are moved.
     Moving,
-    /// A clone gets the refs.
+    /// A clone receives the refs.
     Cloning,
     /// A text is read as a URL.
     Url,
@@ -30,7 +30,7 @@ pub(crate) enum Subject {
     Served,
 }
 
-/// A ref that is to move: its name, its ids before and after.
+/// A ref to be moved: its name, and its old and new ids.
 #[derive(Drop)]
 pub(crate) struct Update {
     pub(crate) name: Vec<u8>,
@@ -38,7 +38,7 @@ pub(crate) struct Update {
     pub(crate) new: Oid,
 }
 
-/// What is tried, of an object if it has an id, of a text, and the answer that has to come.
+/// The subject of a try, with the id of an object or a text, and the expected answer.
 #[derive(Drop)]
 pub(crate) struct Aim {
     pub(crate) subject: Subject,
@@ -56,27 +56,27 @@ pub(crate) struct Row<'a> {
     /// The names of the pack and of the store.
     pub(crate) pack: &'a str,
     pub(crate) store: &'a str,
-    /// The name of the store that it becomes.
+    /// The name of the store that replaces it.
     pub(crate) then: &'a str,
     pub(crate) limits: IndexLimits,
-    /// Objects that the index has.
+    /// The objects in the index.
     pub(crate) has: Vec<Oid>,
-    /// The ids at which refs of the peer are.
+    /// The ids of the peer's refs.
     pub(crate) tips: Vec<Oid>,
-    /// The refs that are to move.
+    /// The refs to be moved.
     pub(crate) updates: Vec<Update>,
-    /// The text that is read next.
+    /// The text to be read next.
     pub(crate) asked: Vec<u8>,
     pub(crate) aims: Vec<Aim>,
-    /// More answers that may come where an allocation is refused, a bit or the store is changed.
+    /// Other allowed answers if an allocation is refused, or a bit or the store is changed.
     pub(crate) others: Vec<Vec<u8>>,
-    /// Whether it is tried without an allocation refused.
+    /// Whether it is tried without refused allocations.
     pub(crate) is_large: bool,
-    /// Whether its bytes are cut and changed.
+    /// Whether its bytes are truncated and changed.
     pub(crate) is_swept: bool,
 }
 
-// How much a pack may ask for, unless a row says otherwise.
+// The default limits of a pack.
 const LIMITS: IndexLimits = IndexLimits {
     objects: 1_048_576,
     object: 268_435_456,
@@ -85,7 +85,7 @@ const LIMITS: IndexLimits = IndexLimits {
 };
 
 impl<'a> Row<'a> {
-    /// A row that says nothing yet.
+    /// Returns an empty row.
     pub(crate) fn new(alloc: Global, source: &'a str, line: usize, title: &'a str) -> Row<'a> {
         Row {
             source,
@@ -106,7 +106,7 @@ impl<'a> Row<'a> {
         }
     }
 
-    /// Adds what is tried.
+    /// Adds a subject.
     pub(crate) fn add_aim(
         &mut self,
         subject: Subject,

@@ -1,11 +1,11 @@
-//! Reading of files of cases. FORMAT.md has the meaning of each line.
+//! Reading case files. FORMAT.md describes each line.
 
 use crate::deltas::{copy_of, insertions_of, put_size};
 use crate::indexes::Lines;
 use crate::names::Names;
 use crate::packs::{Pack, number_of_kind};
 use crate::row::{Row, Subject, Update};
-use crate::spell::{first_of, number_of, spelled};
+use crate::spell::{first_of, number_of, spell_line};
 use crate::stores::{File, Store, loose_text};
 use crate::trouble::Trouble;
 use gitobject::ObjectType;
@@ -13,7 +13,7 @@ use gitpack::IndexLimits;
 use gzlib::Deflater;
 use std::alloc::Global;
 
-/// What files say.
+/// The content of case files.
 #[derive(Drop)]
 pub(crate) struct Script<'a> {
     alloc: Global,
@@ -23,15 +23,15 @@ pub(crate) struct Script<'a> {
     lines: Vec<Lines<'a>>,
     stores: Vec<Store<'a>>,
     pub(crate) rows: Vec<Row<'a>>,
-    // How often the next line counts.
+    // The number of times that the next line is repeated.
     times: usize,
-    /// The file and its line that were read last.
+    /// The current file and line.
     pub(crate) source: &'a str,
     pub(crate) line: usize,
 }
 
 impl<'a> Script<'a> {
-    /// A script that has read nothing yet.
+    /// Returns an empty script.
     pub(crate) fn new(alloc: Global) -> Result<Script<'a>, Trouble> {
         Ok(Script {
             alloc,
@@ -47,7 +47,7 @@ impl<'a> Script<'a> {
         })
     }
 
-    /// Reads the file of this name.
+    /// Reads the file with this name.
     pub(crate) fn read(&mut self, source: &'a str, text: &'a str) -> Result<(), Trouble> {
         self.source = source;
         self.line = 0;
@@ -58,7 +58,7 @@ impl<'a> Script<'a> {
         Ok(())
     }
 
-    /// The bytes of the pack with this name; none if the name is empty.
+    /// Returns the bytes of the pack with this name; none if the name is empty.
     pub(crate) fn pack_bytes(&self, name: &str) -> Result<Vec<u8>, Trouble> {
         if name.is_empty() {
             return Ok(Vec::new(self.alloc));
@@ -66,7 +66,7 @@ impl<'a> Script<'a> {
         self.pack(name)?.bytes(self.alloc)
     }
 
-    /// The files of the store with this name; none if the name is empty.
+    /// Returns the files of the store with this name; none if the name is empty.
     pub(crate) fn files(&self, name: &str) -> Result<&[File], Trouble> {
         for store in &self.stores {
             if store.name == name {
@@ -88,7 +88,7 @@ impl<'a> Script<'a> {
         Err(Trouble::NoName)
     }
 
-    // Takes a line, as often as it counts.
+    // Processes a line, with repetitions.
     fn take_line(&mut self, line: &'a str) -> Result<(), Trouble> {
         if line.is_empty() || line.starts_with('#') {
             return Ok(());
@@ -123,26 +123,26 @@ impl<'a> Script<'a> {
         }
     }
 
-    fn spelled(&self, line: &str) -> Result<Vec<u8>, Trouble> {
-        spelled(self.alloc, &self.names, line)
+    fn spell_line(&self, line: &str) -> Result<Vec<u8>, Trouble> {
+        spell_line(self.alloc, &self.names, line)
     }
 
     fn add_text(&mut self, rest: &'a str) -> Result<(), Trouble> {
         let (name, line) = first_of(rest);
-        let bytes = self.spelled(line)?;
+        let bytes = self.spell_line(line)?;
         self.names.add_text(name, bytes)
     }
 
     fn add_object(&mut self, word: &str, rest: &'a str) -> Result<(), Trouble> {
         let (name, line) = first_of(rest);
-        let body = self.spelled(line)?;
+        let body = self.spell_line(line)?;
         match ObjectType::from_name(word.as_bytes()) {
             Some(kind) => self.names.add_object(name, kind, body),
             None => Err(Trouble::UnknownLine),
         }
     }
 
-    // Begins a delta: its name, the size of its base, and that of what it makes.
+    // Begins a delta: its name, the size of its base, and the size of its result.
     fn begin_delta(&mut self, rest: &'a str) -> Result<(), Trouble> {
         let (name, sizes) = first_of(rest);
         let (base, made) = first_of(sizes);
@@ -158,8 +158,8 @@ impl<'a> Script<'a> {
                 let (offset, size) = first_of(rest);
                 copy_of(self.alloc, number_of(offset)?, number_of(size)?)?
             }
-            "insert" => insertions_of(self.alloc, self.spelled(rest)?.as_slice())?,
-            _ => self.spelled(rest)?,
+            "insert" => insertions_of(self.alloc, self.spell_line(rest)?.as_slice())?,
+            _ => self.spell_line(rest)?,
         };
         self.names.add_to_text(bytes.as_slice())
     }
@@ -173,7 +173,7 @@ impl<'a> Script<'a> {
             "whole" => pack.put_whole(&mut self.deflater, self.names.object(first)?),
             "entry" => {
                 let (size, line) = first_of(more);
-                let body = spelled(self.alloc, &self.names, line)?;
+                let body = spell_line(self.alloc, &self.names, line)?;
                 pack.put_head(number_of_kind(first)?, number_of(size)?)?;
                 pack.put_stream(&mut self.deflater, body.as_slice())
             }
@@ -195,7 +195,7 @@ impl<'a> Script<'a> {
     }
 
     fn set_in_pack(&mut self, word: &str, rest: &str) -> Result<(), Trouble> {
-        let bytes = self.spelled(rest)?;
+        let bytes = self.spell_line(rest)?;
         let Some(pack) = self.packs.last_mut() else {
             return Err(Trouble::NotBegun);
         };
@@ -215,7 +215,8 @@ impl<'a> Script<'a> {
         Ok(())
     }
 
-    // Adds a line to an index: an object, the number of an entry, and another offset if there is one.
+    // Adds an entry to an index: an object, the number of its pack entry, and an optional different
+    // offset.
     fn add_to_lines(&mut self, word: &str, rest: &str) -> Result<(), Trouble> {
         let Some(last) = self.lines.last() else {
             return Err(Trouble::NotBegun);
@@ -267,7 +268,7 @@ impl<'a> Script<'a> {
 
     fn add_file(&mut self, rest: &str) -> Result<(), Trouble> {
         let (path, line) = first_of(rest);
-        let bytes = self.spelled(line)?;
+        let bytes = self.spell_line(line)?;
         let path = String::from_str(self.alloc, path)?;
         match self.stores.last_mut() {
             Some(store) => store.add(path, bytes),
@@ -275,14 +276,14 @@ impl<'a> Script<'a> {
         }
     }
 
-    // Adds a loose object, or a file under its name with another text.
+    // Adds a loose object, or a file with its name and another text.
     fn add_loose(&mut self, rest: &str) -> Result<(), Trouble> {
         let (name, line) = first_of(rest);
         let object = self.names.object(name)?;
         let text = if line.is_empty() {
             loose_text(self.alloc, object)?
         } else {
-            spelled(self.alloc, &self.names, line)?
+            spell_line(self.alloc, &self.names, line)?
         };
         match self.stores.last_mut() {
             Some(store) => {
@@ -292,7 +293,7 @@ impl<'a> Script<'a> {
         }
     }
 
-    // Adds a pack and its index, which has these lines.
+    // Adds a pack and its index with these entries.
     fn add_packed(&mut self, rest: &str) -> Result<(), Trouble> {
         let (name, lines) = first_of(rest);
         let pack = self.pack_bytes(name)?;
@@ -303,7 +304,7 @@ impl<'a> Script<'a> {
         }
     }
 
-    // The text of the index that has these lines.
+    // Returns the text of the index with these entries.
     fn index_bytes(&self, name: &str) -> Result<Vec<u8>, Trouble> {
         for lines in &self.lines {
             if lines.name == name {
@@ -327,7 +328,7 @@ impl<'a> Script<'a> {
             "update" => return self.add_update(rest),
             _ => {}
         }
-        let due = self.spelled(rest)?;
+        let due = self.spell_line(rest)?;
         let Some(row) = self.rows.last_mut() else {
             return Err(Trouble::NotBegun);
         };
@@ -354,7 +355,7 @@ impl<'a> Script<'a> {
     fn add_read(&mut self, word: &str, rest: &str) -> Result<(), Trouble> {
         let (name, line) = first_of(rest);
         let id = self.names.object(name)?.id;
-        let due = self.spelled(line)?;
+        let due = self.spell_line(line)?;
         let subject = if word == "read" {
             Subject::Checked
         } else {
@@ -366,7 +367,7 @@ impl<'a> Script<'a> {
         }
     }
 
-    // Adds a ref that is to move: its old id, if it has one, its new one, and its name.
+    // Adds a ref to be moved: its old id, if it has one, its new id, and its name.
     fn add_update(&mut self, rest: &str) -> Result<(), Trouble> {
         let (old, more) = first_of(rest);
         let (new, line) = first_of(more);
@@ -376,7 +377,7 @@ impl<'a> Script<'a> {
             Some(self.names.object(old)?.id)
         };
         let new = self.names.object(new)?.id;
-        let name = self.spelled(line)?;
+        let name = self.spell_line(line)?;
         match self.rows.last_mut() {
             Some(row) => Ok(row.updates.push(Update { name, old, new })?),
             None => Err(Trouble::NotBegun),
@@ -395,7 +396,8 @@ impl<'a> Script<'a> {
         Ok(())
     }
 
-    // The most objects, and the most bytes of an object, of those that are held, and of all.
+    // Sets the limits: the maximum number of objects, and the maximum size of an object, of the
+    // held bytes, and of all objects.
     fn set_limits(&mut self, rest: &str) -> Result<(), Trouble> {
         let (objects, more) = first_of(rest);
         let (object, more) = first_of(more);
@@ -416,7 +418,7 @@ impl<'a> Script<'a> {
     }
 }
 
-// The offset of an entry, another one, or one so many bytes after it.
+// Returns the offset of an entry, another offset, or an offset relative to the entry.
 fn offset_of(start: usize, offset: &str) -> Result<u64, Trouble> {
     if offset.is_empty() {
         return Ok(start as u64);
@@ -427,7 +429,7 @@ fn offset_of(start: usize, offset: &str) -> Result<u64, Trouble> {
     }
 }
 
-// Whether a line with this word says something of a row.
+// Whether a line with this word belongs to a row.
 fn is_of_row(word: &str) -> bool {
     matches!(
         word,

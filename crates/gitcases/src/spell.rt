@@ -1,15 +1,15 @@
-//! The bytes that a line spells.
+//! Decoding the bytes of a line.
 //!
 //! `\n` is a line feed, `\0` the byte 0, `\x1f` the byte 31, and a backslash before any other
-//! character that character. `{NAME}` is a text, or the forty digits of an object's id, and
+//! character is that character. `{NAME}` is a text, or the forty digits of an object's id, and
 //! `{@NAME}` the twenty bytes of that id. `{BYTES*3}` is `BYTES` three times.
 
 use crate::names::Names;
 use crate::trouble::Trouble;
 use std::alloc::Global;
 
-/// The bytes that a line spells.
-pub(crate) fn spelled(alloc: Global, names: &Names<'_>, line: &str) -> Result<Vec<u8>, Trouble> {
+/// Returns the bytes that a line spells.
+pub(crate) fn spell_line(alloc: Global, names: &Names<'_>, line: &str) -> Result<Vec<u8>, Trouble> {
     let mut bytes = Vec::new(alloc);
     let mut rest = line;
     for _ in 0..line.len() {
@@ -21,7 +21,7 @@ pub(crate) fn spelled(alloc: Global, names: &Names<'_>, line: &str) -> Result<Ve
     Ok(bytes)
 }
 
-// Adds the bytes up to the next brace, and those of the brace. It answers the text after it.
+// Appends the bytes up to the next brace, and those in the braces. Returns the text after them.
 fn add_next<'a>(
     alloc: Global,
     names: &Names<'_>,
@@ -44,7 +44,7 @@ fn add_next<'a>(
     Ok(rest.get(length..).unwrap_or(""))
 }
 
-// The bytes before the first brace that has no backslash, and those after it; `None` if there is no
+// Returns the bytes before the first unescaped brace, and those after it, or `None` if there is no
 // such brace.
 fn before_brace(text: &[u8]) -> (&[u8], Option<&[u8]>) {
     let mut is_escaped = false;
@@ -58,13 +58,13 @@ fn before_brace(text: &[u8]) -> (&[u8], Option<&[u8]>) {
     (text, None)
 }
 
-/// Adds bytes that are spelled without braces.
+/// Appends bytes written without braces.
 pub(crate) fn add_escaped(text: &[u8], bytes: &mut Vec<u8>) -> Result<(), Trouble> {
     let mut rest = text;
     for _ in 0..text.len() {
         let (byte, others) = match rest {
             [b'\\', b'x', high, low, others @ ..] => (byte_of(*high, *low), others),
-            [b'\\', letter, others @ ..] => (escaped(*letter), others),
+            [b'\\', letter, others @ ..] => (escape(*letter), others),
             [plain, others @ ..] => (*plain, others),
             [] => break,
         };
@@ -74,7 +74,7 @@ pub(crate) fn add_escaped(text: &[u8], bytes: &mut Vec<u8>) -> Result<(), Troubl
     Ok(())
 }
 
-fn escaped(letter: u8) -> u8 {
+fn escape(letter: u8) -> u8 {
     match letter {
         b'n' => b'\n',
         b'r' => b'\r',
@@ -95,7 +95,7 @@ fn digit(letter: u8) -> u8 {
     }
 }
 
-// Adds what is in braces.
+// Appends the content of braces.
 fn add_braced(
     alloc: Global,
     names: &Names<'_>,
@@ -127,7 +127,7 @@ fn add_times(alloc: Global, part: &str, count: usize, bytes: &mut Vec<u8>) -> Re
     Ok(())
 }
 
-/// The number that decimal digits say.
+/// Returns the number with these decimal digits.
 pub(crate) fn number_of(digits: &str) -> Result<usize, Trouble> {
     match digits.parse::<usize>() {
         Ok(number) => Ok(number),
@@ -135,7 +135,7 @@ pub(crate) fn number_of(digits: &str) -> Result<usize, Trouble> {
     }
 }
 
-/// The first word of a line, and what follows the space after it.
+/// Returns the first word of a line, and the text after the following space.
 pub(crate) fn first_of(line: &str) -> (&str, &str) {
     match line.split_once(' ') {
         Some(parts) => parts,

@@ -1,4 +1,4 @@
-//! Git directories in memory, as lines describe them.
+//! Git directories in memory, described by lines.
 
 use crate::names::Object;
 use crate::trouble::Trouble;
@@ -7,7 +7,7 @@ use gname::Oid;
 use gzlib::Deflater;
 use std::alloc::{AllocError, Allocator, Global};
 
-/// The path of each Git directory, and of its objects.
+/// The paths of each Git directory, and of its objects.
 pub(crate) const GIT_DIR: &str = "/r";
 
 const OBJECTS: &str = "/r/objects";
@@ -24,12 +24,12 @@ pub(crate) struct File {
 pub(crate) struct Store<'a> {
     pub(crate) name: &'a str,
     pub(crate) files: Vec<File>,
-    // The folder to which objects are added.
+    // The folder that receives objects.
     folder: &'a str,
 }
 
 impl<'a> Store<'a> {
-    /// A directory without objects.
+    /// Returns a directory without objects.
     pub(crate) fn new(alloc: Global, name: &'a str) -> Result<Store<'a>, Trouble> {
         let mut store = Store {
             name,
@@ -47,7 +47,7 @@ impl<'a> Store<'a> {
         Ok(())
     }
 
-    /// Adds objects to this folder from now on.
+    /// Sets the folder that receives further objects.
     pub(crate) fn set_folder(&mut self, folder: &'a str) {
         self.folder = folder;
     }
@@ -67,7 +67,7 @@ impl<'a> Store<'a> {
         self.add(path, index)
     }
 
-    /// Adds the file of a loose object, which inflates to the text.
+    /// Adds a loose object file, which inflates to the text.
     pub(crate) fn add_loose(
         &mut self,
         alloc: Global,
@@ -92,7 +92,7 @@ impl<'a> Store<'a> {
     }
 }
 
-/// The text of a loose object.
+/// Returns the text of a loose object.
 pub(crate) fn loose_text(alloc: Global, object: &Object<'_>) -> Result<Vec<u8>, Trouble> {
     let kind = object.kind.name();
     let length = object.body.len();
@@ -103,7 +103,7 @@ pub(crate) fn loose_text(alloc: Global, object: &Object<'_>) -> Result<Vec<u8>, 
     Ok(text)
 }
 
-/// The files, in memory.
+/// Returns the files, in memory.
 pub(crate) fn in_memory<A: Allocator + Copy>(
     alloc: A,
     files: &[File],
@@ -115,7 +115,7 @@ pub(crate) fn in_memory<A: Allocator + Copy>(
     Ok(memory)
 }
 
-/// Copies of the files.
+/// Returns copies of the files.
 pub(crate) fn copies(alloc: Global, files: &[File]) -> Result<Vec<File>, Trouble> {
     let mut copies = Vec::new(alloc);
     for file in files {

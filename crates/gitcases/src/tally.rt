@@ -1,15 +1,15 @@
-//! How much was tried, and how much was wrong.
+//! The number of tries, and of wrong answers.
 
 use std::io;
 
-/// The ways in which a row is tried.
+/// The ways to try a row.
 #[derive(Clone, Copy, PartialEq, Eq)]
-pub(crate) enum Way {
-    /// As it is.
+pub(crate) enum Treatment {
+    /// Unchanged.
     Plain,
-    /// Cut after each byte, or with each bit changed, so that it is no pack.
+    /// Truncated after each byte, or with each bit changed, so that it is not a pack.
     Broken,
-    /// With each bit changed, under a right trailer.
+    /// With each bit changed, and a correct trailer.
     Changed,
     /// While the files change.
     Turned,
@@ -17,20 +17,20 @@ pub(crate) enum Way {
     Scarce,
 }
 
-impl Way {
-    /// The words for it.
+impl Treatment {
+    /// Returns the name of the treatment.
     pub(crate) fn name(self) -> &'static str {
         match self {
-            Way::Plain => "as it is",
-            Way::Broken => "cut, or with a bit changed under the old trailer",
-            Way::Changed => "with a bit changed",
-            Way::Turned => "while the files change",
-            Way::Scarce => "with an allocation refused",
+            Treatment::Plain => "as it is",
+            Treatment::Broken => "cut, or with a bit changed under the old trailer",
+            Treatment::Changed => "with a bit changed",
+            Treatment::Turned => "while the files change",
+            Treatment::Scarce => "with an allocation refused",
         }
     }
 }
 
-/// How much was tried, and how much was wrong.
+/// The number of tries, and of wrong answers.
 #[derive(Clone, Copy, Drop)]
 pub(crate) struct Tally {
     rows: u64,
@@ -39,7 +39,7 @@ pub(crate) struct Tally {
 }
 
 impl Tally {
-    /// Nothing was tried yet.
+    /// Returns a tally without tries.
     pub(crate) fn new() -> Tally {
         Tally {
             rows: 0,
@@ -54,7 +54,7 @@ impl Tally {
     }
 
     /// Counts a try, and whether its answer is right.
-    pub(crate) fn count(&mut self, way: Way, is_right: bool) {
+    pub(crate) fn count(&mut self, way: Treatment, is_right: bool) {
         if let Some(tries) = self.tries.get_mut(way as usize) {
             *tries = tries.saturating_add(1);
         }
@@ -68,11 +68,11 @@ impl Tally {
         let rows = self.rows;
         println!(rt; "{rows} rows")?;
         for way in [
-            Way::Plain,
-            Way::Broken,
-            Way::Changed,
-            Way::Turned,
-            Way::Scarce,
+            Treatment::Plain,
+            Treatment::Broken,
+            Treatment::Changed,
+            Treatment::Turned,
+            Treatment::Scarce,
         ] {
             let tries = self.tries.get(way as usize).copied().unwrap_or(0);
             let name = way.name();

@@ -1,22 +1,22 @@
-//! Rows, tried in each way.
+//! Trying rows in each way.
 
 use crate::answers::{MEMORY, OK, Trial, answer_of};
 use crate::packs::mend_trailer;
 use crate::row::{Row, Subject};
 use crate::script::Script;
 use crate::stores::{File, copies};
-use crate::tally::{Tally, Way};
+use crate::tally::{Tally, Treatment};
 use crate::trouble::Trouble;
-use scarce::Scarce;
+use case_text::Scarce;
 use std::rt::Files;
 
 // The bits of a byte.
 const BITS: [u8; 8] = [1, 2, 4, 8, 16, 32, 64, 128];
 
-// The most allocations that are refused in turn.
+// The maximum number of allocations to refuse in turn.
 const MAX_REFUSED: u64 = 100_000;
 
-// The most calls after which files become others.
+// The maximum number of calls before files are replaced.
 const MAX_CALLS: u64 = 60;
 
 /// Tries a row.
@@ -44,13 +44,13 @@ pub(crate) fn try_row<R: Files + Print + AllocGlobal>(
     Ok(())
 }
 
-// Tries it in all ways.
+// Tries a subject in all ways.
 fn try_all<R: Files + Print + AllocGlobal>(
     rt: &R,
     trial: Trial<'_, '_>,
     tally: &mut Tally,
 ) -> Result<(), Trouble> {
-    try_one(rt, trial, (Way::Plain, 0), tally)?;
+    try_one(rt, trial, (Treatment::Plain, 0), tally)?;
     if trial.row.is_large {
         return Ok(());
     }
@@ -65,22 +65,22 @@ fn try_all<R: Files + Print + AllocGlobal>(
     }
 }
 
-// Tries it once.
+// Tries a subject once.
 fn try_one<R: Files + Print + AllocGlobal>(
     rt: &R,
     trial: Trial<'_, '_>,
-    (way, place): (Way, usize),
+    (way, place): (Treatment, usize),
     tally: &mut Tally,
 ) -> Result<(), Trouble> {
     let answer = answer_of(rt, rt.alloc(), trial)?;
     judge(rt, trial, (way, place), answer.as_str(), tally)
 }
 
-// Counts an answer, and tells of one that is wrong.
+// Counts an answer, and reports a wrong one.
 fn judge<R: Print>(
     rt: &R,
     trial: Trial<'_, '_>,
-    (way, place): (Way, usize),
+    (way, place): (Treatment, usize),
     answer: &str,
     tally: &mut Tally,
 ) -> Result<(), Trouble> {
@@ -94,18 +94,18 @@ fn judge<R: Print>(
     Ok(())
 }
 
-// Whether an answer may come in a way.
-fn is_right(trial: Trial<'_, '_>, way: Way, answer: &str) -> bool {
+// Whether an answer is allowed in this way.
+fn is_right(trial: Trial<'_, '_>, way: Treatment, answer: &str) -> bool {
     match way {
-        Way::Plain => answer.as_bytes() == trial.aim.due.as_slice(),
-        Way::Broken => !answer.starts_with(OK),
-        Way::Changed => !answer.starts_with(OK) || may_come(trial, answer),
-        Way::Turned => may_come(trial, answer),
-        Way::Scarce => answer == MEMORY || may_come(trial, answer),
+        Treatment::Plain => answer.as_bytes() == trial.aim.due.as_slice(),
+        Treatment::Broken => !answer.starts_with(OK),
+        Treatment::Changed => !answer.starts_with(OK) || may_come(trial, answer),
+        Treatment::Turned => may_come(trial, answer),
+        Treatment::Scarce => answer == MEMORY || may_come(trial, answer),
     }
 }
 
-// Whether an answer is the one that has to come, or one of the others.
+// Whether an answer is the expected one, or one of the other allowed ones.
 fn may_come(trial: Trial<'_, '_>, answer: &str) -> bool {
     for due in &trial.row.others {
         if due.as_slice() == answer.as_bytes() {
@@ -115,7 +115,7 @@ fn may_come(trial: Trial<'_, '_>, answer: &str) -> bool {
     answer.as_bytes() == trial.aim.due.as_slice()
 }
 
-// Tries it with each allocation refused in turn.
+// Tries a subject with each allocation refused in turn.
 fn try_scarce<R: Files + Print + AllocGlobal>(
     rt: &R,
     trial: Trial<'_, '_>,
@@ -128,12 +128,12 @@ fn try_scarce<R: Files + Print + AllocGlobal>(
         if memory.is_due() {
             break;
         }
-        judge(rt, trial, (Way::Scarce, 0), answer.as_str(), tally)?;
+        judge(rt, trial, (Treatment::Scarce, 0), answer.as_str(), tally)?;
     }
     Ok(())
 }
 
-// Tries it while its files become others, after so many calls in turn.
+// Tries a subject while its files are replaced, after each number of calls in turn.
 fn try_turns<R: Files + Print + AllocGlobal>(
     rt: &R,
     trial: Trial<'_, '_>,
@@ -142,12 +142,12 @@ fn try_turns<R: Files + Print + AllocGlobal>(
     let mut trial = trial;
     for calls in 0..MAX_CALLS {
         trial.calls = calls;
-        try_one(rt, trial, (Way::Turned, 0), tally)?;
+        try_one(rt, trial, (Treatment::Turned, 0), tally)?;
     }
     Ok(())
 }
 
-// Tries a pack cut after each byte, and with each bit changed.
+// Tries a pack truncated after each byte, and with each bit changed.
 fn sweep_pack<R: Files + Print + AllocGlobal>(
     rt: &R,
     trial: Trial<'_, '_>,
@@ -160,7 +160,7 @@ fn sweep_pack<R: Files + Print + AllocGlobal>(
     Ok(())
 }
 
-// Tries a pack that is cut, with the trailer that is there then, and with the right one.
+// Tries a truncated pack, with its last bytes as the trailer, and with the right trailer.
 fn try_cut<R: Files + Print + AllocGlobal>(
     rt: &R,
     trial: Trial<'_, '_>,
@@ -169,12 +169,12 @@ fn try_cut<R: Files + Print + AllocGlobal>(
 ) -> Result<(), Trouble> {
     let front = trial.pack.get(..place).unwrap_or(b"");
     let mut cut = front.to_vec(rt.alloc())?;
-    try_pack(rt, trial, cut.as_slice(), (Way::Broken, place), tally)?;
+    try_pack(rt, trial, cut.as_slice(), (Treatment::Broken, place), tally)?;
     mend_trailer(&mut cut)?;
-    try_pack(rt, trial, cut.as_slice(), (Way::Broken, place), tally)
+    try_pack(rt, trial, cut.as_slice(), (Treatment::Broken, place), tally)
 }
 
-// Tries a pack with each bit of a byte changed, with its own trailer, and with the right one.
+// Tries a pack with each bit of a byte changed, with its own trailer, and with the right trailer.
 fn try_bits<R: Files + Print + AllocGlobal>(
     rt: &R,
     trial: Trial<'_, '_>,
@@ -184,9 +184,21 @@ fn try_bits<R: Files + Print + AllocGlobal>(
     for bit in BITS {
         let mut changed = trial.pack.to_vec(rt.alloc())?;
         change(&mut changed, place, bit);
-        try_pack(rt, trial, changed.as_slice(), (Way::Broken, place), tally)?;
+        try_pack(
+            rt,
+            trial,
+            changed.as_slice(),
+            (Treatment::Broken, place),
+            tally,
+        )?;
         mend_trailer(&mut changed)?;
-        try_pack(rt, trial, changed.as_slice(), (Way::Changed, place), tally)?;
+        try_pack(
+            rt,
+            trial,
+            changed.as_slice(),
+            (Treatment::Changed, place),
+            tally,
+        )?;
     }
     Ok(())
 }
@@ -195,7 +207,7 @@ fn try_pack<R: Files + Print + AllocGlobal>(
     rt: &R,
     trial: Trial<'_, '_>,
     pack: &[u8],
-    at: (Way, usize),
+    at: (Treatment, usize),
     tally: &mut Tally,
 ) -> Result<(), Trouble> {
     let changed = Trial {
@@ -215,7 +227,7 @@ fn change(bytes: &mut Vec<u8>, place: usize, bit: u8) {
     }
 }
 
-// Tries the store with each file changed in each bit.
+// Tries the store with each bit of each file changed.
 fn sweep_files<R: Files + Print + AllocGlobal>(
     rt: &R,
     trial: Trial<'_, '_>,
@@ -229,7 +241,8 @@ fn sweep_files<R: Files + Print + AllocGlobal>(
     Ok(())
 }
 
-// Tries the store with each bit of a byte of a file changed. The answer is the same, or a fault.
+// Tries the store with each bit of a byte of a file changed. The answer must be the same, or a
+// fault.
 fn try_file_bits<R: Files + Print + AllocGlobal>(
     rt: &R,
     trial: Trial<'_, '_>,
@@ -260,7 +273,7 @@ fn try_files<R: Files + Print + AllocGlobal>(
         after: trial.after,
         calls: trial.calls,
     };
-    try_one(rt, changed, (Way::Changed, place), tally)
+    try_one(rt, changed, (Treatment::Changed, place), tally)
 }
 
 fn change_file(files: &mut Vec<File>, number: usize, place: usize, bit: u8) {

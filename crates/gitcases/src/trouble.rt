@@ -1,33 +1,33 @@
-//! Why the cases can't be tried.
+//! Why the cases cannot be tried.
 
 use std::alloc::{AllocError, AllocFailed};
 use std::io;
 
-/// Why the cases can't be tried.
+/// Why the cases cannot be tried.
 #[derive(Clone, Copy, Drop)]
 pub(crate) enum Trouble {
-    /// There is no memory for the program itself.
+    /// The program itself is out of memory.
     Memory,
     /// A brace is not closed.
     OpenBrace,
     /// Nothing has this name.
     NoName,
-    /// A word is no number.
+    /// A word is not a number.
     NoNumber,
-    /// A line does not go on with what is begun.
+    /// A line does not continue the current item.
     NotBegun,
-    /// No line begins so.
+    /// The line is unknown.
     UnknownLine,
     /// A text is not UTF-8.
     NoText,
-    /// A folder or a file can't be made.
+    /// A folder or a file cannot be created.
     NoFiles,
-    /// Nothing can be printed.
+    /// Standard output failed.
     NoOutput,
 }
 
 impl Trouble {
-    /// The sentence that is printed.
+    /// Returns the sentence to print.
     pub(crate) fn text(self) -> &'static str {
         match self {
             Trouble::Memory => "out of memory",

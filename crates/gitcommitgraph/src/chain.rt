@@ -8,14 +8,14 @@ use gname::Oid;
 use gname::laws::texts_have_one_reading;
 use std::alloc::{AllocError, Allocator};
 
-// The digits of an id.
+// The number of digits of an id.
 const DIGITS: usize = 40;
 
-// The bytes of a line: an id and LF.
+// The length of a line: an id and LF.
 const LINE: usize = 41;
 
-/// The checksums of the files of a chain, the lowest file first, in the text of the file
-/// `commit-graph-chain`; `None` of any other text. It fails only out of memory.
+/// Parses the text of the file `commit-graph-chain` into the checksums of the files of the chain,
+/// lowest file first. Returns `None` for any other text. Fails only if out of memory.
 pub fn parse_chain<A: Allocator + Copy>(
     alloc: A,
     text: &[u8],
@@ -38,7 +38,7 @@ pub fn parse_chain<A: Allocator + Copy>(
     }
 }
 
-// The id in a line.
+// Returns the id on a line.
 fn read_line(line: &[u8; LINE]) -> Option<Oid>
     ensures { MatchOption result ((id : Id) → ¬ IsLine id line.now) (λ id. IsLine id line.now) }
 {

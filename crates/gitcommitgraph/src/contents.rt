@@ -5,34 +5,33 @@ ghost use Rattle.std.specs.Prelude.{◌≡◌, ◌<◌, ◌++◌, ◌↔◌, Lis
 ghost use Rattle.gitcommitgraph.specs.Texts.{header};
 ghost use Rattle.gitcommitgraph.specs.steps.Rows.{AreDistinct, AreRows, IsRising, IsSpan, IsTable, LacksName, row_name, row_offset};
 
-// The bytes of the header.
+// The length of the header.
 const HEADER_BYTES: usize = 8;
 
-// The signature, version 1, and the number of SHA-1.
+// The signature, version 1, and the number for SHA-1.
 const SIGNATURE: &[u8; 6] = b"CGPH\x01\x01";
 
-/// The bytes of a row of the table of contents: the name of a chunk, and the offset at which it
-/// begins.
+/// The length of a row of the table of contents: the name and the offset of a chunk.
 pub(crate) const ENTRY_BYTES: usize = 12;
 
 // The name in the last row.
 const NO_NAME: &[u8; 4] = b"\0\0\0\0";
 
-/// A header: the number of chunks, and of base graphs.
+/// A header: the number of chunks and of base graphs.
 #[derive(Clone, Copy, Drop)]
 pub(crate) struct Header {
     pub(crate) chunks: u8,
     pub(crate) bases: u8,
 }
 
-/// The place of a chunk: its bytes are from `start` to `end`.
+/// The position of a chunk: its bytes are from `start` to `end`.
 #[derive(Clone, Copy, Drop)]
 pub(crate) struct Span {
     pub(crate) start: usize,
     pub(crate) end: usize,
 }
 
-/// The header with which some bytes begin.
+/// Returns the header at the start of the bytes.
 pub(crate) fn read_header(bytes: &[u8]) -> Option<Header>
     ensures { MatchOption result
         ((chunks bases : ℕ) (rest : List ℕ) → ¬ (bytes.now ≡ header chunks bases ++ rest))
@@ -46,8 +45,8 @@ pub(crate) fn read_header(bytes: &[u8]) -> Option<Header>
     })
 }
 
-/// The rows of the table of contents of so many chunks, in a file without its trailer. It is `None`
-/// if the chunks do not lie one after the other up to the end, or if two have the same name.
+/// Returns the rows of the table of contents of `chunks` chunks, in a file without its trailer.
+/// Returns `None` if the chunks are not contiguous up to the end, or if two have the same name.
 pub(crate) fn read_rows(chunks: u8, body: &[u8]) -> Option<&[[u8; ENTRY_BYTES]]>
     ensures { MatchOption result ((rows : List (List ℕ)) → ¬ IsTable chunks body.now rows)
         (λ rows. IsTable chunks body.now rows.now) }
@@ -62,7 +61,7 @@ pub(crate) fn read_rows(chunks: u8, body: &[u8]) -> Option<&[[u8; ENTRY_BYTES]]>
     }
 }
 
-// Whether rows are those of chunks between these offsets.
+// Whether the rows are those of chunks between these offsets.
 fn are_rows(rows: &[[u8; ENTRY_BYTES]], start: u64, end: u64) -> bool
     ensures { IsTrue result ↔ AreRows start end rows.now }
 {
@@ -81,7 +80,7 @@ fn are_rows(rows: &[[u8; ENTRY_BYTES]], start: u64, end: u64) -> bool
     is_rising(rows) && are_distinct(rows)
 }
 
-// Whether no row has a lower offset than the one before.
+// Whether no row has a lower offset than the previous row.
 fn is_rising(rows: &[[u8; ENTRY_BYTES]]) -> bool
     ensures { IsTrue result ↔ IsRising rows.now }
 {
@@ -100,7 +99,7 @@ fn are_distinct(rows: &[[u8; ENTRY_BYTES]]) -> bool
     true
 }
 
-// The place of the first row with this name.
+// Returns the index of the first row with this name.
 fn place_of(rows: &[[u8; ENTRY_BYTES]], name: &[u8; 4]) -> Option<usize>
     ensures { MatchOption result
         ((k : ℕ) (d : List ℕ) → k < length rows.now → ¬ (row_name (slice_index_or rows.now k d) ≡ name.now))
@@ -116,14 +115,14 @@ fn place_of(rows: &[[u8; ENTRY_BYTES]], name: &[u8; 4]) -> Option<usize>
     None
 }
 
-// The name in a row.
+// Returns the name in a row.
 fn name_of(row: &[u8; ENTRY_BYTES]) -> &[u8; 4]
     ensures { result.now ≡ row_name row.now }
 {
     row.first_chunk::<4>().unwrap()
 }
 
-// The offset in a row.
+// Returns the offset in a row.
 #[tactic(auto, unfolding(crate::specs::steps::Rows::row_offset))]
 fn offset_of(row: &[u8; ENTRY_BYTES]) -> u64
     ensures { result ≡ row_offset row.now }
@@ -131,7 +130,7 @@ fn offset_of(row: &[u8; ENTRY_BYTES]) -> u64
     u64::from_be_bytes(*row.last_chunk::<8>().unwrap())
 }
 
-/// The place of the chunk with this name; `None` if there is none.
+/// Returns the position of the chunk with this name, or `None` if there is none.
 pub(crate) fn span_of(rows: &[[u8; ENTRY_BYTES]], name: &[u8; 4]) -> Option<Span>
     ensures { MatchOption result (LacksName rows.now name.now) (IsSpan rows.now name.now) }
 {

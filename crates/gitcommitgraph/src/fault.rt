@@ -9,34 +9,34 @@ use std::alloc::{AllocError, AllocFailed};
 use std::error::Error;
 use std::fmt;
 
-/// Why a file is not added to a commit-graph.
+/// Why a file cannot be added to a commit-graph.
 #[derive(Clone, Copy, Debug, PartialEq, Eq, Drop)]
 pub enum CommitGraphFault {
     /// Out of memory.
     Memory,
-    /// The file does not begin as a commit-graph of version 1 with SHA-1 ids, or is cut.
+    /// The file does not begin like a commit-graph of version 1 with SHA-1 ids, or is truncated.
     Header,
-    /// The table of contents is wrong: the chunks do not lie one after the other between it and the
-    /// trailer, or two have the same name.
+    /// The table of contents is wrong: the chunks do not fill the file between it and the trailer,
+    /// or two have the same name.
     Contents,
     /// A chunk is missing or has a wrong length.
     Chunk,
     /// The ids do not ascend.
     Order,
-    /// The fan-out table is not that of the ids.
+    /// The fan-out table does not match the ids.
     FanOut,
-    /// An edge list has no end.
+    /// An edge list is not terminated.
     Edges,
-    /// The base graphs are not the files that were added before.
+    /// The base graphs are not the files that were added earlier.
     Bases,
     /// There are more commits than positions.
     TooMany,
-    /// A parent has a position at which there is no commit.
+    /// The position of a parent is not that of a commit.
     Parents,
 }
 
 impl CommitGraphFault {
-    // The text of the fault.
+    // Returns the text of the fault.
     fn text(&self) -> &'static str
         ensures { result.now ≡ commit_graph_fault_text self.now }
     {

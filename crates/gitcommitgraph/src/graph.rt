@@ -1,4 +1,4 @@
-//! Commit-graphs of one file or several.
+//! Commit-graphs of one or more files.
 
 ghost use Rattle.std.specs.Prelude.{◌≡◌, ◌==◌, ◌<◌, ◌≤◌, [], All, IfErr, IfOk, IfSome, MatchOption, OnErr, OnOk, length};
 ghost use Rattle.std.specs.List.{HoldsAt};
@@ -17,7 +17,7 @@ use gname::Oid;
 use std::alloc::{AllocError, Allocator};
 use std::marker::Model;
 
-/// A commit-graph: a file, or the files of a chain.
+/// A commit-graph: a single file, or the files of a chain.
 #[derive(Drop)]
 pub struct CommitGraph<A: Allocator + Copy> {
     alloc: A,
@@ -38,7 +38,7 @@ impl<A: Allocator + Copy> Model for CommitGraph<A> {
 }
 
 impl<A: Allocator + Copy> CommitGraph<A> {
-    /// A commit-graph of no file. It takes no memory.
+    /// Returns a commit-graph without files. It allocates no memory.
     pub fn new(alloc: A) -> CommitGraph<A>
         ensures { result ≡ [] }
     {
@@ -49,13 +49,13 @@ impl<A: Allocator + Copy> CommitGraph<A> {
         }
     }
 
-    /// Adds the next file of a chain, of which the lowest comes first, or a file alone. The bytes are
-    /// kept as they are. Their checksum is not tested.
+    /// Adds a single file, or the next file of a chain, lowest first. The bytes are kept unchanged.
+    /// Their checksum is not checked.
     ///
-    /// It fails with `Bases` if the base graphs are not the files before, and with `TooMany` if there
-    /// are more commits than positions. It fails with `Parents` if the file names a position of no
-    /// commit. It fails out of memory, and with any other fault if the bytes are no file. The
-    /// commit-graph is then as it was.
+    /// Fails with `Bases` if the base graphs are not the files added earlier, and with `TooMany` if
+    /// there are more commits than positions. Fails with `Parents` if the file names a position
+    /// without a commit. Fails with `Memory`, and with any other fault if the bytes are not a
+    /// commit-graph file. The commit-graph is then unchanged.
     pub fn add(&mut self, bytes: Vec<u8, A>) -> Result<(), CommitGraphFault>
         ensures ok { OnOk result (AddsFile self.old bytes.items self.new) }
         ensures err { IfErr result (IsRefused self.old bytes.items) }
@@ -77,7 +77,8 @@ impl<A: Allocator + Copy> CommitGraph<A> {
         Ok(())
     }
 
-    /// A law: each parent of a commit is one of the commits, of which there are at most 0x7000_0000.
+    /// A law: each parent of a commit is one of the commits, and there are at most 0x7000_0000
+    /// commits.
     pub fn laws(&self)
         ensures closed { AreClosed (graph_commits self.now) }
         ensures few { length (graph_commits self.now) ≤ no_parent }
@@ -85,21 +86,21 @@ impl<A: Allocator + Copy> CommitGraph<A> {
         let _count = self.count;
     }
 
-    /// The number of commits.
+    /// Returns the number of commits.
     pub fn len(&self) -> usize
         ensures { result ≡ length (graph_commits self.now) }
     {
         self.count
     }
 
-    /// Whether there is no commit.
+    /// Whether there are no commits.
     pub fn is_empty(&self) -> bool
         ensures { result ≡ (length (graph_commits self.now) == 0) }
     {
         self.count == 0
     }
 
-    /// The position of a commit with this id; `None` if there is none.
+    /// Returns the position of a commit with this id, or `None` if there is none.
     pub fn find(&self, id: &Oid) -> Option<Position>
         ensures { FindsCommit (graph_commits self.now) id.now result }
     {
@@ -113,7 +114,7 @@ impl<A: Allocator + Copy> CommitGraph<A> {
         }
     }
 
-    /// The id of the commit at this position.
+    /// Returns the id of the commit at this position.
     pub fn id(&self, position: Position) -> Oid
         requires { position < length (graph_commits self.now) }
         ensures id { HoldsAt (λ commit. commit.id ≡ result) (graph_commits self.now) position }
@@ -123,8 +124,8 @@ impl<A: Allocator + Copy> CommitGraph<A> {
         layer.id(place)
     }
 
-    /// The positions of the parents of the commit at this position, in order; `None` if there are
-    /// more than so many. It fails only out of memory.
+    /// Returns the positions of the parents of the commit at this position, in order, or `None` if
+    /// there are more than `most`. Fails only if out of memory.
     pub fn parents_of(
         &self,
         position: Position,
@@ -141,7 +142,7 @@ impl<A: Allocator + Copy> CommitGraph<A> {
     }
 }
 
-// The position of a commit with this id.
+// Returns the position of a commit with this id.
 fn find_commit<A: Allocator + Copy>(layers: &[Layer<A>], id: &[u8; ID_BYTES]) -> Option<usize>
     requires { length (graph_commits layers.now) ≤ no_parent }
     ensures { FindsCommit (graph_commits layers.now) id.now result }
@@ -156,7 +157,7 @@ fn find_commit<A: Allocator + Copy>(layers: &[Layer<A>], id: &[u8; ID_BYTES]) ->
     None
 }
 
-// The file in which the commit at this position is, and its place there.
+// Returns the file of the commit at this position, and its place there.
 fn layer_at<A: Allocator + Copy>(layers: &[Layer<A>], position: usize) -> (&Layer<A>, usize)
     requires { position < length (graph_commits layers.now) }
     ensures { IsIn layers.now position result.0.now result.1 }
@@ -164,7 +165,7 @@ fn layer_at<A: Allocator + Copy>(layers: &[Layer<A>], position: usize) -> (&Laye
     find_layer(layers, position).unwrap()
 }
 
-// The file in which the commit at this position is, and its place there; `None` past the end.
+// Returns the file of the commit at this position, and its place there; `None` past the end.
 fn find_layer<A: Allocator + Copy>(
     layers: &[Layer<A>],
     position: usize,

@@ -4,11 +4,11 @@ ghost use Rattle.std.specs.Prelude.{◌≡◌};
 
 use std::marker::Model;
 
-/// The most commits. The next number says that there is no parent.
+/// The maximum number of commits. This value as a parent position means no parent.
 pub(crate) const MAX_COMMITS: usize = 0x7000_0000;
 
 /// The position of a commit in a commit-graph: how many commits are before it. The positions of a
-/// chain go on from one file to the next.
+/// chain continue from one file to the next.
 #[derive(Clone, Copy, Debug, PartialEq, Eq, Drop)]
 pub struct Position {
     number: u32,
@@ -25,14 +25,14 @@ impl Model for Position {
 }
 
 impl Position {
-    /// The position with this number.
+    /// Returns the position with this number.
     pub(crate) fn new(number: u32) -> Position
         ensures { result ≡ number }
     {
         Position { number }
     }
 
-    /// The number of commits before it.
+    /// Returns the number of commits before this position.
     pub fn index(self) -> usize
         ensures { result ≡ self }
     {

@@ -9,21 +9,21 @@ ghost use Rattle.gitcommitgraph.specs.steps.Tables.{AreBetween, IsFanOut, IsPlac
 use crate::position::Position;
 use std::alloc::{AllocError, Allocator};
 
-/// The bytes of an id.
+/// The length of an id.
 pub(crate) const ID_BYTES: usize = 20;
 
-/// The bytes of a row of the commit data.
+/// The length of a row of the commit data.
 pub(crate) const ROW_BYTES: usize = 36;
 
-// The places in a row of the numbers for its two parents.
+// The offsets of the two parent numbers in a row.
 const FIRST_PARENT: usize = 20;
 
 const SECOND_PARENT: usize = 24;
 
-// The number where there is no parent.
+// The number that means no parent.
 const NO_PARENT: u32 = 0x7000_0000;
 
-// The bit of the last edge of a list, and of a second parent that names the place of a list.
+// The bit of the last edge of a list, and of a second parent that refers to an edge list.
 const MARK: u32 = 0x8000_0000;
 
 /// The tables of a file: the fan-out table, the ids, a row of commit data for each, and the edges.
@@ -36,7 +36,7 @@ pub(crate) struct Tables<'a> {
 }
 
 impl Tables<'_> {
-    /// The place of an id; `None` if it is not there.
+    /// Returns the place of an id, or `None` if it is not found.
     pub(crate) fn find(&self, id: &[u8; ID_BYTES]) -> Option<usize>
         requires ascending { IsAscending self.now.ids.now }
         requires fan_out { IsFanOut self.now.fan_out.now self.now.ids.now }
@@ -49,7 +49,7 @@ impl Tables<'_> {
         }
     }
 
-    // The places between which the ids begin with this byte.
+    // Returns the start and end of the ids that begin with this byte.
     fn places_of(&self, byte: u8) -> (usize, usize)
         requires ascending { IsAscending self.now.ids.now }
         requires fan_out { IsFanOut self.now.fan_out.now self.now.ids.now }
@@ -62,7 +62,7 @@ impl Tables<'_> {
         (self.ids_within(byte - 1), end)
     }
 
-    // How many ids begin with this byte or a lower one.
+    // Returns how many ids begin with this byte or a lower byte.
     fn ids_within(&self, byte: u8) -> usize
         requires { IsFanOut self.now.fan_out.now self.now.ids.now }
         ensures { result ≡ count_by (begins_within byte) self.now.ids.now }
@@ -70,8 +70,8 @@ impl Tables<'_> {
         number(&self.fan_out[usize::from(byte)]) as usize
     }
 
-    /// The positions of the parents of the commit at this place, in order; `None` if there are more
-    /// than so many. It fails only out of memory.
+    /// Returns the positions of the parents of the commit at this place, in order, or `None` if
+    /// there are more than `most`. Fails only if out of memory.
     pub(crate) fn parents_of<A: Allocator + Copy>(
         &self,
         alloc: A,
@@ -106,7 +106,7 @@ impl Tables<'_> {
         self.ids.is_sorted_by(|one, other| one.cmp(other).is_lt())
     }
 
-    /// Whether the fan-out table is that of the ids, which ascend.
+    /// Whether the fan-out table matches the ids, which ascend.
     pub(crate) fn is_fan_out(&self) -> bool
         requires ascending { IsAscending self.now.ids.now }
         requires long { length self.now.fan_out.now ≡ 256 }
@@ -120,14 +120,14 @@ impl Tables<'_> {
         true
     }
 
-    /// Whether each edge list that a row names has an end.
+    /// Whether each edge list that a row names is terminated.
     pub(crate) fn lists_end(&self) -> bool
         ensures { IsTrue result ↔ HaveEnds self.now.edges.now self.now.rows.now }
     {
         last_is_marked(self.edges) && name_edges(self.rows, self.edges.len())
     }
 
-    /// Whether each position that rows and edges name is before this one.
+    /// Whether each position that rows and edges name is before `end`.
     pub(crate) fn are_before(&self, end: usize) -> bool
         ensures { IsTrue result ↔
             (All (IsRowBefore end) self.now.rows.now × All (IsEdgeBefore end) self.now.edges.now) }
@@ -136,7 +136,7 @@ impl Tables<'_> {
     }
 }
 
-// The place of an id among ids that ascend.
+// Returns the place of an id among ascending ids.
 fn search(ids: &[[u8; ID_BYTES]], id: &[u8; ID_BYTES]) -> Option<usize>
     requires { IsAscending ids.now }
     ensures { IsPlaceOf ids.now id.now result }
@@ -147,7 +147,7 @@ fn search(ids: &[[u8; ID_BYTES]], id: &[u8; ID_BYTES]) -> Option<usize>
     }
 }
 
-// How many of the ids, which ascend, begin with this byte or a lower one.
+// Returns how many of the ascending ids begin with this byte or a lower byte.
 fn ids_within(ids: &[[u8; ID_BYTES]], byte: usize) -> usize
     requires { IsAscending ids.now }
     ensures { result ≡ count_by (begins_within byte) ids.now }
@@ -155,7 +155,8 @@ fn ids_within(ids: &[[u8; ID_BYTES]], byte: usize) -> usize
     ids.partition_point(|id| usize::from(id[0]) <= byte)
 }
 
-// The list and the parents that the edges list after it; `None` if there are more than so many.
+// Returns the list with the parents from the edges appended, or `None` if there are more than
+// `most`.
 fn follow<A: Allocator + Copy>(
     edges: &[[u8; 4]],
     mut list: Vec<Position, A>,
@@ -177,7 +178,7 @@ fn follow<A: Allocator + Copy>(
     Ok(within(list, most))
 }
 
-// The list, unless it is longer than this.
+// Returns the list, or `None` if it has more than `most` items.
 fn within<A: Allocator + Copy>(list: Vec<Position, A>, most: usize) -> Option<Vec<Position, A>>
     ensures { ListsParents most list.items result }
 {
@@ -195,14 +196,14 @@ fn last_is_marked(edges: &[[u8; 4]]) -> bool
     }
 }
 
-// Whether each place of an edge that a row names is one of so many.
+// Whether each edge place that a row names is below `count`.
 fn name_edges(rows: &[[u8; ROW_BYTES]], count: usize) -> bool
     ensures { IsTrue result ↔ All (NamesEdge count) rows.now }
 {
     rows.iter().all(|row| names_edge(row, count))
 }
 
-// Whether the place of an edge that a row names is one of so many.
+// Whether the edge place that a row names is below `count`.
 fn names_edge(row: &[u8; ROW_BYTES], count: usize) -> bool
     ensures { IsTrue result ↔ NamesEdge count row.now }
 {
@@ -210,14 +211,14 @@ fn names_edge(row: &[u8; ROW_BYTES], count: usize) -> bool
     second < MARK || ((second - MARK) as usize) < count
 }
 
-// Whether the parents that rows name themselves are before this position.
+// Whether the parents that rows name directly are before `end`.
 fn rows_are_before(rows: &[[u8; ROW_BYTES]], end: usize) -> bool
     ensures { IsTrue result ↔ All (IsRowBefore end) rows.now }
 {
     rows.iter().all(|row| is_row_before(row, end))
 }
 
-// Whether the parents that a row names itself are before this position.
+// Whether the parents that a row names directly are before `end`.
 fn is_row_before(row: &[u8; ROW_BYTES], end: usize) -> bool
     ensures { IsTrue result ↔ IsRowBefore end row.now }
 {
@@ -225,21 +226,21 @@ fn is_row_before(row: &[u8; ROW_BYTES], end: usize) -> bool
     is_before(first, end) && (second >= MARK || is_before(second, end))
 }
 
-// Whether a parent is before this position, or there is none.
+// Whether a parent is before `end`, or there is none.
 fn is_before(parent: u32, end: usize) -> bool
     ensures { IsTrue result ↔ IsBefore end parent }
 {
     parent == NO_PARENT || (parent as usize) < end
 }
 
-// Whether the parents that edges name are before this position.
+// Whether the parents that edges name are before `end`.
 fn edges_are_before(edges: &[[u8; 4]], end: usize) -> bool
     ensures { IsTrue result ↔ All (IsEdgeBefore end) edges.now }
 {
     edges.iter().all(|edge| is_edge_before(edge, end))
 }
 
-// Whether the parent that an edge names is before this position.
+// Whether the parent that an edge names is before `end`.
 fn is_edge_before(edge: &[u8; 4], end: usize) -> bool
     ensures { IsTrue result ↔ IsEdgeBefore end edge.now }
 {
@@ -248,7 +249,7 @@ fn is_edge_before(edge: &[u8; 4], end: usize) -> bool
     (parent as usize) < end
 }
 
-// The two numbers of a row that name parents.
+// Returns the two parent numbers of a row.
 fn parents(row: &[u8; ROW_BYTES]) -> (u32, u32)
     ensures first { result.0 ≡ first_parent row.now }
     ensures second { result.1 ≡ second_parent row.now }
@@ -259,7 +260,7 @@ fn parents(row: &[u8; ROW_BYTES]) -> (u32, u32)
     )
 }
 
-// The number with these bytes, the highest first.
+// Returns the big-endian number with these bytes.
 #[tactic(auto, unfolding(crate::specs::Files::number))]
 fn number(bytes: &[u8; 4]) -> u32
     ensures { result ≡ number bytes.now }

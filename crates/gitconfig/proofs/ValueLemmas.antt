@@ -2,7 +2,7 @@
 use Rattle.std.proofs.Common.{◌≡◌, ◌⊎◌, inl, inr, ℕ, ◌+◌, ◌<◌, ◌≤◌, Bool, true, false, List, [], ◌∷◌, ◌++◌, All, length, map, take, refl, ap, sym, subst, ◌∙◌, append_assoc, append-nil, arith, length-append}
 use Rattle.std.proofs.lemmas.List.{length-map, map-append}
 use Rattle.std.proofs.lemmas.List.Elements.{All-nil, All-push}
-use Rattle.gitconfig.specs.Values.{BeginsWithPiece, HasPieces, IsTrimmed, is_marked, is_quoted_after, marked}
+use Rattle.gitconfig.specs.Values.{BeginsWithPiece, HasPieces, IsTrimmed, is_marked, is_quoted_after, mark_pieces}
 use Rattle.gitconfig.specs.Bytes.{EndsValue}
 use Rattle.gitconfig.specs.declared.pieces.Piece.{Piece}
 use Rattle.gitconfig.specs.declared.pieces.Piece.TheVariants.{Byte, Blank, Quote, Joint}
@@ -23,7 +23,7 @@ last_once (x ∷ xs) [] a b is = let rest : [] ≡ xs ++ a ∷ [] = cc in absurd
 last_once (x ∷ xs) (y ∷ ys) a b is = let rest : xs ++ a ∷ [] ≡ ys ++ b ∷ [] = cc in last_once xs ys a b rest
 
 -- the bytes of one piece more
-pub marked_append : (pieces more : List Piece) → marked (pieces ++ more) ≡ marked pieces ++ marked more
+pub marked_append : (pieces more : List Piece) → mark_pieces (pieces ++ more) ≡ mark_pieces pieces ++ mark_pieces more
 marked_append [] more = refl
 marked_append (Byte b ∷ pieces) more = ap (λ l. (b, false) ∷ l) (marked_append pieces more)
 marked_append (Blank b ∷ pieces) more = ap (λ l. (b, true) ∷ l) (marked_append pieces more)
@@ -153,12 +153,12 @@ push_none marks old new bytes count has = record {
 }
 
 -- a piece is added
-pub pushed : {A : Type 0} (pieces : List Piece) (piece : Piece) (old new : ValueText A) → Pushes piece old new → IsValueSoFar (marked pieces) old → IsValueSoFar (marked (pieces ++ piece ∷ [])) new
-pushed pieces (Byte b) old new adds has = reshaped (marked (pieces ++ Byte b ∷ [])) (marked pieces ++ (b, false) ∷ []) new (marked_append pieces (Byte b ∷ [])) (push_byte (marked pieces) b old new adds.0 adds.1 has)
-pushed pieces (Blank b) old new (kept, inl none) has = reshaped (marked (pieces ++ Blank b ∷ [])) (marked pieces ++ (b, true) ∷ []) new (marked_append pieces (Blank b ∷ [])) (push_none (marked pieces ++ (b, true) ∷ []) old new (none.1 ∙ sym none.0) kept (push_first_blank (marked pieces) b old none.0 has))
-pushed pieces (Blank b) old new (kept, inr some) has = reshaped (marked (pieces ++ Blank b ∷ [])) (marked pieces ++ (b, true) ∷ []) new (marked_append pieces (Blank b ∷ [])) (push_blank (marked pieces) b old new some.0 some.1 kept has)
-pushed pieces Quote old new same has = reshaped (marked (pieces ++ Quote ∷ [])) (marked pieces) new (marked_append pieces (Quote ∷ []) ∙ append-nil (marked pieces)) (push_none (marked pieces) old new same.1 same.0 has)
-pushed pieces Joint old new same has = reshaped (marked (pieces ++ Joint ∷ [])) (marked pieces) new (marked_append pieces (Joint ∷ []) ∙ append-nil (marked pieces)) (push_none (marked pieces) old new same.1 same.0 has)
+pub pushed : {A : Type 0} (pieces : List Piece) (piece : Piece) (old new : ValueText A) → Pushes piece old new → IsValueSoFar (mark_pieces pieces) old → IsValueSoFar (mark_pieces (pieces ++ piece ∷ [])) new
+pushed pieces (Byte b) old new adds has = reshaped (mark_pieces (pieces ++ Byte b ∷ [])) (mark_pieces pieces ++ (b, false) ∷ []) new (marked_append pieces (Byte b ∷ [])) (push_byte (mark_pieces pieces) b old new adds.0 adds.1 has)
+pushed pieces (Blank b) old new (kept, inl none) has = reshaped (mark_pieces (pieces ++ Blank b ∷ [])) (mark_pieces pieces ++ (b, true) ∷ []) new (marked_append pieces (Blank b ∷ [])) (push_none (mark_pieces pieces ++ (b, true) ∷ []) old new (none.1 ∙ sym none.0) kept (push_first_blank (mark_pieces pieces) b old none.0 has))
+pushed pieces (Blank b) old new (kept, inr some) has = reshaped (mark_pieces (pieces ++ Blank b ∷ [])) (mark_pieces pieces ++ (b, true) ∷ []) new (marked_append pieces (Blank b ∷ [])) (push_blank (mark_pieces pieces) b old new some.0 some.1 kept has)
+pushed pieces Quote old new same has = reshaped (mark_pieces (pieces ++ Quote ∷ [])) (mark_pieces pieces) new (marked_append pieces (Quote ∷ []) ∙ append-nil (mark_pieces pieces)) (push_none (mark_pieces pieces) old new same.1 same.0 has)
+pushed pieces Joint old new same has = reshaped (mark_pieces (pieces ++ Joint ∷ [])) (mark_pieces pieces) new (marked_append pieces (Joint ∷ []) ∙ append-nil (mark_pieces pieces)) (push_none (mark_pieces pieces) old new same.1 same.0 has)
 
 -- the bytes that are kept are the value
 took : (kept after : List (ℕ × Bool)) → take (length kept) (bytes_of (kept ++ after)) ≡ bytes_of kept

@@ -9,7 +9,7 @@ use Rattle.std.proofs.lemmas.List.Elements.{All-cons, All-head, All-nil, All-tai
 use Rattle.std.proofs.lemmas.Str.Ascii.{lowercase_is}
 use Rattle.gitconfig.specs.Bytes.{EndsValue, is_blank, is_name_byte, is_section_byte, is_space}
 use Rattle.gitconfig.specs.Configs.{Begins, BeginsWithHeader, BeginsWithLetter, BeginsWithVariable, HasItems, HasQuoted, IsConfig, Item, Nothing, Sets, bare_settings, settings_of}
-use Rattle.gitconfig.specs.Values.{BeginsWithPiece, BeginsWithValue, HasPieces, IsTrimmed, is_marked, is_special, marked}
+use Rattle.gitconfig.specs.Values.{BeginsWithPiece, BeginsWithValue, HasPieces, IsTrimmed, is_marked, is_special, mark_pieces}
 use Rattle.gitconfig.specs.declared.pieces.Piece.{Piece}
 use Rattle.gitconfig.specs.declared.pieces.Piece.TheVariants.{Byte, Blank, Quote}
 use Rattle.gitconfig.specs.steps.Writing.{AddsByte, AddsItems, AddsQuoted, AddsValue, HoldsItems, is_word}
@@ -178,7 +178,7 @@ trimmed value = record {
   is = plain_bytes value;
 }
 
-byte_marks : (value : List ℕ) → marked (map Byte value) ≡ plain_marks value
+byte_marks : (value : List ℕ) → mark_pieces (map Byte value) ≡ plain_marks value
 unfolding plain_marks
 byte_marks [] = refl
 byte_marks (b ∷ value) = ap (λ l. (b, false) ∷ l) (byte_marks value)
@@ -209,7 +209,7 @@ adds_in_quotes value old between new quoted is =
       λ rest ends.
           let pieces : List Piece = map Byte value ++ Quote ∷ [] in
           let has : HasPieces true (quoted.0 ++ 34 ∷ rest) pieces rest = quoted.2 (34 ∷ rest) (Quote ∷ []) rest (rest, refl, (refl, refl, ends)) in
-          let marks : marked pieces ≡ plain_marks value = marked_append (map Byte value) (Quote ∷ []) ∙ append-nil (marked (map Byte value)) ∙ byte_marks value in (
+          let marks : mark_pieces pieces ≡ plain_marks value = marked_append (map Byte value) (Quote ∷ []) ∙ append-nil (mark_pieces (map Byte value)) ∙ byte_marks value in (
             Blank 32 ∷ Quote ∷ pieces,
             (34 ∷ (quoted.0 ++ 34 ∷ [] ++ rest), (refl, refl, refl), (quoted.0 ++ 34 ∷ [] ++ rest, refl, subst (λ l. HasPieces true l pieces rest) (sym (append_assoc quoted.0 (34 ∷ []) rest)) has)),
             subst (λ m. IsTrimmed ((32, true) ∷ m) value) (sym marks) (trimmed value),

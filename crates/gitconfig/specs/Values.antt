@@ -6,8 +6,8 @@ use Rattle.gitconfig.specs.declared.pieces.Piece.{Piece}
 use Rattle.gitconfig.specs.declared.pieces.Piece.TheVariants.{Byte, Blank, Quote, Joint}
 
 -- the byte that a backslash and another byte are: `\n`, `\t`, `\b`, `\"` and `\\`
-abbrev pub escaped : ℕ → Option ℕ
-escaped c = if c == 110 then Some 10 else (if c == 116 then Some 9 else (if c == 98 then Some 8 else
+abbrev pub escape : ℕ → Option ℕ
+escape c = if c == 110 then Some 10 else (if c == 116 then Some 9 else (if c == 98 then Some 8 else
     (if c == 34 || c == 92 then Some c else None)))
 
 -- an LF, a quote and a backslash are not as they are; nor is, outside of quotes, a blank or what
@@ -19,7 +19,7 @@ is_special quoted b = b == 10 || b == 34 || b == 92 || (if quoted then false els
 -- or after a backslash; a blank outside of quotes; a quote; or a backslash at the end of a line.
 abbrev pub BeginsWithPiece : Bool → List ℕ → Piece → List ℕ → Type 0
 BeginsWithPiece quoted text (Byte b) rest = ((text ≡ b ∷ rest) × (is_special quoted b ≡ false))
-    ⊎ ((c : ℕ) × (text ≡ 92 ∷ c ∷ rest) × (escaped c ≡ Some b))
+    ⊎ ((c : ℕ) × (text ≡ 92 ∷ c ∷ rest) × (escape c ≡ Some b))
 BeginsWithPiece quoted text (Blank b) rest = (text ≡ b ∷ rest) × (quoted ≡ false) × (is_blank b ≡ true)
 BeginsWithPiece quoted text Quote rest = text ≡ 34 ∷ rest
 BeginsWithPiece quoted text Joint rest = text ≡ 92 ∷ 10 ∷ rest
@@ -37,12 +37,12 @@ HasPieces quoted text (piece ∷ pieces) rest =
     × HasPieces (is_quoted_after quoted piece) next pieces rest
 
 -- the bytes of pieces, each with whether it is a blank outside of quotes
-abbrev pub marked : List Piece → List (ℕ × Bool)
-marked [] = []
-marked (Byte b ∷ pieces) = (b, false) ∷ marked pieces
-marked (Blank b ∷ pieces) = (b, true) ∷ marked pieces
-marked (Quote ∷ pieces) = marked pieces
-marked (Joint ∷ pieces) = marked pieces
+abbrev pub mark_pieces : List Piece → List (ℕ × Bool)
+mark_pieces [] = []
+mark_pieces (Byte b ∷ pieces) = (b, false) ∷ mark_pieces pieces
+mark_pieces (Blank b ∷ pieces) = (b, true) ∷ mark_pieces pieces
+mark_pieces (Quote ∷ pieces) = mark_pieces pieces
+mark_pieces (Joint ∷ pieces) = mark_pieces pieces
 
 abbrev pub is_marked : ℕ × Bool → Type 0
 is_marked b = b.1 ≡ true
@@ -62,4 +62,4 @@ pub record IsTrimmed (bytes : List (ℕ × Bool)) (value : List ℕ) : Type 0 wh
 -- the text begins with a value, and the rest comes after it
 abbrev pub BeginsWithValue : List ℕ → List ℕ → List ℕ → Type 0
 BeginsWithValue text value rest =
-    (pieces : List Piece) × HasPieces false text pieces rest × IsTrimmed (marked pieces) value
+    (pieces : List Piece) × HasPieces false text pieces rest × IsTrimmed (mark_pieces pieces) value

@@ -1,4 +1,4 @@
-//! The bytes of a configuration, by what they mean.
+//! The bytes of a configuration, by their meaning.
 
 ghost use Rattle.std.specs.Prelude.{◌≡◌, ◌≢◌, ◌++◌, ◌∷◌, ◌↔◌, [], All, IfSome, IsTrue, true};
 ghost use Rattle.gitconfig.specs.Bytes.{EndsLine, EndsValue, is_blank, is_name_byte, is_section_byte, is_space};
@@ -17,7 +17,7 @@ pub(crate) fn is_space(byte: u8) -> bool
     is_blank(byte) || byte == b'\n'
 }
 
-// Whether the name of a variable can have this byte.
+// Whether a variable name can contain this byte.
 #[tactic(auto, unfolding(crate::specs::Bytes::is_name_byte))]
 fn is_name_byte(byte: u8) -> bool
     ensures { result ≡ is_name_byte byte }
@@ -25,7 +25,7 @@ fn is_name_byte(byte: u8) -> bool
     byte.is_ascii_alphanumeric() || byte == b'-'
 }
 
-// Whether the name of a section can have this byte.
+// Whether a section name can contain this byte.
 #[tactic(auto, unfolding(crate::specs::Bytes::is_section_byte))]
 fn is_section_byte(byte: u8) -> bool
     ensures { result ≡ is_section_byte byte }
@@ -33,14 +33,14 @@ fn is_section_byte(byte: u8) -> bool
     is_name_byte(byte) || byte == b'.'
 }
 
-/// Whether no byte is left.
+/// Whether no bytes are left.
 pub(crate) fn is_over(text: &[u8]) -> bool
     ensures { IsTrue result ↔ (text.now ≡ []) }
 {
     text.is_empty()
 }
 
-/// The rest of a text that begins with this byte; `None` of any other text.
+/// Returns the rest of a text that begins with this byte; `None` for any other text.
 pub(crate) fn strip(byte: u8, text: &[u8]) -> Option<&[u8]>
     ensures { IfSome result (λ rest. text.now ≡ byte ∷ rest.now) }
 {
@@ -50,7 +50,7 @@ pub(crate) fn strip(byte: u8, text: &[u8]) -> Option<&[u8]>
     }
 }
 
-/// The blanks at the front of a text, and the text after them.
+/// Returns the blanks at the front of a text, and the text after them.
 pub(crate) fn split_blanks(text: &[u8]) -> (&[u8], &[u8])
     ensures parts { text.now ≡ result.0.now ++ result.1.now }
     ensures each { All (λ b. is_blank b ≡ true) result.0.now }
@@ -61,7 +61,7 @@ pub(crate) fn split_blanks(text: &[u8]) -> (&[u8], &[u8])
     }
 }
 
-/// The bytes at the front of a text that the name of a variable can have, and the text after them.
+/// Returns the variable-name bytes at the front of a text, and the text after them.
 pub(crate) fn split_name(text: &[u8]) -> (&[u8], &[u8])
     ensures parts { text.now ≡ result.0.now ++ result.1.now }
     ensures each { All (λ b. is_name_byte b ≡ true) result.0.now }
@@ -72,7 +72,7 @@ pub(crate) fn split_name(text: &[u8]) -> (&[u8], &[u8])
     }
 }
 
-/// The bytes at the front of a text that the name of a section can have, and the text after them.
+/// Returns the section-name bytes at the front of a text, and the text after them.
 pub(crate) fn split_section(text: &[u8]) -> (&[u8], &[u8])
     ensures parts { text.now ≡ result.0.now ++ result.1.now }
     ensures each { All (λ b. is_section_byte b ≡ true) result.0.now }
@@ -83,7 +83,7 @@ pub(crate) fn split_section(text: &[u8]) -> (&[u8], &[u8])
     }
 }
 
-/// The first line of a text, and the text from its end on.
+/// Returns the first line of a text, and the text after it, starting with the LF.
 pub(crate) fn split_line(text: &[u8]) -> (&[u8], &[u8])
     ensures parts { text.now ≡ result.0.now ++ result.1.now }
     ensures each { All (λ b. b ≢ 10) result.0.now }
@@ -105,7 +105,7 @@ pub(crate) fn ends_line(text: &[u8]) -> bool
     }
 }
 
-/// Whether a value ends before this text: its line does, or a comment begins.
+/// Whether a value ends before this text: its line ends, or a comment begins.
 pub(crate) fn ends_value(text: &[u8]) -> bool
     ensures { IsTrue result ↔ EndsValue text.now }
 {

@@ -1,14 +1,14 @@
-//! Why a configuration is not read.
+//! Why a configuration cannot be read.
 
 ghost use Rattle.std.specs.Prelude.{◌≡◌};
 ghost use Rattle.gitconfig.specs.declared.fault.ConfigFault.TheVariants.{Memory};
 
 use std::alloc::{AllocError, AllocFailed};
 
-/// Why a configuration is not read.
+/// Why a configuration cannot be read.
 #[derive(Clone, Copy, Debug, PartialEq, Eq)]
 pub enum ConfigFault {
-    /// The text is no configuration.
+    /// The text is not a configuration.
     Malformed,
     /// Out of memory.
     Memory,

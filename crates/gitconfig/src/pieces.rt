@@ -10,15 +10,16 @@ use crate::bytes::is_blank;
 pub(crate) enum Piece {
     /// A byte of the value.
     Byte(u8),
-    /// A blank outside of quotes: a byte of the value unless it lies at an end.
+    /// A blank outside quotes: a byte of the value, unless it is at either end.
     Blank(u8),
     /// A quote.
     Quote,
-    /// A backslash at the end of a line: the value goes on in the next one.
+    /// A backslash at the end of a line: the value continues on the next line.
     Joint,
 }
 
-/// The first piece of the text of a value, and the text after it; `None` if there is none.
+/// Returns the first piece of the text of a value, and the text after it, or `None` if there is
+/// none.
 pub(crate) fn split_piece(text: &[u8], is_quoted: bool) -> Option<(Piece, &[u8])>
     ensures piece { IfSome result (λ parts.
         BeginsWithPiece is_quoted text.now parts.0 parts.1.now) }
@@ -36,7 +37,7 @@ pub(crate) fn split_piece(text: &[u8], is_quoted: bool) -> Option<(Piece, &[u8])
     }
 }
 
-// The piece that a backslash and the text after it are, and the text that follows.
+// Returns the piece made by a backslash and the text after it, and the text that follows.
 fn split_escape(text: &[u8]) -> Option<(Piece, &[u8])>
     ensures piece { IfSome result (λ parts. (is_quoted : Bool)
         → BeginsWithPiece is_quoted (92 ∷ text.now) parts.0 parts.1.now) }

@@ -16,7 +16,7 @@ use crate::pieces::{Piece, split_piece};
 use crate::setting::Setting;
 use std::alloc::{AllocError, Allocator};
 
-// A configuration that is read: what it set so far, and the section that began last.
+// A configuration being read: its variables so far, and the current section.
 #[derive(Drop)]
 struct Reading<A: Allocator + Copy> {
     alloc: A,
@@ -24,8 +24,8 @@ struct Reading<A: Allocator + Copy> {
     section: Vec<u8, A>,
 }
 
-/// The variables that a configuration sets, in order. It fails with `Malformed` if the text is no
-/// configuration, and with `Memory`.
+/// Returns the variables that a configuration sets, in order. Fails with `Malformed` if the text is
+/// not a configuration, and with `Memory`.
 pub fn parse_config<A: Allocator + Copy>(
     alloc: A,
     text: &[u8],
@@ -45,7 +45,7 @@ pub fn parse_config<A: Allocator + Copy>(
 }
 
 impl<A: Allocator + Copy> Reading<A> {
-    // Reads the first item of a text, and answers the text after it.
+    // Reads the first item of a text, and returns the text after it.
     fn read_item<'t>(&mut self, text: &'t [u8]) -> Result<&'t [u8], ConfigFault>
         ensures item { IfOk result (λ rest. (item : Item) × BeginsWithItem text.now item rest.now
             × HasRead self.old item self.new) }
@@ -65,7 +65,7 @@ impl<A: Allocator + Copy> Reading<A> {
         }
     }
 
-    // Reads the header of a section, and answers the text after it.
+    // Reads the header of a section, and returns the text after it.
     fn read_header<'t>(&mut self, text: &'t [u8]) -> Result<&'t [u8], ConfigFault>
         ensures item { IfOk result (λ rest. (section : List ℕ)
             × BeginsWithHeader text.now section rest.now
@@ -85,7 +85,7 @@ impl<A: Allocator + Copy> Reading<A> {
         Ok(rest)
     }
 
-    // Reads a variable, and answers the text after it.
+    // Reads a variable, and returns the text after it.
     fn read_setting<'t>(&mut self, text: &'t [u8]) -> Result<&'t [u8], ConfigFault>
         ensures item { IfOk result (λ rest. (name : List ℕ) × (value : Option (List ℕ))
             × BeginsWithVariable text.now name value rest.now
@@ -104,7 +104,7 @@ impl<A: Allocator + Copy> Reading<A> {
     }
 }
 
-// A variable of a section.
+// Returns a variable of a section.
 fn setting_in<A: Allocator + Copy>(
     alloc: A,
     section: &[u8],
@@ -136,8 +136,8 @@ fn begins_with_letter(text: &[u8]) -> bool
     }
 }
 
-// Reads the end of a header after the name of its section: a bracket, perhaps after a subsection,
-// whose name is added. Answers the text after it.
+// Reads the end of a header after the section name: a bracket, perhaps after a subsection, whose
+// name is appended. Returns the text after it.
 fn end_header<'t, A: Allocator + Copy>(
     section: &mut Vec<u8, A>,
     text: &'t [u8],
@@ -164,7 +164,7 @@ fn end_header<'t, A: Allocator + Copy>(
     }
 }
 
-// Reads a name and the quote after it, and answers the text that follows. The name is added.
+// Reads a name and its closing quote, appends the name, and returns the text that follows.
 fn read_quoted<'t, A: Allocator + Copy>(
     name: &mut Vec<u8, A>,
     text: &'t [u8],
@@ -184,8 +184,8 @@ fn read_quoted<'t, A: Allocator + Copy>(
     }
 }
 
-// The first byte of a name in quotes, and the text after it; `None` at the quote after the name,
-// and where a line or the text ends.
+// Returns the first byte of a quoted name, and the text after it. Returns `None` at the closing
+// quote, and at the end of a line or the text.
 fn split_quoted(text: &[u8]) -> Option<(u8, &[u8])>
     ensures byte { IfSome result (λ parts. BeginsWithQuoted text.now parts.0 parts.1.now) }
     ensures shorter { IfSome result (λ parts. length parts.1.now < length text.now) }
@@ -205,7 +205,7 @@ fn split_quoted(text: &[u8]) -> Option<(u8, &[u8])>
     }
 }
 
-// Reads what comes after the name of a variable and blanks: its value, if there is one. Answers the
+// Reads the rest of a variable after its name and blanks: its value, if there is one. Returns the
 // text after it.
 fn read_assigned<A: Allocator + Copy>(
     alloc: A,
@@ -225,12 +225,12 @@ fn read_assigned<A: Allocator + Copy>(
     }
 }
 
-// A value that is read.
+// A value being read.
 #[derive(Drop)]
 struct ValueText<A: Allocator + Copy> {
-    // Its bytes, without the blanks before them.
+    // Its bytes, without leading blanks.
     bytes: Vec<u8, A>,
-    // How many bytes come before the blanks at the end.
+    // The number of bytes before the trailing blanks.
     kept: usize,
     is_quoted: bool,
 }
@@ -259,7 +259,7 @@ impl<A: Allocator + Copy> ValueText<A> {
     }
 }
 
-// Reads a value, and answers the text after it.
+// Reads a value, and returns the text after it.
 fn read_value<A: Allocator + Copy>(
     alloc: A,
     text: &[u8],

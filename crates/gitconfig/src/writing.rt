@@ -8,8 +8,8 @@ ghost use Rattle.gitconfig.specs.steps.Writing.{AddsByte, AddsItems, AddsQuoted,
 use crate::bytes::is_blank;
 use std::alloc::{AllocError, Allocator};
 
-/// The text of the configuration of a bare repository, whose remote `origin` is at this URL
-/// (git-clone(1), `--bare`). It fails out of memory.
+/// Returns the configuration text of a bare repository whose remote `origin` has this URL
+/// (git-clone(1), `--bare`). Fails only if out of memory.
 pub fn bare_config<A: Allocator + Copy>(alloc: A, origin: &[u8]) -> Result<Vec<u8, A>, AllocError>
     ensures { IfOk result (λ text. IsConfig text.items (bare_settings origin.now)) }
 {
@@ -23,7 +23,7 @@ pub fn bare_config<A: Allocator + Copy>(alloc: A, origin: &[u8]) -> Result<Vec<u
     Ok(text)
 }
 
-// Adds the header of a section.
+// Appends the header of a section.
 #[tactic(auto, using(crate::proofs::WritingLemmas::adds_section))]
 fn push_section<A: Allocator + Copy>(
     text: &mut Vec<u8, A>,
@@ -39,7 +39,7 @@ fn push_section<A: Allocator + Copy>(
     Ok(())
 }
 
-// Adds the header of a subsection.
+// Appends the header of a subsection.
 #[tactic(auto, using(crate::proofs::WritingLemmas::adds_subsection))]
 fn push_subsection<A: Allocator + Copy>(
     text: &mut Vec<u8, A>,
@@ -60,7 +60,7 @@ fn push_subsection<A: Allocator + Copy>(
     Ok(())
 }
 
-// Adds a variable.
+// Appends a variable.
 #[tactic(auto, using(crate::proofs::WritingLemmas::adds_setting))]
 fn push_setting<A: Allocator + Copy>(
     text: &mut Vec<u8, A>,
@@ -79,7 +79,7 @@ fn push_setting<A: Allocator + Copy>(
     Ok(())
 }
 
-// Adds a value, in quotes if it can't be as it is.
+// Appends a value, in quotes if necessary.
 fn push_value<A: Allocator + Copy>(text: &mut Vec<u8, A>, value: &[u8]) -> Result<(), AllocError>
     ensures { OnOk result (AddsValue value.now text.old.items text.new.items) }
 {
@@ -110,7 +110,7 @@ fn is_special(byte: u8) -> bool
     }
 }
 
-// Adds the bytes of a value in quotes.
+// Appends the bytes of a quoted value.
 fn push_quoted<A: Allocator + Copy>(text: &mut Vec<u8, A>, value: &[u8]) -> Result<(), AllocError>
     ensures { OnOk result (AddsQuoted value.now text.old.items text.new.items) }
 {
@@ -120,7 +120,7 @@ fn push_quoted<A: Allocator + Copy>(text: &mut Vec<u8, A>, value: &[u8]) -> Resu
     Ok(())
 }
 
-// Adds a byte of a value in quotes.
+// Appends a byte of a quoted value.
 fn push_byte<A: Allocator + Copy>(text: &mut Vec<u8, A>, byte: u8) -> Result<(), AllocError>
     ensures { OnOk result (AddsByte byte text.old.items text.new.items) }
 {

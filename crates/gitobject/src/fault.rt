@@ -9,10 +9,10 @@ use std::alloc::{AllocError, AllocFailed};
 use std::error::Error;
 use std::fmt;
 
-/// Why the links of an object could not be read.
+/// Why the links of an object cannot be read.
 #[derive(Clone, Copy, Debug, PartialEq, Eq, Drop)]
 pub enum ObjectFault {
-    /// The bytes do not have the form of an object of the type.
+    /// The bytes do not have the form of the object type.
     Malformed,
     /// Out of memory.
     Memory,

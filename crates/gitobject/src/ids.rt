@@ -11,14 +11,14 @@ use gname::laws::ids_have_one_format;
 use itoa::Buffer;
 use sha1::Sha1;
 
-/// The bytes of a SHA-1 id.
+/// The length of a SHA-1 id.
 pub const ID_BYTES: usize = 20;
 
-/// The digits of an id.
+/// The number of digits of an id.
 pub(crate) const ID_TEXT: usize = 40;
 
-/// The id of an object with these bytes: the SHA-1 of the type, a space, the length in decimal, NUL, and the bytes
-/// (gitglossary(7), "object name").
+/// Returns the id of an object with these bytes (gitglossary(7), "object name"). It is the SHA-1 of
+/// the type, a space, the length in decimal, NUL, and the bytes.
 pub fn id_of(kind: ObjectType, body: &[u8]) -> Oid
     ensures id { result ≡ id_of kind body.now }
     ensures format { IsIdOf formats.Sha1 result }
@@ -33,7 +33,7 @@ pub fn id_of(kind: ObjectType, body: &[u8]) -> Oid
     id_of_bytes(&hasher.finalize())
 }
 
-/// The SHA-1 id with these bytes.
+/// Returns the SHA-1 id with these bytes.
 pub fn id_of_bytes(bytes: &[u8; ID_BYTES]) -> Oid
     ensures bytes { result ≡ bytes.now }
     ensures format { IsIdOf formats.Sha1 result }

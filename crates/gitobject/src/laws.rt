@@ -1,14 +1,14 @@
-//! Laws of objects. Each function does nothing, and its contract is the law: a caller that calls it may rely on the
-//! law from there on.
+//! Laws of objects. Each function does nothing, and its contract is the law: a caller may rely on
+//! the law after the call.
 
 ghost use Rattle.gitobject.specs.Laws.{LinksAreOne, TextsAreOne};
 
-/// An object has one list of links.
+/// An object has exactly one list of links.
 pub fn links_are_one()
     ensures { LinksAreOne }
 {}
 
-/// A text is that of one object.
+/// A text encodes at most one object.
 pub fn texts_are_one()
     ensures { TextsAreOne }
 {}

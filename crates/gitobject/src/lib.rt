@@ -1,38 +1,39 @@
-//! The objects of a Git repository as bytes in memory: their types, ids and links, and the text of a loose object.
-//! This crate reads no file and no pack.
+//! The objects of a Git repository as bytes in memory: their types, ids and links, and the text of
+//! a loose object. This crate does not read files or packs.
 //!
 //! # Proved
 //!
-//! - [`ObjectType`] has the word of each type and its number in a pack. It reads exactly those words and numbers.
+//! - [`ObjectType`] has the name of each type and its number in a pack. It accepts exactly those
+//!   names and numbers.
 //! - [`id_of`] is the SHA-1 of the type, a space, the length in decimal, NUL, and the bytes.
-//! - [`commit_links`] reads the tree and the parents of a commit, in order. [`tag_link`] reads the object that a tag
-//!   names. [`split_entry`] reads the first entry of a tree, and [`tree_links`] the links of all entries.
-//!   [`links_of`] does the same by type. Each accepts exactly the texts of the form in `specs/`, and refuses all
-//!   others.
-//! - A link has an id, and the type that the object with that id must have. In a tree, the file type in the mode
-//!   decides it. A directory links to a tree, a file or a symbolic link to a blob. A gitlink names a commit of another
-//!   repository, and is no link.
+//! - [`commit_links`] reads the tree and the parents of a commit, in order. [`tag_link`] reads the
+//!   object that a tag names. [`split_entry`] reads the first entry of a tree, and [`tree_links`]
+//!   the links of all entries. [`links_of`] does the same by type. Each accepts exactly the texts
+//!   of the form in `specs/`, and refuses all others.
+//! - A link has an id, and the type that the object with that id must have. In a tree, the file
+//!   type in the mode decides it. A directory links to a tree; a file or a symbolic link links to a
+//!   blob. A gitlink names a commit of another repository, and is not a link.
 //! - [`split_loose`] accepts exactly the texts of objects.
-//! - An object has one list of links, and a text is that of one object: [`laws`].
-//! - No call panics, overflows or reads out of bounds, and each returns.
+//! - An object has one list of links, and a text encodes at most one object: [`laws`].
+//! - No call panics, overflows or reads out of bounds, and every call returns.
 //!
 //! # Only tested
 //!
-//! The definitions in `specs/` are Git's: the program `gitcases` has objects that are right and wrong, and
-//! `examples/with-git.sh` has repositories that Git made.
+//! The definitions in `specs/` are Git's: the program `gitcases` tests correct and wrong objects,
+//! and `examples/with-git.sh` tests repositories made by Git.
 //!
 //! # Differences from Git
 //!
-//! - Only what gives links is judged. git-fsck(1) also checks the author and the committer of a commit, and the names
-//!   and the order of a tree's entries.
-//! - Git accepts a commit that ends within the line of a parent, and ignores that line. This crate refuses the commit,
-//!   as git-fsck(1) does.
+//! - Only the parts with links are checked. git-fsck(1) also checks authors, committers, and the
+//!   names and order of tree entries.
+//! - Git accepts a commit that ends within a parent line, and ignores that line. This crate refuses
+//!   the commit, as git-fsck(1) does.
 //! - Git reads the type of a tag only up to the first NUL.
 //!
 //! # What the contracts do not rule out
 //!
-//! Any call that allocates may fail with out of memory; the contracts do not say when. They say nothing of time, or of
-//! how much memory a call takes.
+//! Any call that allocates may fail if out of memory; the contracts do not say when. They do not
+//! cover time or memory use.
 //!
 //! # Stands on
 //!

@@ -1,4 +1,4 @@
-//! The parts of objects: words, lines, and texts that end at a byte.
+//! The parts of objects: words, lines, and texts up to a byte.
 
 ghost use Rattle.std.specs.Prelude.{◌≡◌, ◌≢◌, ◌++◌, ◌∷◌, ◌<◌, List, ℕ, All, IfSome, MatchOption, length};
 ghost use Rattle.gname.specs.Ids.{Id};
@@ -11,7 +11,7 @@ use gname::Oid;
 use gname::laws::texts_have_one_reading;
 use memchr::memchr;
 
-/// The rest of a text that begins with the word; `None` of any other text.
+/// Returns the rest of a text that begins with the word; `None` for any other text.
 pub(crate) fn strip<'a>(word: &[u8], text: &'a [u8]) -> Option<&'a [u8]>
     ensures { MatchOption result ((rest : List ℕ) → ¬ (text.now ≡ word.now ++ rest))
         (λ rest. text.now ≡ word.now ++ rest.now) }
@@ -19,7 +19,8 @@ pub(crate) fn strip<'a>(word: &[u8], text: &'a [u8]) -> Option<&'a [u8]>
     text.strip_prefix(word)
 }
 
-/// The two parts of a text, before and after the first byte of this value; `None` if there is no such byte.
+/// Returns the two parts of a text, before and after the first byte of this value, or `None` if
+/// there is no such byte.
 pub(crate) fn cut(byte: u8, text: &[u8]) -> Option<(&[u8], &[u8])>
     ensures { MatchOption result
         ((front rest : List ℕ) → ¬ (text.now ≡ front ++ byte ∷ rest))
@@ -31,7 +32,8 @@ pub(crate) fn cut(byte: u8, text: &[u8]) -> Option<(&[u8], &[u8])>
     }
 }
 
-/// The id on the first line, after this word, and the text after the line; `None` if the text begins with no such line.
+/// Returns the id after this word on the first line, and the text after the line. Returns `None` if
+/// the text does not begin with such a line.
 pub(crate) fn id_line<'a>(word: &[u8], text: &'a [u8]) -> Option<(Oid, &'a [u8])>
     ensures line { MatchOption result
         ((id : Id) (rest : List ℕ) → ¬ (BeginsWithId word.now text.now id rest))
@@ -55,7 +57,7 @@ pub(crate) fn id_line<'a>(word: &[u8], text: &'a [u8]) -> Option<(Oid, &'a [u8])
     }
 }
 
-// So many bytes of a text, and the rest; `None` if the text is shorter.
+// Returns the first `count` bytes of a text, and the rest, or `None` if the text is shorter.
 fn split_front(count: usize, text: &[u8]) -> Option<(&[u8], &[u8])>
     ensures { MatchOption result (length text.now < count)
         (λ parts. (length parts.0.now ≡ count) × (text.now ≡ parts.0.now ++ parts.1.now)) }
@@ -63,8 +65,8 @@ fn split_front(count: usize, text: &[u8]) -> Option<(&[u8], &[u8])>
     text.split_at_checked(count)
 }
 
-/// The type on the first line, after the word `type`, and the text after the line; `None` if the text begins with no
-/// such line.
+/// Returns the type after `type` on the first line, and the text after the line. Returns `None` if
+/// the text does not begin with such a line.
 pub(crate) fn type_line(text: &[u8]) -> Option<(ObjectType, &[u8])>
     ensures { MatchOption result
         ((kind : ObjectType) (rest : List ℕ) → ¬ (BeginsWithType text.now kind rest))

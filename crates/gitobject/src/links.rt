@@ -16,10 +16,10 @@ use crate::types::ObjectType;
 use gname::Oid;
 use std::alloc::{AllocError, Allocator};
 
-// The least bytes of a tag.
+// The minimum length of a tag.
 const MIN_TAG: usize = 64;
 
-/// A link of an object: the id of another one, and the type that the other one must have.
+/// A link of an object: the id and the required type of another object.
 #[derive(Clone, Copy, Debug, PartialEq, Eq, Drop)]
 pub struct Link {
     /// The id.
@@ -28,7 +28,7 @@ pub struct Link {
     pub kind: ObjectType,
 }
 
-/// The objects to which a commit links.
+/// The links of a commit.
 #[derive(Debug, Drop)]
 pub struct CommitLinks<A: Allocator + Copy> {
     /// Its tree.
@@ -37,10 +37,10 @@ pub struct CommitLinks<A: Allocator + Copy> {
     pub parents: Vec<Oid, A>,
 }
 
-/// The links of an object of this type. A commit links to its tree and then to its parents, a tree to the objects of
-/// its entries, and a tag to the object that it names. A blob has no links.
+/// Returns the links of an object of this type. A commit links to its tree and its parents, a tree
+/// to the objects of its entries, and a tag to its target. A blob has no links.
 ///
-/// It fails with `Malformed` if the bytes do not have the form of the type, and with `Memory`.
+/// Fails with `Malformed` if the bytes do not have the form of the type, and with `Memory`.
 pub fn links_of<A: Allocator + Copy>(
     alloc: A,
     kind: ObjectType,
@@ -57,9 +57,9 @@ pub fn links_of<A: Allocator + Copy>(
     }
 }
 
-/// The tree and the parents of a commit, in order.
+/// Returns the tree and the parents of a commit, in order.
 ///
-/// It fails with `Malformed` if the bytes do not begin as those of a commit, and with `Memory`.
+/// Fails with `Malformed` if the bytes do not begin like a commit, and with `Memory`.
 pub fn commit_links<A: Allocator + Copy>(
     alloc: A,
     body: &[u8],
@@ -80,7 +80,7 @@ pub fn commit_links<A: Allocator + Copy>(
     }
 }
 
-// Adds the ids of the parents, whose lines begin the text.
+// Appends the ids of the parent lines at the start of the text.
 fn push_parents<A: Allocator + Copy>(
     parents: &mut Vec<Oid, A>,
     text: &[u8],
@@ -103,7 +103,7 @@ fn push_parents<A: Allocator + Copy>(
     }
 }
 
-// Whether there is more text, and it does not begin as the line of a parent.
+// Whether there is more text, and it does not begin like a parent line.
 fn goes_on(text: &[u8]) -> bool
     ensures { IsTrue result ↔ GoesOn text.now }
 {
@@ -116,7 +116,8 @@ fn goes_on(text: &[u8]) -> bool
     }
 }
 
-/// The object that a tag names; `None` if the bytes do not begin as those of a tag, or are fewer than 64.
+/// Returns the object that a tag names, or `None` if the bytes do not begin like a tag, or are
+/// fewer than 64.
 pub fn tag_link(body: &[u8]) -> Option<Link>
     ensures { MatchOption result
         ((target : Id) (kind : ObjectType) → ¬ (IsTag body.now target kind))
@@ -141,7 +142,7 @@ pub fn tag_link(body: &[u8]) -> Option<Link>
     }
 }
 
-// Whether the text begins with the line of a tag's name.
+// Whether the text begins with the `tag` line.
 fn has_name(text: &[u8]) -> bool
     ensures { IsTrue result ↔ BeginsWithName text.now }
 {
@@ -154,7 +155,7 @@ fn has_name(text: &[u8]) -> bool
     }
 }
 
-// The links of a commit, as one list.
+// Returns the links of a commit, as one list.
 fn list_commit<A: Allocator + Copy>(alloc: A, body: &[u8]) -> Result<Vec<Link, A>, ObjectFault>
     ensures { MatchResult result (λ links. LinksOf types.Commit body.now links.items)
         (IsObjectFault ((links : List Link) × LinksOf types.Commit body.now links)) }
@@ -173,7 +174,7 @@ fn list_commit<A: Allocator + Copy>(alloc: A, body: &[u8]) -> Result<Vec<Link, A
     Ok(links)
 }
 
-// Adds a link to each of these commits.
+// Appends a link to each of these commits.
 fn push_commits<A: Allocator + Copy>(
     links: &mut Vec<Link, A>,
     ids: &[Oid],
@@ -190,7 +191,7 @@ fn push_commits<A: Allocator + Copy>(
     Ok(())
 }
 
-// The link of a tag, as a list.
+// Returns the link of a tag, as a list.
 fn list_tag<A: Allocator + Copy>(alloc: A, body: &[u8]) -> Result<Vec<Link, A>, ObjectFault>
     ensures { MatchResult result (λ links. LinksOf types.Tag body.now links.items)
         (IsObjectFault ((links : List Link) × LinksOf types.Tag body.now links)) }

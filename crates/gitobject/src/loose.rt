@@ -1,4 +1,4 @@
-//! Loose objects, once they are inflated.
+//! The inflated text of loose objects.
 
 ghost use Rattle.std.specs.Prelude.{◌≡◌, ◌↔◌, List, ℕ, IsTrue, MatchOption, decimal};
 ghost use Rattle.gitobject.specs.Naming.{object_text};
@@ -8,8 +8,9 @@ use crate::lines::cut;
 use crate::types::ObjectType;
 use itoa::Buffer;
 
-/// The type and the bytes of the object with this text; `None` of any other text. The text of an object is its type, a
-/// space, the length in decimal without leading zeros, NUL, and exactly so many bytes.
+/// Returns the type and the bytes of the object with this text; `None` for any other text. The text
+/// of an object is its type, a space, the length in decimal without leading zeros, NUL, and exactly
+/// that number of bytes.
 pub fn split_loose(text: &[u8]) -> Option<(ObjectType, &[u8])>
     ensures { MatchOption result
         ((kind : ObjectType) (body : List ℕ) → ¬ (text.now ≡ object_text kind body))
@@ -31,7 +32,7 @@ pub fn split_loose(text: &[u8]) -> Option<(ObjectType, &[u8])>
     }
 }
 
-// Whether the digits are the number in decimal, without leading zeros.
+// Whether the digits are `number` in decimal, without leading zeros.
 fn is_decimal(digits: &[u8], number: usize) -> bool
     ensures { IsTrue result ↔ (digits.now ≡ decimal number) }
 {

@@ -26,12 +26,13 @@ pub struct TreeEntry<'a> {
     pub name: &'a [u8],
     /// The object that it names.
     pub id: Oid,
-    /// The type of that object; `None` for a gitlink, which names a commit of another repository (gitsubmodules(7)).
+    /// The type of that object; `None` for a gitlink, which names a commit of another repository
+    /// (gitsubmodules(7)).
     pub links_to: Option<ObjectType>,
 }
 
 impl TreeEntry<'_> {
-    /// The link of the entry; `None` for a gitlink.
+    /// Returns the link of the entry; `None` for a gitlink.
     pub fn link(&self) -> Option<Link>
         ensures { result ≡ link_of_entry self.now }
     {
@@ -42,8 +43,8 @@ impl TreeEntry<'_> {
     }
 }
 
-/// The first entry of a tree, and the text after it; `None` if the text begins with no entry. An entry is a mode, a
-/// space, a name, NUL, and the twenty bytes of an id.
+/// Returns the first entry of a tree, and the text after it, or `None` if the text does not begin
+/// with an entry. An entry is a mode, a space, a name, NUL, and the twenty bytes of an id.
 pub fn split_entry(text: &[u8]) -> Option<(TreeEntry<'_>, &[u8])>
     ensures entry { MatchOption result
         ((entry : Entry) (rest : List ℕ) → ¬ (BeginsWithEntry text.now entry rest))
@@ -74,9 +75,9 @@ pub fn split_entry(text: &[u8]) -> Option<(TreeEntry<'_>, &[u8])>
     Some((entry, rest))
 }
 
-/// The links of a tree, in the order of its entries. A gitlink is none.
+/// Returns the links of a tree, in the order of its entries. Gitlinks are left out.
 ///
-/// It fails with `Malformed` if the bytes are not entries, one after the other, and with `Memory`.
+/// Fails with `Malformed` if the bytes are not a sequence of entries, and with `Memory`.
 pub fn tree_links<A: Allocator + Copy>(alloc: A, body: &[u8]) -> Result<Vec<Link, A>, ObjectFault>
     ensures { MatchResult result (λ links. LinksOf types.Tree body.now links.items)
         (IsObjectFault ((links : List Link) × LinksOf types.Tree body.now links)) }
@@ -95,14 +96,14 @@ pub fn tree_links<A: Allocator + Copy>(alloc: A, body: &[u8]) -> Result<Vec<Link
     Ok(links)
 }
 
-// Whether no byte is left.
+// Whether no bytes are left.
 fn is_over(text: &[u8]) -> bool
     ensures { IsTrue result ↔ (text.now ≡ []) }
 {
     text.is_empty()
 }
 
-// Adds the link, if there is one.
+// Appends the link, if there is one.
 fn push_some<A: Allocator + Copy>(
     links: &mut Vec<Link, A>,
     link: Option<Link>,

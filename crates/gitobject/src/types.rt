@@ -18,7 +18,7 @@ pub enum ObjectType {
 }
 
 impl ObjectType {
-    /// The word of the type.
+    /// Returns the name of the type.
     pub fn name(self) -> &'static str
         ensures { result.now ≡ type_name self }
     {
@@ -30,7 +30,7 @@ impl ObjectType {
         }
     }
 
-    /// The type with this word; `None` if there is none.
+    /// Returns the type with this name, or `None` if there is none.
     pub fn from_name(word: &[u8]) -> Option<ObjectType>
         ensures { MatchOption result ((kind : ObjectType) → ¬ (word.now ≡ type_name kind))
             (λ kind. word.now ≡ type_name kind) }
@@ -44,7 +44,7 @@ impl ObjectType {
         }
     }
 
-    /// The number of the type in a pack, from 1 to 4 (gitformat-pack(5), "Object types").
+    /// Returns the number of the type in a pack, from 1 to 4 (gitformat-pack(5), "Object types").
     pub fn pack_number(self) -> u8
         ensures { result ≡ pack_number self }
     {
@@ -56,7 +56,8 @@ impl ObjectType {
         }
     }
 
-    /// The type with this number in a pack; `None` for the number of a delta, and for any other.
+    /// Returns the type with this number in a pack; `None` for the number of a delta, and any other
+    /// number.
     pub fn from_pack_number(number: u8) -> Option<ObjectType>
         ensures { MatchOption result ((kind : ObjectType) → ¬ (number ≡ pack_number kind))
             (λ kind. number ≡ pack_number kind) }

@@ -1,4 +1,4 @@
-//! The folders of objects: that of the repository, and its alternates (gitrepository-layout(5),
+//! The object folders of a repository: its own, and its alternates (gitrepository-layout(5),
 //! "objects/info/alternates").
 
 ghost use Rattle.std.specs.Prelude.{◌≡◌, ◌++◌, ◌∷◌, [], IfOk, OnOk, filter, map, string_bytes};
@@ -13,20 +13,20 @@ use crate::paths::join;
 use std::alloc::{AllocError, Allocator};
 use std::io::ErrorKind;
 
-/// A folder of objects, and the folder of packs in it.
+/// An object folder, and the pack folder in it.
 #[derive(Drop)]
 pub(crate) struct Folder<A: Allocator + Copy> {
     pub(crate) path: String<A>,
     pub(crate) packs: String<A>,
     pub(crate) listed: Listed,
-    // The faults of the packs that are left out.
+    // The faults of the packs that were left out.
     pub(crate) left_out: Vec<FileFault<A>, A>,
-    // How many alternates lead to it.
+    // The number of alternates that lead to it.
     depth: usize,
 }
 
 impl<A: Allocator + Copy> Folder<A> {
-    // A folder of objects, whose packs were never listed.
+    // Returns an object folder whose packs were never listed.
     fn new(alloc: A, path: String<A>, depth: usize) -> Result<Folder<A>, AllocError> {
         let packs = join(alloc, path.as_str(), "pack")?;
         Ok(Folder {
@@ -39,9 +39,9 @@ impl<A: Allocator + Copy> Folder<A> {
     }
 }
 
-/// The folder of a repository, and all that its alternates name, and theirs, up to the depth that
-/// Git has. A folder that is named again is left out, so alternates in a circle end. One that is
-/// not there is left out, too.
+/// Returns the object folder of a repository, and its alternates recursively, up to the same depth
+/// as Git. A folder that is named again is left out, so cyclic alternates end. A missing folder is
+/// left out, too.
 pub(crate) fn object_folders<F: ObjectFiles, A: Allocator + Copy>(
     files: &F,
     alloc: A,
@@ -62,7 +62,7 @@ pub(crate) fn object_folders<F: ObjectFiles, A: Allocator + Copy>(
     Ok(folders)
 }
 
-// The path of the folder of a repository, which must be there.
+// Returns the path of the repository's own folder, which must exist.
 fn own_folder<F: ObjectFiles, A: Allocator + Copy>(
     files: &F,
     alloc: A,
@@ -75,7 +75,7 @@ fn own_folder<F: ObjectFiles, A: Allocator + Copy>(
     }
 }
 
-// Adds the alternates of a folder, which have this depth.
+// Adds the alternates of a folder, at this depth.
 fn add_alternates<F: ObjectFiles, A: Allocator + Copy>(
     files: &F,
     alloc: A,
@@ -103,7 +103,7 @@ fn add_alternates<F: ObjectFiles, A: Allocator + Copy>(
     Ok(())
 }
 
-// The paths that a text names, in order.
+// Returns the paths that a text names, in order.
 fn folder_names<A: Allocator + Copy>(alloc: A, text: &[u8]) -> Result<Vec<String<A>, A>, Cause>
     ensures { IfOk result (λ names. NamesFolders text.now (map string_bytes names.items)) }
 {
@@ -138,7 +138,7 @@ fn push_name<A: Allocator + Copy>(
     Ok(())
 }
 
-// The path of an alternate. A path that is not absolute begins at the folder that names it.
+// Returns the path of an alternate. A relative path begins at the folder that names it.
 fn path_of<A: Allocator + Copy>(
     alloc: A,
     folder: &str,
@@ -151,7 +151,7 @@ fn path_of<A: Allocator + Copy>(
     }
 }
 
-// Adds a folder, if it is there and was not added before.
+// Adds a folder, if it exists and was not added before.
 fn add_folder<F: ObjectFiles, A: Allocator + Copy>(
     files: &F,
     alloc: A,

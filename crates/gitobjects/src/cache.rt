@@ -1,10 +1,10 @@
-//! Objects that deltas were applied to, kept for a while.
+//! A cache of objects that deltas were applied to.
 
 use crate::limits::{MAX_BASE, MAX_KEPT};
 use crate::object::Object;
 use std::alloc::{AllocError, Allocator};
 
-// How many objects are kept at most.
+// The maximum number of cached objects.
 const SLOTS: usize = 8_192;
 
 /// The beginning of an object: the number of its pack, and an offset in it.
@@ -14,24 +14,24 @@ pub(crate) struct Spot {
     pub(crate) start: usize,
 }
 
-// An object that is kept.
+// A cached object.
 #[derive(Drop)]
 struct Kept<A: Allocator + Copy> {
     spot: Spot,
     object: Object<A>,
 }
 
-/// The objects that are kept. Each has one slot, and takes the place of the one that is there.
+/// The cached objects. Each has one slot, and replaces the object there.
 #[derive(Drop)]
 pub(crate) struct BaseCache<A: Allocator + Copy> {
     alloc: A,
     slots: Vec<Option<Kept<A>>, A>,
-    // The bytes of all objects that are kept.
+    // The total size of all cached objects.
     bytes: usize,
 }
 
 impl<A: Allocator + Copy> BaseCache<A> {
-    /// A cache with nothing in it.
+    /// Returns an empty cache.
     pub(crate) fn new(alloc: A) -> Result<BaseCache<A>, AllocError> {
         let slots = empty_slots(alloc)?;
         Ok(BaseCache {
@@ -41,7 +41,7 @@ impl<A: Allocator + Copy> BaseCache<A> {
         })
     }
 
-    /// The object that begins here; `None` if it is not kept.
+    /// Returns the object that begins here, or `None` if it is not cached.
     pub(crate) fn get(&self, spot: Spot) -> Option<&Object<A>> {
         match self.slots.get(slot_of(spot)) {
             Some(Some(kept)) if kept.spot == spot => Some(&kept.object),
@@ -49,13 +49,13 @@ impl<A: Allocator + Copy> BaseCache<A> {
         }
     }
 
-    /// Whether the object that begins here is kept.
+    /// Whether the object that begins here is cached.
     pub(crate) fn holds(&self, spot: Spot) -> bool {
         self.get(spot).is_some()
     }
 
-    /// Keeps an object, unless it is too large. If there are too many bytes, all others are given
-    /// up first.
+    /// Caches an object, unless it is too large. If there are too many bytes, all others are
+    /// removed first.
     pub(crate) fn put(&mut self, spot: Spot, object: Object<A>) -> Result<(), AllocError> {
         let more = object.body.len();
         if more > MAX_BASE {
@@ -90,7 +90,7 @@ fn empty_slots<A: Allocator + Copy>(alloc: A) -> Result<Vec<Option<Kept<A>>, A>,
     Ok(slots)
 }
 
-// The slot of a place: a number that is spread by the golden ratio.
+// Returns the slot of a spot: a number spread by the golden ratio.
 fn slot_of(spot: Spot) -> usize {
     let mixed = spot
         .start

@@ -1,4 +1,4 @@
-//! Reading an object of a pack: a chain of deltas is applied without recursion.
+//! Reading an object of a pack: a delta chain is applied without recursion.
 
 use crate::cache::Spot;
 use crate::fault::{Cause, StoreFault};
@@ -12,22 +12,22 @@ use gitpack::{EntryForm, apply_delta, made_size};
 use gname::Oid;
 use std::alloc::Allocator;
 
-// The deltas of a chain, by where they begin, the last one first; and where the chain ends, in a
-// whole object.
+// The offsets of the deltas in a chain, last one first, and the offset of the whole object that
+// ends the chain.
 #[derive(Drop)]
 struct Chain<A: Allocator + Copy> {
     deltas: Vec<usize, A>,
     end: usize,
 }
 
-// An entry of a chain that is not read: where it begins, and the cause.
+// An entry of a chain that cannot be read: its offset, and the cause.
 #[derive(Clone, Copy, Debug, Drop)]
 struct Broken {
     start: usize,
     cause: Cause,
 }
 
-// The outcome for the entry that begins here.
+// Returns the outcome for the entry that begins here.
 fn at<T: Drop>(start: usize, outcome: Result<T, Cause>) -> Result<T, Broken> {
     match outcome {
         Ok(value) => Ok(value),
@@ -35,7 +35,7 @@ fn at<T: Drop>(start: usize, outcome: Result<T, Cause>) -> Result<T, Broken> {
     }
 }
 
-// Why a delta makes no object of its base.
+// Returns why a delta does not apply to its base.
 fn refusal(delta: &[u8]) -> Cause {
     match made_size(delta) {
         Some(size) if size > MAX_OBJECT => Cause::ObjectSize,
@@ -44,8 +44,8 @@ fn refusal(delta: &[u8]) -> Cause {
 }
 
 impl<F: ObjectFiles, A: Allocator + Copy> ObjectReader<'_, F, A> {
-    /// The object whose entry begins here. If an object of its chain is broken, a copy is taken from
-    /// another place, as in Git.
+    /// Returns the object whose entry begins here. If an object of its chain is broken, another
+    /// copy is used, as in Git.
     pub(crate) fn read_packed(&mut self, spot: Spot) -> Result<Object<A>, Cause> {
         let mut last = spot.start;
         for _copy in 0..MAX_COPIES {
@@ -67,8 +67,8 @@ impl<F: ObjectFiles, A: Allocator + Copy> ObjectReader<'_, F, A> {
         Err(Cause::Base)
     }
 
-    // Keeps a copy of the object whose entry begins here, from another place: here it is broken, for
-    // this cause. It fails with the cause if the object is whole in no other place.
+    // Caches another copy of the object whose entry begins here and is broken for this cause. Fails
+    // with the cause if no other copy is intact.
     fn copy_base(&mut self, spot: Spot, cause: Cause) -> Result<(), Cause> {
         if cause == Cause::Memory {
             return Err(cause);
@@ -85,8 +85,8 @@ impl<F: ObjectFiles, A: Allocator + Copy> ObjectReader<'_, F, A> {
         }
     }
 
-    // The object with this id from any place but this pack; `None` if it is whole in none. It fails
-    // with `Memory` alone.
+    // Returns the object with this id from any place except this pack, or `None` if no copy is
+    // intact. Fails only with `Memory`.
     fn read_elsewhere(&mut self, id: &Oid, but: usize) -> Result<Option<Object<A>>, Cause> {
         for pack in 0..self.store.pack_count() {
             if pack == but {
@@ -103,8 +103,8 @@ impl<F: ObjectFiles, A: Allocator + Copy> ObjectReader<'_, F, A> {
         }
     }
 
-    // The object with this id in a pack; `None` if it is not there, or not whole. It fails with
-    // `Memory` alone.
+    // Returns the object with this id in a pack, or `None` if it is missing or broken. Fails only
+    // with `Memory`.
     fn read_whole(&mut self, pack: usize, id: &Oid) -> Result<Option<Object<A>>, Cause> {
         let Some(start) = self.store.start_in(pack, id) else {
             return Ok(None);
@@ -116,7 +116,7 @@ impl<F: ObjectFiles, A: Allocator + Copy> ObjectReader<'_, F, A> {
         }
     }
 
-    // The object whose entry begins here, if no entry of its chain is broken.
+    // Returns the object whose entry begins here, if no entry of its chain is broken.
     fn read_chain(&mut self, spot: Spot) -> Result<Object<A>, Broken> {
         let Spot { pack, start } = spot;
         let chain = at(start, self.trace(pack, start))?;
@@ -127,7 +127,7 @@ impl<F: ObjectFiles, A: Allocator + Copy> ObjectReader<'_, F, A> {
         Ok(object)
     }
 
-    // Keeps an answer, unless it is too large.
+    // Caches a returned object, unless it is too large.
     fn keep(&mut self, spot: Spot, object: &Object<A>) -> Result<(), Cause> {
         if object.body.len() <= MAX_ANSWER {
             let copy = object.copy_in(self.store.allocator())?;
@@ -136,12 +136,12 @@ impl<F: ObjectFiles, A: Allocator + Copy> ObjectReader<'_, F, A> {
         Ok(())
     }
 
-    // The chain of deltas that begins here. It ends in a whole object, in one that is kept, or in an
-    // entry that is broken: reading that one finds the cause.
+    // Returns the chain of deltas that begins here. It ends in a whole object, in a cached one, or
+    // in a broken entry. Reading that entry finds the cause.
     fn trace(&mut self, pack: usize, start: usize) -> Result<Chain<A>, Cause> {
         let mut deltas = Vec::new(self.store.allocator());
         let mut end = start;
-        // A chain that does not lead back to itself has each object of the pack at most once.
+        // An acyclic chain has each object of the pack at most once.
         for _delta in 0..self.store.object_count(pack) {
             let spot = Spot { pack, start: end };
             if self.cache.holds(spot) {
@@ -159,7 +159,7 @@ impl<F: ObjectFiles, A: Allocator + Copy> ObjectReader<'_, F, A> {
         Err(Cause::Circle)
     }
 
-    // The whole object that begins here, or that is kept.
+    // Returns the whole or cached object that begins here.
     fn read_base(&mut self, spot: Spot) -> Result<Object<A>, Cause> {
         if let Some(object) = self.cache.get(spot) {
             return Ok(object.copy_in(self.store.allocator())?);
@@ -174,7 +174,7 @@ impl<F: ObjectFiles, A: Allocator + Copy> ObjectReader<'_, F, A> {
         }
     }
 
-    // Applies deltas to their base, the last one of the list first. Each base is kept.
+    // Applies deltas to their base, the last one of the list first. Each base is cached.
     fn apply_all(
         &mut self,
         pack: usize,
@@ -200,7 +200,7 @@ impl<F: ObjectFiles, A: Allocator + Copy> ObjectReader<'_, F, A> {
         Ok(object)
     }
 
-    // The object that the delta that begins here makes of its base.
+    // Applies the delta that begins here to its base, and returns the object.
     fn apply(&mut self, base: &Object<A>, spot: Spot) -> Result<Object<A>, Cause> {
         let delta = self.store.inflate_at(spot, &mut self.inflater)?;
         let alloc = self.store.allocator();
@@ -214,8 +214,8 @@ impl<F: ObjectFiles, A: Allocator + Copy> ObjectReader<'_, F, A> {
         }
     }
 
-    /// The type of the object whose entry begins here, by the heads of its chain; `None` if one of
-    /// them is broken. It fails with `Memory` alone.
+    /// Returns the type of the object whose entry begins here, from the heads of its chain, or
+    /// `None` if one of them is broken. Fails only with `Memory`.
     pub(crate) fn kind_at(&mut self, spot: Spot) -> Result<Option<ObjectType>, Cause> {
         let pack = spot.pack;
         let mut start = spot.start;

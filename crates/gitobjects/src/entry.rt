@@ -1,4 +1,4 @@
-//! Entries of a pack, once their bytes are read (gitformat-pack(5)).
+//! Parsing the bytes of pack entries (gitformat-pack(5)).
 
 ghost use Rattle.std.specs.Prelude.{IfOk};
 ghost use Rattle.gitobjects.specs.Inflated.{IsInflatedFrom};
@@ -9,7 +9,7 @@ use gitpack::{EntryForm, EntryHead, read_head};
 use gzlib::{InflateFault, Inflater};
 use std::alloc::Allocator;
 
-/// An entry: its head, and what its stream inflates to. This is the body of an object, or a delta.
+/// An entry: its head, and its inflated stream. The stream is the body of an object, or a delta.
 #[derive(Drop)]
 pub(crate) struct Inflated<A: Allocator + Copy> {
     pub(crate) form: EntryForm,
@@ -17,7 +17,7 @@ pub(crate) struct Inflated<A: Allocator + Copy> {
     pub(crate) text: Vec<u8, A>,
 }
 
-/// An entry of a pack as it lies, to be copied.
+/// An unchanged pack entry, to be copied.
 #[derive(Drop)]
 pub struct RawEntry<A: Allocator + Copy> {
     /// Its head.
@@ -28,15 +28,15 @@ pub struct RawEntry<A: Allocator + Copy> {
     pub bytes: Vec<u8, A>,
 }
 
-// No zlib stream inflates to more than so many times its length.
+// The maximum ratio of an inflated size to the length of its zlib stream.
 const MAX_RATIO: usize = 1_032;
 
-// An inflater takes room for one more match (RFC 1951, section 3.2.5).
+// An inflater reserves room for one more match (RFC 1951, section 3.2.5).
 const MATCH: usize = 258;
 
-/// Inflates the entry that has exactly these bytes.
+/// Inflates the entry with exactly these bytes.
 ///
-/// It fails with `Head`, `ObjectSize`, `Stream` and `Memory`.
+/// Fails with `Head`, `ObjectSize`, `Stream` and `Memory`.
 pub(crate) fn inflate_entry<A: Allocator + Copy>(
     alloc: A,
     inflater: &mut Inflater,

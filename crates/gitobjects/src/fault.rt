@@ -1,4 +1,4 @@
-//! Why an object is not read.
+//! Why an object cannot be read.
 
 use gname::{MAX_ID_TEXT, OUT_OF_MEMORY_TEXT, Oid};
 use std::alloc::{AllocError, AllocFailed, Allocator};
@@ -6,53 +6,53 @@ use std::error::Error;
 use std::io::ErrorKind;
 use std::{fmt, io};
 
-/// The fault of a file. It names no file itself: a [`StoreFault`] does.
+/// The fault of a file. It does not name the file: a [`StoreFault`] does.
 #[derive(Clone, Copy, Debug, PartialEq, Eq)]
 pub enum Cause {
     /// Out of memory.
     Memory,
-    /// The system does not open the file.
+    /// The system cannot open the file.
     Open(ErrorKind),
-    /// The system does not read the file.
+    /// The system cannot read the file.
     Read(ErrorKind),
-    /// The system does not list the folder.
+    /// The system cannot list the folder.
     List(ErrorKind),
     /// A path is not UTF-8.
     NotText,
-    /// The file has more bytes than its limit.
+    /// The file exceeds its size limit.
     FileSize,
     /// An object has more bytes than [`crate::MAX_OBJECT`].
     ObjectSize,
     /// The file of alternates has a path in quotes, which this crate does not read.
     Quoted,
-    /// There are more than [`crate::MAX_FOLDERS`] folders of objects.
+    /// There are more than [`crate::MAX_FOLDERS`] object folders.
     Folders,
-    /// The file is no pack index of version 2.
+    /// The file is not a pack index of version 2.
     Index,
-    /// The pack has another header, count of objects or checksum than its index says.
+    /// The header, object count or checksum of the pack does not match its index.
     Pack,
-    /// An offset in the index lies outside of the pack.
+    /// An offset in the index is outside the pack.
     Offset,
     /// The head of an entry is malformed.
     Head,
-    /// A stream is no zlib stream of the size in its head.
+    /// A stream is not a zlib stream of the size in its head.
     Stream,
-    /// The CRC-32 of an entry is not the one in the index.
+    /// The CRC-32 of an entry does not match the index.
     Crc,
     /// The base of a delta is not in the same pack.
     Base,
-    /// A chain of deltas leads back to itself.
+    /// A delta chain is cyclic.
     Circle,
     /// A delta does not fit its base.
     Delta,
     /// The text of a loose object is malformed.
     Loose,
-    /// The bytes of an object have another id.
+    /// The bytes of an object do not match its id.
     Id,
 }
 
 impl Cause {
-    /// The fault of opening a file.
+    /// Returns the fault of opening a file.
     pub(crate) fn open(error: &io::Error) -> Cause {
         match error.kind() {
             ErrorKind::OutOfMemory => Cause::Memory,
@@ -60,7 +60,7 @@ impl Cause {
         }
     }
 
-    /// The fault of reading a file.
+    /// Returns the fault of reading a file.
     pub(crate) fn read(error: &io::Error) -> Cause {
         match error.kind() {
             ErrorKind::OutOfMemory => Cause::Memory,
@@ -68,7 +68,7 @@ impl Cause {
         }
     }
 
-    /// The fault of listing a folder.
+    /// Returns the fault of listing a folder.
     pub(crate) fn list(error: &io::Error) -> Cause {
         match error.kind() {
             ErrorKind::OutOfMemory => Cause::Memory,
@@ -76,7 +76,7 @@ impl Cause {
         }
     }
 
-    // The deed that fails.
+    // Returns the failed action.
     fn verb(self) -> &'static str {
         match self {
             Cause::Open(_) => "open",
@@ -85,7 +85,7 @@ impl Cause {
         }
     }
 
-    // The table of causes.
+    // Returns the text of the cause.
     fn text(self) -> &'static str {
         match self {
             Cause::Memory => OUT_OF_MEMORY_TEXT,
@@ -131,14 +131,14 @@ impl<T: Drop> From<AllocFailed<T>> for Cause {
     }
 }
 
-/// Why an object is not read: what is wrong, and with which file.
+/// Why an object cannot be read: what is wrong, and with which file.
 #[derive(Drop)]
 pub enum StoreFault<A: Allocator + Copy> {
     /// Out of memory.
     Memory,
     /// No object has this id.
     Missing(Oid),
-    /// A file is refused.
+    /// A file was refused.
     File(FileFault<A>),
 }
 
@@ -204,7 +204,7 @@ impl<T: Drop, A: Allocator + Copy> From<AllocFailed<T>> for StoreFault<A> {
     }
 }
 
-/// The fault of the file with this path.
+/// Returns the fault of the file with this path.
 pub(crate) fn fault_at<A: Allocator + Copy>(alloc: A, path: &str, cause: Cause) -> StoreFault<A> {
     if cause == Cause::Memory {
         return StoreFault::Memory;
@@ -215,20 +215,19 @@ pub(crate) fn fault_at<A: Allocator + Copy>(alloc: A, path: &str, cause: Cause) 
     }
 }
 
-/// The fault of the first of some places in which an object is broken, while others are tried.
+/// The fault of the first broken copy of an object, kept while other copies are tried.
 #[derive(Drop)]
 pub(crate) struct FirstFault<A: Allocator + Copy> {
     fault: Option<StoreFault<A>>,
 }
 
 impl<A: Allocator + Copy> FirstFault<A> {
-    /// No place so far.
+    /// Returns a `FirstFault` without a fault.
     pub(crate) fn new() -> FirstFault<A> {
         FirstFault { fault: None }
     }
 
-    /// Notes the fault of a place. It fails if there is no memory, since then no other place is
-    /// tried.
+    /// Records the fault of a copy. Fails if out of memory, since no other copy is tried then.
     pub(crate) fn note(&mut self, fault: StoreFault<A>) -> Result<(), StoreFault<A>> {
         if let StoreFault::Memory = fault {
             return Err(fault);
@@ -239,7 +238,7 @@ impl<A: Allocator + Copy> FirstFault<A> {
         Ok(())
     }
 
-    /// The fault of the first place, if there was one.
+    /// Fails with the fault of the first copy, if there was one.
     pub(crate) fn finish(self) -> Result<(), StoreFault<A>> {
         match self.fault {
             Some(fault) => Err(fault),

@@ -1,18 +1,18 @@
 //! The files that hold objects.
 
-ghost use Rattle.std.specs.Prelude.{◌≡◌, ℕ, List, Option, IfOk, vec_len};
+ghost use Rattle.std.specs.Prelude.{◌≡◌, ℕ, List, Option, IfOk, OnOk, vec_len};
 ghost use Rattle.gitobjects.specs.Windows.{IsPart};
 
 use crate::fault::Cause;
 use std::alloc::Allocator;
 
-/// A file that is open, whose bytes are read in any order.
+/// An open file, whose bytes are read in any order.
 pub trait OpenPack {
-    // All of its bytes, where they are known. They stay.
+    // All of its bytes, if they are known. They do not change.
     ghost bytes: { Self → Option (List ℕ) };
 
-    /// So many bytes from a place on. It fails with `Read` if the file ends before or the system
-    /// refuses, and with `Memory`.
+    /// Reads `count` bytes starting at `start`. Fails with `Read` if the file is too short or the
+    /// system refuses, and with `Memory`.
     fn read_at<A: Allocator + Copy>(
         &mut self,
         alloc: A,
@@ -22,26 +22,32 @@ pub trait OpenPack {
         ensures part { IfOk result (λ part. IsPart (bytes self.old) start part.items) }
         ensures count { IfOk result (λ part. vec_len part ≡ count) }
         ensures bytes { bytes self.new ≡ bytes self.old };
+
+    /// Fills the buffer with the bytes starting at `start`. Fails with `Read` if the file is too
+    /// short or the system refuses. The buffer may hold anything after that.
+    fn fill_at(&mut self, start: usize, buffer: &mut [u8]) -> Result<(), Cause>
+        ensures part { OnOk result (IsPart (bytes self.old) start buffer.new) }
+        ensures bytes { bytes self.new ≡ bytes self.old };
 }
 
-/// When the names in a folder last changed. Two times tell only whether they are the same.
+/// The time of the last change of the names in a folder. Times are compared only for equality.
 #[derive(Clone, Copy, Debug, PartialEq, Eq)]
 pub struct FolderTime {
     /// The seconds since 1970.
     pub seconds: i64,
-    /// The nanoseconds after those.
+    /// The remaining nanoseconds.
     pub nanoseconds: i64,
-    /// The number that the system gave to the folder.
+    /// The system's number for the folder.
     pub folder: u64,
 }
 
-/// The files of a Git directory, as far as objects are read.
+/// The files of a Git directory that are read for objects.
 pub trait ObjectFiles {
     /// An open pack.
     type Pack: OpenPack + Drop;
 
-    /// The bytes of a file; `None` if there is none. It fails with `Open`, `Read`, and `FileSize`
-    /// if the file has more bytes than `most`.
+    /// Returns the bytes of a file, or `None` if there is none. Fails with `Open`, `Read`, and
+    /// `FileSize` if the file has more than `most` bytes.
     fn read<A: Allocator + Copy>(
         &self,
         alloc: A,
@@ -49,8 +55,8 @@ pub trait ObjectFiles {
         most: usize,
     ) -> Result<Option<Vec<u8, A>>, Cause>;
 
-    /// The first bytes of a file, `most` of them, or all if it has fewer; `None` if there is no such
-    /// file. It fails with `Open` and `Read`.
+    /// Returns at most the first `most` bytes of a file, or `None` if there is no such file. Fails
+    /// with `Open` and `Read`.
     fn read_front<A: Allocator + Copy>(
         &self,
         alloc: A,
@@ -58,26 +64,26 @@ pub trait ObjectFiles {
         most: usize,
     ) -> Result<Option<Vec<u8, A>>, Cause>;
 
-    /// Whether there is a file with this path. It fails with `Open`.
+    /// Whether there is a file with this path. Fails with `Open`.
     fn exists(&self, path: &str) -> Result<bool, Cause>;
 
-    /// The path of a folder as the system has it: absolute, and without symbolic links and dots;
-    /// `None` if there is no such folder. It fails with `Open`.
+    /// Returns the canonical path of a folder: absolute, without symbolic links and dots. Returns
+    /// `None` if there is no such folder. Fails with `Open`.
     fn canonical<A: Allocator + Copy>(
         &self,
         alloc: A,
         path: &str,
     ) -> Result<Option<String<A>>, Cause>;
 
-    /// Opens a pack, and answers its length too; `None` if there is no such file. It fails with
+    /// Opens a pack, and returns it with its length, or `None` if there is no such file. Fails with
     /// `Open`.
     fn open_pack(&self, path: &str) -> Result<Option<(Self::Pack, usize)>, Cause>;
 
-    /// When the names in a folder last changed; `None` if there is no such folder. It fails with
-    /// `List`.
-    fn changed(&self, path: &str) -> Result<Option<FolderTime>, Cause>;
+    /// Returns when the names in a folder last changed, or `None` if there is no such folder. Fails
+    /// with `List`.
+    fn change_time(&self, path: &str) -> Result<Option<FolderTime>, Cause>;
 
-    /// The names in a folder, each with a NUL after it; no name if there is no such folder. It
-    /// fails with `List`, and `FileSize` if the names have more bytes than [`crate::MAX_NAMES`].
+    /// Returns the NUL-terminated names in a folder; no names if there is no such folder. Fails
+    /// with `List`, and `FileSize` if the names have more than [`crate::MAX_NAMES`] bytes.
     fn list<A: Allocator + Copy>(&self, alloc: A, path: &str) -> Result<Vec<u8, A>, Cause>;
 }

@@ -1,4 +1,4 @@
-//! The index of a pack, read by parts (gitformat-pack(5), "Version 2 pack-*.idx files").
+//! The index of a pack, read in parts (gitformat-pack(5), "Version 2 pack-*.idx files").
 
 use crate::fault::Cause;
 use crate::files::{ObjectFiles, OpenPack};
@@ -9,66 +9,74 @@ use std::alloc::Allocator;
 // The signature and the version of an index.
 const SIGNATURE: &[u8] = b"\xfftOc\0\0\0\x02";
 
-// The counts of the fan-out table, one for each first byte of an id, and where they end.
+// The number of counts in the fan-out table, one for each first byte of an id, and their end.
 const COUNTS: usize = 256;
 
 const TABLE_END: usize = 1_032;
 
-// The bytes of a CRC-32 and of a short offset.
+// The length of a CRC-32 and of a short offset.
 const WORD: usize = 4;
 
-// The bytes after the tables: the checksums of the pack and of the index.
+// The length of the checksums of the pack and of the index, which follow the tables.
 const CHECKSUMS: usize = 40;
 
-// How many ids are read on either side of the place at which an id is looked for: of a few, or of more. Ids
-// are spread by chance, so most lie as near as that.
+// The number of ids read on either side of the likely place of an id, among few or many candidates.
+// Ids are random, so most are that close.
 const FEW: usize = 1_024;
 
 const NEAR: usize = 48;
 
 const FAR: usize = 128;
 
-// The most reads of one look-up. Each but the first halves what is left of at most 2^32 ids.
+// The maximum number of ids read at once. Ids looked up in order are in consecutive parts, so each
+// part read is longer than the last.
+const MAX_IDS_READ: usize = 2_048;
+
+// The maximum number of reads for one look-up. Each read but the first halves the remaining ids, at
+// most 2^32.
 const MAX_READS: usize = 34;
 
-// The bit of an offset that is the number of a long one.
+// The bit that marks the number of a long offset.
 const LONG: u32 = 0x8000_0000;
 
-/// An index that is open. Its fan-out table is held, and other parts are read as they are needed. It is
-/// not tested as a whole.
+/// An open index. Its fan-out table is held, and other parts are read as needed. The index is not
+/// checked as a whole.
 #[derive(Drop)]
 pub(crate) struct IndexFile<P: OpenPack + Drop, A: Allocator + Copy> {
     alloc: A,
     file: P,
-    // How many ids begin with a byte up to this one.
+    // For each byte, how many ids begin with it or a lower byte.
     counts: Vec<usize, A>,
-    // How many ids there are.
+    // The number of ids.
     len: usize,
+    // The places of the last ids read, and their bytes at the front of the buffer.
+    held: Places,
+    buffer: Vec<u8, A>,
 }
 
-// The places at which an id may be.
-#[derive(Clone, Copy, Debug)]
+// The possible places of an id.
+#[derive(Clone, Copy, Debug, PartialEq, Eq)]
 struct Places {
     low: usize,
     high: usize,
 }
 
-// What a part of the ids tells of one.
+// The result of a look-up in a part of the ids.
 #[derive(Clone, Copy, Debug)]
 enum Look {
-    // It is the one with this number.
+    // The id has this number.
     At(usize),
-    // It comes earlier than the part.
+    // The id precedes the part.
     Before,
-    // It comes later than the part.
+    // The id follows the part.
     After,
-    // It is in the part, if anywhere, and is not there.
+    // The id is missing: it would be in the part.
     Absent,
 }
 
-/// Opens the index with this path; `None` if there is none or it has another form.
+/// Opens the index with this path, or returns `None` if there is none or it has another form.
 ///
-/// It fails as [`ObjectFiles::open_pack`] and [`OpenPack::read_at`] do.
+/// Fails as [`ObjectFiles::open_pack`] and [`OpenPack::read_at`] do.
 pub(crate) fn open_index<F: ObjectFiles, A: Allocator + Copy>(
     files: &F,
     alloc: A,
@@ -96,10 +104,12 @@ pub(crate) fn open_index<F: ObjectFiles, A: Allocator + Copy>(
         file,
         counts,
         len,
+        held: Places { low: 0, high: 0 },
+        buffer: Vec::new(alloc),
     }))
 }
 
-// The counts of a fan-out table; `None` if they descend.
+// Returns the counts of a fan-out table, or `None` if they descend.
 fn counts_of<A: Allocator + Copy>(alloc: A, table: &[u8]) -> Result<Option<Vec<usize, A>>, Cause> {
     let mut counts = Vec::with_capacity(alloc, COUNTS)?;
     let mut last = 0;
@@ -114,13 +124,13 @@ fn counts_of<A: Allocator + Copy>(alloc: A, table: &[u8]) -> Result<Option<Vec<u
     Ok(Some(counts))
 }
 
-// Whether a file of this length has the tables of so many objects.
+// Whether a file of this length can hold the tables of `objects` objects.
 fn is_long_enough(length: usize, objects: usize) -> bool {
     let lines = objects.saturating_mul(ID_BYTES + WORD + WORD);
     lines <= length.saturating_sub(TABLE_END + CHECKSUMS)
 }
 
-// The number of four bytes; 0 of any others.
+// Returns the number in four bytes; 0 for any other length.
 fn number_of(word: &[u8]) -> u32 {
     match word.first_chunk::<WORD>() {
         Some(word) => u32::from_be_bytes(*word),
@@ -129,13 +139,13 @@ fn number_of(word: &[u8]) -> u32 {
 }
 
 impl<P: OpenPack + Drop, A: Allocator + Copy> IndexFile<P, A> {
-    /// How many objects there are.
+    /// Returns the number of objects.
     pub(crate) fn len(&self) -> usize {
         self.len
     }
 
-    /// The place of the object with this id; `None` if it is not there. It fails with `Read` and
-    /// `Memory`.
+    /// Returns the place of the object with this id, or `None` if it is not there. Fails with
+    /// `Read` and `Memory`.
     pub(crate) fn find(&mut self, id: &Oid) -> Result<Option<usize>, Cause> {
         let wanted = id.as_bytes();
         if wanted.len() != ID_BYTES {
@@ -147,7 +157,7 @@ impl<P: OpenPack + Drop, A: Allocator + Copy> IndexFile<P, A> {
             if places.low >= places.high {
                 break;
             }
-            let part = part_around(places, middle);
+            let part = self.part_for(places, middle);
             match self.look(part, wanted)? {
                 Look::At(number) => return Ok(part.low.checked_add(number)),
                 Look::Absent => return Ok(None),
@@ -159,7 +169,7 @@ impl<P: OpenPack + Drop, A: Allocator + Copy> IndexFile<P, A> {
         Ok(None)
     }
 
-    // The places of the ids that begin with the same byte.
+    // Returns the places of the ids that begin with the same byte.
     fn places_of(&self, wanted: &[u8]) -> Places {
         let first = usize::from(wanted.first().copied().unwrap_or(0));
         let low = match first.checked_sub(1) {
@@ -170,16 +180,57 @@ impl<P: OpenPack + Drop, A: Allocator + Copy> IndexFile<P, A> {
         Places { low, high }
     }
 
-    // Looks for an id among those at these places.
-    fn look(&mut self, part: Places, wanted: &[u8]) -> Result<Look, Cause> {
-        let start = part.low.saturating_mul(ID_BYTES).saturating_add(TABLE_END);
-        let count = part.high.saturating_sub(part.low).saturating_mul(ID_BYTES);
-        let ids = self.file.read_at(self.alloc, start, count)?;
-        Ok(look_in(ids.as_slice(), wanted))
+    // Returns the places to search for an id that is probably at `middle`: the held places, if
+    // `middle` is among them.
+    fn part_for(&self, places: Places, middle: usize) -> Places {
+        let held = self.held;
+        if held.low <= middle
+            && middle < held.high
+            && places.low <= held.low
+            && held.high <= places.high
+        {
+            return held;
+        }
+        let part = part_around(places, middle);
+        let width = held.high.saturating_sub(held.low);
+        let is_next = held.high <= middle
+            && middle.saturating_sub(held.high) <= width.saturating_mul(2);
+        if !is_next {
+            return part;
+        }
+        let high = part
+            .high
+            .saturating_add(width.saturating_mul(2))
+            .min(places.high);
+        Places {
+            low: part.low,
+            high: high.min(part.low.saturating_add(MAX_IDS_READ)),
+        }
     }
 
-    /// The offset of the entry of the object at this place; `None` if it is none. It fails with `Read`
-    /// and `Memory`.
+    // Looks up an id among those at these places.
+    fn look(&mut self, part: Places, wanted: &[u8]) -> Result<Look, Cause> {
+        let count = part
+            .high
+            .saturating_sub(part.low)
+            .min(MAX_IDS_READ)
+            .saturating_mul(ID_BYTES);
+        if part != self.held {
+            self.held = Places { low: 0, high: 0 };
+            if self.buffer.len() < count {
+                self.buffer.resize(count, 0)?;
+            }
+            let start = part.low.saturating_mul(ID_BYTES).saturating_add(TABLE_END);
+            if let Some((front, _rest)) = self.buffer.as_mut_slice().split_at_mut_checked(count) {
+                self.file.fill_at(start, front)?;
+            }
+            self.held = part;
+        }
+        Ok(look_in(self.buffer.get(..count).unwrap_or(b""), wanted))
+    }
+
+    /// Returns the offset of the entry of the object at this place, or `None` if it is not a valid
+    /// offset. Fails with `Read` and `Memory`.
     pub(crate) fn offset(&mut self, place: usize) -> Result<Option<usize>, Cause> {
         let table = self
             .len
@@ -195,7 +246,7 @@ impl<P: OpenPack + Drop, A: Allocator + Copy> IndexFile<P, A> {
         self.long_offset(table, short - LONG)
     }
 
-    // The long offset with this number, of those that begin here.
+    // Returns the long offset with this number from the table that begins here.
     fn long_offset(&mut self, table: usize, number: u32) -> Result<Option<usize>, Cause> {
         let start = (number as usize)
             .saturating_mul(2 * WORD)
@@ -208,7 +259,7 @@ impl<P: OpenPack + Drop, A: Allocator + Copy> IndexFile<P, A> {
     }
 }
 
-// The place at which an id probably is, of these: ids are spread evenly.
+// Returns the likely place of an id among these: ids are evenly distributed.
 fn likely_place(places: Places, wanted: &[u8]) -> usize {
     let next = number_of(wanted.get(1..).unwrap_or(b""));
     let width = places.high.saturating_sub(places.low) as u64;
@@ -218,13 +269,13 @@ fn likely_place(places: Places, wanted: &[u8]) -> usize {
         .saturating_add(usize::try_from(before).unwrap_or(0))
 }
 
-// The place in the middle.
+// Returns the place in the middle.
 fn halfway(places: Places) -> usize {
     let width = places.high.saturating_sub(places.low);
     places.low.saturating_add(width / 2)
 }
 
-// The places around this one, among these.
+// Returns the places around this one, among these.
 fn part_around(places: Places, middle: usize) -> Places {
     let around = if places.high.saturating_sub(places.low) <= FEW {
         NEAR
@@ -237,7 +288,7 @@ fn part_around(places: Places, middle: usize) -> Places {
     }
 }
 
-// Looks for an id among some, which ascend.
+// Looks up an id among ascending ids.
 fn look_in(ids: &[u8], wanted: &[u8]) -> Look {
     let (ids, _rest) = ids.as_chunks::<ID_BYTES>();
     match ids.binary_search_by(|id| id.as_slice().cmp(wanted)) {

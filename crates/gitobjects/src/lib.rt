@@ -1,88 +1,85 @@
-//! The objects of a Git directory, read only (gitrepository-layout(5)): packs through windows,
-//! loose objects, and alternates. This crate knows nothing of refs, graphs or the protocol.
+//! The objects of a Git directory, read-only (gitrepository-layout(5)): packs through windows,
+//! loose objects, and alternates. This crate does not handle refs, graphs or the protocol.
 //!
 //! - An [`ObjectStore`] opens the packs of a directory and finds objects.
-//! - An [`ObjectReader`] reads them, and answers their types. It applies deltas without recursion,
+//! - An [`ObjectReader`] reads them, and returns their types. It applies deltas without recursion,
 //!   and keeps some bases in a bounded cache.
-//! - [`ObjectReader::raw_entry`] answers an entry of a pack as it lies, so that a packer can copy
-//!   it.
-//! - A [`QuickReader`] looks up and reads few objects. It reads indexes by parts, where an
-//!   [`ObjectStore`] reads each as a whole.
+//! - [`ObjectReader::raw_entry`] returns a pack entry unchanged, so that a packer can copy it.
+//! - A [`QuickReader`] looks up and reads a few objects. It reads indexes in parts, while an
+//!   [`ObjectStore`] reads whole indexes.
 //! - [`StoredFiles`] are the files of the system, and [`MemoryFiles`] are files in memory.
 //!
 //! # Proved
 //!
-//! - [`ObjectReader::read_checked`] and [`QuickReader::read_checked`] answer an object only if its id
-//!   is the one that was asked for. The SHA-1 is computed.
-//! - A private part of a read takes the form and the size of an entry from the head with which its
-//!   bytes begin. It inflates the stream to as many bytes as the head says, and to their end. Another
+//! - [`ObjectReader::read_checked`] and [`QuickReader::read_checked`] return an object only if it
+//!   has the requested id. The SHA-1 is computed.
+//! - A private function takes the form and the size of an entry from the head at the start of its
+//!   bytes. It inflates the stream to the size in the head, and to the end of the bytes. Another
 //!   splits the text of a loose object exactly.
-//! - The window on the packs answers the bytes of a pack, where they are known, whatever blocks it
-//!   holds. The blocks of all packs together are 64 at most, of 1 MiB at most.
-//! - A private part says when a folder has to be listed again: unless it was listed twice since its
-//!   names changed.
-//! - The path of a loose object is made of a folder and the digits of the id. The lines of
+//! - The window on the packs returns the bytes of a pack, if they are known, whatever blocks it
+//!   holds. It holds at most 64 blocks for all packs together, each of at most 1 MiB.
+//! - A private function decides when a folder must be listed again: unless it was listed twice
+//!   since its names changed.
+//! - The path of a loose object consists of a folder and the digits of the id. The lines of
 //!   `info/alternates` are read in order.
-//! - The packs that a private part finds in a listing are all those whose index is listed, and no
-//!   others. The name of an index ends in `.idx`, is UTF-8 and has no slash.
-//! - No call panics, overflows or reads out of bounds, and each returns, on any files, also if a
-//!   chain of deltas leads back to itself.
+//! - A private function finds in a listing exactly the packs whose index is listed. The name of an
+//!   index ends in `.idx`, is UTF-8 and has no slash.
+//! - No call panics, overflows or reads out of bounds, and every call returns, whatever the files,
+//!   even if a delta chain is cyclic.
 //!
 //! # Only tested
 //!
-//! The program `gitcases` reads directories that are right, wrong and hostile, while files change and
-//! memory ends. `examples/with-git.sh` reads directories that Git made, in each layout.
+//! The program `gitcases` reads correct, wrong and hostile directories, while files change and
+//! memory runs out. `examples/with-git.sh` reads directories made by Git, in each layout.
 //!
 //! # Differences from Git
 //!
-//! - A pack stays open once it is found. Git opens packs as it needs them, and closes some.
-//! - An object that is not found makes Git list all packs again. Here only the folders are listed
-//!   whose names changed, and each of them once more after that.
-//! - A pack with an index of version 1 is left out, and so is a pack of version 3; Git reads both. A
-//!   multi-pack index, bitmaps and a commit-graph are not read.
-//! - Each pack that is open takes a descriptor. A repository with about a thousand packs needs
-//!   `git gc` first, as the system allows no more.
-//! - If an object is nowhere and a pack was left out, the fault names that pack. Git says that the
+//! - A pack stays open once found. Git opens packs as needed, and closes some.
+//! - If an object is not found, Git lists all packs again. This crate lists only the folders whose
+//!   names changed, and each of them once more after that.
+//! - A pack with an index of version 1 is left out, and so is a pack of version 3; Git reads both.
+//!   A multi-pack index, bitmaps and a commit-graph are not read.
+//! - Each open pack uses a descriptor. A repository with about a thousand packs needs `git gc`
+//!   first, because of the system's limit.
+//! - If an object is missing and a pack was left out, the fault names that pack. Git says that the
 //!   object is missing.
-//! - If a base of a delta is broken in its pack, a copy from another place is taken, as in Git. Here
-//!   the copy has 4 MiB at most, no base of its own is broken, and a chain has 16 such bases at
-//!   most.
+//! - If a delta base is broken in its pack, another copy is used, as in Git. Here the copy has at
+//!   most 4 MiB, none of its own bases is broken, and a chain has at most 16 such bases.
 //! - A path in quotes in `info/alternates`, or one that is not UTF-8, is a fault. Git reads both.
-//! - An alternate that is not there is left out. Git does so, too, and prints an error.
-//! - An entry of a pack must have no byte after its stream. Git does not look for one.
-//! - A pack whose index has an offset outside of the pack is left out as a whole. In Git only the
-//!   object with that offset is broken.
+//! - A missing alternate is left out. Git also does this, and prints an error.
+//! - A pack entry must not have bytes after its stream. Git does not check this.
+//! - A pack whose index has an offset outside the pack is left out entirely. In Git only the object
+//!   with that offset is broken.
 //!
 //! # What the contracts do not rule out
 //!
-//! - [`ObjectReader::read`] trusts the files: it computes no id. A clause cannot say what a file of
-//!   the system has.
-//! - No clause states the object that a whole chain of deltas makes, or the type that
-//!   [`ObjectReader::kind_of`] answers. Each step rests on a contract of `gitpack`.
-//! - No clause says that the other places of a broken object are tried, or that a pack that is
-//!   listed is opened.
-//! - The entry that [`ObjectReader::raw_entry`] answers may be any bytes. Its CRC-32 is compared with
-//!   that of the index, but no clause says so.
-//! - A pack may come in the same tick of the file system's clock as a listing. Then it is not seen
-//!   until the folder changes again, or until [`ObjectReader::refresh`].
-//! - The cache of bases is proved safe only.
-//! - [`ObjectStore::find`], [`ObjectStore::find_in`] and [`ObjectReader::find`] may answer another place
-//!   of an object, or none.
-//!   [`ObjectStore::index`] and [`ObjectStore::starts`] may answer those of another pack, or nothing.
-//! - No clause says from which pack an entry is read, and from which position. Only the window is
-//!   exact.
-//! - A pack may be opened that does not fit its index. Its header, its count and its checksum are
+//! - [`ObjectReader::read`] trusts the files: it does not compute ids. A clause cannot describe the
+//!   contents of a system file.
+//! - No clause states the object that a whole delta chain makes, or the type that
+//!   [`ObjectReader::kind_of`] returns. Each step relies on a contract of `gitpack`.
+//! - No clause says that other copies of a broken object are tried, or that a listed pack is
+//!   opened.
+//! - The entry that [`ObjectReader::raw_entry`] returns may be any bytes. Its CRC-32 is compared
+//!   with the index, but no clause says so.
+//! - A pack may be added in the same tick of the file system's clock as a listing. It is then not
+//!   seen until the folder changes again, or until [`ObjectReader::refresh`].
+//! - Only the safety of the base cache is proved.
+//! - [`ObjectStore::find`], [`ObjectStore::find_in`] and [`ObjectReader::find`] may return a wrong
+//!   place for an object, or none. [`ObjectStore::index`] and [`ObjectStore::starts`] may return
+//!   those of another pack, or nothing.
+//! - No clause says from which pack and position an entry is read. Only the window is exact.
+//! - A pack that does not match its index may be opened. Its header, count and checksum are
 //!   compared, but no clause says so.
-//! - A loose object may be accepted though bytes come after its stream.
-//! - No clause says which alternates are read, from where a relative path begins, or in which order
-//!   packs are opened.
-//! - [`ObjectReader::refresh`] may find nothing new. A folder may be listed more often, or less often,
-//!   than the part says that counts listings.
-//! - [`MemoryFiles`] may answer other bytes than were added.
-//! - A [`QuickReader`] may find no object, say that it holds one that is not there, or answer another
-//!   type than an object has. Its index is not tested as a whole.
-//! - The contracts say nothing of which fault comes, which file it names, or which text it has.
-//! - Any call may fail out of memory, and any file may be refused.
+//! - A loose object may be accepted even if bytes follow its stream.
+//! - No clause says which alternates are read, where a relative path begins, or how the open packs
+//!   are ordered.
+//! - [`ObjectReader::refresh`] may find nothing new. A folder may be listed more or less often than
+//!   the function that decides about listings says.
+//! - [`MemoryFiles`] may return bytes other than those that were added.
+//! - A [`QuickReader`] may find no object, report one that does not exist, or return a wrong type.
+//!   Its index is not checked as a whole.
+//! - The contracts do not cover which fault is returned, which file it names, or its text.
+//! - Any call may fail if out of memory, and any file may be refused.
 //!
 //! # Stands on
 //!

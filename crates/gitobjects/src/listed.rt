@@ -1,4 +1,4 @@
-//! When a folder of packs was listed, and when it must be listed again.
+//! When a pack folder was listed, and when it must be listed again.
 
 ghost use Rattle.std.specs.Prelude.{◌≡◌, ◌≢◌, ◌↔◌, IsTrue, Option};
 ghost use Rattle.gitobjects.specs.Listed.{ListsAgain, Twice};
@@ -6,8 +6,8 @@ ghost use Rattle.gitobjects.specs.declared.files.FolderTime.{FolderTime};
 
 use crate::files::FolderTime;
 
-/// How often a folder was listed since its names changed, and when they did; no time if there is no
-/// such folder.
+/// How often a folder was listed since its names changed, and the time of the change; no time if
+/// there is no such folder.
 #[derive(Clone, Copy, Debug)]
 pub(crate) enum Listed {
     /// It was never listed.
@@ -19,8 +19,8 @@ pub(crate) enum Listed {
 }
 
 impl Listed {
-    /// Whether the folder must be listed again, now that its names changed at this time. It is not
-    /// if it was listed twice since.
+    /// Whether the folder must be listed again, if its names last changed at this time. Returns
+    /// false if it was listed twice since.
     pub(crate) fn is_stale(&self, now: Option<FolderTime>) -> bool
         ensures { IsTrue result ↔ (self.now ≢ Twice now) }
     {
@@ -30,7 +30,8 @@ impl Listed {
         }
     }
 
-    /// The state of the folder once it is listed again, after its names changed at this time.
+    /// Returns the state of the folder after another listing, if its names last changed at this
+    /// time.
     pub(crate) fn again(&self, now: Option<FolderTime>) -> Listed
         ensures { ListsAgain now self.now result }
     {

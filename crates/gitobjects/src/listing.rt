@@ -1,4 +1,4 @@
-//! The names in a folder of packs.
+//! The names in a pack folder.
 
 ghost use Rattle.std.specs.Prelude.{◌++◌, ◌∷◌, [], ℕ, List, IfOk, MatchOption, OnOk, map, string_bytes};
 ghost use Rattle.gitobjects.specs.Listings.{AreListed, AreStems, IsIndexName, IsOtherName};
@@ -7,8 +7,8 @@ use crate::fault::Cause;
 use crate::parts::cut;
 use std::alloc::Allocator;
 
-/// The names of the packs whose index is listed, without the extension, in order. Each name in the
-/// list has a NUL after it.
+/// Returns the names of the packs whose index is listed, without the extension, in order. The
+/// listed names are NUL-terminated.
 pub(crate) fn index_stems<A: Allocator + Copy>(
     alloc: A,
     names: &[u8],
@@ -20,7 +20,7 @@ pub(crate) fn index_stems<A: Allocator + Copy>(
     Ok(stems)
 }
 
-// The same names, in the order of the list.
+// Returns the same names, in listing order.
 fn listed_stems<A: Allocator + Copy>(alloc: A, names: &[u8]) -> Result<Vec<String<A>, A>, Cause>
     ensures { IfOk result (λ stems. AreListed names.now (map string_bytes stems.items)) }
 {
@@ -53,8 +53,8 @@ fn push_stem<A: Allocator + Copy>(
     }
 }
 
-// The name of an index without its extension; `None` if it is no index. Git gives no name that is
-// not UTF-8.
+// Returns the name of an index without its extension, or `None` if it is not an index. All names
+// from Git are UTF-8.
 fn stem_of(name: &[u8]) -> Option<&str>
     ensures { MatchOption result (IsOtherName name.now) (λ stem. IsIndexName stem.now name.now) }
 {

@@ -4,34 +4,34 @@ ghost use Rattle.std.specs.Prelude.{◌<◌};
 
 use gname::Oid;
 
-/// The folders of loose objects that are there. Each is looked for once, when an object is first
-/// looked for that would be in it.
+/// The existing folders of loose objects. Each is looked up once, at the first look-up of an object
+/// that would be in it.
 #[derive(Clone, Copy, Drop)]
 pub struct LooseFolders {
-    // For each first byte of an id whether its folder is there, if it was looked for.
+    // For each first byte of an id, whether its folder exists, if it was looked up.
     are_there: [Option<bool>; 256],
 }
 
 impl LooseFolders {
-    /// No folder was looked for yet.
+    /// Returns a `LooseFolders` before any look-up.
     pub fn new() -> LooseFolders {
         LooseFolders {
             are_there: [None; 256],
         }
     }
 
-    /// Whether the folder of an object with this id is there; `None` if it was not looked for.
+    /// Whether the folder of an object with this id exists, or `None` if it was not looked up.
     pub(crate) fn get(&self, id: &Oid) -> Option<bool> {
         self.are_there[first_byte(id)]
     }
 
-    /// Notes whether the folder of an object with this id is there.
+    /// Records whether the folder of an object with this id exists.
     pub(crate) fn note(&mut self, id: &Oid, is_there: bool) {
         self.are_there[first_byte(id)] = Some(is_there);
     }
 }
 
-// The first byte of an id.
+// Returns the first byte of an id.
 fn first_byte(id: &Oid) -> usize
     ensures { result < 256 }
 {

@@ -1,4 +1,4 @@
-//! Files in memory, so that cases need no disk.
+//! Files in memory, for test cases without a disk.
 
 ghost use Rattle.std.specs.Prelude.{◌≡◌, Some};
 
@@ -14,7 +14,7 @@ struct MemoryFile<A: Allocator + Copy> {
     bytes: Vec<u8, A>,
 }
 
-/// Files in memory, by their paths. A folder is there if a file lies below it.
+/// Files in memory, by path. A folder exists if a file is below it.
 #[derive(Drop)]
 pub struct MemoryFiles<A: Allocator + Copy> {
     alloc: A,
@@ -28,13 +28,13 @@ pub struct MemoryPack<A: Allocator + Copy> {
 }
 
 impl<A: Allocator + Copy> MemoryFiles<A> {
-    /// No files.
+    /// Returns an empty collection of files.
     pub fn new(alloc: A) -> MemoryFiles<A> {
         let files = Vec::new(alloc);
         MemoryFiles { alloc, files }
     }
 
-    /// Adds a file. An earlier one with the same path stays in front of it.
+    /// Adds a file. An earlier file with the same path takes precedence.
     pub fn add(&mut self, path: &str, bytes: &[u8]) -> Result<(), AllocError> {
         let path = String::from_str(self.alloc, path)?;
         let bytes = bytes.to_vec(self.alloc)?;
@@ -42,7 +42,7 @@ impl<A: Allocator + Copy> MemoryFiles<A> {
         Ok(())
     }
 
-    // The bytes of the file with this path; `None` if there is none.
+    // Returns the bytes of the file with this path, or `None` if there is none.
     fn bytes_of(&self, path: &str) -> Option<&[u8]> {
         for file in &self.files {
             if file.path.as_str() == path {
@@ -53,7 +53,7 @@ impl<A: Allocator + Copy> MemoryFiles<A> {
     }
 }
 
-// The rest of a path that lies below a folder; `None` of any other path.
+// Returns the rest of a path below a folder; `None` for any other path.
 fn below<'a>(folder: &str, path: &'a str) -> Option<&'a str> {
     path.strip_prefix(folder)?.strip_prefix("/")
 }
@@ -72,6 +72,19 @@ impl<A: Allocator + Copy> OpenPack for MemoryPack<A> {
         };
         match after.split_at_checked(count) {
             Some((part, _after)) => Ok(part.to_vec(alloc)?),
+            None => Err(Cause::Read(ErrorKind::UnexpectedEof)),
+        }
+    }
+
+    fn fill_at(&mut self, start: usize, buffer: &mut [u8]) -> Result<(), Cause> {
+        let Some((_before, after)) = self.bytes.as_slice().split_at_checked(start) else {
+            return Err(Cause::Read(ErrorKind::UnexpectedEof));
+        };
+        match after.split_at_checked(buffer.len()) {
+            Some((part, _after)) => {
+                buffer.copy_from_slice(part);
+                Ok(())
+            }
             None => Err(Cause::Read(ErrorKind::UnexpectedEof)),
         }
     }
@@ -141,8 +154,8 @@ impl<A: Allocator + Copy> ObjectFiles for MemoryFiles<A> {
         }
     }
 
-    // The seconds are the number of all files, which is another one once a file is added.
-    fn changed(&self, path: &str) -> Result<Option<FolderTime>, Cause> {
+    // The seconds are the number of all files, which changes when a file is added.
+    fn change_time(&self, path: &str) -> Result<Option<FolderTime>, Cause> {
         if self.exists(path)? {
             Ok(Some(FolderTime {
                 seconds: i64::try_from(self.files.len()).unwrap_or(i64::MAX),

@@ -1,4 +1,4 @@
-//! An object that was read.
+//! Objects read from a store.
 
 ghost use Rattle.std.specs.Prelude.{◌≡◌, ◌↔◌, IsTrue, IfOk, MatchOption};
 ghost use Rattle.gitobject.specs.Naming.{id_of, object_text};
@@ -29,7 +29,7 @@ impl<A: Allocator + Copy> Object<A> {
         id_of(self.kind, self.body.as_slice()) == *id
     }
 
-    /// The same object, in another allocator.
+    /// Returns a copy of the object in another allocator.
     pub(crate) fn copy_in<B: Allocator + Copy>(&self, alloc: B) -> Result<Object<B>, AllocError>
         ensures kind { IfOk result (λ copy. copy.kind ≡ self.now.kind) }
         ensures body { IfOk result (λ copy. copy.body.items ≡ self.now.body.items) }
@@ -41,13 +41,13 @@ impl<A: Allocator + Copy> Object<A> {
     }
 }
 
-// The most bytes of the text of a loose object before its body: a type, a length, a space and a
+// The maximum length of the text of a loose object before its body: a type, a length, a space and a
 // NUL.
 const MAX_LOOSE_HEAD: usize = 32;
 
-/// The object in the file of a loose object: one zlib stream of its text, and no byte more.
+/// Returns the object in the file of a loose object: exactly one zlib stream of its text.
 ///
-/// It fails with `Stream`, `Loose` and `Memory`.
+/// Fails with `Stream`, `Loose` and `Memory`.
 pub(crate) fn read_loose<A: Allocator + Copy>(
     alloc: A,
     inflater: &mut Inflater,
@@ -62,10 +62,10 @@ pub(crate) fn read_loose<A: Allocator + Copy>(
     }
 }
 
-/// The type of the object in the file of a loose object that begins with these bytes; `None` if they
-/// do not tell.
+/// Returns the type of a loose object whose file begins with these bytes, or `None` if they do not
+/// show it.
 ///
-/// It fails with `Memory` alone.
+/// Fails only with `Memory`.
 pub(crate) fn loose_kind<A: Allocator + Copy>(
     alloc: A,
     inflater: &mut Inflater,
@@ -79,7 +79,7 @@ pub(crate) fn loose_kind<A: Allocator + Copy>(
     }
 }
 
-// The type with whose word and a space a text begins.
+// Returns the type whose name and a space begin a text.
 fn kind_in(text: &[u8]) -> Option<ObjectType>
     ensures { MatchOption result ((kind : ObjectType) → ¬ (BeginsAsObject text.now kind))
         (BeginsAsObject text.now) }
@@ -107,7 +107,7 @@ fn begins(word: &[u8], text: &[u8]) -> bool
     }
 }
 
-// The object with this text.
+// Returns the object with this text.
 fn object_of<A: Allocator + Copy>(alloc: A, text: &[u8]) -> Result<Object<A>, Cause>
     ensures { IfOk result (λ object. text.now ≡ object_text object.kind object.body.items) }
 {

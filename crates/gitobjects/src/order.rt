@@ -1,10 +1,10 @@
-//! The entries of a pack in the order in which they lie.
+//! The entries of a pack in pack order.
 
 use crate::fault::Cause;
 use gitpack::PackIndex;
 use std::alloc::Allocator;
 
-/// The beginning of an entry in a pack, and its place in the index.
+/// The offset of an entry in a pack, and its place in the index.
 #[derive(Clone, Copy, Debug, Drop)]
 pub struct Start {
     /// The offset of the entry.
@@ -13,10 +13,10 @@ pub struct Start {
     pub place: usize,
 }
 
-// The bytes of the header of a pack.
+// The length of the header of a pack.
 pub(crate) const HEADER: usize = 12;
 
-/// The entries that an index says a pack has, in the order of their offsets.
+/// The entries of a pack according to its index, sorted by offset.
 #[derive(Drop)]
 pub(crate) struct EntryOrder<A: Allocator + Copy> {
     starts: Vec<Start, A>,
@@ -25,8 +25,8 @@ pub(crate) struct EntryOrder<A: Allocator + Copy> {
 }
 
 impl<A: Allocator + Copy> EntryOrder<A> {
-    /// The order in a pack whose entries end here. It fails with `Offset` if an offset of the index
-    /// lies outside of the entries, and with `Memory`.
+    /// Returns the order of a pack whose entries end here. Fails with `Offset` if an offset of the
+    /// index is outside the entries, and with `Memory`.
     pub(crate) fn new(alloc: A, index: &PackIndex<A>, end: usize) -> Result<EntryOrder<A>, Cause> {
         let mut starts = Vec::with_capacity(alloc, index.len())?;
         for place in 0..index.len() {
@@ -37,12 +37,12 @@ impl<A: Allocator + Copy> EntryOrder<A> {
         Ok(EntryOrder { starts, end })
     }
 
-    /// All entries, in order.
+    /// Returns all entries, in order.
     pub(crate) fn starts(&self) -> &[Start] {
         self.starts.as_slice()
     }
 
-    // The number of the entry that begins here.
+    // Returns the number of the entry that begins here.
     fn number_of(&self, offset: usize) -> Option<usize> {
         let search = self
             .starts
@@ -50,13 +50,13 @@ impl<A: Allocator + Copy> EntryOrder<A> {
         search.ok()
     }
 
-    /// The place in the index of the entry that begins here; `None` if none does.
+    /// Returns the place in the index of the entry that begins here, or `None` if none does.
     pub(crate) fn place_of(&self, offset: usize) -> Option<usize> {
         let start = self.starts.get(self.number_of(offset)?)?;
         Some(start.place)
     }
 
-    /// How many bytes the entry has that begins here; `None` if none does.
+    /// Returns the length of the entry that begins here, or `None` if none does.
     pub(crate) fn length_of(&self, offset: usize) -> Option<usize> {
         let number = self.number_of(offset)?;
         let end = match self.starts.get(number.saturating_add(1)) {
@@ -67,8 +67,8 @@ impl<A: Allocator + Copy> EntryOrder<A> {
     }
 }
 
-// The offset at a place of the index, which lies between the header of the pack and the end of its
-// entries.
+// Returns the offset at a place of the index, which must be between the header of the pack and the
+// end of its entries.
 fn offset_of<A: Allocator + Copy>(
     index: &PackIndex<A>,
     place: usize,

@@ -1,4 +1,4 @@
-//! A pack and its index. The index is held in memory; of the packs only blocks are.
+//! A pack and its index. The index is held in memory; only blocks of the packs are.
 
 use crate::entry::RawEntry;
 use crate::fault::{Cause, StoreFault, fault_at};
@@ -13,10 +13,10 @@ use gname::Oid;
 use gzlib::crc32_of;
 use std::alloc::Allocator;
 
-// The bytes of the checksum at the end of a pack.
+// The length of the checksum at the end of a pack.
 const TRAILER: usize = 20;
 
-/// A pack that is open, with its index.
+/// An open pack, with its index.
 #[derive(Drop)]
 pub(crate) struct PackFile<A: Allocator + Copy> {
     path: String<A>,
@@ -35,8 +35,8 @@ pub(crate) enum LocalForm {
     Delta(usize),
 }
 
-/// Opens the pack that has this name in a folder, without its extension, and adds it to the window;
-/// `None` if its index or the pack is not there.
+/// Opens the pack with this name, without its extension, in a folder, and adds it to the window.
+/// Returns `None` if the index or the pack is missing.
 pub(crate) fn open_pack<F: ObjectFiles, A: Allocator + Copy>(
     files: &F,
     alloc: A,
@@ -77,7 +77,7 @@ fn read_index<F: ObjectFiles, A: Allocator + Copy>(
     }
 }
 
-// Opens the pack of an index, and answers its number in the window.
+// Opens the pack of an index, and returns its number in the window.
 fn open_entries<F: ObjectFiles, A: Allocator + Copy>(
     files: &F,
     alloc: A,
@@ -98,7 +98,7 @@ fn open_entries<F: ObjectFiles, A: Allocator + Copy>(
     Ok(Some((number, order)))
 }
 
-// Checks that the header of the pack has the version 2 and the count of the index.
+// Checks that the header of the pack has version 2 and the count of the index.
 fn check_header<P: OpenPack, A: Allocator + Copy>(
     file: &mut P,
     alloc: A,
@@ -114,7 +114,7 @@ fn check_header<P: OpenPack, A: Allocator + Copy>(
     }
 }
 
-// Checks that the pack ends with the checksum that the index has.
+// Checks that the pack ends with the checksum in the index.
 fn check_trailer<P: OpenPack, A: Allocator + Copy>(
     file: &mut P,
     alloc: A,
@@ -131,28 +131,28 @@ fn check_trailer<P: OpenPack, A: Allocator + Copy>(
 }
 
 impl<A: Allocator + Copy> PackFile<A> {
-    /// The path of the pack.
+    /// Returns the path of the pack.
     pub(crate) fn path(&self) -> &str {
         self.path.as_str()
     }
 
-    /// The index.
+    /// Returns the index.
     pub(crate) fn index(&self) -> &PackIndex<A> {
         &self.index
     }
 
-    /// The entries, in the order in which they lie.
+    /// Returns the entries in pack order.
     pub(crate) fn starts(&self) -> &[Start] {
         self.order.starts()
     }
 
-    /// The offset of the entry at a place of the index; `None` past its end.
+    /// Returns the offset of the entry at a place of the index; `None` past its end.
     pub(crate) fn start_of(&self, place: usize) -> Option<usize> {
         usize::try_from(self.index.offset(place)?).ok()
     }
 
-    /// The form of the entry that begins here. It fails with `Head`, and with `Base` if no entry
-    /// begins here or the base is not in the pack.
+    /// Returns the form of the entry that begins here. Fails with `Head`, and with `Base` if no
+    /// entry begins here or the base is not in the pack.
     pub(crate) fn form_at<P: OpenPack + Drop>(
         &self,
         window: &mut Window<P, A>,
@@ -166,7 +166,7 @@ impl<A: Allocator + Copy> PackFile<A> {
         }
     }
 
-    /// All bytes of the entry that begins here. It fails with `Base` if none does, and with
+    /// Returns all bytes of the entry that begins here. Fails with `Base` if none does, and with
     /// `ObjectSize`.
     pub(crate) fn bytes_at<P: OpenPack + Drop>(
         &self,
@@ -180,9 +180,8 @@ impl<A: Allocator + Copy> PackFile<A> {
         window.read(self.number, start, length)
     }
 
-    /// The entry at a place of the index as it lies; `None` past the end of the index. It fails
-    /// with `Crc` if it has another CRC-32 than the index says, with `Head`, and otherwise as
-    /// `bytes_at`.
+    /// Returns the unchanged entry at a place of the index; `None` past the end of the index. Fails
+    /// with `Crc` if its CRC-32 does not match the index, with `Head`, and otherwise as `bytes_at`.
     pub(crate) fn raw_entry<P: OpenPack + Drop>(
         &self,
         window: &mut Window<P, A>,
@@ -202,7 +201,8 @@ impl<A: Allocator + Copy> PackFile<A> {
         Ok(Some(RawEntry { head, base, bytes }))
     }
 
-    // The place in the index of the base of a delta; `None` if the entry is a whole object.
+    // Returns the place in the index of the base of a delta, or `None` if the entry is a whole
+    // object.
     fn base_place(&self, start: usize, form: EntryForm) -> Result<Option<usize>, Cause> {
         match self.local_form(start, form)? {
             LocalForm::Delta(base) => match self.order.place_of(base) {
@@ -220,7 +220,7 @@ impl<A: Allocator + Copy> PackFile<A> {
         }
     }
 
-    // The form of an entry that begins here.
+    // Returns the form of an entry that begins here.
     fn local_form(&self, start: usize, form: EntryForm) -> Result<LocalForm, Cause> {
         let base = match form {
             EntryForm::Whole(kind) => return Ok(LocalForm::Whole(kind)),
@@ -234,12 +234,13 @@ impl<A: Allocator + Copy> PackFile<A> {
         }
     }
 
-    /// The offset of the entry of the object with this id; `None` if it is not in the pack.
+    /// Returns the offset of the entry of the object with this id, or `None` if it is not in the
+    /// pack.
     pub(crate) fn start_of_id(&self, id: &Oid) -> Option<usize> {
         self.start_of(self.index.find(id)?)
     }
 
-    /// The id of the object whose entry begins here; `None` if none does.
+    /// Returns the id of the object whose entry begins here, or `None` if none does.
     pub(crate) fn id_at(&self, start: usize) -> Option<Oid> {
         self.index.id(self.order.place_of(start)?)
     }

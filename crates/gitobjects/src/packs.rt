@@ -11,7 +11,7 @@ use crate::paths::pack_path;
 use crate::window::Window;
 use std::alloc::Allocator;
 
-/// The packs that are open, by their numbers.
+/// The open packs, by number.
 #[derive(Drop)]
 pub(crate) struct Packs<P: OpenPack + Drop, A: Allocator + Copy> {
     alloc: A,
@@ -20,7 +20,7 @@ pub(crate) struct Packs<P: OpenPack + Drop, A: Allocator + Copy> {
 }
 
 impl<P: OpenPack + Drop, A: Allocator + Copy> Packs<P, A> {
-    /// No pack.
+    /// Returns an empty collection of packs.
     pub(crate) fn new(alloc: A) -> Packs<P, A> {
         Packs {
             alloc,
@@ -29,10 +29,10 @@ impl<P: OpenPack + Drop, A: Allocator + Copy> Packs<P, A> {
         }
     }
 
-    /// Lists a folder of packs, unless it was listed twice since its names changed, and answers
-    /// whether it was listed. A pack that can't be opened is left out, with its fault.
+    /// Lists a pack folder, unless it was listed twice since its names changed, and returns whether
+    /// it was listed. A pack that cannot be opened is left out, with its fault.
     ///
-    /// It fails out of memory alone.
+    /// Fails only if out of memory.
     pub(crate) fn list<F: ObjectFiles<Pack = P>>(
         &mut self,
         files: &F,
@@ -47,8 +47,7 @@ impl<P: OpenPack + Drop, A: Allocator + Copy> Packs<P, A> {
         Ok(true)
     }
 
-    // Opens the packs of a folder that are not open yet, and answers the faults of those that are
-    // left out.
+    // Opens the packs of a folder that are not open yet, and returns the faults of those left out.
     fn add_packs<F: ObjectFiles<Pack = P>>(
         &mut self,
         files: &F,
@@ -87,18 +86,18 @@ impl<P: OpenPack + Drop, A: Allocator + Copy> Packs<P, A> {
         self.open.iter().any(|pack| pack.path() == path)
     }
 
-    /// How many packs are open.
+    /// Returns the number of open packs.
     pub(crate) fn len(&self) -> usize {
         self.open.len()
     }
 
-    /// The pack with this number; `None` if there is none.
+    /// Returns the pack with this number, or `None` if there is none.
     pub(crate) fn get(&self, pack: usize) -> Option<&PackFile<A>> {
         self.open.get(pack)
     }
 
-    /// The entry at a place of the index of a pack, as it lies; `None` if there is no such pack or
-    /// place. It fails as [`PackFile::raw_entry`] does.
+    /// Returns the unchanged entry at a place of the index of a pack, or `None` if there is no such
+    /// pack or place. Fails as [`PackFile::raw_entry`] does.
     pub(crate) fn raw_entry(
         &mut self,
         pack: usize,
@@ -110,7 +109,7 @@ impl<P: OpenPack + Drop, A: Allocator + Copy> Packs<P, A> {
         }
     }
 
-    /// All bytes of the entry that begins here. It fails with `Base` if none does.
+    /// Returns all bytes of the entry that begins here. Fails with `Base` if none does.
     pub(crate) fn bytes_at(&mut self, spot: Spot) -> Result<Vec<u8, A>, Cause> {
         match self.open.get(spot.pack) {
             Some(file) => file.bytes_at(&mut self.window, spot.start),
@@ -118,7 +117,7 @@ impl<P: OpenPack + Drop, A: Allocator + Copy> Packs<P, A> {
         }
     }
 
-    /// The form of the entry that begins here. It fails with `Base` if none does.
+    /// Returns the form of the entry that begins here. Fails with `Base` if none does.
     pub(crate) fn form_at(&mut self, spot: Spot) -> Result<LocalForm, Cause> {
         match self.open.get(spot.pack) {
             Some(file) => file.form_at(&mut self.window, spot.start),
@@ -127,19 +126,20 @@ impl<P: OpenPack + Drop, A: Allocator + Copy> Packs<P, A> {
     }
 }
 
-// When the names in a folder of packs last changed; `None` if it is not there, or can't be listed.
+// Returns when the names in a pack folder last changed, or `None` if it is missing or cannot be
+// listed.
 fn time_of<F: ObjectFiles, A: Allocator + Copy>(
     files: &F,
     folder: &str,
 ) -> Result<Option<FolderTime>, StoreFault<A>> {
-    match files.changed(folder) {
+    match files.change_time(folder) {
         Ok(time) => Ok(time),
         Err(Cause::Memory) => Err(StoreFault::Memory),
         Err(_) => Ok(None),
     }
 }
 
-// The names of the packs whose index lies in a folder.
+// Returns the names of the packs whose index is in a folder.
 fn stems_in<F: ObjectFiles, A: Allocator + Copy>(
     files: &F,
     alloc: A,
@@ -149,7 +149,7 @@ fn stems_in<F: ObjectFiles, A: Allocator + Copy>(
     index_stems(alloc, names.as_slice())
 }
 
-// Keeps the fault of a file, if there is one. It fails with any other fault.
+// Keeps the fault of a file, if there is one. Any other fault is returned.
 fn keep_fault<A: Allocator + Copy>(
     faults: &mut Vec<FileFault<A>, A>,
     outcome: Result<(), StoreFault<A>>,

@@ -1,11 +1,11 @@
-//! Texts that are cut at a byte.
+//! Splitting texts at a byte.
 
 ghost use Rattle.std.specs.Prelude.{◌≡◌, ◌≢◌, ◌++◌, ◌∷◌, ◌<◌, All, IfSome, MatchOption, length};
 
 use memchr::memchr;
 
-/// The two parts of a text, before and after the first byte of this value; `None` if there is no
-/// such byte.
+/// Returns the two parts of a text, before and after the first byte of this value, or `None` if
+/// there is no such byte.
 pub(crate) fn cut(byte: u8, text: &[u8]) -> Option<(&[u8], &[u8])>
     ensures parts { MatchOption result (All (λ b. b ≢ byte) text.now)
         (λ parts. All (λ b. b ≢ byte) parts.0.now

@@ -7,7 +7,7 @@ use crate::fault::Cause;
 use gname::{MAX_ID_TEXT, Oid};
 use std::alloc::{AllocError, Allocator};
 
-/// The path of a name in a folder.
+/// Returns the path of a name in a folder.
 pub(crate) fn join<A: Allocator + Copy>(
     alloc: A,
     folder: &str,
@@ -21,7 +21,7 @@ pub(crate) fn join<A: Allocator + Copy>(
     Ok(path)
 }
 
-/// The path of a file in a folder of packs: the name of the pack, and an extension.
+/// Returns the path of a file in a folder of packs: the name of the pack, and an extension.
 pub(crate) fn pack_path<A: Allocator + Copy>(
     alloc: A,
     folder: &str,
@@ -36,7 +36,7 @@ pub(crate) fn pack_path<A: Allocator + Copy>(
     Ok(path)
 }
 
-/// The path of the folder of a loose object in a folder of objects.
+/// Returns the path of the folder of a loose object in a folder of objects.
 pub(crate) fn loose_folder<A: Allocator + Copy>(
     alloc: A,
     folder: &str,
@@ -52,7 +52,7 @@ pub(crate) fn loose_folder<A: Allocator + Copy>(
     Ok(join(alloc, folder, first)?)
 }
 
-/// The path of a loose object in a folder of objects.
+/// Returns the path of a loose object in a folder of objects.
 pub(crate) fn loose_path<A: Allocator + Copy>(
     alloc: A,
     folder: &str,
@@ -69,7 +69,7 @@ pub(crate) fn loose_path<A: Allocator + Copy>(
     Ok(join(alloc, own.as_str(), rest)?)
 }
 
-// The first two digits of an id, and the others; `None` if there are no two.
+// Returns the first two digits of an id, and the others, or `None` if there are fewer than two.
 fn split_digits(digits: &[u8]) -> Option<(&str, &str)>
     ensures { IfSome result (λ parts. (parts.0.now ≡ take 2 digits.now)
         × (parts.1.now ≡ drop 2 digits.now)) }

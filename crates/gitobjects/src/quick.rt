@@ -1,4 +1,4 @@
-//! Reading few objects.
+//! Reading a few objects.
 
 ghost use Rattle.std.specs.Prelude.{◌≡◌, IfOk, IfSome};
 ghost use Rattle.gitobject.specs.Naming.{id_of};
@@ -16,10 +16,10 @@ use gname::Oid;
 use gzlib::Inflater;
 use std::alloc::{AllocError, Allocator};
 
-/// A reader of few objects of a Git directory and of its alternates. No index is read as a whole, so
-/// it costs little to open, and each look-up costs more than one of an [`crate::ObjectReader`].
+/// A reader for a few objects of a Git directory and of its alternates. It reads no whole index. So
+/// it opens quickly, but each look-up costs more than with an [`crate::ObjectReader`].
 ///
-/// Nothing is listed again. An object that it can't find or read may be there all the same.
+/// It does not list folders again. An object that it cannot find or read may still exist.
 #[derive(Drop)]
 pub struct QuickReader<'f, F: ObjectFiles, A: Allocator + Copy> {
     files: &'f F,
@@ -30,10 +30,10 @@ pub struct QuickReader<'f, F: ObjectFiles, A: Allocator + Copy> {
 }
 
 impl<'f, F: ObjectFiles, A: Allocator + Copy> QuickReader<'f, F, A> {
-    /// Opens the objects of the Git directory with this path. A pack that can't be used is left out, and
-    /// so are those of a folder that can't be listed.
+    /// Opens the objects of the Git directory with this path. It leaves out unusable packs, and the
+    /// packs of a folder that cannot be listed.
     ///
-    /// It fails as [`crate::ObjectStore::open`] does.
+    /// Fails as [`crate::ObjectStore::open`] does.
     pub fn open(
         files: &'f F,
         alloc: A,
@@ -43,7 +43,7 @@ impl<'f, F: ObjectFiles, A: Allocator + Copy> QuickReader<'f, F, A> {
         let folders = object_folders(files, alloc, own.as_str())?;
         let mut packs = Vec::new(alloc);
         for folder in &folders {
-            let _listed = known(add_packs(files, alloc, folder.packs.as_str(), &mut packs))?;
+            let _listed = or_unknown(add_packs(files, alloc, folder.packs.as_str(), &mut packs))?;
         }
         Ok(QuickReader {
             files,
@@ -54,27 +54,27 @@ impl<'f, F: ObjectFiles, A: Allocator + Copy> QuickReader<'f, F, A> {
         })
     }
 
-    /// The allocator.
+    /// Returns the allocator.
     pub fn allocator(&self) -> A {
         self.alloc
     }
 
-    /// Whether the object with this id is found. It fails out of memory alone.
+    /// Whether it finds the object with this id. Fails only if out of memory.
     pub fn holds(&mut self, id: &Oid) -> Result<bool, AllocError> {
         for pack in self.packs.iter_mut() {
-            if known(pack.holds(id))? == Some(true) {
+            if or_unknown(pack.holds(id))? == Some(true) {
                 return Ok(true);
             }
         }
         self.holds_loose(id)
     }
 
-    // Whether it is loose.
+    // Whether the object is loose.
     fn holds_loose(&self, id: &Oid) -> Result<bool, AllocError> {
         for folder in &self.folders {
-            let path = known(loose_path(self.alloc, folder.path.as_str(), id))?;
+            let path = or_unknown(loose_path(self.alloc, folder.path.as_str(), id))?;
             if let Some(path) = path {
-                if known(self.files.exists(path.as_str()))? == Some(true) {
+                if or_unknown(self.files.exists(path.as_str()))? == Some(true) {
                     return Ok(true);
                 }
             }
@@ -82,24 +82,24 @@ impl<'f, F: ObjectFiles, A: Allocator + Copy> QuickReader<'f, F, A> {
         Ok(false)
     }
 
-    /// The type of the object with this id; `None` if it is not found. The object is not inflated, as by
-    /// [`crate::ObjectReader::kind_of`]. It fails out of memory alone.
+    /// Returns the type of the object with this id, or `None` if it is not found. The object is not
+    /// inflated, as with [`crate::ObjectReader::kind_of`]. Fails only if out of memory.
     pub fn kind_of(&mut self, id: &Oid) -> Result<Option<ObjectType>, AllocError> {
         for pack in self.packs.iter_mut() {
-            if let Some(Some(kind)) = known(pack.kind_of(id))? {
+            if let Some(Some(kind)) = or_unknown(pack.kind_of(id))? {
                 return Ok(Some(kind));
             }
         }
         self.kind_of_loose(id)
     }
 
-    // Its type, if it is loose.
+    // Returns the type of the object, if it is loose.
     fn kind_of_loose(&mut self, id: &Oid) -> Result<Option<ObjectType>, AllocError> {
         for folder in &self.folders {
-            let path = known(loose_path(self.alloc, folder.path.as_str(), id))?;
+            let path = or_unknown(loose_path(self.alloc, folder.path.as_str(), id))?;
             if let Some(path) = path {
                 let kind = read_kind(self.files, self.alloc, path.as_str(), &mut self.inflater);
-                if let Some(Some(kind)) = known(kind)? {
+                if let Some(Some(kind)) = or_unknown(kind)? {
                     return Ok(Some(kind));
                 }
             }
@@ -107,8 +107,8 @@ impl<'f, F: ObjectFiles, A: Allocator + Copy> QuickReader<'f, F, A> {
         Ok(None)
     }
 
-    /// The object with this id; `None` if it is not found, has another id or is no small object. Its id
-    /// is computed. It fails out of memory alone.
+    /// Returns the object with this id, or `None` if it is not found, has another id or is not
+    /// small. Its id is computed. Fails only if out of memory.
     pub fn read_checked(&mut self, id: &Oid) -> Result<Option<Object<A>>, AllocError>
         ensures { IfOk result (λ found. IfSome found (λ object.
             id_of object.kind object.body.items ≡ id.now)) }
@@ -121,17 +121,17 @@ impl<'f, F: ObjectFiles, A: Allocator + Copy> QuickReader<'f, F, A> {
 
     fn read(&mut self, id: &Oid) -> Result<Option<Object<A>>, AllocError> {
         for pack in self.packs.iter_mut() {
-            if let Some(Some(object)) = known(pack.read(id, &mut self.inflater))? {
+            if let Some(Some(object)) = or_unknown(pack.read(id, &mut self.inflater))? {
                 return Ok(Some(object));
             }
         }
         self.read_loose(id)
     }
 
-    // The object, if it is loose.
+    // Returns the object, if it is loose.
     fn read_loose(&mut self, id: &Oid) -> Result<Option<Object<A>>, AllocError> {
         for folder in &self.folders {
-            let path = known(loose_path(self.alloc, folder.path.as_str(), id))?;
+            let path = or_unknown(loose_path(self.alloc, folder.path.as_str(), id))?;
             if let Some(path) = path {
                 let object = read_loose_file(
                     self.files,
@@ -139,7 +139,7 @@ impl<'f, F: ObjectFiles, A: Allocator + Copy> QuickReader<'f, F, A> {
                     path.as_str(),
                     &mut self.inflater,
                 );
-                if let Some(Some(object)) = known(object)? {
+                if let Some(Some(object)) = or_unknown(object)? {
                     return Ok(Some(object));
                 }
             }
@@ -165,8 +165,8 @@ fn add_packs<F: ObjectFiles, A: Allocator + Copy>(
     Ok(())
 }
 
-// The value that a call answers; `None` at any fault but out of memory.
-fn known<T: Drop>(outcome: Result<T, Cause>) -> Result<Option<T>, AllocError> {
+// Returns the result of a call; `None` on any fault except out of memory.
+fn or_unknown<T: Drop>(outcome: Result<T, Cause>) -> Result<Option<T>, AllocError> {
     match outcome {
         Ok(value) => Ok(Some(value)),
         Err(Cause::Memory) => Err(AllocError),

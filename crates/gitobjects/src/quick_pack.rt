@@ -1,4 +1,4 @@
-//! A pack of which few entries are read.
+//! A pack from which few entries are read.
 
 use crate::fault::Cause;
 use crate::files::{ObjectFiles, OpenPack};
@@ -11,19 +11,21 @@ use gname::Oid;
 use gzlib::{InflateFault, Inflater};
 use std::alloc::Allocator;
 
-// The bytes of the checksum at the end of a pack.
+// The length of the checksum at the end of a pack.
 const TRAILER: usize = 20;
 
-// The most bytes of an object that is read.
+// The maximum size of an object that is read.
 const MAX_TEXT: usize = 131_072;
 
-// The most entries of a chain: a whole object, and as many deltas as git-fast-import(1) makes.
+// The maximum number of entries in a chain: a whole object, and as many deltas as
+// git-fast-import(1) makes.
 const MAX_CHAIN: usize = 8_192;
 
-// How many bytes of an entry are read at first, and how many if these do not have its whole stream.
+// The number of bytes of an entry that are read first, and the number if these lack part of its
+// stream.
 const FRONTS: [usize; 2] = [4_096, MAX_TEXT];
 
-/// A pack that is open, and its index. Only the parts that are needed are read of both.
+/// An open pack and its index. Only the needed parts of both are read.
 #[derive(Drop)]
 pub(crate) struct QuickPack<P: OpenPack + Drop, A: Allocator + Copy> {
     alloc: A,
@@ -33,14 +35,14 @@ pub(crate) struct QuickPack<P: OpenPack + Drop, A: Allocator + Copy> {
     end: usize,
 }
 
-// An entry: its form, and the text of its stream.
+// An entry: its form, and its inflated stream.
 #[derive(Drop)]
 struct QuickEntry<A: Allocator + Copy> {
     form: EntryForm,
     text: Vec<u8, A>,
 }
 
-// An object, or the base of a delta of it.
+// A whole object, or the base of a delta.
 #[derive(Clone, Copy, Debug)]
 enum Below {
     // A whole object of this type.
@@ -49,10 +51,10 @@ enum Below {
     Base(usize),
 }
 
-/// Opens the pack that has this name in a folder, without its extension; `None` if it is not there or
-/// can't be used.
+/// Opens the pack with this name, without its extension, in a folder. Returns `None` if it is
+/// missing or unusable.
 ///
-/// It fails with `Memory` alone.
+/// Fails only with `Memory`.
 pub(crate) fn open_quick<F: ObjectFiles, A: Allocator + Copy>(
     files: &F,
     alloc: A,
@@ -90,12 +92,12 @@ fn open_both<F: ObjectFiles, A: Allocator + Copy>(
 }
 
 impl<P: OpenPack + Drop, A: Allocator + Copy> QuickPack<P, A> {
-    /// Whether the index has the object with this id. It fails with `Read` and `Memory`.
+    /// Whether the index has the object with this id. Fails with `Read` and `Memory`.
     pub(crate) fn holds(&mut self, id: &Oid) -> Result<bool, Cause> {
         Ok(self.index.find(id)?.is_some())
     }
 
-    // The offset of the entry of an object; `None` if it is not there.
+    // Returns the offset of the entry of an object, or `None` if it is not there.
     fn start_of(&mut self, id: &Oid) -> Result<Option<usize>, Cause> {
         match self.index.find(id)? {
             Some(place) => self.index.offset(place),
@@ -103,8 +105,8 @@ impl<P: OpenPack + Drop, A: Allocator + Copy> QuickPack<P, A> {
         }
     }
 
-    /// The type of the object with this id, by the heads of its chain; `None` if it is not there or they
-    /// do not tell. It fails with `Read` and `Memory`.
+    /// Returns the type of the object with this id, from the heads of its chain. Returns `None` if
+    /// it is missing or they do not show the type. Fails with `Read` and `Memory`.
     pub(crate) fn kind_of(&mut self, id: &Oid) -> Result<Option<ObjectType>, Cause> {
         let mut next = self.start_of(id)?;
         for _entry in 0..MAX_CHAIN {
@@ -124,8 +126,8 @@ impl<P: OpenPack + Drop, A: Allocator + Copy> QuickPack<P, A> {
         Ok(None)
     }
 
-    /// The object with this id; `None` if it is not there, too large or broken. It fails with `Read` and
-    /// `Memory`.
+    /// Returns the object with this id, or `None` if it is not there, too large or broken. Fails
+    /// with `Read` and `Memory`.
     pub(crate) fn read(
         &mut self,
         id: &Oid,
@@ -152,13 +154,14 @@ impl<P: OpenPack + Drop, A: Allocator + Copy> QuickPack<P, A> {
         Ok(None)
     }
 
-    // The bytes from here on, so many at most.
+    // Returns at most `most` bytes starting at `start`.
     fn front(&mut self, start: usize, most: usize) -> Result<Vec<u8, A>, Cause> {
         let count = self.end.saturating_sub(start).min(most);
         self.file.read_at(self.alloc, start, count)
     }
 
-    // The thing below an entry of this form that begins here; `None` if it is not in the pack.
+    // Returns what an entry of this form that begins here builds on, or `None` if it is not in the
+    // pack.
     fn below(&mut self, start: usize, form: EntryForm) -> Result<Option<Below>, Cause> {
         let base = match form {
             EntryForm::Whole(kind) => return Ok(Some(Below::Whole(kind))),
@@ -171,7 +174,7 @@ impl<P: OpenPack + Drop, A: Allocator + Copy> QuickPack<P, A> {
         }
     }
 
-    // The entry that begins here; `None` if it is too large or broken.
+    // Returns the entry that begins here, or `None` if it is too large or broken.
     fn entry_at(
         &mut self,
         start: usize,
@@ -190,7 +193,7 @@ impl<P: OpenPack + Drop, A: Allocator + Copy> QuickPack<P, A> {
     }
 }
 
-// The entry with which some bytes begin.
+// Returns the entry at the start of the bytes.
 fn inflate_front<A: Allocator + Copy>(
     alloc: A,
     inflater: &mut Inflater,
@@ -212,8 +215,8 @@ fn inflate_front<A: Allocator + Copy>(
     Ok(QuickEntry { form, text })
 }
 
-// The object that deltas make of a whole one, the last delta of the list first; `None` if one does not
-// fit.
+// Applies deltas to a whole object, the last delta of the list first. Returns the object, or `None`
+// if a delta does not fit.
 fn apply_all<A: Allocator + Copy>(
     alloc: A,
     kind: ObjectType,

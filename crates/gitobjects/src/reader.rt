@@ -14,11 +14,11 @@ use gname::Oid;
 use gzlib::Inflater;
 use std::alloc::{AllocError, Allocator};
 
-/// A reader of the objects of a store. It keeps some of the bases to which deltas were applied.
+/// A reader of the objects of a store. It caches some delta bases.
 ///
 /// A call that does not find an object lists the packs again, as Git may have packed the object
-/// meanwhile. A folder of packs is listed at most twice for each time at which its names changed,
-/// however many objects are not found. [`ObjectReader::refresh`] lists all folders.
+/// meanwhile. A pack folder is listed at most twice after each change of its names, however many
+/// objects are not found. [`ObjectReader::refresh`] lists all folders.
 #[derive(Drop)]
 pub struct ObjectReader<'f, F: ObjectFiles, A: Allocator + Copy> {
     pub(crate) store: ObjectStore<'f, F, A>,
@@ -27,7 +27,7 @@ pub struct ObjectReader<'f, F: ObjectFiles, A: Allocator + Copy> {
 }
 
 impl<'f, F: ObjectFiles, A: Allocator + Copy> ObjectReader<'f, F, A> {
-    /// A reader of a store. It fails out of memory.
+    /// Returns a reader of a store. Fails only if out of memory.
     pub fn new(store: ObjectStore<'f, F, A>) -> Result<ObjectReader<'f, F, A>, AllocError> {
         let cache = BaseCache::new(store.allocator())?;
         Ok(ObjectReader {
@@ -37,22 +37,22 @@ impl<'f, F: ObjectFiles, A: Allocator + Copy> ObjectReader<'f, F, A> {
         })
     }
 
-    /// The store.
+    /// Returns the store.
     pub fn store(&self) -> &ObjectStore<'f, F, A> {
         &self.store
     }
 
-    /// Looks for alternates and packs that came, whenever their folders changed.
+    /// Looks for new alternates and packs, whenever their folders changed.
     ///
-    /// It fails as [`ObjectStore::open`] does. Then the reader still has all packs that it had.
+    /// Fails as [`ObjectStore::open`] does. The reader then still has all its packs.
     pub fn refresh(&mut self) -> Result<(), StoreFault<A>> {
         self.store.reload()
     }
 
-    /// The place of the object with this id; `None` if it is not there.
+    /// Returns the place of the object with this id, or `None` if it is not there.
     ///
-    /// It fails with `Memory`. If the object is not found, it names the first folder that it cannot
-    /// look into. A pack that is left out makes no fault here.
+    /// Fails with `Memory`. If the object is not found, the fault names the first unreadable
+    /// folder. A pack that was left out does not cause a fault here.
     pub fn find(&mut self, id: &Oid) -> Result<Option<Found>, StoreFault<A>> {
         if let Some(found) = self.store.find(id)? {
             return Ok(Some(found));
@@ -63,14 +63,14 @@ impl<'f, F: ObjectFiles, A: Allocator + Copy> ObjectReader<'f, F, A> {
         Ok(None)
     }
 
-    /// The object with this id, as the files have it. Its id is not computed: see
-    /// [`ObjectReader::read_checked`]. If the object is broken in one place, the others are tried,
+    /// Returns the object with this id, trusting the files. Its id is not computed: see
+    /// [`ObjectReader::read_checked`]. If one copy of the object is broken, the others are tried,
     /// as in Git.
     ///
-    /// It fails with `Missing` if the object is nowhere, and no pack is left out. If it is broken in
-    /// each place, it names the first one and the cause. If it is nowhere, it names the first pack
-    /// that is left out and the cause. It fails with `Memory`, too. The reader can be used again
-    /// after each fault.
+    /// Fails with `Missing` if the object is missing and no pack was left out. If every copy is
+    /// broken, the fault names the first one and the cause. If the object is missing, the fault
+    /// names the first pack that was left out and the cause. Also fails with `Memory`. The reader
+    /// can be used again after any fault.
     pub fn read(&mut self, id: &Oid) -> Result<Object<A>, StoreFault<A>> {
         let first = match self.read_listed(id) {
             Ok(Some(object)) => return Ok(object),
@@ -88,10 +88,9 @@ impl<'f, F: ObjectFiles, A: Allocator + Copy> ObjectReader<'f, F, A> {
         }
     }
 
-    /// The object with this id. Its id is computed, and is the one that was asked for.
+    /// Returns the object with this id. Its id is computed and checked.
     ///
-    /// It fails as [`ObjectReader::read`] does, and with the cause `Id` if the object has another
-    /// id.
+    /// Fails as [`ObjectReader::read`] does, and with the cause `Id` if the object has another id.
     pub fn read_checked(&mut self, id: &Oid) -> Result<Object<A>, StoreFault<A>>
         ensures { IfOk result (λ object. id_of object.kind object.body.items ≡ id.now) }
     {
@@ -103,11 +102,11 @@ impl<'f, F: ObjectFiles, A: Allocator + Copy> ObjectReader<'f, F, A> {
         }
     }
 
-    /// The type of the object with this id. Its body is not inflated: the heads of its entry and of
-    /// the bases below tell the type, or the beginning of a loose object does. If none does, the
-    /// object is read.
+    /// Returns the type of the object with this id. Its body is not inflated: the type is in the
+    /// heads of its entry and its bases, or at the start of a loose object. If these do not show
+    /// it, the object is read.
     ///
-    /// It fails as [`ObjectReader::read`] does. An object whose body is broken may have a type.
+    /// Fails as [`ObjectReader::read`] does. An object with a broken body may have a type.
     pub fn kind_of(&mut self, id: &Oid) -> Result<ObjectType, StoreFault<A>> {
         match self.kind_listed(id) {
             Ok(Some(kind)) => Ok(kind),
@@ -116,11 +115,11 @@ impl<'f, F: ObjectFiles, A: Allocator + Copy> ObjectReader<'f, F, A> {
         }
     }
 
-    /// The entry at a place of the index of a pack, as it lies; `None` if there is no such pack or
-    /// place. No other place is tried if it is broken.
+    /// Returns the unchanged entry at a place of the index of a pack, or `None` if there is no such
+    /// pack or place. If it is broken, no other copy is tried.
     ///
-    /// It fails with `Memory`, and otherwise names the pack and the cause. The cause is `Crc` if
-    /// the CRC-32 of the entry is not the one in the index.
+    /// Fails with `Memory`; any other fault names the pack and the cause. The cause is `Crc` if the
+    /// CRC-32 of the entry does not match the index.
     pub fn raw_entry(
         &mut self,
         pack: usize,
@@ -129,11 +128,10 @@ impl<'f, F: ObjectFiles, A: Allocator + Copy> ObjectReader<'f, F, A> {
         self.store.raw_entry(pack, place)
     }
 
-    /// The object that was found here; `None` if it is not there any more. If it is broken here, the
-    /// other places are tried.
+    /// Returns the object found here, or `None` if it no longer exists. If this copy is broken,
+    /// other copies are tried.
     ///
-    /// It fails with `Memory`. If the object is broken in each place, it names the first one and
-    /// the cause.
+    /// Fails with `Memory`. If every copy is broken, the fault names the first one and the cause.
     pub fn read_found(
         &mut self,
         id: &Oid,
@@ -151,8 +149,8 @@ impl<'f, F: ObjectFiles, A: Allocator + Copy> ObjectReader<'f, F, A> {
         self.read_listed(id)
     }
 
-    // The object with this id, from the first place in which it is whole; `None` if it is in no pack
-    // that is open, and not loose. If it is broken in each place, it fails with the first fault.
+    // Returns the first intact copy of the object with this id, or `None` if it is neither in an
+    // open pack nor loose. If every copy is broken, it fails with the first fault.
     fn read_listed(&mut self, id: &Oid) -> Result<Option<Object<A>>, StoreFault<A>> {
         let mut faults = FirstFault::new();
         for pack in 0..self.store.pack_count() {
@@ -171,7 +169,7 @@ impl<'f, F: ObjectFiles, A: Allocator + Copy> ObjectReader<'f, F, A> {
         Ok(None)
     }
 
-    // The object with this id in a pack; `None` if the pack has no such object.
+    // Returns the object with this id in a pack, or `None` if the pack has no such object.
     fn read_in(&mut self, pack: usize, id: &Oid) -> Result<Option<Object<A>>, StoreFault<A>> {
         let Some(start) = self.store.start_in(pack, id) else {
             return Ok(None);
@@ -182,8 +180,8 @@ impl<'f, F: ObjectFiles, A: Allocator + Copy> ObjectReader<'f, F, A> {
         }
     }
 
-    // The type of the object with this id, by heads alone; `None` if no head has it. At any fault
-    // but `Memory` no head has it either.
+    // Returns the type of the object with this id, from heads alone, or `None` if no head shows it.
+    // Any fault except `Memory` is treated as if no head showed it.
     fn kind_listed(&mut self, id: &Oid) -> Result<Option<ObjectType>, Cause> {
         for pack in 0..self.store.pack_count() {
             if let Some(start) = self.store.start_in(pack, id) {

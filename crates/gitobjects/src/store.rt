@@ -21,14 +21,14 @@ use std::alloc::Allocator;
 /// The place of an object.
 #[derive(Clone, Copy, Debug, PartialEq, Eq)]
 pub enum Found {
-    /// In the pack with this number, at this place of its index.
+    /// The object is in the pack with this number, at this place of its index.
     Packed { pack: usize, place: usize },
-    /// Loose, in one of the folders.
+    /// The object is loose in one of the folders.
     Loose,
 }
 
-/// The objects of a Git directory and of its alternates. Its packs are open. A pack keeps its
-/// number.
+/// The objects of a Git directory and of its alternates. Its packs are open. The number of a pack
+/// does not change.
 #[derive(Drop)]
 pub struct ObjectStore<'f, F: ObjectFiles, A: Allocator + Copy> {
     files: &'f F,
@@ -39,12 +39,12 @@ pub struct ObjectStore<'f, F: ObjectFiles, A: Allocator + Copy> {
 }
 
 impl<'f, F: ObjectFiles, A: Allocator + Copy> ObjectStore<'f, F, A> {
-    /// Opens the objects of the Git directory with this path. All of its packs are opened, and no
-    /// object is read. A pack that can't be opened or used is left out, as in Git: see
+    /// Opens the objects of the Git directory with this path. All packs are opened, and no object
+    /// is read. A pack that cannot be opened or used is left out, as in Git: see
     /// [`ObjectStore::left_out`].
     ///
-    /// It fails with `Memory`, and names the folder of objects if it is not there, or the file of
-    /// alternates that it cannot use.
+    /// Fails with `Memory`. Otherwise the fault names the missing object folder, or the unusable
+    /// alternates file.
     pub fn open(
         files: &'f F,
         alloc: A,
@@ -62,20 +62,19 @@ impl<'f, F: ObjectFiles, A: Allocator + Copy> ObjectStore<'f, F, A> {
         Ok(store)
     }
 
-    /// Looks for alternates and packs that came since they were last looked for. The packs that are
-    /// open stay.
+    /// Looks for alternates and packs added since the last look. Open packs stay open.
     ///
-    /// It fails as `open` does. Then the store still has all packs that it had.
+    /// Fails as `open` does. The store then still has all its packs.
     pub fn reload(&mut self) -> Result<(), StoreFault<A>> {
         self.folders = object_folders(self.files, self.alloc, self.own.as_str())?;
         self.list_stale()?;
         Ok(())
     }
 
-    /// Lists the folders of packs that may have other packs than when they were listed, and answers
-    /// whether there is such a folder. A folder is listed at most twice while its names stay.
+    /// Lists the pack folders that may have changed since they were listed, and returns whether
+    /// there is such a folder. A folder is listed at most twice while its names are unchanged.
     ///
-    /// It fails out of memory alone.
+    /// Fails only if out of memory.
     pub(crate) fn list_stale(&mut self) -> Result<bool, StoreFault<A>> {
         let mut is_listed = false;
         for folder in self.folders.iter_mut() {
@@ -86,7 +85,7 @@ impl<'f, F: ObjectFiles, A: Allocator + Copy> ObjectStore<'f, F, A> {
         Ok(is_listed)
     }
 
-    /// The fault of the first pack or folder of packs that is left out; `None` if none is.
+    /// Returns the fault of the first pack or pack folder that was left out, or `None` if none was.
     pub fn left_out(&self) -> Option<&FileFault<A>> {
         for folder in &self.folders {
             if let Some(fault) = folder.left_out.first() {
@@ -96,7 +95,7 @@ impl<'f, F: ObjectFiles, A: Allocator + Copy> ObjectStore<'f, F, A> {
         None
     }
 
-    /// The fault of an object that is found nowhere: that of a pack that is left out, if one is.
+    /// Returns the fault of a missing object: that of a pack that was left out, if there is one.
     pub(crate) fn missing(&self, id: &Oid) -> StoreFault<A> {
         match self.left_out() {
             Some(fault) => fault_at(self.alloc, fault.path.as_str(), fault.cause),
@@ -104,17 +103,17 @@ impl<'f, F: ObjectFiles, A: Allocator + Copy> ObjectStore<'f, F, A> {
         }
     }
 
-    /// The allocator.
+    /// Returns the allocator.
     pub fn allocator(&self) -> A {
         self.alloc
     }
 
-    /// How many packs are open.
+    /// Returns the number of open packs.
     pub fn pack_count(&self) -> usize {
         self.packs.len()
     }
 
-    /// The index of a pack; `None` if there is no pack with this number.
+    /// Returns the index of a pack, or `None` if there is no pack with this number.
     pub fn index(&self, pack: usize) -> Option<&PackIndex<A>> {
         match self.packs.get(pack) {
             Some(file) => Some(file.index()),
@@ -122,8 +121,7 @@ impl<'f, F: ObjectFiles, A: Allocator + Copy> ObjectStore<'f, F, A> {
         }
     }
 
-    /// The entries of a pack in the order in which they lie; none if there is no pack with this
-    /// number.
+    /// Returns the entries of a pack in pack order; none if there is no pack with this number.
     pub fn starts(&self, pack: usize) -> &[Start] {
         match self.packs.get(pack) {
             Some(file) => file.starts(),
@@ -131,11 +129,11 @@ impl<'f, F: ObjectFiles, A: Allocator + Copy> ObjectStore<'f, F, A> {
         }
     }
 
-    /// The place of the object with this id; `None` if it is not there. Packs come before loose
-    /// objects. Nothing is listed again.
+    /// Returns the place of the object with this id, or `None` if it is not there. Packs are
+    /// searched before loose objects. Folders are not listed again.
     ///
-    /// It fails with `Memory`. If the object is not found, it names the first folder that it cannot
-    /// look into.
+    /// Fails with `Memory`. If the object is not found, the fault names the first unreadable
+    /// folder.
     pub fn find(&self, id: &Oid) -> Result<Option<Found>, StoreFault<A>> {
         match self.find_packed(id) {
             Some(found) => Ok(Some(found)),
@@ -143,7 +141,7 @@ impl<'f, F: ObjectFiles, A: Allocator + Copy> ObjectStore<'f, F, A> {
         }
     }
 
-    // The same, if the object is loose.
+    // Returns the place of the object, if it is loose.
     fn find_loose(&self, id: &Oid) -> Result<Option<Found>, StoreFault<A>> {
         let mut faults = FirstFault::new();
         for folder in &self.folders {
@@ -157,8 +155,9 @@ impl<'f, F: ObjectFiles, A: Allocator + Copy> ObjectStore<'f, F, A> {
         Ok(None)
     }
 
-    /// The place of the object with this id, as by [`ObjectStore::find`]. A loose object is looked for
-    /// only if its folder was there when that was first looked for.
+    /// Returns the place of the object with this id, as [`ObjectStore::find`] does. `folders`
+    /// records whether each folder of loose objects existed at its first look-up. If it did not,
+    /// loose objects are not looked up there.
     pub fn find_in(
         &self,
         id: &Oid,
@@ -174,8 +173,8 @@ impl<'f, F: ObjectFiles, A: Allocator + Copy> ObjectStore<'f, F, A> {
         }
     }
 
-    // Whether the folder of a loose object with this id was there. One that can't be looked for
-    // counts as there.
+    // Whether the folder of a loose object with this id existed. A folder that cannot be looked up
+    // counts as existing.
     fn has_folder(&self, id: &Oid, folders: &mut LooseFolders) -> Result<bool, StoreFault<A>> {
         if let Some(is_there) = folders.get(id) {
             return Ok(is_there);
@@ -199,7 +198,7 @@ impl<'f, F: ObjectFiles, A: Allocator + Copy> ObjectStore<'f, F, A> {
         Ok(false)
     }
 
-    // The first pack that has the object.
+    // Returns the first pack that has the object.
     fn find_packed(&self, id: &Oid) -> Option<Found> {
         for pack in 0..self.packs.len() {
             if let Some(place) = self.place_in(pack, id) {
@@ -209,7 +208,7 @@ impl<'f, F: ObjectFiles, A: Allocator + Copy> ObjectStore<'f, F, A> {
         None
     }
 
-    // The place of the object in the index of a pack.
+    // Returns the place of the object in the index of a pack.
     fn place_in(&self, pack: usize, id: &Oid) -> Option<usize> {
         self.packs.get(pack)?.index().find(id)
     }
@@ -225,11 +224,11 @@ impl<'f, F: ObjectFiles, A: Allocator + Copy> ObjectStore<'f, F, A> {
         }
     }
 
-    /// The entry at a place of the index of a pack, as it lies; `None` if there is no such pack or
-    /// place.
+    /// Returns the unchanged entry at a place of the index of a pack, or `None` if there is no such
+    /// pack or place.
     ///
-    /// It fails with `Memory`, and otherwise names the pack and the cause. The cause is `Crc` if
-    /// the CRC-32 of the entry is not the one in the index.
+    /// Fails with `Memory`; any other fault names the pack and the cause. The cause is `Crc` if the
+    /// CRC-32 of the entry does not match the index.
     pub fn raw_entry(
         &mut self,
         pack: usize,
@@ -241,24 +240,24 @@ impl<'f, F: ObjectFiles, A: Allocator + Copy> ObjectStore<'f, F, A> {
         }
     }
 
-    /// The offset of the entry at a place of the index of a pack; `None` if there is no such pack
-    /// or place.
+    /// Returns the offset of the entry at a place of the index of a pack, or `None` if there is no
+    /// such pack or place.
     pub(crate) fn start_of(&self, pack: usize, place: usize) -> Option<usize> {
         self.packs.get(pack)?.start_of(place)
     }
 
-    /// The offset of the entry of the object with this id in a pack; `None` if the pack has no such
-    /// object.
+    /// Returns the offset of the entry of the object with this id in a pack, or `None` if the pack
+    /// has no such object.
     pub(crate) fn start_in(&self, pack: usize, id: &Oid) -> Option<usize> {
         self.packs.get(pack)?.start_of_id(id)
     }
 
-    /// The id of the object whose entry begins here; `None` if none does.
+    /// Returns the id of the object whose entry begins here, or `None` if none does.
     pub(crate) fn id_at(&self, spot: Spot) -> Option<Oid> {
         self.packs.get(spot.pack)?.id_at(spot.start)
     }
 
-    /// The form of the entry that begins here, and its inflated stream.
+    /// Returns the form of the entry that begins here, and its inflated stream.
     pub(crate) fn inflate_at(
         &mut self,
         spot: Spot,
@@ -268,12 +267,12 @@ impl<'f, F: ObjectFiles, A: Allocator + Copy> ObjectStore<'f, F, A> {
         inflate_entry(self.alloc, inflater, bytes.as_slice())
     }
 
-    /// The form of the entry that begins here.
+    /// Returns the form of the entry that begins here.
     pub(crate) fn form_at(&mut self, spot: Spot) -> Result<LocalForm, Cause> {
         self.packs.form_at(spot)
     }
 
-    /// How many objects a pack has; 0 if there is no such pack.
+    /// Returns the number of objects in a pack; 0 if there is no such pack.
     pub(crate) fn object_count(&self, pack: usize) -> usize {
         match self.packs.get(pack) {
             Some(file) => file.index().len(),
@@ -281,7 +280,7 @@ impl<'f, F: ObjectFiles, A: Allocator + Copy> ObjectStore<'f, F, A> {
         }
     }
 
-    /// The fault of a pack.
+    /// Returns the fault of a pack.
     pub(crate) fn fault_in(&self, pack: usize, cause: Cause) -> StoreFault<A> {
         match self.packs.get(pack) {
             Some(file) => fault_at(self.alloc, file.path(), cause),
@@ -289,7 +288,7 @@ impl<'f, F: ObjectFiles, A: Allocator + Copy> ObjectStore<'f, F, A> {
         }
     }
 
-    /// The fault of the object with this id, where it is found.
+    /// Returns the fault of the object with this id, with its location.
     pub(crate) fn fault_of(&self, id: &Oid, cause: Cause) -> StoreFault<A> {
         if let Some(Found::Packed { pack, .. }) = self.find_packed(id) {
             return self.fault_in(pack, cause);
@@ -300,10 +299,9 @@ impl<'f, F: ObjectFiles, A: Allocator + Copy> ObjectStore<'f, F, A> {
         }
     }
 
-    /// The loose object with this id; `None` if no folder has it.
+    /// Returns the loose object with this id, or `None` if no folder has it.
     ///
-    /// It fails with `Memory`. If the object is whole in no folder, it names the first file that is
-    /// broken.
+    /// Fails with `Memory`. If no folder has an intact copy, the fault names the first broken file.
     pub(crate) fn read_loose(
         &self,
         id: &Oid,
@@ -337,10 +335,10 @@ impl<'f, F: ObjectFiles, A: Allocator + Copy> ObjectStore<'f, F, A> {
         }
     }
 
-    /// The type of the loose object with this id, by its beginning; `None` if no folder has one with a
-    /// type.
+    /// Returns the type of the loose object with this id, from its beginning, or `None` if no
+    /// folder has one with a type.
     ///
-    /// It fails with `Memory` alone.
+    /// Fails only with `Memory`.
     pub(crate) fn kind_of_loose(
         &self,
         id: &Oid,
@@ -358,7 +356,7 @@ impl<'f, F: ObjectFiles, A: Allocator + Copy> ObjectStore<'f, F, A> {
     }
 }
 
-/// The loose object in a file; `None` if there is no such file.
+/// Returns the loose object in a file, or `None` if there is no such file.
 pub(crate) fn read_loose_file<F: ObjectFiles, A: Allocator + Copy>(
     files: &F,
     alloc: A,
@@ -371,8 +369,8 @@ pub(crate) fn read_loose_file<F: ObjectFiles, A: Allocator + Copy>(
     }
 }
 
-/// The type of the loose object in a file; `None` if there is no such file, or its beginning does
-/// not tell.
+/// Returns the type of the loose object in a file. Returns `None` if there is no such file, or its
+/// beginning does not show the type.
 pub(crate) fn read_kind<F: ObjectFiles, A: Allocator + Copy>(
     files: &F,
     alloc: A,

@@ -17,13 +17,13 @@ pub struct StoredFiles<'r, R: Files> {
 }
 
 impl<'r, R: Files> StoredFiles<'r, R> {
-    /// The files that this runtime reaches.
+    /// Returns the files that this runtime can access.
     pub fn new(files: &'r R) -> StoredFiles<'r, R> {
         StoredFiles { files }
     }
 }
 
-/// A pack that is open.
+/// An open pack.
 #[derive(Drop)]
 pub struct StoredPack<H: Read + Seek + Drop> {
     file: H,
@@ -43,9 +43,19 @@ impl<H: Read + Seek + Drop> OpenPack for StoredPack<H> {
             Err(error) => Err(Cause::read(&error)),
         }
     }
+
+    fn fill_at(&mut self, start: usize, buffer: &mut [u8]) -> Result<(), Cause> {
+        if let Err(error) = self.file.seek(SeekFrom::Start(start as u64)) {
+            return Err(Cause::read(&error));
+        }
+        match self.file.read_exact(buffer) {
+            Ok(()) => Ok(()),
+            Err(error) => Err(Cause::read(&error)),
+        }
+    }
 }
 
-// The next bytes of a file, so many.
+// Reads the next `count` bytes of a file.
 fn read_bytes<H: Read, A: Allocator + Copy>(
     alloc: A,
     file: &mut H,
@@ -61,12 +71,12 @@ fn read_bytes<H: Read, A: Allocator + Copy>(
     }
 }
 
-// Whether the error says that there is no such file.
+// Whether the error means that there is no such file.
 fn is_missing(kind: ErrorKind) -> bool {
     kind == ErrorKind::NotFound || kind == ErrorKind::NotADirectory
 }
 
-// Whether a path is that of something that is neither a file nor a folder.
+// Whether a path names something other than a file or a folder.
 fn is_special<R: Files>(files: &R, path: &str) -> bool {
     match files.metadata(path) {
         Ok(metadata) => !metadata.is_file() && !metadata.is_dir(),
@@ -74,8 +84,8 @@ fn is_special<R: Files>(files: &R, path: &str) -> bool {
     }
 }
 
-// Opens a file, and answers its length too; `None` if there is none. A pipe is not opened, since that
-// might wait for ever.
+// Opens a file, and returns it with its length, or `None` if there is none. A pipe is not opened,
+// since that might block forever.
 fn open_file<R: Files>(files: &R, path: &str) -> Result<Option<(R::File, usize)>, Cause> {
     if is_special(files, path) {
         return Err(Cause::Open(ErrorKind::Unsupported));
@@ -94,12 +104,12 @@ fn open_file<R: Files>(files: &R, path: &str) -> Result<Option<(R::File, usize)>
     }
 }
 
-// The most bytes of names that are read at a time, and how often.
+// The maximum number of bytes of names read at a time, and the maximum number of reads.
 const PART: usize = 16_384;
 
 const MAX_PARTS: usize = MAX_NAMES / 256;
 
-// All names of an open folder.
+// Returns all names of an open folder.
 fn read_names<D: Read, A: Allocator + Copy>(alloc: A, folder: &mut D) -> Result<Vec<u8, A>, Cause> {
     let mut names = Vec::new(alloc);
     let mut part = [0; PART];
@@ -176,7 +186,7 @@ impl<R: Files> ObjectFiles for StoredFiles<'_, R> {
         }
     }
 
-    fn changed(&self, path: &str) -> Result<Option<FolderTime>, Cause> {
+    fn change_time(&self, path: &str) -> Result<Option<FolderTime>, Cause> {
         match self.files.metadata(path) {
             Ok(metadata) => Ok(Some(FolderTime {
                 seconds: metadata.mtime(),

@@ -1,5 +1,4 @@
-//! A window on the packs that are open: blocks of them that were read last, so that no pack is held
-//! as a whole.
+//! A window on the open packs: the blocks read last, so that no whole pack is held.
 
 ghost use Rattle.std.specs.Prelude.{◌≡◌, ◌+◌, ◌≤◌, ◌<◌, ◌++◌, ◌∷◌, [], ℕ, List, Option, IfOk, IfSome, OnErr, OnOk, OnSome, take, drop, length, map, vec_len};
 ghost use Rattle.gitobjects.specs.Windows.{AreBlocks, IsBlock, IsPartOf};
@@ -10,14 +9,14 @@ use crate::limits::{BLOCK, BLOCKS};
 use std::alloc::{AllocError, Allocator};
 use std::marker::Model;
 
-/// A pack that is open, and where it ends.
+/// An open pack, and its end.
 #[derive(Drop)]
 pub(crate) struct Opened<P: OpenPack + Drop> {
     file: P,
     end: usize,
 }
 
-/// A block of a pack: the number of the pack, where the block begins, and its bytes.
+/// A block of a pack: the number of the pack, the offset of the block, and its bytes.
 #[derive(Drop)]
 pub(crate) struct Block<A: Allocator + Copy> {
     pub(crate) pack: usize,
@@ -25,13 +24,12 @@ pub(crate) struct Block<A: Allocator + Copy> {
     pub(crate) bytes: Vec<u8, A>,
 }
 
-/// The packs that are open, by their numbers, and the blocks of all of them that were read last.
-/// The blocks have 64 MiB at most.
+/// The open packs, by number, and their blocks that were read last. The blocks have at most 64 MiB.
 #[derive(Drop)]
 pub(crate) struct Window<P: OpenPack + Drop, A: Allocator + Copy> {
     alloc: A,
     packs: Vec<Opened<P>, A>,
-    // The oldest comes first.
+    // The oldest block is first.
     blocks: Vec<Block<A>, A>,
 }
 
@@ -39,7 +37,7 @@ impl<P: OpenPack + Drop, A: Allocator + Copy> Model for Window<P, A> {
     ghost use Rattle.std.specs.Prelude.{ℕ, List, Option, map};
     ghost use Rattle.gitobjects.specs.Windows.{AreBlocks};
 
-    // The bytes of each pack, where they are known.
+    // The bytes of each pack, if they are known.
     ghost Value = { List (Option (List ℕ)) };
 
     ghost view = { λ w. map (λ opened. P.bytes opened.file) w.packs.items };
@@ -49,7 +47,7 @@ impl<P: OpenPack + Drop, A: Allocator + Copy> Model for Window<P, A> {
 }
 
 impl<P: OpenPack + Drop, A: Allocator + Copy> Window<P, A> {
-    /// A window on no pack.
+    /// Returns a window without packs.
     pub(crate) fn new(alloc: A) -> Window<P, A>
         ensures { result ≡ [] }
     {
@@ -60,7 +58,7 @@ impl<P: OpenPack + Drop, A: Allocator + Copy> Window<P, A> {
         }
     }
 
-    /// Adds an open pack that ends here, and answers its number. It fails only out of memory.
+    /// Adds an open pack that ends here, and returns its number. Fails only if out of memory.
     pub(crate) fn add(&mut self, file: P, end: usize) -> Result<usize, AllocError>
         ensures number { IfOk result (λ number. number ≡ length self.old) }
         ensures ok { OnOk result (self.new ≡ self.old ++ P.bytes file ∷ []) }
@@ -71,8 +69,8 @@ impl<P: OpenPack + Drop, A: Allocator + Copy> Window<P, A> {
         Ok(number)
     }
 
-    /// So many bytes of a pack from a place on. It fails with `Offset` if the pack ends before or
-    /// there is no pack with this number, with `Read`, and with `Memory`.
+    /// Returns `count` bytes of a pack starting at `start`. Fails with `Offset` if the pack is too
+    /// short or there is no pack with this number, with `Read`, and with `Memory`.
     pub(crate) fn read(
         &mut self,
         pack: usize,
@@ -103,7 +101,7 @@ impl<P: OpenPack + Drop, A: Allocator + Copy> Window<P, A> {
         self.block_at(pack, first).is_some()
     }
 
-    // The block of a pack that begins here; `None` if it is not held.
+    // Returns the block of a pack that begins here, or `None` if it is not held.
     fn block_at(&self, pack: usize, first: usize) -> Option<&[u8]>
         ensures { IfSome result (λ bytes. IsPartOf self.now pack first bytes.now) }
     {
@@ -127,7 +125,7 @@ impl<P: OpenPack + Drop, A: Allocator + Copy> Window<P, A> {
         push_block(&mut self.blocks, Block { pack, first, bytes })
     }
 
-    // The end of a pack; 0 if there is no pack with this number.
+    // Returns the length of a pack; 0 if there is no pack with this number.
     fn end_of(&self, pack: usize) -> usize {
         match self.packs.get(pack) {
             Some(opened) => opened.end,
@@ -135,7 +133,7 @@ impl<P: OpenPack + Drop, A: Allocator + Copy> Window<P, A> {
         }
     }
 
-    // Reads so many bytes of a pack from a place on.
+    // Reads `count` bytes of a pack starting at `start`.
     fn load(&mut self, pack: usize, start: usize, count: usize) -> Result<Vec<u8, A>, Cause>
         ensures part { IfOk result (λ bytes. IsPartOf self.old pack start bytes.items) }
         ensures count { IfOk result (λ bytes. vec_len bytes ≡ count) }
@@ -146,7 +144,7 @@ impl<P: OpenPack + Drop, A: Allocator + Copy> Window<P, A> {
     }
 }
 
-// Reads so many bytes of one of these packs from a place on.
+// Reads `count` bytes of one of these packs starting at `start`.
 fn read_part<P: OpenPack + Drop, A: Allocator + Copy>(
     packs: &mut Vec<Opened<P>, A>,
     alloc: A,
@@ -170,7 +168,7 @@ fn read_part<P: OpenPack + Drop, A: Allocator + Copy>(
     packs[pack].file.read_at(alloc, start, count)
 }
 
-// Adds a block, and gives up the oldest one if there are too many.
+// Adds a block, and drops the oldest one if there are too many.
 fn push_block<A: Allocator + Copy>(
     blocks: &mut Vec<Block<A>, A>,
     block: Block<A>,
@@ -183,7 +181,7 @@ fn push_block<A: Allocator + Copy>(
     Ok(())
 }
 
-// Gives up the oldest block if there are too many.
+// Drops the oldest block if there are too many.
 fn make_room<A: Allocator + Copy>(blocks: &mut Vec<Block<A>, A>)
     ensures blocks { (packs : List (Option (List ℕ)))
         → AreBlocks packs blocks.old.items → AreBlocks packs blocks.new.items }
@@ -195,7 +193,7 @@ fn make_room<A: Allocator + Copy>(blocks: &mut Vec<Block<A>, A>)
     let _oldest = blocks.remove(0);
 }
 
-// So many bytes from a place on; `None` if there are fewer.
+// Returns `count` bytes starting at `offset`, or `None` if there are fewer.
 fn inner_part(bytes: &[u8], offset: usize, count: usize) -> Option<&[u8]>
     ensures part { IfSome result (λ part. part.now ≡ take count (drop offset bytes.now)) }
     ensures count { IfSome result (λ part. length part.now ≡ count) }

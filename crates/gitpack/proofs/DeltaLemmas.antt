@@ -3,7 +3,7 @@ use Rattle.std.proofs.Common.{◌≡◌, ◌≢◌, ◌==◌, inl, inr, true, eq
 use Rattle.std.proofs.lemmas.List.{append-nil}
 use Rattle.std.proofs.Math.Nat.{pow-le-pow_right, pow-succ'}
 use Rattle.gitpack.specs.Numbers.{IsSize, low_first}
-use Rattle.gitpack.specs.Deltas.{BeginsWithInstruction, Copy, Fits, Insert, Instruction, IsCopy, IsDelta, IsInstruction, IsSparse, Keeps, Makes, added, copied, number_of}
+use Rattle.gitpack.specs.Deltas.{BeginsWithInstruction, Copy, Fits, Insert, Instruction, IsCopy, IsDelta, IsInstruction, IsSparse, Keeps, Makes, add_instruction, copy_size, number_of}
 use Rattle.gitpack.proofs.NumberLemmas.{number_once}
 use Rattle.gitpack.proofs.EntryLemmas.{same_fronts}
 
@@ -115,7 +115,7 @@ module _ (command : ℕ) (bytes : List ℕ) where
         let same = sparse_once command 4 offset o front is.offset_text after (is.size_text ++ rest) from other (sym cut ∙ both.1) in
         none is.size_number is.size_text rest count same.1
 
-    pub copy_read : (number size : ℕ) (back rest : List ℕ) → 128 ≤ command → IsSparse (command / 16) 3 number back → after ≡ back ++ rest → size ≡ copied number
+    pub copy_read : (number size : ℕ) (back rest : List ℕ) → 128 ≤ command → IsSparse (command / 16) 3 number back → after ≡ back ++ rest → size ≡ copy_size number
         → (t : List ℕ) × IsCopy offset size t × (command ∷ bytes ≡ t ++ rest)
     copy_read number size back rest high count parts sized = (
       command ∷ (front ++ back),
@@ -141,7 +141,7 @@ copies_once o s p z t u x y one two is =
     let count = subst (λ c. IsSparse (c / 16) 3 two.size_number two.size_text) (sym heads) two.count in
     let front = sparse_once one.command 4 o p one.offset_text two.offset_text (one.size_text ++ x) (two.size_text ++ y) one.from from tails in
     let back = sparse_once (one.command / 16) 3 one.size_number two.size_number one.size_text two.size_text x y one.count count front.1 in
-    record { offsets = front.0; sizes = one.sized ∙ ap copied back.0 ∙ sym two.sized; rest = back.1 }
+    record { offsets = front.0; sizes = one.sized ∙ ap copy_size back.0 ∙ sym two.sized; rest = back.1 }
 
 pub instructions_once : (i j : Instruction) (t u x y : List ℕ) → IsInstruction i t → IsInstruction j u → t ++ x ≡ u ++ y → (i ≡ j) × (x ≡ y)
 instructions_once (Copy o s) (Copy p z) t u x y one two is =
@@ -171,7 +171,7 @@ begins_once base text i j x y one two = instructions_once i j one.front two.fron
 module _ (base text : List ℕ) (command : ℕ) (after : List ℕ) (parts : text ≡ command ∷ after) where
   -- a copy that is read
   pub copy_found : (o s : ℕ) (t rest part : List ℕ) → IsCopy o s t → command ∷ after ≡ t ++ rest → o + s ≤ length base → part ≡ take s (drop o base)
-      → (i : Instruction) × BeginsWithInstruction base text i rest × (part ≡ added base i)
+      → (i : Instruction) × BeginsWithInstruction base text i rest × (part ≡ add_instruction base i)
   copy_found o s t rest part is cut fits same = (Copy o s, record { front = t; spelt = is; fits = fits; parts = parts ∙ cut }, same)
 
   -- one that does not lie within the base
@@ -198,7 +198,7 @@ module _ (base text : List ℕ) (command : ℕ) (after : List ℕ) (parts : text
       let k = length-append is.0 other in absurd (omega (arith, short, n, m, k))
 
   pub insertion_found : command ≢ 0 → command < 128 → (bytes rest : List ℕ) → length bytes ≡ command → after ≡ bytes ++ rest
-      → (i : Instruction) × BeginsWithInstruction base text i rest × (bytes ≡ added base i)
+      → (i : Instruction) × BeginsWithInstruction base text i rest × (bytes ≡ add_instruction base i)
   insertion_found some low bytes rest long cut = (
     Insert bytes,
     record {
@@ -227,25 +227,25 @@ begins_following base commands size = record { within = omega arith; whole = λ 
 
 -- the first of some instructions is the one that is read
 first_is : (base rest after : List ℕ) (i : Instruction) → BeginsWithInstruction base rest i after
-    → (is : List Instruction) (made : List ℕ) → Makes base is rest made → (js : List Instruction) × (more : List ℕ) × Makes base js after more × (made ≡ added base i ++ more)
+    → (is : List Instruction) (made : List ℕ) → Makes base is rest made → (js : List Instruction) × (more : List ℕ) × Makes base js after more × (made ≡ add_instruction base i ++ more)
 first_is base rest after i b [] made h =
     let some = instruction_some i b.front b.spelt in
     let n = ap length (sym h.0 ∙ b.parts) in
     let m = length-append b.front after in absurd (omega (arith, some, n, m))
 first_is base rest after i b (j ∷ is) made h =
     let both = begins_once base rest i j after h.0 b h.2 in
-    (is, h.1, subst (λ l. Makes base is l h.1) (sym both.1) h.4, h.3 ∙ ap (λ k. added base k ++ h.1) (sym both.0))
+    (is, h.1, subst (λ l. Makes base is l h.1) (sym both.1) h.4, h.3 ∙ ap (λ k. add_instruction base k ++ h.1) (sym both.0))
 
 pub follows_more : (base commands rest after body new part : List ℕ) (size : ℕ) (i : Instruction) → Follows base commands rest body size
-    → BeginsWithInstruction base rest i after → part ≡ added base i → length part ≤ size - length body → new ≡ body ++ part → Follows base commands after new size
+    → BeginsWithInstruction base rest i after → part ≡ add_instruction base i → length part ≤ size - length body → new ≡ body ++ part → Follows base commands after new size
 follows_more base commands rest after body new part size i f b is short grown =
     let inside = f.within in
     let n = ap length grown in
     let m = length-append body part in record {
       within = omega (arith, short, inside, n, m);
       whole = λ is' more h.
-          let w = f.whole (i ∷ is') (added base i ++ more) (after, more, b, refl, h) in
-          let same : body ++ (added base i ++ more) ≡ new ++ more = ap (λ l. body ++ (l ++ more)) (sym is) ∙ sym (append_assoc body part more) ∙ ap (λ l. l ++ more) (sym grown) in
+          let w = f.whole (i ∷ is') (add_instruction base i ++ more) (after, more, b, refl, h) in
+          let same : body ++ (add_instruction base i ++ more) ≡ new ++ more = ap (λ l. body ++ (l ++ more)) (sym is) ∙ sym (append_assoc body part more) ∙ ap (λ l. l ++ more) (sym grown) in
           (w.0, subst (λ l. Makes base w.0 commands l) same w.1);
       left = λ is' made h.
           let l = f.left is' made h in
@@ -266,7 +266,7 @@ follows_none base commands rest body size f some none is made h =
 
 -- where the next part is too long
 pub follows_long : (base commands rest after body part : List ℕ) (size : ℕ) (i : Instruction) → Follows base commands rest body size
-    → BeginsWithInstruction base rest i after → part ≡ added base i → size - length body < length part
+    → BeginsWithInstruction base rest i after → part ≡ add_instruction base i → size - length body < length part
     → (is : List Instruction) (made : List ℕ) → Makes base is commands made → ¬ (length made ≡ size)
 follows_long base commands rest after body part size i f b is long js made h n =
     let l = f.left js made h in

@@ -27,8 +27,8 @@ pub record IsSparse (bits count number : ℕ) (kept : List ℕ) : Type 0 where
   pub valued : number ≡ number_of bytes
 
 -- the size of a copy: 0 means 0x10000
-abbrev pub copied : ℕ → ℕ
-copied n = if n == 0 then 65536 else n
+abbrev pub copy_size : ℕ → ℕ
+copy_size n = if n == 0 then 65536 else n
 
 -- A copy: its bit 7 is set. Bits 0 to 3 are for the bytes of the offset, bits 4 to 6 for those of the size.
 pub record IsCopy (offset size : ℕ) (text : List ℕ) : Type 0 where
@@ -40,7 +40,7 @@ pub record IsCopy (offset size : ℕ) (text : List ℕ) : Type 0 where
   pub high : 128 ≤ command
   pub from : IsSparse command 4 offset offset_text
   pub count : IsSparse (command / 16) 3 size_number size_text
-  pub sized : size ≡ copied size_number
+  pub sized : size ≡ copy_size size_number
 
 -- The text of an instruction. An insertion is the number of the bytes, from 1 to 127, and the bytes.
 abbrev pub IsInstruction : Instruction → List ℕ → Type 0
@@ -48,9 +48,9 @@ IsInstruction (Copy offset size) text = IsCopy offset size text
 IsInstruction (Insert bytes) text = (text ≡ length bytes ∷ bytes) × (0 < length bytes) × (length bytes < 128)
 
 -- what an instruction adds
-abbrev pub added : List ℕ → Instruction → List ℕ
-added base (Copy offset size) = take size (drop offset base)
-added base (Insert bytes) = bytes
+abbrev pub add_instruction : List ℕ → Instruction → List ℕ
+add_instruction base (Copy offset size) = take size (drop offset base)
+add_instruction base (Insert bytes) = bytes
 
 -- a copy lies within the base
 abbrev pub Fits : List ℕ → Instruction → Type 0
@@ -68,7 +68,7 @@ pub record BeginsWithInstruction (base text : List ℕ) (i : Instruction) (rest 
 abbrev pub Makes : List ℕ → List Instruction → List ℕ → List ℕ → Type 0
 Makes base [] text body = (text ≡ []) × (body ≡ [])
 Makes base (i ∷ is) text body =
-    (rest more : List ℕ) × BeginsWithInstruction base text i rest × (body ≡ added base i ++ more) × Makes base is rest more
+    (rest more : List ℕ) × BeginsWithInstruction base text i rest × (body ≡ add_instruction base i ++ more) × Makes base is rest more
 
 -- A delta of the base that makes the body: the sizes of both, and instructions. Git takes none of fewer than four bytes
 -- (`DELTA_SIZE_MIN` of its `delta.h`), so no two bytes make an empty body.

@@ -2,29 +2,29 @@
 
 use std::alloc::{AllocError, Allocator};
 
-/// The bytes of a block.
+/// The length of a block.
 pub(crate) const BLOCK: usize = 16;
 
-// A hash has a digit for each byte, the first byte's the highest. This is the base of the digits,
-// and what the first digit of a block is multiplied with.
+// The base of the digits of a hash, and the factor of the first digit of a block. A hash has one
+// digit for each byte. The digit of the first byte is the highest.
 const DIGITS: u32 = 0x0100_0193;
 
 const FIRST_DIGIT: u32 = 0xd69d_215b;
 
-// How many blocks with hashes in the same slot are looked at.
+// The maximum number of blocks to try in a slot.
 const MAX_TRIES: usize = 32;
 
-// The length of a match after which none is looked for at its place.
+// The length of a match that ends the search at its place.
 const NICE_LENGTH: usize = 4_096;
 
-// A block: its hash, and the next block with a hash in the same slot.
+// A block: its hash, and the next block in the same slot.
 #[derive(Clone, Copy, Drop)]
 struct Block {
     hash: u32,
     next: u32,
 }
 
-/// The blocks of a base. The number of a block is kept as one more than it is, and 0 is no block.
+/// The blocks of a base. Block numbers are stored plus one; 0 means no block.
 #[derive(Drop)]
 pub(crate) struct Blocks<A: Allocator + Copy> {
     // The first block in each slot.
@@ -32,19 +32,19 @@ pub(crate) struct Blocks<A: Allocator + Copy> {
     blocks: Vec<Block, A>,
 }
 
-/// Bytes of the target that are in the base, too.
+/// Bytes that the target and the base share.
 #[derive(Clone, Copy)]
 pub(crate) struct Match {
-    /// The place of the first one in the target.
+    /// The offset of the first byte in the target.
     pub(crate) at: usize,
-    /// The place of the first one in the base.
+    /// The offset of the first byte in the base.
     pub(crate) offset: usize,
-    /// The number of them.
+    /// The number of bytes.
     pub(crate) length: usize,
 }
 
 impl<A: Allocator + Copy> Blocks<A> {
-    /// The blocks of a base. It fails out of memory.
+    /// Returns the blocks of a base. Fails only if out of memory.
     pub(crate) fn new(alloc: A, base: &[u8]) -> Result<Blocks<A>, AllocError> {
         let count = base.len() / BLOCK;
         let mut heads = Vec::with_capacity(alloc, count)?;
@@ -56,8 +56,7 @@ impl<A: Allocator + Copy> Blocks<A> {
         Ok(made)
     }
 
-    // Adds the blocks, the last one first. Blocks with the same bytes, one after the other, come in
-    // as the first of them alone.
+    // Adds the blocks, the last one first. Only the first of consecutive equal blocks is kept.
     fn add_all(&mut self, base: &[u8]) {
         let count = self.blocks.len();
         let mut after = None;
@@ -72,7 +71,7 @@ impl<A: Allocator + Copy> Blocks<A> {
         }
     }
 
-    // Adds a block. It takes the place of the block after it, if that is said.
+    // Adds a block. It replaces the following block if `takes_place` is set.
     fn add(&mut self, number: usize, hash: u32, takes_place: bool) {
         let slot = slot_of(hash, self.heads.len());
         let Some(head) = self.heads.get_mut(slot) else {
@@ -89,8 +88,8 @@ impl<A: Allocator + Copy> Blocks<A> {
         }
     }
 
-    /// The first match with a block that begins at a place from `from` on, and before `to`; `None` if
-    /// there is none. It goes on as far as the bytes are the same.
+    /// Returns the first match with a block that begins at or after `from` and before `to`, or
+    /// `None` if there is none. The match extends as far as the bytes are equal.
     pub(crate) fn next_match(
         &self,
         base: &[u8],
@@ -112,8 +111,8 @@ impl<A: Allocator + Copy> Blocks<A> {
         None
     }
 
-    // The longest match at a place, whose bytes have this hash. The first block in its slot is
-    // given, too.
+    // Returns the longest match at `at`. `start` is the hash of the bytes there and the first block
+    // in its slot.
     fn longest(&self, base: &[u8], target: &[u8], at: usize, start: (u32, u32)) -> Match {
         let mut best = Match {
             at,
@@ -143,8 +142,8 @@ impl<A: Allocator + Copy> Blocks<A> {
 }
 
 impl Match {
-    /// The match with the bytes before it that are the same, too. None of them comes before `least`
-    /// in the target.
+    /// Returns the match, extended by the equal bytes before it, but not before `least` in the
+    /// target.
     pub(crate) fn from_front(self, base: &[u8], target: &[u8], least: usize) -> Match {
         let more = common_back(base.get(..self.offset), target.get(least..self.at));
         Match {
@@ -155,12 +154,12 @@ impl Match {
     }
 }
 
-// The block that begins at an offset.
+// Returns the block that begins at an offset.
 fn block_at(bytes: &[u8], offset: usize) -> Option<&[u8]> {
     bytes.get(offset..)?.get(..BLOCK)
 }
 
-// The block after this one in its slot; 0 if there is none.
+// Returns the block after this one in its slot; 0 if there is none.
 fn next_of(blocks: &[Block], number: u32) -> u32 {
     match blocks.get((number as usize).wrapping_sub(1)) {
         Some(block) => block.next,
@@ -168,13 +167,13 @@ fn next_of(blocks: &[Block], number: u32) -> u32 {
     }
 }
 
-// The slot of a hash, of so many.
+// Returns the slot of a hash among `slots` slots.
 fn slot_of(hash: u32, slots: usize) -> usize {
     let spread = u64::from(hash.wrapping_mul(0x9E37_79B1));
     (spread.wrapping_mul(slots as u64) >> 32) as usize
 }
 
-// The hash of some bytes.
+// Returns the hash of some bytes.
 fn hash_of(bytes: &[u8]) -> u32 {
     let mut hash = 0u32;
     for byte in bytes {
@@ -183,7 +182,7 @@ fn hash_of(bytes: &[u8]) -> u32 {
     hash
 }
 
-// The hash of the bytes of a block one byte on: the first byte goes, and one comes.
+// Returns the hash of a block moved on by one byte: `first` leaves it, and `next` enters it.
 fn roll(hash: u32, first: u8, next: u8) -> u32 {
     let rest = hash.wrapping_sub(digit(first).wrapping_mul(FIRST_DIGIT));
     rest.wrapping_mul(DIGITS).wrapping_add(digit(next))
@@ -193,7 +192,7 @@ fn digit(byte: u8) -> u32 {
     u32::from(byte).wrapping_add(1)
 }
 
-// How many bytes two texts have in common at their beginning.
+// Returns the length of the common prefix of two texts.
 fn common_front(one: Option<&[u8]>, other: Option<&[u8]>) -> usize {
     let (Some(one), Some(other)) = (one, other) else {
         return 0;
@@ -208,7 +207,7 @@ fn common_front(one: Option<&[u8]>, other: Option<&[u8]>) -> usize {
     length
 }
 
-// How many bytes two texts have in common at their end.
+// Returns the length of the common suffix of two texts.
 fn common_back(one: Option<&[u8]>, other: Option<&[u8]>) -> usize {
     let (Some(one), Some(other)) = (one, other) else {
         return 0;

@@ -5,14 +5,14 @@ use crate::scanning::Scanned;
 use gname::Oid;
 use std::alloc::{AllocError, Allocator};
 
-// A delta of the entry that begins here: its place among all entries.
+// A delta of the entry that begins here: the index of its entry.
 #[derive(Clone, Copy, Debug, Drop)]
 struct OffsetChild {
     base: usize,
     place: usize,
 }
 
-// A delta of the object with this id: its place among all entries.
+// A delta of the object with this id: the index of its entry.
 #[derive(Clone, Copy, Debug, Drop)]
 struct RefChild {
     base: Oid,
@@ -26,7 +26,7 @@ pub(crate) struct Children<A: Allocator + Copy> {
     by_id: Vec<RefChild, A>,
 }
 
-/// The deltas of one base that are still to be applied: where they are in both lists.
+/// The remaining deltas of one base, as positions in both lists.
 #[derive(Clone, Copy, Debug, Drop)]
 pub(crate) struct Cursor {
     start: usize,
@@ -36,7 +36,7 @@ pub(crate) struct Cursor {
 }
 
 impl<A: Allocator + Copy> Children<A> {
-    /// The deltas among these entries. It fails only out of memory.
+    /// Returns the deltas among these entries. Fails only if out of memory.
     pub(crate) fn new(alloc: A, entries: &[Scanned]) -> Result<Children<A>, AllocError> {
         let mut by_offset = Vec::new(alloc);
         let mut by_id = Vec::new(alloc);
@@ -56,7 +56,7 @@ impl<A: Allocator + Copy> Children<A> {
         Ok(Children { by_offset, by_id })
     }
 
-    /// The deltas of the object with this id, whose entry begins here.
+    /// Returns the deltas of the object with this id, whose entry begins here.
     pub(crate) fn of(&self, start: usize, id: Oid) -> Cursor {
         let offset_place = self.by_offset.partition_point(|child| child.base < start);
         let id_place = self.by_id.partition_point(|child| child.base < id);
@@ -68,7 +68,7 @@ impl<A: Allocator + Copy> Children<A> {
         }
     }
 
-    /// The place of the next delta among all entries; `None` if there is none.
+    /// Returns the index of the next delta among all entries, or `None` if there is none.
     pub(crate) fn peek(&self, cursor: &Cursor) -> Option<usize> {
         match self.next_by_offset(cursor) {
             Some(place) => Some(place),
@@ -76,7 +76,7 @@ impl<A: Allocator + Copy> Children<A> {
         }
     }
 
-    /// The cursor, moved past the next delta.
+    /// Returns the cursor, moved past the next delta.
     pub(crate) fn after(&self, cursor: &Cursor) -> Cursor {
         let mut next = *cursor;
         if self.next_by_offset(cursor).is_some() {

@@ -1,30 +1,30 @@
 //! Deltas (gitformat-pack(5), "Deltified representation").
 
 ghost use Rattle.std.specs.Prelude.{◌≡◌, ◌+◌, ◌^◌, ◌<◌, ◌≤◌, ◌++◌, ◌∷◌, List, ℕ, IfOk, IfSome, MatchOption, drop, length, take};
-ghost use Rattle.gitpack.specs.Deltas.{BeginsWithInstruction, Instruction, IsCopy, IsDelta, IsSparse, Makes, added, copied};
+ghost use Rattle.gitpack.specs.Deltas.{BeginsWithInstruction, Instruction, IsCopy, IsDelta, IsSparse, Makes, add_instruction, copy_size};
 
 use crate::numbers::split_size;
 use std::alloc::{AllocError, Allocator};
 
-// The least bytes of a delta.
+// The minimum length of a delta.
 const MIN_DELTA: usize = 4;
 
-// A command from here on is a copy; one below is an insertion, of so many bytes.
+// The lowest command that is a copy. A lower command inserts that number of bytes.
 const COPIES: u8 = 128;
 
-// The bits of a copy's command that are for the bytes of the offset.
+// The bits of a copy command for the bytes of the offset.
 const OFFSET_BITS: u8 = 16;
 
-// The numbers of bytes of the offset and of the size of a copy.
+// The maximum number of bytes of the offset and of the size of a copy.
 const OFFSET_BYTES: u32 = 4;
 
 const SIZE_BYTES: u32 = 3;
 
-// The size of a copy whose number is 0.
+// The size of a copy with size 0 in its command.
 const FULL_COPY: usize = 0x10000;
 
-/// The number of bytes of the body that a delta makes, as the delta has it. It is `None` if the bytes
-/// do not begin with two sizes, and so are no delta.
+/// Returns the size of the body that a delta makes, as the delta records it. Returns `None` if the
+/// bytes do not begin with two sizes, and thus are not a delta.
 pub fn made_size(delta: &[u8]) -> Option<usize>
     ensures { MatchOption result
         ((base body : List ℕ) → ¬ (IsDelta base delta.now body))
@@ -39,10 +39,11 @@ pub fn made_size(delta: &[u8]) -> Option<usize>
     }
 }
 
-/// The body that a delta makes of its base. It is `None` if the bytes are no delta of this base,
-/// or one that makes more than `most` bytes. The body takes memory for at most twice its bytes.
+/// Applies a delta to its base and returns the body. Returns `None` if the bytes are not a delta of
+/// this base, or the body has more than `most` bytes. The body uses at most twice its size in
+/// memory.
 ///
-/// It fails only out of memory.
+/// Fails only if out of memory.
 pub fn apply_delta<A: Allocator + Copy>(
     alloc: A,
     base: &[u8],
@@ -71,7 +72,7 @@ pub fn apply_delta<A: Allocator + Copy>(
     follow(alloc, base, commands, size)
 }
 
-// The body of so many bytes that these instructions make.
+// Returns the body of `size` bytes that these instructions make.
 fn follow<A: Allocator + Copy>(
     alloc: A,
     base: &[u8],
@@ -103,19 +104,19 @@ fn follow<A: Allocator + Copy>(
     }
 }
 
-// The room that is made at once for the body of a delta. It grows where parts of the base come more
-// than once.
+// Returns the initial capacity for the body of a delta. It grows if parts of the base are copied
+// more than once.
 fn first_room(base: &[u8], commands: &[u8], size: usize) -> usize {
     size.min(base.len().saturating_add(commands.len()))
 }
 
-// The bytes that the first instruction of a text adds, and the text after it. It is `None` if the
-// text begins with no instruction that fits the base.
+// Returns the bytes that the first instruction of a text adds, and the text after it. Returns
+// `None` if the text does not begin with an instruction that fits the base.
 fn split_instruction<'a>(base: &'a [u8], text: &'a [u8]) -> Option<(&'a [u8], &'a [u8])>
     ensures { MatchOption result
         ((i : Instruction) (rest : List ℕ) → ¬ (BeginsWithInstruction base.now text.now i rest))
         (λ parts. (i : Instruction) × BeginsWithInstruction base.now text.now i parts.1.now
-        × (parts.0.now ≡ added base.now i)) }
+        × (parts.0.now ≡ add_instruction base.now i)) }
 {
     let Some((command, after)) = text.split_first() else {
         return None;
@@ -145,7 +146,7 @@ struct Range {
     size: usize,
 }
 
-// These bytes of the base; `None` if they do not lie within it.
+// Returns these bytes of the base, or `None` if they are not all within it.
 fn part_of(base: &[u8], range: Range) -> Option<&[u8]>
     ensures { MatchOption result (length base.now < range.offset + range.size)
         (λ part. (range.offset + range.size ≤ length base.now)
@@ -160,7 +161,7 @@ fn part_of(base: &[u8], range: Range) -> Option<&[u8]>
     }
 }
 
-// The range of the copy with this command, and the text after it.
+// Returns the range of the copy with this command, and the text after it.
 fn split_copy(command: u8, bytes: &[u8]) -> Option<(Range, &[u8])>
     requires { 128 ≤ command }
     ensures cases { MatchOption result
@@ -176,19 +177,19 @@ fn split_copy(command: u8, bytes: &[u8]) -> Option<(Range, &[u8])>
     let Some((number, rest)) = split_sparse(command / OFFSET_BITS, SIZE_BYTES, after) else {
         return None;
     };
-    let size = copied(number);
+    let size = copy_size(number);
     Some((Range { offset, size }, rest))
 }
 
-// The size of a copy with this number.
-fn copied(number: usize) -> usize
-    ensures { result ≡ copied number }
+// Returns the size of a copy with this number in its command.
+fn copy_size(number: usize) -> usize
+    ensures { result ≡ copy_size number }
 {
     if number == 0 { FULL_COPY } else { number }
 }
 
-// The number of which so many bytes are there as these bits say, the lowest first, and the text
-// after them.
+// Returns a number whose bytes are present as these bits say, the lowest first, and the text after
+// it.
 fn split_sparse(bits: u8, count: u32, bytes: &[u8]) -> Option<(usize, &[u8])>
     requires { count ≤ 4 }
     ensures cases { MatchOption result

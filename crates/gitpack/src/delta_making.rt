@@ -10,12 +10,12 @@ use crate::heads::put_size;
 use std::alloc::{AllocError, Allocator};
 use std::marker::Model;
 
-// The most bytes of an insertion and of a copy.
+// The maximum length of an insertion and of a copy.
 const MAX_INSERTION: usize = 127;
 
 const MAX_COPY: usize = 0x10000;
 
-// The bit of the command of a copy, and the bits for its first byte of the offset and of the size.
+// The bit of a copy command, and the bits for the first byte of the offset and of the size.
 const COPY: u8 = 0x80;
 
 const OFFSET_BIT: u8 = 0x01;
@@ -39,8 +39,8 @@ impl<A: Allocator + Copy> Model for DeltaBase<A> {
 }
 
 impl<A: Allocator + Copy> DeltaBase<A> {
-    /// A base with these bytes. Its table of blocks takes three quarters of their memory. It fails
-    /// out of memory.
+    /// Returns a base with these bytes. Its table of blocks uses three quarters of their size in
+    /// memory. Fails only if out of memory.
     pub fn new(alloc: A, bytes: Vec<u8, A>) -> Result<DeltaBase<A>, AllocError>
         ensures { IfOk result (λ base. base ≡ bytes.items) }
     {
@@ -52,17 +52,17 @@ impl<A: Allocator + Copy> DeltaBase<A> {
         })
     }
 
-    /// How many bytes the base has.
+    /// Returns the length of the base.
     pub fn len(&self) -> usize
         ensures { result ≡ length self.now }
     {
         self.bytes.len()
     }
 
-    /// A delta of this base that makes the target and has at most `limit` bytes; `None` if none was
-    /// found. It is applied before it is answered.
+    /// Returns a delta of this base that makes the target and has at most `limit` bytes, or `None`
+    /// if none was found. The delta is applied as a check before it is returned.
     ///
-    /// It fails out of memory.
+    /// Fails only if out of memory.
     pub fn make_delta(&self, target: &[u8], limit: usize) -> Result<Option<Vec<u8, A>>, AllocError>
         ensures { IfOk result (λ made. MatchOption made ⊤
             (λ delta. IsDelta self.now delta.items target.now × (length delta.items ≤ limit))) }
@@ -83,7 +83,7 @@ impl<A: Allocator + Copy> DeltaBase<A> {
         Ok(Some(delta))
     }
 
-    // Looks for a delta of about this size at most.
+    // Searches for a delta of at most about `limit` bytes.
     fn search(&self, target: &[u8], limit: usize) -> Result<Option<Vec<u8, A>>, AllocError> {
         let base = self.bytes.as_slice();
         let mut delta = Vec::new(self.alloc);
@@ -109,7 +109,7 @@ impl<A: Allocator + Copy> DeltaBase<A> {
     }
 }
 
-// Adds insertions of these bytes.
+// Appends insertions of these bytes.
 fn put_insertions<A: Allocator + Copy>(
     delta: &mut Vec<u8, A>,
     bytes: Option<&[u8]>,
@@ -124,7 +124,7 @@ fn put_insertions<A: Allocator + Copy>(
     Ok(())
 }
 
-// Adds copies of so many bytes of the base.
+// Appends copies of `length` bytes of the base.
 fn put_copies<A: Allocator + Copy>(
     delta: &mut Vec<u8, A>,
     offset: usize,
@@ -138,7 +138,7 @@ fn put_copies<A: Allocator + Copy>(
     Ok(())
 }
 
-// Adds a copy. Only the bytes of its offset and its size that are not 0 are there.
+// Appends a copy. Zero bytes of its offset and size are left out.
 fn put_copy<A: Allocator + Copy>(
     delta: &mut Vec<u8, A>,
     offset: usize,
@@ -155,7 +155,7 @@ fn put_copy<A: Allocator + Copy>(
     Ok(())
 }
 
-// Adds those of the lowest bytes of a number that are not 0, and answers their bits.
+// Appends the nonzero bytes among the lowest bytes of a number, and returns their bits.
 fn put_sparse<A: Allocator + Copy>(
     delta: &mut Vec<u8, A>,
     number: usize,

@@ -8,13 +8,14 @@ use crate::numbers::{low_first, split_number, split_offset};
 use gitobject::{ID_BYTES, ObjectType, id_of_bytes};
 use gname::Oid;
 
-/// The most bytes of a head: nine of the type and the size, and an id.
+/// The maximum length of a head: nine bytes for the type and the size, and an id.
 pub const MAX_HEAD: usize = 29;
 
-// The most bytes of the type and the size.
+// The maximum length of the type and the size.
 const MAX_TYPE_AND_SIZE: usize = 9;
 
-// The low bits of the first byte, which are bits of the size, and the bits of the type.
+// The values of the low bits of the first byte, which belong to the size, and of the bits of the
+// type.
 const LOW_SIZES: u8 = 16;
 
 const TYPES: u8 = 8;
@@ -29,25 +30,25 @@ pub(crate) const REF_DELTA: u8 = 7;
 pub enum EntryForm {
     /// Whole.
     Whole(ObjectType),
-    /// As a delta of the object whose entry begins so many bytes before this entry.
+    /// As a delta of the object whose entry begins this number of bytes before this entry.
     OffsetDelta(usize),
     /// As a delta of the object with this id.
     RefDelta(Oid),
 }
 
-/// The head of an entry, after which its zlib stream comes.
+/// The head of an entry, which precedes its zlib stream.
 #[derive(Clone, Copy, Debug, Drop)]
 pub struct EntryHead {
     /// The form of the entry.
     pub form: EntryForm,
-    /// The number of bytes to which the stream inflates.
+    /// The size of the inflated stream.
     pub size: usize,
-    /// The number of bytes of the head.
+    /// The length of the head.
     pub length: usize,
 }
 
-/// The head with which some bytes begin; `None` if they begin with no head. A size has at most
-/// 60 bits here, and an offset has eight bytes at most.
+/// Returns the head at the start of the bytes, or `None` if they do not begin with one. A size has
+/// at most 60 bits here, and an offset at most eight bytes.
 pub fn read_head(bytes: &[u8]) -> Option<EntryHead>
     ensures { MatchOption result
         ((form : EntryForm) (size : ℕ) (rest : List ℕ)
@@ -66,14 +67,14 @@ pub fn read_head(bytes: &[u8]) -> Option<EntryHead>
     Some(EntryHead { form, size, length })
 }
 
-// The number of a type, and a size.
+// A type number and a size.
 #[derive(Clone, Copy)]
 struct TypeAndSize {
     number: u8,
     size: usize,
 }
 
-// The type and the size with which some bytes begin, and the bytes after them.
+// Returns the type and size at the start of the bytes, and the bytes after them.
 fn split_type_and_size(bytes: &[u8]) -> Option<(TypeAndSize, &[u8])>
     ensures { MatchOption result
         ((number size : ℕ) (text rest : List ℕ) → IsTypeAndSize number size text
@@ -92,7 +93,8 @@ fn split_type_and_size(bytes: &[u8]) -> Option<(TypeAndSize, &[u8])>
     Some((TypeAndSize { number, size }, rest))
 }
 
-// The form with this number, of which the bytes begin with the base, and the bytes after that.
+// Returns the form with this number, whose base is at the start of the bytes, and the bytes after
+// it.
 fn split_form(number: u8, bytes: &[u8]) -> Option<(EntryForm, &[u8])>
     ensures { MatchOption result
         ((form : EntryForm) (text rest : List ℕ) → IsBaseOf form number text

@@ -5,25 +5,25 @@ ghost use Rattle.gitpack.specs.declared.fault.PackFileFault.TheVariants.{Memory}
 
 use std::alloc::{AllocError, AllocFailed};
 
-/// Why a pack is refused, or why an entry can't be added to one.
+/// Why a pack is refused, or why an entry cannot be added to one.
 #[derive(Clone, Copy, Debug, PartialEq, Eq, Drop)]
 pub enum PackFileFault {
     /// Out of memory.
     Memory,
     /// The header, the number of entries or the trailer of the pack is wrong.
     Frame,
-    /// The entry at this place is cut, or has no zlib stream or one of another size. Or it is no
-    /// delta of its base, or has a base that comes twice.
+    /// The entry with this number is truncated, or its zlib stream is missing or has the wrong
+    /// size. Or it is not a delta of its base, or its base occurs twice.
     Entry(usize),
     /// The base of a delta is not in the pack: the pack is thin, or an offset is wrong.
     Thin,
-    /// There are more objects than the limits allow, or more than 8,191 deltas in a chain. Or an object
-    /// has more bytes than the limits allow, or so have all objects, what is held at a time, or a pack
-    /// that is written. Or a size or an offset does not go into the head of an entry.
+    /// There are more objects than the limits allow, or more than 8,191 deltas in a chain. Or one
+    /// object, all objects, the held bytes, or a written pack exceed the limits. Or a size or
+    /// offset does not fit in the head of an entry.
     TooLarge,
-    /// The base of a delta that is written has no SHA-1 id.
+    /// The base of a written delta has no SHA-1 id.
     Format,
-    /// The visitor refuses an object.
+    /// The visitor refused an object.
     Refused,
 }
 

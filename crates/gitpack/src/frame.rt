@@ -12,26 +12,26 @@ use sha1::Sha1;
 use std::alloc::{AllocError, Allocator};
 use std::marker::Model;
 
-/// The bytes of a header.
+/// The length of a header.
 pub(crate) const HEADER_BYTES: usize = 12;
 
 /// The signature of a pack, and version 2.
 pub(crate) const SIGNATURE: &[u8; 8] = b"PACK\0\0\0\x02";
 
-/// The bytes of a pack that came so far, of which the last twenty may be its trailer. All others are
-/// hashed as they come. Contracts see the bytes.
+/// The received bytes of a pack. The last twenty may be its trailer. All others are hashed as they
+/// arrive. Contracts see the bytes.
 #[derive(Drop)]
 pub(crate) struct PackBytes<A: Allocator + Copy> {
     bytes: Vec<u8, A>,
     hasher: Sha1,
 }
 
-/// A pack whose frame is right.
+/// A pack with a correct header and trailer.
 #[derive(Drop)]
 pub(crate) struct FramedPack<A: Allocator + Copy> {
     /// The whole pack.
     pub bytes: Vec<u8, A>,
-    /// The number of entries that the header names.
+    /// The number of entries in the header.
     pub count: u32,
     /// The trailer.
     pub trailer: Oid,
@@ -50,7 +50,7 @@ impl<A: Allocator + Copy> Model for PackBytes<A> {
 }
 
 impl<A: Allocator + Copy> PackBytes<A> {
-    /// No byte has come yet.
+    /// Returns a pack without received bytes.
     pub(crate) fn new(alloc: A) -> PackBytes<A>
         ensures { result ≡ [] }
     {
@@ -60,12 +60,12 @@ impl<A: Allocator + Copy> PackBytes<A> {
         }
     }
 
-    /// All bytes but the last twenty.
+    /// Returns all bytes except the last twenty.
     pub(crate) fn body(&self) -> &[u8] {
         body_of(self.bytes.as_slice())
     }
 
-    /// Adds the next bytes. It fails only out of memory.
+    /// Adds the next bytes. Fails only if out of memory.
     pub(crate) fn push(&mut self, piece: &[u8]) -> Result<(), AllocError>
         ensures { OnOk result (self.new ≡ self.old ++ piece.now) }
     {
@@ -76,8 +76,8 @@ impl<A: Allocator + Copy> PackBytes<A> {
         Ok(())
     }
 
-    /// The whole pack; `None` if its trailer is not the SHA-1 of all bytes before, or if it begins
-    /// with no header.
+    /// Returns the whole pack, or `None` if its trailer is not the SHA-1 of all preceding bytes, or
+    /// its header is wrong.
     pub(crate) fn finish(self) -> Option<FramedPack<A>>
         ensures bytes { IfSome result (λ pack. pack.bytes.items ≡ self) }
         ensures frame { IfSome result (λ pack. IsFramed pack.count pack.trailer self) }
@@ -96,14 +96,14 @@ impl<A: Allocator + Copy> PackBytes<A> {
     }
 }
 
-// The number of bytes but the last twenty.
+// Returns the number of bytes before the last twenty.
 fn body_length(pack: &[u8]) -> usize
     ensures { result ≡ length pack.now - 20 }
 {
     pack.len().saturating_sub(ID_BYTES)
 }
 
-/// All bytes of a pack but the last twenty.
+/// Returns all bytes of a pack except the last twenty.
 pub(crate) fn body_of(pack: &[u8]) -> &[u8] {
     match pack.split_last_chunk::<ID_BYTES>() {
         Some((body, _last)) => body,
@@ -111,8 +111,8 @@ pub(crate) fn body_of(pack: &[u8]) -> &[u8] {
     }
 }
 
-// The number of entries and the trailer of a pack, whose bytes but the last twenty have this SHA-1.
-// It is `None` if the trailer is another one, or if the pack begins with no header.
+// Returns the number of entries and the trailer of a pack. `sum` is the SHA-1 of its bytes before
+// the last twenty. Returns `None` if the trailer differs from it, or if the header is wrong.
 fn frame_of(pack: &[u8], sum: &[u8; ID_BYTES]) -> Option<(u32, Oid)>
     requires { sum.now ≡ sha1 (take (length pack.now - 20) pack.now) }
     ensures frame { IfSome result (λ frame. IsFramed frame.0 frame.1 pack.now) }
@@ -127,7 +127,8 @@ fn frame_of(pack: &[u8], sum: &[u8; ID_BYTES]) -> Option<(u32, Oid)>
     }
 }
 
-// The bytes of a pack before its trailer, and the trailer; `None` if it is not their SHA-1.
+// Returns the bytes of a pack before its trailer, and the trailer, or `None` if the trailer is not
+// their SHA-1.
 fn split_trailer<'p>(pack: &'p [u8], sum: &[u8; ID_BYTES]) -> Option<(&'p [u8], Oid)>
     requires { sum.now ≡ sha1 (take (length pack.now - 20) pack.now) }
     ensures parts { IfSome result (λ parts. (parts.1 ≡ sha1 parts.0.now)
@@ -143,14 +144,14 @@ fn split_trailer<'p>(pack: &'p [u8], sum: &[u8; ID_BYTES]) -> Option<(&'p [u8], 
     Some((body, id_of_bytes(trailer)))
 }
 
-/// Whether two texts are the same.
+/// Whether two texts are equal.
 pub(crate) fn is_same(one: &[u8], other: &[u8]) -> bool
     ensures { IsTrue result ↔ (one.now ≡ other.now) }
 {
     one == other
 }
 
-/// The number of entries that the header names; `None` if the bytes begin with no header.
+/// Returns the number of entries in the header, or `None` if the bytes do not begin with a header.
 pub(crate) fn entry_count(pack: &[u8]) -> Option<u32>
     ensures { IfSome result (λ count. (rest : List ℕ) × (pack.now ≡ pack_header count ++ rest)) }
 {

@@ -11,25 +11,26 @@ use crate::fault::PackFileFault;
 use gname::{Format, Oid};
 use std::alloc::{AllocError, Allocator};
 
-// The bit of a byte after which more bytes of its number come, and the values of the other bits.
+// The bit that is set if more bytes of the number follow, and the number of values of the other
+// bits.
 const MORE: u8 = 128;
 
 const DIGITS: usize = 128;
 
-// The values of the low bits of the first byte, which are bits of the size.
+// The number of values of the low bits of the first byte, which belong to the size.
 const LOW_SIZES: usize = 16;
 
-// The sizes that a number of nine bytes can name are below this one.
+// The upper bound of the sizes that nine bytes can encode.
 const SIZES: usize = 1 << 60;
 
-// The offsets that are written are below this number, so that eight bytes do.
+// The upper bound of written offsets, so that eight bytes suffice.
 const OFFSETS: usize = 1 << 56;
 
-/// Adds the head of an entry of this form, of whose stream this is the size.
+/// Appends the head of an entry of this form, whose stream inflates to `size` bytes.
 ///
-/// It fails with `TooLarge` if the size has more than 60 bits or the offset more than 56, with
-/// `Format` if the base has no SHA-1 id, and with `Memory`. Then a part of the head may have been
-/// added.
+/// Fails with `TooLarge` if the size has more than 60 bits or the offset more than 56. Fails with
+/// `Format` if the base has no SHA-1 id, and with `Memory`. A part of the head may have been
+/// appended then.
 pub(crate) fn put_head<A: Allocator + Copy>(
     out: &mut Vec<u8, A>,
     form: EntryForm,
@@ -51,7 +52,7 @@ pub(crate) fn put_head<A: Allocator + Copy>(
     }
 }
 
-// Adds the number of a type, and a size.
+// Appends a type number and a size.
 fn put_type_and_size<A: Allocator + Copy>(
     out: &mut Vec<u8, A>,
     number: u8,
@@ -75,7 +76,7 @@ fn put_type_and_size<A: Allocator + Copy>(
     Ok(())
 }
 
-/// Adds a number, the lowest digit first.
+/// Appends a number, the lowest digit first.
 pub(crate) fn put_size<A: Allocator + Copy>(
     out: &mut Vec<u8, A>,
     number: usize,
@@ -94,7 +95,7 @@ pub(crate) fn put_size<A: Allocator + Copy>(
     put_size(out, high)
 }
 
-// Adds an offset.
+// Appends an offset.
 fn put_offset<A: Allocator + Copy>(out: &mut Vec<u8, A>, offset: usize) -> Result<(), PackFileFault>
     ensures { OnOk result ((text : List ℕ) × IsOffset text offset
         × (out.new.items ≡ out.old.items ++ text)) }
@@ -113,7 +114,7 @@ fn put_offset<A: Allocator + Copy>(out: &mut Vec<u8, A>, offset: usize) -> Resul
     Ok(())
 }
 
-// Adds the bytes of a number before its last one.
+// Appends the bytes of a number before its last one.
 fn put_high<A: Allocator + Copy>(out: &mut Vec<u8, A>, number: usize) -> Result<(), AllocError>
     ensures { OnOk result ((text : List ℕ) × (0 < length text) × All (λ b. 128 ≤ b) text
         × (number ≡ high_first text)
@@ -131,7 +132,7 @@ fn put_high<A: Allocator + Copy>(out: &mut Vec<u8, A>, number: usize) -> Result<
     Ok(())
 }
 
-// Adds the bytes of an id.
+// Appends the bytes of an id.
 fn put_id<A: Allocator + Copy>(out: &mut Vec<u8, A>, id: &Oid) -> Result<(), PackFileFault>
     ensures { OnOk result (IsIdOf formats.Sha1 id.now × (out.new.items ≡ out.old.items ++ id.now)) }
 {

@@ -1,4 +1,4 @@
-//! A pack that is indexed as it comes.
+//! A pack that is indexed while it arrives.
 
 ghost use Rattle.std.specs.Prelude.{◌≡◌, ◌++◌, [], ℕ, All, IfOk, OnOk};
 ghost use Rattle.gitpack.specs.Indexes.{IsLine, line_of};
@@ -12,11 +12,11 @@ use crate::scanning::Scanner;
 use std::alloc::{AllocError, Allocator};
 use std::marker::Model;
 
-/// A pack that is indexed as it comes: `new`, a `feed` for each piece, and `finish`. Contracts see
-/// it as the bytes that came.
+/// A pack that is indexed while it arrives: `new`, a `feed` for each piece, and `finish`. Contracts
+/// see it as the received bytes.
 ///
-/// The bytes are hashed as they come. Entries are inflated once they are whole, some time after
-/// they came: at the latest where as many bytes came again, and 128 KiB at least.
+/// The bytes are hashed as they arrive. Entries are inflated some time after they are complete: at
+/// the latest after as many bytes again have arrived, but at least 128 KiB.
 #[derive(Drop)]
 pub struct IncomingPack<A: Allocator + Copy> {
     bytes: PackBytes<A>,
@@ -32,7 +32,7 @@ impl<A: Allocator + Copy> Model for IncomingPack<A> {
 }
 
 impl<A: Allocator + Copy> IncomingPack<A> {
-    /// A pack of which no byte came.
+    /// Returns a pack without received bytes.
     pub fn new(alloc: A, limits: IndexLimits) -> IncomingPack<A>
         ensures { result ≡ [] }
     {
@@ -42,10 +42,10 @@ impl<A: Allocator + Copy> IncomingPack<A> {
         }
     }
 
-    /// Takes the next bytes, and shows a visitor the whole objects among those that are read now. A
-    /// fault of theirs, or of the visitor, is reported at the end.
+    /// Takes the next bytes, and shows a visitor the whole objects that are read now. Faults of the
+    /// objects or the visitor are reported by `finish`.
     ///
-    /// It fails only out of memory. After that the pack is of no use.
+    /// Fails only if out of memory. The pack is then unusable.
     pub fn feed<V: ObjectVisitor>(
         &mut self,
         piece: &[u8],
@@ -58,10 +58,10 @@ impl<A: Allocator + Copy> IncomingPack<A> {
         Ok(())
     }
 
-    /// The pack as it came, and its objects, once all bytes came. The visitor is shown the other
-    /// objects, and has to be the one that was shown those before.
+    /// Returns the received pack and its objects, once all bytes have arrived. The visitor is shown
+    /// the remaining objects, and must be the one that was shown the earlier ones.
     ///
-    /// It fails as [`crate::index_pack`] does.
+    /// Fails as [`crate::index_pack`] does.
     pub fn finish<V: ObjectVisitor>(
         self,
         visitor: &mut V,
@@ -80,7 +80,7 @@ impl<A: Allocator + Copy> IncomingPack<A> {
     }
 }
 
-// The objects of a whole pack, which was scanned in part.
+// Returns the objects of a complete, partly scanned pack.
 fn objects_of<A: Allocator + Copy, V: ObjectVisitor>(
     scanner: Scanner<A>,
     pack: &FramedPack<A>,

@@ -12,25 +12,25 @@ use gname::Oid;
 use std::alloc::{AllocError, Allocator};
 use std::marker::Model;
 
-// The most entries of an index, of which the long offsets are numbered in 31 bits.
+// The maximum number of entries of an index: long offsets are numbered with 31 bits.
 pub(crate) const MAX_ENTRIES: usize = 0x7fff_ffff;
 
-/// A line of the pack index.
+/// An entry of the pack index.
 #[derive(Clone, Copy, Debug, PartialEq, Eq, Drop)]
 pub struct IndexEntry {
     /// The id of the object.
     pub id: Oid,
     /// The CRC-32 of its entry in the pack.
     pub crc: u32,
-    /// The position in the pack at which its entry begins.
+    /// The offset of its entry in the pack.
     pub offset: u64,
 }
 
-/// The index of a pack: its lines in the order of their ids, and the checksum of the pack.
+/// The index of a pack: its entries, sorted by id, and the checksum of the pack.
 #[derive(Drop)]
 pub struct PackIndex<A: Allocator + Copy> {
     entries: Vec<IndexEntry, A>,
-    // For each byte, how many ids begin with it or a lower one.
+    // For each byte, how many ids begin with it or a lower byte.
     ends: [u32; 256],
     // The first eight bytes of each id, as a number.
     fronts: Vec<u64, A>,
@@ -49,10 +49,10 @@ impl<A: Allocator + Copy> Model for PackIndex<A> {
 }
 
 impl<A: Allocator + Copy> PackIndex<A> {
-    /// The index with this text; `None` if there is none. The checksum of the index itself is not
-    /// tested.
+    /// Parses an index, or returns `None` if the text is not one. The checksum of the index itself
+    /// is not checked.
     ///
-    /// It fails only out of memory.
+    /// Fails only if out of memory.
     pub fn read(alloc: A, bytes: &[u8]) -> Result<Option<PackIndex<A>>, AllocError>
         ensures { IfOk result (ReadsIndex bytes.now) }
     {
@@ -83,21 +83,21 @@ impl<A: Allocator + Copy> PackIndex<A> {
         }))
     }
 
-    /// The number of objects.
+    /// Returns the number of objects.
     pub fn len(&self) -> usize
         ensures { result ≡ length self.now.entries }
     {
         self.entries.len()
     }
 
-    /// Whether there is no object.
+    /// Whether there are no objects.
     pub fn is_empty(&self) -> bool
         ensures { result ≡ (length self.now.entries == 0) }
     {
         self.entries.is_empty()
     }
 
-    /// The lines, in the order of their ids.
+    /// Returns the entries, sorted by id.
     pub fn entries(&self) -> &[IndexEntry]
         ensures lines { result.now ≡ self.now.entries }
         ensures order { AreEntries result.now }
@@ -105,7 +105,7 @@ impl<A: Allocator + Copy> PackIndex<A> {
         self.entries.as_slice()
     }
 
-    /// The place of the line of the object with this id; `None` if there is none.
+    /// Returns the place of the entry of the object with this id, or `None` if there is none.
     pub fn find(&self, id: &Oid) -> Option<usize>
         ensures { MatchOption result (All (λ e. e.id ≢ id.now) self.now.entries)
             (HoldsAt (λ e. e.id ≡ id.now) self.now.entries) }
@@ -117,7 +117,7 @@ impl<A: Allocator + Copy> PackIndex<A> {
         }
     }
 
-    /// The id of the line at this place; `None` past the end.
+    /// Returns the id of the entry at this place; `None` past the end.
     pub fn id(&self, place: usize) -> Option<Oid>
         ensures { MatchOption result (length self.now.entries ≤ place)
             (λ id. HoldsAt (λ e. e.id ≡ id) self.now.entries place) }
@@ -128,7 +128,7 @@ impl<A: Allocator + Copy> PackIndex<A> {
         }
     }
 
-    /// The CRC-32 of the line at this place; `None` past the end.
+    /// Returns the CRC-32 of the entry at this place; `None` past the end.
     pub fn crc(&self, place: usize) -> Option<u32>
         ensures { MatchOption result (length self.now.entries ≤ place)
             (λ crc. HoldsAt (λ e. e.crc ≡ crc) self.now.entries place) }
@@ -139,7 +139,7 @@ impl<A: Allocator + Copy> PackIndex<A> {
         }
     }
 
-    /// The offset of the line at this place; `None` past the end.
+    /// Returns the offset of the entry at this place; `None` past the end.
     pub fn offset(&self, place: usize) -> Option<u64>
         ensures { MatchOption result (length self.now.entries ≤ place)
             (λ offset. HoldsAt (λ e. e.offset ≡ offset) self.now.entries place) }
@@ -150,7 +150,7 @@ impl<A: Allocator + Copy> PackIndex<A> {
         }
     }
 
-    /// The checksum of the pack, which is the trailer of the pack.
+    /// Returns the checksum of the pack: its trailer.
     pub fn pack_checksum(&self) -> Oid
         ensures { result ≡ self.now.checksum }
     {
@@ -158,8 +158,9 @@ impl<A: Allocator + Copy> PackIndex<A> {
     }
 }
 
-// The place of the line with this id, looked for by its first bytes. This is quick, as few ids begin
-// with the same byte and numbers lie close together. But another id may begin with the same eight.
+// Returns the place of the entry with this id, found by its first bytes. This is quick: few ids
+// begin with the same byte, and numbers are close together in memory. But another id may begin with
+// the same eight bytes.
 fn find_front(entries: &[IndexEntry], fronts: &[u64], ends: &[u32; 256], id: &Oid) -> Option<usize>
     ensures { IfSome result (HoldsAt (λ e. e.id ≡ id.now) entries.now) }
 {
@@ -177,7 +178,7 @@ fn find_front(entries: &[IndexEntry], fronts: &[u64], ends: &[u32; 256], id: &Oi
     }
 }
 
-// The first eight bytes of each id.
+// Returns the first eight bytes of each id.
 fn fronts_of<A: Allocator + Copy>(
     alloc: A,
     entries: &[IndexEntry],
@@ -188,7 +189,7 @@ fn fronts_of<A: Allocator + Copy>(
         .collect(alloc)
 }
 
-// The first eight bytes of an id, as a number.
+// Returns the first eight bytes of an id, as a number.
 fn front_of(id: &Oid) -> u64 {
     match id.as_bytes().first_chunk::<8>() {
         Some(front) => u64::from_be_bytes(*front),
@@ -196,7 +197,7 @@ fn front_of(id: &Oid) -> u64 {
     }
 }
 
-// For each byte, how many ids begin with it or a lower one.
+// For each byte, how many ids begin with it or a lower byte.
 fn ends_of(entries: &[IndexEntry]) -> [u32; 256]
     requires { length entries.now < 2 ^ 31 }
 {
@@ -209,7 +210,7 @@ fn ends_of(entries: &[IndexEntry]) -> [u32; 256]
     ends
 }
 
-// The place of the line with this id.
+// Returns the place of the entry with this id.
 fn find(entries: &[IndexEntry], id: &Oid) -> Option<usize>
     requires { AreEntries entries.now }
     ensures { MatchOption result (All (λ e. e.id ≢ id.now) entries.now)
@@ -221,7 +222,7 @@ fn find(entries: &[IndexEntry], id: &Oid) -> Option<usize>
     }
 }
 
-// Whether the ids ascend, and the lines are few enough.
+// Whether the ids ascend, and the number of entries is within the limit.
 fn are_entries(entries: &[IndexEntry]) -> bool
     requires { All IsLine entries.now }
     ensures { IsTrue result ↔ AreEntries entries.now }

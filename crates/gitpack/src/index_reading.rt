@@ -9,13 +9,13 @@ use crate::index::{IndexEntry, MAX_ENTRIES};
 use gitobject::{ID_BYTES, id_of_bytes};
 use std::alloc::{AllocError, Allocator};
 
-// The place of the last number of the fan-out table, which counts all ids.
+// The offset of the last number of the fan-out table, which counts all ids.
 const COUNT: usize = 1_028;
 
-// An offset with this bit is the place of a long one.
+// An offset with this bit refers to a long offset.
 const LONG_MARK: u32 = 1 << 31;
 
-// The tables of some lines of an index. A long offset of theirs is the next of the table.
+// The tables of some entries of an index. Their long offsets are in order.
 #[derive(Clone, Copy)]
 struct Tables<'a> {
     ids: &'a [u8],
@@ -24,10 +24,11 @@ struct Tables<'a> {
     long_offsets: &'a [u8],
 }
 
-/// The lines of an index with these bytes before the checksum of the pack; `None` if they are too
-/// few. The signature and the fan-out table are not tested, and neither is the order of the ids.
+/// Returns the entries of an index with these bytes before the checksum of the pack, or `None` if
+/// there are too few bytes. The signature, the fan-out table and the order of the ids are not
+/// checked.
 ///
-/// It fails only out of memory.
+/// Fails only if out of memory.
 pub(crate) fn read_entries<A: Allocator + Copy>(
     alloc: A,
     bytes: &[u8],
@@ -45,7 +46,7 @@ pub(crate) fn read_entries<A: Allocator + Copy>(
     read_lines(alloc, tables, count)
 }
 
-// The number of lines, and the tables after the fan-out table.
+// Returns the number of entries, and the tables after the fan-out table.
 fn split_count(bytes: &[u8]) -> Option<(usize, &[u8])>
     ensures { (lines : List IndexEntry) → AreEntries lines → bytes.now ≡ index_tables lines
         → MatchOption result ⊥ (λ it. (it.0 ≡ length lines) × (it.1.now ≡ index_rows lines)) }
@@ -59,7 +60,7 @@ fn split_count(bytes: &[u8]) -> Option<(usize, &[u8])>
     Some((u32::from_be_bytes(*count) as usize, rows))
 }
 
-// The tables of so many lines.
+// Returns the tables of `count` entries.
 fn split_tables(rows: &[u8], count: usize) -> Option<Tables<'_>>
     ensures { (lines : List IndexEntry) → AreEntries lines → count ≡ length lines
         → rows.now ≡ index_rows lines
@@ -85,7 +86,7 @@ fn split_tables(rows: &[u8], count: usize) -> Option<Tables<'_>>
     })
 }
 
-// So many lines of these tables; `None` if the tables end before.
+// Returns `count` entries of these tables, or `None` if the tables are too short.
 fn read_lines<A: Allocator + Copy>(
     alloc: A,
     tables: Tables<'_>,
@@ -108,7 +109,7 @@ fn read_lines<A: Allocator + Copy>(
     Ok(Some(entries))
 }
 
-// The first line of these tables, and the tables of the others.
+// Returns the first entry of these tables, and the tables of the others.
 fn split_line(tables: Tables<'_>) -> Option<(IndexEntry, Tables<'_>)>
     ensures line { IfSome result (λ it. IsLine it.0) }
     ensures first { (longs : ℕ) (line : IndexEntry) (more : List IndexEntry)
@@ -144,8 +145,7 @@ fn split_line(tables: Tables<'_>) -> Option<(IndexEntry, Tables<'_>)>
     Some((entry, more))
 }
 
-// The offset of a line of which the table of offsets has this number, and the long offsets after
-// it.
+// Returns the offset that this number of the offset table denotes, and the remaining long offsets.
 fn split_offset(short: u32, longs: &[u8]) -> Option<(u64, &[u8])>
     ensures { (before : ℕ) (line : IndexEntry) (more : List ℕ) → IsLine line
         → short ≡ short_of before line → longs.now ≡ long_bytes line ++ more

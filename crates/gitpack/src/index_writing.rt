@@ -13,13 +13,13 @@ use std::alloc::{AllocError, Allocator};
 // The signature, and version 2.
 const HEADER: &[u8; 8] = b"\xfftOc\0\0\0\x02";
 
-// The offsets from here on lie in the table of 64-bit offsets.
+// The lowest offset that is written in the table of 64-bit offsets.
 const LONG: u64 = 1 << 31;
 
-// The bit that marks the place of a 64-bit offset.
+// The bit that marks the index of a 64-bit offset.
 const LONG_MARK: u32 = 1 << 31;
 
-// Adds the text of an index without its own checksum.
+// Appends the text of an index without its own checksum.
 fn put_body<A: Allocator + Copy>(
     out: &mut Vec<u8, A>,
     entries: &[IndexEntry],
@@ -38,7 +38,7 @@ fn put_body<A: Allocator + Copy>(
     out.extend_from_slice(checksum.as_bytes())
 }
 
-// Adds the fan-out table.
+// Appends the fan-out table.
 fn put_fan_out<A: Allocator + Copy>(
     out: &mut Vec<u8, A>,
     entries: &[IndexEntry],
@@ -55,7 +55,7 @@ fn put_fan_out<A: Allocator + Copy>(
     Ok(())
 }
 
-/// For each byte, the number of ids that begin with it.
+/// Returns, for each byte, the number of ids that begin with it.
 pub(crate) fn count_by_first(entries: &[IndexEntry]) -> [u32; 256]
     requires { length entries.now < 2 ^ 31 }
     ensures { (byte : ℕ) → byte < 256
@@ -69,7 +69,7 @@ pub(crate) fn count_by_first(entries: &[IndexEntry]) -> [u32; 256]
     counts
 }
 
-/// The first byte of an id.
+/// Returns the first byte of an id.
 pub(crate) fn first_byte(id: &Oid) -> usize
     ensures value { result ≡ slice_index id.now 0 }
     ensures small { result < 256 }
@@ -77,7 +77,7 @@ pub(crate) fn first_byte(id: &Oid) -> usize
     usize::from(id.as_bytes()[0])
 }
 
-// Adds the ids.
+// Appends the ids.
 fn put_ids<A: Allocator + Copy>(
     out: &mut Vec<u8, A>,
     entries: &[IndexEntry],
@@ -90,7 +90,7 @@ fn put_ids<A: Allocator + Copy>(
     Ok(())
 }
 
-// Adds the CRC-32s.
+// Appends the CRC-32s.
 fn put_crcs<A: Allocator + Copy>(
     out: &mut Vec<u8, A>,
     entries: &[IndexEntry],
@@ -103,7 +103,7 @@ fn put_crcs<A: Allocator + Copy>(
     Ok(())
 }
 
-// Adds the table of offsets.
+// Appends the table of offsets.
 fn put_offsets<A: Allocator + Copy>(
     out: &mut Vec<u8, A>,
     entries: &[IndexEntry],
@@ -123,7 +123,7 @@ fn put_offsets<A: Allocator + Copy>(
     Ok(())
 }
 
-// Adds the table of 64-bit offsets.
+// Appends the table of 64-bit offsets.
 fn put_long_offsets<A: Allocator + Copy>(
     out: &mut Vec<u8, A>,
     entries: &[IndexEntry],
@@ -138,7 +138,7 @@ fn put_long_offsets<A: Allocator + Copy>(
     Ok(())
 }
 
-/// The text of an index without its own checksum. It fails only out of memory.
+/// Returns the text of an index without its own checksum. Fails only if out of memory.
 pub(crate) fn body_of<A: Allocator + Copy>(
     alloc: A,
     entries: &[IndexEntry],
@@ -153,7 +153,7 @@ pub(crate) fn body_of<A: Allocator + Copy>(
     Ok(text)
 }
 
-/// The text of an index. It fails only out of memory.
+/// Returns the text of an index. Fails only if out of memory.
 pub(crate) fn write_index<A: Allocator + Copy>(
     alloc: A,
     entries: &[IndexEntry],

@@ -1,4 +1,4 @@
-//! Indexing a pack that came from a peer.
+//! Indexing a pack received from a peer.
 
 ghost use Rattle.std.specs.Prelude.{◌≡◌, ◌≢◌, ℕ, All, IfOk, MatchOption, Option, Some, length, map};
 ghost use Rattle.gitobject.specs.Naming.{id_of};
@@ -19,35 +19,35 @@ use std::marker::Model;
 /// A visitor of the objects of a pack.
 pub trait ObjectVisitor {
     /// Visits an object: its id, its type and its bytes. It may refuse the object with a fault,
-    /// which then is that of the pack.
+    /// which becomes the fault of the pack.
     fn visit(&mut self, id: &Oid, kind: ObjectType, body: &[u8]) -> Result<(), PackFileFault>
         requires { id.now ≡ id_of kind body.now };
 }
 
-/// How much a pack may ask for. A small pack can hold objects of very many bytes, or very many
-/// objects: an entry has nine bytes at least, and takes some two hundred bytes of memory.
+/// The limits of a pack. A small pack can hold huge objects or very many objects. An entry has at
+/// least nine bytes, and uses about two hundred bytes of memory.
 #[derive(Clone, Copy, Debug, Drop)]
 pub struct IndexLimits {
-    /// The most objects.
+    /// The maximum number of objects.
     pub objects: usize,
-    /// The most bytes of an object.
+    /// The maximum size of an object.
     pub object: usize,
-    /// The most bytes that are held at a time to apply deltas: bases, a delta, and what it makes.
+    /// The maximum number of bytes held at a time to apply deltas: bases, a delta, and its result.
     pub held: usize,
-    /// The most bytes of all objects and deltas together.
+    /// The maximum total size of all objects and deltas.
     pub total: usize,
 }
 
-/// An object of a pack: its line of the pack index, and its type.
+/// An object of a pack: its entry in the pack index, and its type.
 #[derive(Clone, Copy, Debug, Drop)]
 pub struct IndexedEntry {
-    /// Its line of the pack index.
+    /// Its entry in the pack index.
     pub entry: IndexEntry,
     /// Its type.
     pub kind: ObjectType,
 }
 
-/// A pack that is indexed: its objects in the order of their ids, and its checksum.
+/// An indexed pack: its objects sorted by id, and its checksum.
 #[derive(Drop)]
 pub struct IndexedPack<A: Allocator + Copy> {
     entries: Vec<IndexedEntry, A>,
@@ -66,7 +66,8 @@ impl<A: Allocator + Copy> Model for IndexedPack<A> {
 }
 
 impl<A: Allocator + Copy> IndexedPack<A> {
-    /// The index of these objects. It fails with `TooLarge` if they are too many for an index.
+    /// Returns the index of these objects. Fails with `TooLarge` if there are too many for an
+    /// index.
     pub(crate) fn new(
         objects: Vec<IndexedEntry, A>,
         checksum: Oid,
@@ -79,7 +80,7 @@ impl<A: Allocator + Copy> IndexedPack<A> {
         Ok(IndexedPack { entries, checksum })
     }
 
-    /// The objects, in the order of their ids.
+    /// Returns the objects, sorted by id.
     pub fn entries(&self) -> &[IndexedEntry]
         ensures objects { result.now ≡ self.now.entries }
         ensures order { AreObjects result.now }
@@ -87,7 +88,7 @@ impl<A: Allocator + Copy> IndexedPack<A> {
         self.entries.as_slice()
     }
 
-    /// The object with this id; `None` if there is none.
+    /// Returns the object with this id, or `None` if there is none.
     pub fn find(&self, id: &Oid) -> Option<IndexedEntry>
         ensures { MatchOption result (All (λ e. object_id e ≢ id.now) self.now.entries)
             (λ e. object_id e ≡ id.now) }
@@ -95,17 +96,17 @@ impl<A: Allocator + Copy> IndexedPack<A> {
         find(self.entries.as_slice(), id)
     }
 
-    /// The checksum of the pack: its trailer.
+    /// Returns the checksum of the pack: its trailer.
     pub fn checksum(&self) -> Oid
         ensures { result ≡ self.now.checksum }
     {
         self.checksum
     }
 
-    /// The text of the pack index of version 2. [`crate::PackIndex::read`] reads it as this very
-    /// index.
+    /// Returns the text of the pack index of version 2. [`crate::PackIndex::read`] reads it back as
+    /// this index.
     ///
-    /// It fails only out of memory.
+    /// Fails only if out of memory.
     pub fn write_index(&self, alloc: A) -> Result<Vec<u8, A>, AllocError>
         ensures text { IfOk result (λ text. text.items ≡ index_text (index_of self.now)) }
         ensures read_back { IfOk result (λ text. (found : Option Index)
@@ -116,7 +117,7 @@ impl<A: Allocator + Copy> IndexedPack<A> {
     }
 }
 
-// The object with this id.
+// Returns the object with this id.
 fn find(entries: &[IndexedEntry], id: &Oid) -> Option<IndexedEntry>
     requires { AreObjects entries.now }
     ensures { MatchOption result (All (λ e. object_id e ≢ id.now) entries.now)
@@ -128,7 +129,7 @@ fn find(entries: &[IndexedEntry], id: &Oid) -> Option<IndexedEntry>
     }
 }
 
-// The lines of the index.
+// Returns the entries of the index.
 fn lines_of<A: Allocator + Copy>(
     alloc: A,
     entries: &[IndexedEntry],
@@ -142,11 +143,11 @@ fn lines_of<A: Allocator + Copy>(
 /// Indexes a pack, and shows each of its objects to a visitor: whole objects first, and each delta
 /// after its base.
 ///
-/// It fails with `Frame` if the header or the trailer is wrong, or if bytes come after the last
-/// entry. It fails with `Entry` at an entry that is wrong or missing, and with `Thin` if a base is
-/// not in the pack. It fails with `TooLarge` past one of the limits, and if a chain has more than
-/// 8,191 deltas or there are 2^31 objects or more. Otherwise it fails with the visitor's fault, and
-/// with `Memory`. The visitor may have seen some objects by then.
+/// Fails with `Frame` if the header or the trailer is wrong, or if bytes follow the last entry.
+/// Fails with `Entry` at a wrong or missing entry, and with `Thin` if a base is not in the pack.
+/// Fails with `TooLarge` if the pack exceeds a limit, a chain has more than 8,191 deltas, or there
+/// are 2^31 objects or more. Also fails with the visitor's fault, and with `Memory`. The visitor
+/// may have seen some objects by then.
 pub fn index_pack<A: Allocator + Copy, V: ObjectVisitor>(
     alloc: A,
     pack: &[u8],
@@ -161,8 +162,7 @@ pub fn index_pack<A: Allocator + Copy, V: ObjectVisitor>(
     Ok(index)
 }
 
-// These objects in the order of their ids. It fails with `TooLarge` if they are too many for an
-// index.
+// Returns these objects sorted by id. Fails with `TooLarge` if there are too many for an index.
 fn in_order<A: Allocator + Copy>(
     objects: Vec<IndexedEntry, A>,
 ) -> Result<Vec<IndexedEntry, A>, PackFileFault>

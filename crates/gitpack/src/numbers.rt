@@ -3,14 +3,14 @@
 ghost use Rattle.std.specs.Prelude.{◌≡◌, ◌^◌, ◌<◌, ◌≤◌, ◌++◌, ◌∷◌, List, ℕ, MatchOption, length, slice_index};
 ghost use Rattle.gitpack.specs.Numbers.{IsNumber, IsOffset, IsSize, high_first, low_first};
 
-// The values of a digit. A byte from here on is not the last of its number.
+// The number of values of a digit. A byte of at least this value is not the last of its number.
 const DIGITS: u8 = 128;
 
-// The most bytes of a size or an offset.
+// The maximum number of bytes of a size or an offset.
 const MAX_BYTES: usize = 8;
 
-/// The bytes of the number with which some bytes begin, and the bytes after it; `None` if they
-/// begin with no number of at most so many bytes.
+/// Returns the bytes of the number at the start, and the bytes after it. Returns `None` if there is
+/// no number of at most `most` bytes.
 pub(crate) fn split_number(most: usize, bytes: &[u8]) -> Option<(&[u8], &[u8])>
     ensures { MatchOption result
         ((text rest : List ℕ) → IsNumber text → length text ≤ most → ¬ (bytes.now ≡ text ++ rest))
@@ -26,7 +26,7 @@ pub(crate) fn split_number(most: usize, bytes: &[u8]) -> Option<(&[u8], &[u8])>
     Some(bytes.split_at(last + 1))
 }
 
-// The place of the first byte below 128.
+// Returns the index of the first byte below 128.
 fn last_place(bytes: &[u8]) -> Option<usize>
     ensures { MatchOption result
         ((k : ℕ) → k < length bytes.now → 128 ≤ slice_index bytes.now k)
@@ -41,7 +41,7 @@ fn last_place(bytes: &[u8]) -> Option<usize>
     None
 }
 
-/// The number with these digits, the lowest first.
+/// Returns the number with these digits, the lowest first.
 pub(crate) fn low_first(bytes: &[u8]) -> usize
     requires { length bytes.now ≤ 8 }
     ensures number { result ≡ low_first bytes.now }
@@ -56,7 +56,7 @@ pub(crate) fn low_first(bytes: &[u8]) -> usize
     number
 }
 
-// The number with these digits, the highest first, and a carry at each byte but one.
+// Returns the number with these digits, the highest first, and a carry at each byte but the first.
 fn high_first(first: u8, more: &[u8]) -> usize
     requires { length more.now ≤ 7 }
     ensures { result ≡ high_first (first ∷ more.now) }
@@ -68,8 +68,8 @@ fn high_first(first: u8, more: &[u8]) -> usize
     number
 }
 
-/// The size with which some bytes begin, and the bytes after it; `None` if they begin with no
-/// size.
+/// Returns the size at the start of the bytes, and the bytes after it, or `None` if they do not
+/// begin with a size.
 pub(crate) fn split_size(bytes: &[u8]) -> Option<(usize, &[u8])>
     ensures { MatchOption result
         ((size : ℕ) (text rest : List ℕ) → IsSize text size → ¬ (bytes.now ≡ text ++ rest))
@@ -81,8 +81,8 @@ pub(crate) fn split_size(bytes: &[u8]) -> Option<(usize, &[u8])>
     Some((low_first(text), rest))
 }
 
-/// The offset with which some bytes begin, and the bytes after it; `None` if they begin with no
-/// offset.
+/// Returns the offset at the start of the bytes, and the bytes after it, or `None` if they do not
+/// begin with an offset.
 pub(crate) fn split_offset(bytes: &[u8]) -> Option<(usize, &[u8])>
     ensures { MatchOption result
         ((offset : ℕ) (text rest : List ℕ) → IsOffset text offset → ¬ (bytes.now ≡ text ++ rest))

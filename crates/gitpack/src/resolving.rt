@@ -1,5 +1,5 @@
-//! Deltas, applied to their bases: depth first, so that only the objects of one chain are held at
-//! a time.
+//! Applying deltas to their bases: depth first, so that only the objects of one chain are held at a
+//! time.
 
 ghost use Rattle.std.specs.Prelude.{All, IfOk};
 ghost use Rattle.gitpack.specs.Indexes.{IsLine, line_of};
@@ -16,18 +16,18 @@ use gitobject::{ObjectType, id_of};
 use gzlib::Inflater;
 use std::alloc::{AllocError, Allocator};
 
-// The most deltas of a chain: as many as git-fast-import(1) makes, "--depth". Whoever reads the last
-// object of a chain reads all of it.
+// The maximum number of deltas in a chain: the same as for git-fast-import(1), "--depth". Reading
+// the last object of a chain reads the whole chain.
 const MAX_DEPTH: usize = 8_191;
 
-// An object to which deltas are applied.
+// A base of deltas.
 #[derive(Drop)]
 struct Base<A: Allocator + Copy> {
     kind: ObjectType,
     body: Vec<u8, A>,
-    // How many deltas made it, one of the other.
+    // The number of deltas in its chain.
     depth: usize,
-    // Its deltas that are still to be applied.
+    // Its remaining deltas.
     left: Cursor,
 }
 
@@ -38,19 +38,19 @@ pub(crate) struct Resolver<'a, A: Allocator + Copy> {
     pack: &'a [u8],
     limits: IndexLimits,
     entries: Vec<Scanned, A>,
-    // The inflated streams that are kept, until they are used.
+    // The inflated streams, kept until they are used.
     texts: Vec<Option<Vec<u8, A>>, A>,
     children: Children<A>,
-    // The chain of objects to which deltas are applied, and the number of their bytes.
+    // The chain of bases, and their total size.
     bases: Vec<Base<A>, A>,
     held: usize,
-    // The number of bytes of all objects that deltas made.
+    // The total size of all objects made from deltas.
     total: usize,
     inflater: Inflater,
 }
 
 impl<'a, A: Allocator + Copy> Resolver<'a, A> {
-    /// Makes ready to apply the deltas of a pack that is scanned. It fails only out of memory.
+    /// Prepares to apply the deltas of a scanned pack. Fails only if out of memory.
     pub(crate) fn new(
         pack: &'a [u8],
         scanned: ScannedPack<A>,
@@ -110,7 +110,7 @@ impl<'a, A: Allocator + Copy> Resolver<'a, A> {
         })
     }
 
-    // The bytes to which the stream of the entry at this place inflates. They are asked for once.
+    // Returns the inflated stream of the entry at this place. It is requested only once.
     fn text_of(&mut self, place: usize, entry: &Scanned) -> Result<Vec<u8, A>, PackFileFault> {
         match self.take_text(place) {
             Some(text) => Ok(text),
@@ -118,12 +118,12 @@ impl<'a, A: Allocator + Copy> Resolver<'a, A> {
         }
     }
 
-    // The same, if they were kept.
+    // Takes the inflated stream, if it was kept.
     fn take_text(&mut self, place: usize) -> Option<Vec<u8, A>> {
         self.texts.get_mut(place)?.take()
     }
 
-    // The same, inflated again.
+    // Inflates the stream again.
     fn inflate(&mut self, place: usize, entry: &Scanned) -> Result<Vec<u8, A>, PackFileFault> {
         let stream = self.pack.get(entry.stream..entry.end).unwrap_or(b"");
         match inflate(self.alloc, &mut self.inflater, stream, entry.size, place)? {
@@ -140,9 +140,9 @@ impl<'a, A: Allocator + Copy> Resolver<'a, A> {
         Ok(())
     }
 
-    // Applies the deltas of the object that is held, of those that they make, and so on.
+    // Applies the deltas of the held object, then those of the results, and so on.
     fn resolve_chain<V: ObjectVisitor>(&mut self, visitor: &mut V) -> Result<(), PackFileFault> {
-        // Each delta is applied once, and each object let go once.
+        // Each delta is applied once, and each object is released once.
         let steps = self.entries.len().saturating_mul(2).saturating_add(2);
         for _step in 0..steps {
             if self.bases.is_empty() {
@@ -162,8 +162,8 @@ impl<'a, A: Allocator + Copy> Resolver<'a, A> {
         }
     }
 
-    // Lets the object go that is held last, if none of its deltas is left: so a chain of any
-    // length holds two objects.
+    // Releases the last held object if it has no more deltas. So a chain of any length holds two
+    // objects.
     fn let_go_of_done(&mut self) {
         let Some(last) = self.bases.last() else {
             return;
@@ -174,7 +174,7 @@ impl<'a, A: Allocator + Copy> Resolver<'a, A> {
         }
     }
 
-    // The place of the next delta of the object that is held last.
+    // Returns the place of the next delta of the last held object.
     fn next_delta(&mut self) -> Option<usize> {
         let last = self.bases.last_mut()?;
         let left = last.left;
@@ -182,7 +182,7 @@ impl<'a, A: Allocator + Copy> Resolver<'a, A> {
         self.children.peek(&left)
     }
 
-    // Applies the delta at this place to the object that is held last.
+    // Applies the delta at this place to the last held object.
     fn resolve<V: ObjectVisitor>(
         &mut self,
         place: usize,
@@ -191,7 +191,7 @@ impl<'a, A: Allocator + Copy> Resolver<'a, A> {
         let Some(entry) = self.entries.get(place).copied() else {
             return Err(PackFileFault::Entry(place));
         };
-        // Its base came before, under the same id.
+        // An earlier base had the same id.
         if entry.object.is_some() {
             return Err(PackFileFault::Entry(place));
         }
@@ -221,7 +221,8 @@ impl<'a, A: Allocator + Copy> Resolver<'a, A> {
         Ok(())
     }
 
-    // How many deltas make the next object. It fails with `TooLarge` if they are too many.
+    // Returns the number of deltas in the chain of the next object. Fails with `TooLarge` if there
+    // are too many.
     fn next_depth(&self) -> Result<usize, PackFileFault> {
         match self.bases.last() {
             Some(base) if base.depth >= MAX_DEPTH => Err(PackFileFault::TooLarge),
@@ -230,7 +231,7 @@ impl<'a, A: Allocator + Copy> Resolver<'a, A> {
         }
     }
 
-    // Fails with `TooLarge` unless so many bytes more may be held.
+    // Fails with `TooLarge` unless `more` additional bytes may be held.
     fn check_held(&self, more: usize) -> Result<(), PackFileFault> {
         if self.held.saturating_add(more) > self.limits.held {
             return Err(PackFileFault::TooLarge);
@@ -238,7 +239,7 @@ impl<'a, A: Allocator + Copy> Resolver<'a, A> {
         Ok(())
     }
 
-    // The object that a delta makes has no more bytes than an object may have, and may be held beside
+    // Checks that the object that a delta makes is within the object limit, and may be held with
     // the delta.
     fn check_size(&self, delta: &[u8]) -> Result<(), PackFileFault> {
         match made_size(delta) {
@@ -248,7 +249,7 @@ impl<'a, A: Allocator + Copy> Resolver<'a, A> {
         }
     }
 
-    // Counts so many bytes more.
+    // Adds `size` to the total size.
     fn count(&mut self, size: usize) -> Result<(), PackFileFault> {
         self.total = self.total.saturating_add(size);
         if self.total > self.limits.total {
@@ -257,7 +258,7 @@ impl<'a, A: Allocator + Copy> Resolver<'a, A> {
         Ok(())
     }
 
-    // The type and the bytes of what the delta makes of the object that is held last.
+    // Applies the delta to the last held object, and returns the type and the bytes of the result.
     fn apply(&self, delta: &[u8]) -> Result<Option<(ObjectType, Vec<u8, A>)>, AllocError> {
         let Some(base) = self.bases.last() else {
             return Ok(None);
@@ -269,8 +270,8 @@ impl<'a, A: Allocator + Copy> Resolver<'a, A> {
         }
     }
 
-    /// The objects, if each entry is one. It fails with `Thin` if the base of a delta is not in
-    /// the pack, and with `Memory`.
+    /// Returns the objects, if the object of each entry is known. Fails with `Thin` if the base of
+    /// a delta is not in the pack, and with `Memory`.
     pub(crate) fn into_entries(self) -> Result<Vec<IndexedEntry, A>, PackFileFault>
         ensures { IfOk result (λ objects. All (λ e. IsLine (line_of e)) objects.items) }
     {
@@ -279,13 +280,13 @@ impl<'a, A: Allocator + Copy> Resolver<'a, A> {
         list_objects(alloc, entries.as_slice())
     }
 
-    // The entries alone. The memory of all texts is given back.
+    // Returns only the entries. The memory of all texts is freed.
     fn into_scanned(self) -> Vec<Scanned, A> {
         self.entries
     }
 }
 
-// The objects of these entries, if each is one.
+// Returns the objects of these entries, if all are known.
 fn list_objects<A: Allocator + Copy>(
     alloc: A,
     entries: &[Scanned],
@@ -304,7 +305,7 @@ fn list_objects<A: Allocator + Copy>(
     Ok(objects)
 }
 
-// The line of this object, whose entry has this CRC-32 and begins here.
+// Returns the index entry of this object, whose pack entry has this CRC-32 and begins at `start`.
 fn line_of(object: Object, crc: u32, start: usize) -> IndexEntry
     ensures { IsLine result }
 {

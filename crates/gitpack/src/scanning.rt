@@ -1,4 +1,4 @@
-//! The entries of a pack, one after the other, as they come.
+//! The entries of a pack, in order, as they arrive.
 
 ghost use Rattle.gname.specs.Ids.{IsIdOf};
 ghost use Rattle.gname.specs.declared.formats.Format.TheVariants as formats;
@@ -14,11 +14,11 @@ use gname::Oid;
 use gzlib::{Inflater, crc32_of};
 use std::alloc::Allocator;
 
-// Entries are looked for once so many bytes came since the last time: what comes of an entry that
-// is not whole is inflated for nothing.
+// The number of bytes that must arrive before entries are scanned again: inflating part of an
+// incomplete entry is wasted work.
 const BATCH: usize = 131_072;
 
-// The most bytes that inflated texts take which are kept: 64 MiB.
+// The maximum memory for kept inflated texts: 64 MiB.
 const MAX_KEPT: usize = 67_108_864;
 
 /// An object: its id and its type.
@@ -34,62 +34,62 @@ pub(crate) struct Object {
 /// An entry of a pack.
 #[derive(Clone, Copy, Debug, Drop)]
 pub(crate) struct Scanned {
-    /// The position at which the entry begins.
+    /// The offset of the entry.
     pub start: usize,
-    /// The position at which its stream begins.
+    /// The offset of its stream.
     pub stream: usize,
-    /// The position at which it ends.
+    /// The offset of its end.
     pub end: usize,
-    /// The number of bytes to which its stream inflates.
+    /// The size of its inflated stream.
     pub size: usize,
     /// Its form.
     pub form: EntryForm,
     /// The CRC-32 of its bytes.
     pub crc: u32,
-    /// Its object, once that is known.
+    /// Its object, once known.
     pub object: Option<Object>,
 }
 
-/// A pack that is scanned to its end.
+/// A completely scanned pack.
 #[derive(Drop)]
 pub(crate) struct ScannedPack<A: Allocator + Copy> {
     /// The allocator.
     pub alloc: A,
-    /// What is left of the limits.
+    /// The remaining limits.
     pub limits: IndexLimits,
     /// The entries, in order.
     pub entries: Vec<Scanned, A>,
-    /// The inflated streams of the entries, as far as they are kept.
+    /// The inflated streams of the entries, if they are kept.
     pub texts: Vec<Option<Vec<u8, A>>, A>,
     /// An inflater.
     pub inflater: Inflater,
 }
 
-/// Scans a pack as it comes. An entry is scanned once it is whole, and each object that is whole is
+/// Scans a pack as it arrives. An entry is scanned once it is complete, and each whole object is
 /// shown to a visitor.
 ///
-/// The part of an entry that is not whole is inflated again only once it has doubled. So the work is
-/// linear in the bytes, whatever the pieces are.
+/// An incomplete entry is inflated again only once its bytes have doubled. So the work is linear in
+/// the bytes, whatever the pieces are.
 #[derive(Drop)]
 pub(crate) struct Scanner<A: Allocator + Copy> {
     alloc: A,
     limits: IndexLimits,
-    // The position at which the next entry begins, and the number of bytes that must be there before
-    // it is looked for.
+    // The offset of the next entry, and the number of bytes that must be present before it is
+    // scanned.
     place: usize,
     enough: usize,
     entries: Vec<Scanned, A>,
     texts: Vec<Option<Vec<u8, A>>, A>,
-    // The bytes that the texts take, and those to which all streams so far inflate.
+    // The memory of the texts, and the total size of all inflated streams so far.
     kept: usize,
     total: usize,
-    // The first fault, for the end.
+    // The first fault, reported at the end.
     fault: Option<PackFileFault>,
     inflater: Inflater,
 }
 
 impl<A: Allocator + Copy> Scanner<A> {
-    /// A scanner of a pack of which nothing came.
+    /// Returns a scanner of a pack without received bytes.
     pub(crate) fn new(alloc: A, limits: IndexLimits) -> Scanner<A> {
         Scanner {
             alloc,
@@ -105,8 +105,8 @@ impl<A: Allocator + Copy> Scanner<A> {
         }
     }
 
-    /// Scans what came of a pack so far, without what may be its trailer. A fault is kept for the
-    /// end, as the frame of the pack is tested first.
+    /// Scans the received bytes of a pack, without its possible trailer. A fault is kept for the
+    /// end, as the header and trailer are checked first.
     pub(crate) fn scan_more<V: ObjectVisitor>(&mut self, body: &[u8], visitor: &mut V) {
         if self.fault.is_some() || body.len() < self.enough {
             return;
@@ -118,8 +118,7 @@ impl<A: Allocator + Copy> Scanner<A> {
         self.enough = body.len().saturating_add(waiting.max(BATCH));
     }
 
-    /// Scans the rest of a pack that came whole. It has so many entries, and is given without its
-    /// trailer.
+    /// Scans the rest of a complete pack of `count` entries, given without its trailer.
     pub(crate) fn finish<V: ObjectVisitor>(
         self,
         body: &[u8],
@@ -154,7 +153,7 @@ impl<A: Allocator + Copy> Scanner<A> {
         }
     }
 
-    // Scans the entries that are whole.
+    // Scans the complete entries.
     fn scan_entries<V: ObjectVisitor>(
         &mut self,
         body: &[u8],
@@ -174,7 +173,7 @@ impl<A: Allocator + Copy> Scanner<A> {
         Ok(())
     }
 
-    // Scans the next entry, and answers whether it is whole.
+    // Scans the next entry, and returns whether it is complete.
     fn scan_entry<V: ObjectVisitor>(
         &mut self,
         body: &[u8],
@@ -210,7 +209,7 @@ impl<A: Allocator + Copy> Scanner<A> {
         Ok(true)
     }
 
-    // The number of all inflated bytes, with so many more.
+    // Returns the total number of inflated bytes plus `size`.
     fn total_with(&self, size: usize) -> Result<usize, PackFileFault> {
         let total = self.total.saturating_add(size);
         if size > self.limits.object || total > self.limits.total {
@@ -232,7 +231,7 @@ impl<A: Allocator + Copy> Scanner<A> {
     }
 }
 
-// The object of an entry that is whole, which is shown to the visitor.
+// Shows the object of a whole entry to the visitor, and returns it.
 fn whole_object<V: ObjectVisitor>(
     form: EntryForm,
     body: &[u8],

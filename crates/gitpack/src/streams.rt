@@ -6,24 +6,24 @@ use crate::fault::PackFileFault;
 use gzlib::{InflateFault, Inflater};
 use std::alloc::Allocator;
 
-// No stream inflates to more than so many times its length (RFC 1951, section 3.2.5: 258 bytes in
-// two bits).
+// The maximum ratio of an inflated size to the length of its stream (RFC 1951, section 3.2.5: 258
+// bytes in two bits).
 const MAX_RATIO: usize = 1_032;
 
-// An inflater makes room for so many bytes past the end of a body.
+// The number of bytes that an inflater reserves past the end of a body.
 const SPARE: usize = 258;
 
 /// A stream, inflated.
 #[derive(Drop)]
 pub(crate) struct Inflated<A: Allocator + Copy> {
-    /// The bytes to which it inflates.
+    /// The inflated bytes.
     pub body: Vec<u8, A>,
-    /// The number of bytes of the stream.
+    /// The length of the stream.
     pub length: usize,
 }
 
-/// Inflates the stream with which some bytes begin, that of the entry at this place among all, to
-/// exactly `size` bytes. It is `None` if the stream goes on after the bytes.
+/// Inflates the stream at the start of the bytes, which is that of the entry at this place, to
+/// exactly `size` bytes. Returns `None` if the stream continues after the bytes.
 pub(crate) fn inflate<A: Allocator + Copy>(
     alloc: A,
     inflater: &mut Inflater,

@@ -17,9 +17,9 @@ use sha1::Sha1;
 use std::alloc::{AllocError, Allocator};
 use std::marker::Model;
 
-/// A pack that is written, entry after entry. Contracts see it as its bytes so far.
+/// A pack that is written entry by entry. Contracts see it as its bytes so far.
 ///
-/// After a fault a part of an entry may have been added, and the pack is of no use.
+/// After a fault a part of an entry may have been written, and the pack is unusable.
 #[derive(Drop)]
 pub struct PackWriter<A: Allocator + Copy> {
     alloc: A,
@@ -36,9 +36,8 @@ impl<A: Allocator + Copy> Model for PackWriter<A> {
 }
 
 impl<A: Allocator + Copy> PackWriter<A> {
-    /// A pack of `count` entries, none of which is written yet. It is of at most `most` bytes
-    /// without its trailer, and room for `room` bytes is made at once. It fails only out of
-    /// memory.
+    /// Returns a pack of `count` entries, without any entry yet. It has at most `most` bytes
+    /// without its trailer, and reserves `room` bytes. Fails only if out of memory.
     pub fn new(alloc: A, count: u32, room: usize, most: usize) -> Result<PackWriter<A>, AllocError>
         ensures { IfOk result (λ writer. writer ≡ pack_header count) }
     {
@@ -47,16 +46,16 @@ impl<A: Allocator + Copy> PackWriter<A> {
         Ok(PackWriter { alloc, bytes, most })
     }
 
-    /// The position at which the next entry begins.
+    /// Returns the offset of the next entry.
     pub fn position(&self) -> usize
         ensures { result ≡ length self.now }
     {
         self.bytes.len()
     }
 
-    /// Adds a whole object of `size` bytes, whose zlib stream is given.
+    /// Appends a whole object of `size` bytes, with this zlib stream.
     ///
-    /// It fails with `TooLarge` if the size has more than 60 bits or the pack has no room for the
+    /// Fails with `TooLarge` if the size has more than 60 bits or the pack has no room for the
     /// stream, and with `Memory`.
     pub fn put_whole(
         &mut self,
@@ -69,10 +68,10 @@ impl<A: Allocator + Copy> PackWriter<A> {
         self.put_entry(EntryForm::Whole(kind), size, stream)
     }
 
-    /// Adds a delta of `size` bytes, whose zlib stream is given, of the object whose entry begins
-    /// `back` bytes before this one.
+    /// Appends a delta of `size` bytes, with this zlib stream. Its base is the object whose entry
+    /// begins `back` bytes before this one.
     ///
-    /// It fails as `put_whole` does, and with `TooLarge` if the offset has more than 56 bits.
+    /// Fails as `put_whole` does, and with `TooLarge` if the offset has more than 56 bits.
     pub fn put_offset_delta(
         &mut self,
         size: usize,
@@ -85,9 +84,9 @@ impl<A: Allocator + Copy> PackWriter<A> {
         self.put_entry(EntryForm::OffsetDelta(back), size, stream)
     }
 
-    /// Adds a delta of `size` bytes, whose zlib stream is given, of the object with this id.
+    /// Appends a delta of `size` bytes, with this zlib stream. Its base is the object with this id.
     ///
-    /// It fails as `put_whole` does, and with `Format` if the id is not a SHA-1 id.
+    /// Fails as `put_whole` does, and with `Format` if the id is not a SHA-1 id.
     pub fn put_ref_delta(
         &mut self,
         size: usize,
@@ -100,9 +99,9 @@ impl<A: Allocator + Copy> PackWriter<A> {
         self.put_entry(EntryForm::RefDelta(*base), size, stream)
     }
 
-    /// Adds a whole object with these bytes, in a zlib stream of stored blocks.
+    /// Appends a whole object with these bytes, in a zlib stream of stored blocks.
     ///
-    /// It fails as `put_whole` does.
+    /// Fails as `put_whole` does.
     pub fn put_body(&mut self, kind: ObjectType, body: &[u8]) -> Result<(), PackFileFault>
         ensures { OnOk result (AddsEntry (forms.Whole kind) (length body.now)
             (stored_stream body.now) self.old self.new) }
@@ -112,7 +111,7 @@ impl<A: Allocator + Copy> PackWriter<A> {
         self.put_entry(EntryForm::Whole(kind), body.len(), stream.as_slice())
     }
 
-    // Adds an entry.
+    // Appends an entry.
     fn put_entry(
         &mut self,
         form: EntryForm,
@@ -124,7 +123,7 @@ impl<A: Allocator + Copy> PackWriter<A> {
         put_entry(&mut self.bytes, form, size, stream, self.most)
     }
 
-    /// The pack with its trailer. It fails only out of memory.
+    /// Returns the pack with its trailer. Fails only if out of memory.
     pub fn finish(self) -> Result<Vec<u8, A>, AllocError>
         ensures { IfOk result (λ pack. pack.items ≡ with_trailer self) }
     {
@@ -135,7 +134,7 @@ impl<A: Allocator + Copy> PackWriter<A> {
     }
 }
 
-/// Adds the header of a pack of `count` entries. It fails only out of memory.
+/// Appends the header of a pack of `count` entries. Fails only if out of memory.
 pub fn put_header<A: Allocator + Copy>(out: &mut Vec<u8, A>, count: u32) -> Result<(), AllocError>
     ensures { OnOk result (out.new.items ≡ out.old.items ++ pack_header count) }
 {
@@ -143,11 +142,11 @@ pub fn put_header<A: Allocator + Copy>(out: &mut Vec<u8, A>, count: u32) -> Resu
     out.extend_from_slice(&count.to_be_bytes())
 }
 
-/// Adds an entry of this form. Its zlib stream is given, and inflates to `size` bytes.
+/// Appends an entry of this form with this zlib stream, which inflates to `size` bytes.
 ///
-/// It fails with `TooLarge` if the size has more than 60 bits, an offset more than 56, or `out` would
-/// get more than `most` bytes. It fails with `Format` if the id of a base is not a SHA-1 id, and with
-/// `Memory`. Then a part of the entry may have been added.
+/// Fails with `TooLarge` if the size has more than 60 bits, an offset more than 56, or `out` would
+/// get more than `most` bytes. Fails with `Format` if the id of a base is not a SHA-1 id, and with
+/// `Memory`. A part of the entry may have been appended then.
 pub fn put_entry<A: Allocator + Copy>(
     out: &mut Vec<u8, A>,
     form: EntryForm,

@@ -1,21 +1,21 @@
-//! A look at the next request, before it is read.
+//! Peeking at the next request before it is read.
 
 ghost use Rattle.std.specs.Prelude.{◌≤◌, None, length};
 
 use gpkt::{Down, Source};
 use std::marker::Model;
 
-// The most bytes that are looked at: those of the first packet of a request for refs.
+// The maximum number of bytes to peek at: the length of the first packet of an ls-refs request.
 const LOOK: usize = 20;
 
-// The bytes of the length of a packet.
+// The number of digits of a packet length.
 const LENGTH: usize = 4;
 
-/// A source whose next bytes can be looked at.
+/// A source that can peek at its next bytes.
 #[derive(Drop)]
 pub(crate) struct Ahead<'s, S> {
     source: &'s mut S,
-    // The bytes that were looked at. Those from `start` to `end` are still to be read.
+    // The peeked bytes. Those from `start` to `end` are still to be read.
     front: [u8; LOOK],
     start: usize,
     end: usize,
@@ -23,7 +23,7 @@ pub(crate) struct Ahead<'s, S> {
 }
 
 impl<'s, S: Source> Ahead<'s, S> {
-    /// A source of which nothing was looked at.
+    /// Returns a source without peeked bytes.
     pub(crate) fn new(source: &'s mut S) -> Ahead<'s, S> {
         Ahead {
             source,
@@ -34,8 +34,8 @@ impl<'s, S: Source> Ahead<'s, S> {
         }
     }
 
-    /// Whether the next request may ask for objects: it is neither a request for refs, nor a lone flush,
-    /// nor the end of the input. No more is looked at than the first packet.
+    /// Whether the next request may be a fetch: it is neither ls-refs, nor a lone flush packet, nor
+    /// the end of the input. This looks only at the first packet.
     pub(crate) fn may_ask_for_objects(&mut self) -> bool {
         self.look(LENGTH);
         match self.ahead() {
@@ -43,7 +43,7 @@ impl<'s, S: Source> Ahead<'s, S> {
                 self.look(LOOK);
                 self.ahead() != b"0014command=ls-refs\n".as_slice()
             }
-            // The line feed may be left out.
+            // The line feed is optional.
             b"0013" => {
                 self.look(LOOK - 1);
                 self.ahead() != b"0013command=ls-refs".as_slice()
@@ -52,12 +52,12 @@ impl<'s, S: Source> Ahead<'s, S> {
         }
     }
 
-    // The bytes that were looked at and are still to be read.
+    // Returns the peeked bytes that are still to be read.
     fn ahead(&self) -> &[u8] {
         self.front.get(self.start..self.end).unwrap_or(b"")
     }
 
-    // Looks at so many bytes, or as many as there are. Bytes that are still to be read come first.
+    // Peeks at up to `count` bytes, including those that are still to be read.
     fn look(&mut self, count: usize) {
         if self.start == self.end {
             self.start = 0;
@@ -70,7 +70,7 @@ impl<'s, S: Source> Ahead<'s, S> {
         }
     }
 
-    // Looks at more bytes, up to so many. Answers whether there were any.
+    // Peeks at more bytes, up to `count`. Returns whether there were any.
     fn look_on(&mut self, count: usize) -> bool {
         let Some(room) = self.front.get_mut(self.end..count) else {
             return false;
@@ -88,7 +88,7 @@ impl<'s, S: Source> Ahead<'s, S> {
     }
 }
 
-// Copies as many of some bytes as there is room for, and answers how many.
+// Copies as many bytes as there is room for, and returns how many.
 fn copy_front(bytes: &[u8], room: &mut [u8]) -> usize
     ensures { result ≤ length room.new }
 {

@@ -1,4 +1,4 @@
-//! `gitrepo check`: whether all that the refs reach is there.
+//! `gitrepo check`: a connectivity check of the refs.
 
 use crate::directory::{Directories, find_repository};
 use crate::fault::Fault;
@@ -10,8 +10,8 @@ use gitrepository::{CheckFault, Checked, check_repository};
 use std::alloc::{AllocError, Global};
 use std::rt::Files;
 
-/// Prints how many refs a repository has, and how many commits and tags and objects they reach. It
-/// fails if one of these is missing or refused.
+/// Prints the number of refs of a repository, and of the commits, tags and objects they reach.
+/// Fails if one of these is missing or refused.
 pub(crate) fn check<R>(rt: &R, dir: &str) -> Result<(), Fault>
 where
     R: Files + Print + AllocGlobal,

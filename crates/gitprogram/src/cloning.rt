@@ -27,38 +27,38 @@ use std::rt::Files;
 // The refspecs of a clone.
 const SPECS: [&[u8]; 2] = [b"+refs/heads/*:refs/heads/*", b"+refs/tags/*:refs/tags/*"];
 
-// The refs that a clone asks for.
+// The ref prefixes that a clone requests.
 const PREFIXES: [&[u8]; 3] = [b"HEAD", b"refs/heads/", b"refs/tags/"];
 
-// The ref to which a detached HEAD goes during the fetch, and its refspec.
+// The temporary ref for a detached HEAD during the fetch, and its refspec.
 const HEAD_REF: &[u8] = b"refs/clone/HEAD";
 
 const HEAD_SPEC: &[u8] = b"+HEAD:refs/clone/HEAD";
 
-// The names of branches begin so.
+// The prefix of branch names.
 const BRANCHES: &[u8] = b"refs/heads/";
 
-// The branch at which HEAD points if the server does not say at which one its own does.
+// The branch for HEAD if the server does not report one.
 const DEFAULT_BRANCH: &[u8] = b"refs/heads/main";
 
-// HEAD of a server.
+// The HEAD of a server.
 #[derive(Drop)]
 enum ServerHead {
-    // It points at this branch, or would.
+    // It points at this branch, possibly unborn.
     Branch(Target<Global>),
-    // It is at an id.
+    // It is detached.
     Detached,
 }
 
-// HEAD of a server, and the ids of its refs.
+// The HEAD of a server, and the ids of its refs.
 #[derive(Drop)]
 struct Source {
     head: ServerHead,
     tips: Tips<Global>,
 }
 
-/// Clones a repository of a server into a new bare one. If it fails, nothing of it is left. A
-/// directory that is there and empty is filled.
+/// Clones a repository of a server into a new bare one. After a failure nothing remains. An
+/// existing empty directory may be used.
 pub(crate) fn clone_remote<R, E>(rt: &R, asked: &CloneArgs<'_>, errors: &mut E) -> Result<(), Fault>
 where
     R: Files + AllocGlobal + Net,
@@ -73,7 +73,8 @@ where
     outcome
 }
 
-// The part of the server's refs that a clone keeps. The names, which may take much memory, come again.
+// Returns the part of the server's refs that a clone keeps. It drops the names, which may use much
+// memory; they are listed again.
 fn source_of<R: AllocGlobal + Net>(rt: &R, remote: &Remote) -> Result<Source, Fault> {
     let alloc = rt.alloc();
     let listed = list(rt, remote)?;
@@ -82,13 +83,13 @@ fn source_of<R: AllocGlobal + Net>(rt: &R, remote: &Remote) -> Result<Source, Fa
     Ok(Source { head, tips })
 }
 
-// HEAD, the branches and the tags of the server.
+// Lists HEAD, the branches and the tags of the server.
 fn list<R: AllocGlobal + Net>(rt: &R, remote: &Remote) -> Result<LsReply<Global>, Fault> {
     let prefixes = prefixes(rt.alloc())?;
     remote.list(rt, rt.alloc(), prefixes.as_slice())
 }
 
-// Fails if something is there with this path, except an empty directory.
+// Fails if the path exists, unless it is an empty directory.
 fn check_vacant<R: Files + AllocGlobal>(rt: &R, dir: &str) -> Result<(), Fault> {
     let alloc = rt.alloc();
     match fs::read_dir(&(rt, &alloc), dir) {
@@ -115,7 +116,7 @@ fn prefixes(alloc: Global) -> Result<Vec<Prefix>, Fault> {
     Ok(prefixes)
 }
 
-// The refspecs of a clone. A detached HEAD goes to a ref that is not kept.
+// Returns the refspecs of a clone. A detached HEAD is fetched into a temporary ref.
 fn specs(alloc: Global, head: &ServerHead) -> Result<Vec<Spec>, Fault> {
     let mut specs = Vec::new(alloc);
     for text in SPECS {
@@ -137,7 +138,7 @@ fn push_spec(alloc: Global, specs: &mut Vec<Spec>, text: &[u8]) -> Result<(), Fa
     }
 }
 
-// HEAD as the server lists it.
+// Returns HEAD as the server lists it.
 fn head_of(alloc: Global, reply: &LsReply<Global>) -> Result<ServerHead, Fault>
     ensures { IfOk result (IsHead reply.now.unborn reply.now.lines) }
 {
@@ -147,7 +148,7 @@ fn head_of(alloc: Global, reply: &LsReply<Global>) -> Result<ServerHead, Fault>
     }
 }
 
-// HEAD of a server whose HEAD would point at this name.
+// Returns the HEAD of a server with an unborn HEAD of this name.
 fn unborn_head(alloc: Global, name: &RefName<Global>) -> Result<ServerHead, Fault>
     ensures { IfOk result (IsUnbornHead name.now) }
 {
@@ -158,7 +159,7 @@ fn unborn_head(alloc: Global, name: &RefName<Global>) -> Result<ServerHead, Faul
     }
 }
 
-// HEAD as the first line lists it, if that is the line of HEAD.
+// Returns HEAD from the first line, if that is the line of HEAD.
 fn listed_head(alloc: Global, reply: &LsReply<Global>) -> Result<ServerHead, Fault>
     ensures { IfOk result (IsListedHead reply.now.lines) }
 {
@@ -171,8 +172,8 @@ fn listed_head(alloc: Global, reply: &LsReply<Global>) -> Result<ServerHead, Fau
     }
 }
 
-// HEAD of a server whose HEAD points at this name. Git detaches HEAD of a clone from a name that is
-// none of a branch.
+// Returns the HEAD of a server whose HEAD points at this name. Git detaches the HEAD of a clone if
+// the name is not a branch.
 fn symref_of(alloc: Global, name: &RefName<Global>) -> Result<ServerHead, Fault>
     ensures { IfOk result (IsSymrefOf (Some name.now)) }
 {
@@ -183,14 +184,14 @@ fn symref_of(alloc: Global, name: &RefName<Global>) -> Result<ServerHead, Fault>
     }
 }
 
-// Whether a name is that of a branch.
+// Whether a name is a branch name.
 fn is_branch(name: &RefName<Global>) -> bool
     ensures { result ≡ is_branch name.now }
 {
     name.as_bytes().starts_with(BRANCHES)
 }
 
-// A HEAD that points at a branch.
+// Returns a HEAD that points at a branch.
 fn branch_of(alloc: Global, name: &RefName<Global>) -> Result<ServerHead, Fault>
     requires { is_branch name.now ≡ true }
     ensures { IfOk result (λ head. head ≡ Branch name.now) }
@@ -219,7 +220,7 @@ fn default_target(alloc: Global) -> Result<Target<Global>, Fault>
     }
 }
 
-// Makes the repository of a server's refs.
+// Creates the repository from a server's refs.
 fn clone_source<R, E>(
     rt: &R,
     dir: &str,
@@ -247,7 +248,8 @@ where
     }
 }
 
-// The fault of a repository that is not made. Another run may have made one there meanwhile.
+// Returns the fault of a repository that cannot be created. Another run may have created one there
+// meanwhile.
 fn make_fault(alloc: Global, dir: &str, fault: &RepositoryFault<Global>) -> Fault {
     match fault {
         RepositoryFault::Refs(
@@ -260,7 +262,7 @@ fn make_fault(alloc: Global, dir: &str, fault: &RepositoryFault<Global>) -> Faul
     }
 }
 
-// Makes the repository. HEAD points at a branch at first.
+// Creates the repository. HEAD points at a branch at first.
 fn make<'r, R: Files + AllocGlobal>(
     rt: &'r R,
     dir: &'r str,
@@ -293,7 +295,7 @@ where
     }
 }
 
-// Brings the pack and the refs to the new repository.
+// Installs the pack and the refs in the new repository.
 fn keep<R: Files>(
     alloc: Global,
     found: &Directories,
@@ -308,8 +310,8 @@ fn keep<R: Files>(
     }
 }
 
-// The branches and tags, and a HEAD that is detached: at the commit to which its tag leads, if it
-// is at a tag. Any other HEAD is there already.
+// Returns the branches and tags, and a detached HEAD, peeled to a commit if it is at a tag. Any
+// other HEAD is already set.
 fn kept_refs(alloc: Global, repo: &Repo<Global>) -> Result<(Refs<Global>, Head<Global>), Fault> {
     let mut kept = Refs::new(alloc);
     let mut head = Head::None;

@@ -1,4 +1,4 @@
-//! A fetch that brings nothing.
+//! Fetches that need no objects.
 
 use crate::directory::Directories;
 use gclient::{Ask, Asks, Fetched, RefUpdate, Settled, Spec};
@@ -9,10 +9,10 @@ use glsreply::{LsReply, RefLine};
 use std::alloc::Global;
 use std::rt::Files;
 
-/// The report of a fetch that brings nothing, since each ref that is asked for stands there already and
-/// its object is here; `None` of any other fetch. The history is not read.
+/// Returns the report of a fetch without changes: each requested ref is already up to date and its
+/// object exists. Returns `None` for any other fetch. The history is not read.
 ///
-/// It fails as the repository is refused when it is opened.
+/// Fails if the repository cannot be opened.
 pub(crate) fn fetched_already<R>(
     rt: &R,
     found: &Directories,
@@ -45,7 +45,7 @@ where
     Ok(Some(report_of(alloc, asks)?))
 }
 
-// The asks of refspecs, in the order in which a session makes them; `None` if one names no ref.
+// Returns the asks of refspecs, in the order of a session, or `None` if one does not name a ref.
 fn asks_of(
     alloc: Global,
     specs: &[Spec<Global>],
@@ -60,7 +60,7 @@ fn asks_of(
     Ok(Some(asks))
 }
 
-// Adds the asks of a refspec, line by line. Answers whether each is for a ref name.
+// Adds the asks of a refspec, line by line. Returns `false` if a destination is not a ref name.
 fn add_asks(
     alloc: Global,
     asks: &mut Asks<Global>,
@@ -77,8 +77,8 @@ fn add_asks(
     Ok(true)
 }
 
-// Adds the ask of a refspec for a ref of the server, if it takes the ref anywhere. Answers whether that
-// is a ref name.
+// Adds the ask of a refspec for a server ref, if the refspec maps it. Returns `false` if the
+// destination is not a ref name.
 fn add_ask(
     alloc: Global,
     asks: &mut Asks<Global>,
@@ -99,7 +99,7 @@ fn add_ask(
     }
 }
 
-// Whether each ref that is asked for stands at its id.
+// Whether each requested ref already has its id.
 fn are_set(asks: &Asks<Global>, refs: &Refs<Global>) -> bool {
     (0..asks.len()).all(|place| match asks.at(place) {
         Some((name, id)) => refs.get(name) == Some(id),
@@ -107,7 +107,7 @@ fn are_set(asks: &Asks<Global>, refs: &Refs<Global>) -> bool {
     })
 }
 
-// The report of a fetch after which each ref is the same.
+// Returns the report of a fetch that changes no ref.
 fn report_of(
     alloc: Global,
     asks: Asks<Global>,

@@ -1,4 +1,4 @@
-//! The repository to which a path leads.
+//! Finding the repository at a path.
 
 use crate::fault::Fault;
 use crate::sentences::Sentence;
@@ -11,26 +11,26 @@ use std::fs::Files;
 use std::io::ErrorKind;
 use std::{fs, io};
 
-// The file without which git-daemon(1) serves no repository.
+// The file that a repository needs to be served by git-daemon(1).
 const EXPORT_OK: &str = "git-daemon-export-ok";
 
-// The most bytes of a file that leads to another directory.
+// The maximum size of a file that names another directory.
 const MAX_LINK: u64 = 65_536;
 
 /// The directories of a repository (gitrepository-layout(5)).
 #[derive(Debug, Drop)]
 pub(crate) struct Directories {
-    /// The Git directory, in which HEAD is.
+    /// The Git directory, which contains HEAD.
     pub(crate) own: String,
-    /// The directory of objects and refs. It is another one if the first is that of a linked worktree
+    /// The directory of objects and refs. It differs from `own` for a linked worktree
     /// (git-worktree(1)).
     pub(crate) common: String,
-    /// Whether a file `.git` leads to the first: that of a linked worktree, or of a submodule.
+    /// Whether a `.git` file leads to `own`, as in a linked worktree or a submodule.
     pub(crate) is_linked: bool,
 }
 
 impl Directories {
-    /// The directories of a bare repository.
+    /// Returns the directories of a bare repository.
     pub(crate) fn of_bare(alloc: Global, path: &str) -> Result<Directories, AllocError> {
         Ok(Directories {
             own: String::from_str(alloc, path)?,
@@ -39,7 +39,7 @@ impl Directories {
         })
     }
 
-    /// The same directories.
+    /// Returns a copy of these directories.
     pub(crate) fn copy_in(&self, alloc: Global) -> Result<Directories, AllocError> {
         Ok(Directories {
             own: String::from_str(alloc, self.own.as_str())?,
@@ -48,13 +48,14 @@ impl Directories {
         })
     }
 
-    /// The directory of packs.
+    /// Returns the directory of packs.
     pub(crate) fn packs(&self, alloc: Global) -> Result<String, AllocError> {
         below(alloc, self.common.as_str(), "objects/pack")
     }
 
-    /// Whether there is a work tree: a file `.git` leads to the repository, or its configuration says
-    /// that it is not bare (git-config(1), "core.bare"). If that is not said, its name is `.git`.
+    /// Whether there is a work tree: a `.git` file leads to the repository, or its configuration
+    /// says that it is not bare (git-config(1), "core.bare"). If the configuration does not say,
+    /// the name of the directory must be `.git`.
     pub(crate) fn has_work_tree<R>(&self, rt: &R) -> Result<bool, Fault>
     where
         R: Files + AllocGlobal,
@@ -68,13 +69,13 @@ impl Directories {
         }
     }
 
-    /// The refs of the repository.
+    /// Returns the refs of the repository.
     pub(crate) fn refs<'r, R: Files>(&'r self, alloc: Global, rt: &'r R) -> GitDirectory<'r, R> {
-        GitDirectory::linked(alloc, rt, self.common.as_str(), self.own.as_str())
+        GitDirectory::linked_worktree(alloc, rt, self.common.as_str(), self.own.as_str())
     }
 }
 
-/// The repository to which a path leads: a bare one, or that of a work tree (git-upload-pack(1)).
+/// Returns the repository at a path: a bare one, or that of a work tree (git-upload-pack(1)).
 pub(crate) fn find_repository<R>(rt: &R, path: &str) -> Result<Directories, Fault>
 where
     R: Files + AllocGlobal,
@@ -89,16 +90,16 @@ where
     Err(Fault::of(rt.alloc(), Sentence::NoRepository { path }))
 }
 
-/// The repositories that are served.
+/// The served repositories.
 #[derive(Clone, Copy)]
 pub(crate) struct Exports<'a> {
-    /// The directory below which they are.
+    /// The directory that contains them.
     pub(crate) base: &'a str,
-    /// Whether a repository needs no file that allows it to be served.
+    /// Whether all repositories are served, even without `git-daemon-export-ok`.
     pub(crate) all: bool,
 }
 
-/// The repository that a client's path names; `None` if it names none that is served
+/// Returns the repository that a client's path names, or `None` if it does not name a served one
 /// (git-daemon(1)).
 pub(crate) fn find_served<R>(
     rt: &R,
@@ -115,7 +116,7 @@ where
         let relative = path.candidate(rt.alloc(), ending)?;
         let candidate = below(rt.alloc(), exports.base, relative.as_str())?;
         if let Some(found) = look_at(rt, candidate)? {
-            return exported(rt, exports, found);
+            return exported_repository(rt, exports, found);
         }
     }
     Ok(None)
@@ -128,8 +129,8 @@ fn served_path(path: &[u8]) -> Option<ServedPath<'_>> {
     }
 }
 
-// The repository, if it may be served.
-fn exported<R: Files + AllocGlobal>(
+// Returns the repository, if serving it is allowed.
+fn exported_repository<R: Files + AllocGlobal>(
     rt: &R,
     exports: Exports<'_>,
     found: Directories,
@@ -141,7 +142,7 @@ fn exported<R: Files + AllocGlobal>(
     }
 }
 
-// The repository whose Git directory is at a path, or to whose Git directory the file there leads.
+// Returns the repository whose Git directory is at a path, or is named by the file there.
 fn look_at<R>(rt: &R, path: String) -> Result<Option<Directories>, Fault>
 where
     R: Files + AllocGlobal,
@@ -156,7 +157,7 @@ where
     }
 }
 
-// The repository whose Git directory a file in a directory names.
+// Returns the repository whose Git directory is named by a file in a directory.
 fn follow<R>(rt: &R, directory: &str, target: &[u8]) -> Result<Option<Directories>, Fault>
 where
     R: Files + AllocGlobal,
@@ -167,7 +168,7 @@ where
     }
 }
 
-// The repository whose Git directory is at a path: it has HEAD, objects and refs.
+// Returns the repository whose Git directory is at a path: it has HEAD, objects and refs.
 fn look_into<R>(rt: &R, own: String, is_linked: bool) -> Result<Option<Directories>, Fault>
 where
     R: Files + AllocGlobal,
@@ -195,7 +196,8 @@ fn is_named_git(path: &str) -> bool {
     path == ".git" || path.ends_with("/.git")
 }
 
-// The directory of objects and refs of a Git directory; `None` if it names none.
+// Returns the common directory of a Git directory, or `None` if the file `commondir` does not name
+// one.
 fn common_of<R: Files + AllocGlobal>(rt: &R, own: &str) -> Result<Option<String>, Fault> {
     let path = below(rt.alloc(), own, "commondir")?;
     match read_link(rt, path.as_str())? {
@@ -207,13 +209,13 @@ fn common_of<R: Files + AllocGlobal>(rt: &R, own: &str) -> Result<Option<String>
     }
 }
 
-// The thing at a path that may lead to another directory.
+// A path that may lead to another directory.
 #[derive(Drop)]
 enum Link {
-    // Nothing that leads anywhere.
+    // There is no such file.
     Absent,
     Directory,
-    // A file with this text.
+    // There is a file with this text.
     File(Vec<u8>),
 }
 
@@ -236,7 +238,7 @@ fn read_short<R: Files + AllocGlobal>(rt: &R, path: &str) -> io::Result<Link> {
     Ok(Link::File(fs::read(rt, path)?))
 }
 
-// The path that a file in a directory names; `None` if it is not UTF-8.
+// Returns the path that a file in a directory names, or `None` if it is not UTF-8.
 fn target_path(
     alloc: Global,
     directory: &str,
@@ -252,7 +254,7 @@ fn target_path(
     }
 }
 
-// The directory in which a path lies.
+// Returns the parent directory of a path.
 fn parent_of(path: &str) -> &str {
     match path.rsplit_once('/') {
         Some((parent, _)) => parent,
@@ -260,8 +262,8 @@ fn parent_of(path: &str) -> &str {
     }
 }
 
-// Whether there is a file with this name in a directory. A symbolic link that leads nowhere counts:
-// Git once made HEAD so.
+// Whether there is a file with this name in a directory. A dangling symbolic link counts, since Git
+// once made HEAD a symbolic link.
 fn exists<R: Files + AllocGlobal>(rt: &R, directory: &str, name: &str) -> Result<bool, Fault> {
     let path = below(rt.alloc(), directory, name)?;
     match rt.symlink_metadata(path.as_str()) {
@@ -271,17 +273,17 @@ fn exists<R: Files + AllocGlobal>(rt: &R, directory: &str, name: &str) -> Result
     }
 }
 
-/// The fault of a file that the system does not open.
+/// Returns the fault of a file that the system cannot open.
 pub(crate) fn open_fault(alloc: Global, path: &str, error: &io::Error) -> Fault {
     Fault::of(alloc, Sentence::Open { path, error })
 }
 
-// Whether an error says that there is no such file.
+// Whether an error means that there is no such file.
 fn is_absent(kind: ErrorKind) -> bool {
     matches!(kind, ErrorKind::NotFound | ErrorKind::NotADirectory)
 }
 
-// The path of a file in a directory.
+// Returns the path of a file in a directory.
 fn below(alloc: Global, directory: &str, name: &str) -> Result<String, AllocError> {
     format!(in alloc; "{directory}/{name}")
 }

@@ -1,4 +1,4 @@
-//! The disk, as the connections of a server see it.
+//! The disk, as seen by the connections of a server.
 
 ghost use Rattle.std.specs.Prelude.{◌<◌, [], IfOk, MatchResult, Some, length};
 ghost use Rattle.gparts.specs.Parts.{Begins, GivesPart};
@@ -14,38 +14,38 @@ use std::alloc::Global;
 use std::rc::Rc;
 use std::time::SystemTime;
 
-/// The number under which the objects of a repository are open. They stay open while there is a ticket with
-/// it.
+/// The number of an open object store. The store stays open while a ticket with its number exists.
 pub(crate) type Ticket = Rc<u64, Global>;
 
-/// The repositories on a disk, and the objects that are open.
+/// The repositories on a disk, and the open object stores.
 pub(crate) trait Disk {
-    /// The repository that a client's path names; `None` if it names none that is served.
+    /// Returns the repository that a client's path names, or `None` if it does not name a served
+    /// one.
     fn find(&self, path: &[u8]) -> Result<Option<Directories>, Fault>;
 
-    /// The refs and HEAD of a repository, as they are now.
+    /// Returns the current refs and HEAD of a repository.
     fn list(&self, found: &Directories) -> Result<Listed, NotOpened>;
 
-    /// As much of a repository as a request for these refs needs.
+    /// Returns as much of a repository as an ls-refs request for these refs needs.
     fn show(&self, found: &Directories, listed: Listed) -> Result<Extent, NotOpened>;
 
-    /// When the directory of packs was changed last; `None` if nobody knows.
-    fn changed(&self, found: &Directories) -> Option<SystemTime>;
+    /// Returns when the pack directory last changed, or `None` if unknown.
+    fn change_time(&self, found: &Directories) -> Option<SystemTime>;
 
     /// Opens the objects of a repository.
     fn open_objects(&self, found: &Directories) -> Result<Ticket, NotOpened>;
 
-    /// Opens the objects of a repository whose refs were shown, and reads its history.
+    /// Opens the objects of a repository with shown refs, and reads its history.
     fn open_history(
         &self,
         found: &Directories,
         tips: &Server<Global>,
     ) -> Result<(Server<Global>, Ticket), NotOpened>;
 
-    /// Closes the objects for which there is no ticket.
+    /// Closes the object stores without a ticket.
     fn close_unused(&self);
 
-    /// Begins a pack of these entries, from the objects that are open under a ticket.
+    /// Begins a pack of these entries, from the objects that are open with a ticket.
     fn begin(
         &self,
         ticket: &Ticket,
@@ -55,7 +55,7 @@ pub(crate) trait Disk {
         ensures { IfOk result
             (λ parts. Begins packs_any fails_any entries.now (gives_rest parts) (most_left parts)) };
 
-    /// Puts the next bytes of a pack into the front of `out`, and answers how many: 0 if it was given whole.
+    /// Copies the next bytes of a pack to the front of `out`, and returns how many: 0 at the end.
     fn part(
         &self,
         ticket: &Ticket,
@@ -68,6 +68,6 @@ pub(crate) trait Disk {
             (gives_rest parts.new) (most_left parts.new) count out.new)
             (λ fault. gives_rest parts.old [] (Some fault)) };
 
-    /// The fault of the last call that answered `Other` for a ticket, which is given away.
+    /// Takes the fault of the last call that returned `Other` for a ticket.
     fn take_fault(&self, ticket: &Ticket, found: &Directories) -> Option<Fault>;
 }

@@ -5,7 +5,7 @@ use gname::OUT_OF_MEMORY_TEXT;
 use std::alloc::{AllocError, AllocFailed, Global};
 use std::fmt;
 
-/// Why a command fails. It is printed as one line after the program's name.
+/// Why a command fails. It is printed on one line after the program name.
 #[derive(Debug, Drop)]
 pub(crate) enum Fault {
     /// Out of memory.
@@ -15,7 +15,7 @@ pub(crate) enum Fault {
 }
 
 impl Fault {
-    /// The fault with this sentence.
+    /// Returns the fault with this sentence.
     pub(crate) fn of(alloc: Global, sentence: Sentence<'_>) -> Fault {
         match format!(in alloc; "{sentence}") {
             Ok(text) => Fault::Said(text),
@@ -33,7 +33,8 @@ impl fmt::Display for Fault {
     }
 }
 
-// Writes a text as a terminal may show it on one line, with a question mark for each control character.
+// Writes a text on one line that is safe for a terminal, with a question mark for each control
+// character.
 fn write_shown<W: fmt::Write>(text: &str, f: &mut fmt::Formatter<W>) -> fmt::Result {
     for letter in text.chars() {
         f.write_char(if letter.is_control() { '?' } else { letter })?;

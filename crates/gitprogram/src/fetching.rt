@@ -1,4 +1,4 @@
-//! `gitrepo fetch`, and what it shares with a clone.
+//! `gitrepo fetch`, and the parts it shares with a clone.
 
 use crate::current::fetched_already;
 use crate::directory::{Directories, find_repository};
@@ -8,9 +8,11 @@ use crate::output::Output;
 use crate::progress::{Progress, Watched};
 use crate::remote::{Remote, tips_of};
 use crate::sentences::Sentence;
-use gclient::{ClientFault, FetchFault, Fetched, MAX_SPECS, PackOptions, RefUpdate, Repo, Spec};
+use gclient::{
+    ClientFault, FetchFault, Fetched, GitFetch, MAX_SPECS, PackOptions, RefUpdate, Repo, Spec,
+    fetch_git,
+};
 use gcmd::{Ends, PackLimit, ProgramFault, send_report};
-use gconnect::{GitFetch, fetch_git};
 use ggraph::{Head, Refs, Repository};
 use gitobject::ObjectType;
 use gitobjects::StoredFiles;
@@ -27,13 +29,13 @@ use std::io::{BufReader, BufWriter, IsTerminal, Read, Write};
 use std::net::{Net, OpenStream};
 use std::rt::Files;
 
-// The bytes of a buffer of a connection.
+// The size of a connection buffer.
 const BUFFER: usize = 65_536;
 
-// The names of branches begin so.
+// The prefix of branch names.
 const BRANCHES: &[u8] = b"refs/heads/";
 
-/// What is fetched.
+/// The parameters of a fetch.
 #[derive(Clone, Copy)]
 pub(crate) struct Wanted<'a> {
     /// The repository of the server.
@@ -42,11 +44,11 @@ pub(crate) struct Wanted<'a> {
     pub(crate) specs: &'a [Spec<Global>],
     /// The ids of the server's refs.
     pub(crate) tips: &'a Tips<Global>,
-    /// The name of the ref to which HEAD of a clone goes.
+    /// The name of the temporary ref for the HEAD of a clone.
     pub(crate) head_ref: &'a [u8],
 }
 
-/// A repository of a client, and the refs that it had.
+/// A client's repository, and its earlier refs.
 #[derive(Drop)]
 pub(crate) struct Client {
     /// The refs before the fetch.
@@ -55,25 +57,25 @@ pub(crate) struct Client {
     pub(crate) repo: Repo<Global>,
 }
 
-/// A fetch whose pack is not installed yet, and whose refs have not moved.
+/// A fetch before its pack is installed and its refs are moved.
 #[derive(Drop)]
 pub(crate) struct Fetch {
     /// The repository.
     pub(crate) client: Client,
     /// The report.
     pub(crate) fetched: Fetched<Global>,
-    /// The pack that came.
+    /// The received pack.
     pub(crate) received: Option<Received<Global>>,
 }
 
-// Whether the report is printed, and whether a terminal shows it.
+// Whether to print the report, and whether standard output is a terminal.
 #[derive(Clone, Copy)]
 struct Report {
     is_quiet: bool,
     is_terminal: bool,
 }
 
-/// Fetches refs into a repository, and prints what became of each. On a terminal their names are
+/// Fetches refs into a repository, and prints the result for each. On a terminal their names are
 /// cleaned.
 pub(crate) fn fetch_remote<R, E>(
     rt: &R,
@@ -110,7 +112,8 @@ where
     conclude(rt, &found, report, outcome)
 }
 
-// The server's refs that refspecs may take, among which each ref that they name has to be.
+// Returns the server's refs that refspecs may match. They must include each ref that a refspec
+// names.
 fn list_sources<R>(
     rt: &R,
     remote: &Remote,
@@ -125,7 +128,7 @@ where
     Ok(listed)
 }
 
-// The beginnings of the names of refs that refspecs may take.
+// Returns the prefixes of the ref names that refspecs may match.
 fn prefixes_of(
     alloc: Global,
     remote: &Remote,
@@ -144,7 +147,7 @@ fn prefixes_of(
     Ok(prefixes)
 }
 
-// The report of a fetch that brings nothing; `None` of any other.
+// Returns the report of a fetch without changes; `None` for any other.
 fn find_current<R>(
     rt: &R,
     found: &Directories,
@@ -160,7 +163,7 @@ where
     }
 }
 
-// Keeps what was fetched, and prints the report.
+// Keeps the fetched data, and prints the report.
 fn conclude<R>(
     rt: &R,
     found: &Directories,
@@ -180,7 +183,7 @@ where
     }
 }
 
-/// The progress of a fetch.
+/// Returns the progress of a fetch.
 pub(crate) fn progress_of<E: Write + IsTerminal>(
     alloc: Global,
     verbosity: Verbosity,
@@ -190,7 +193,7 @@ pub(crate) fn progress_of<E: Write + IsTerminal>(
     Progress::new(alloc, errors, is_shown)
 }
 
-// Fails at the first refspec of one ref that the server does not have (git-fetch(1)).
+// Fails at the first refspec for a single ref that the server does not have (git-fetch(1)).
 fn check_sources(
     alloc: Global,
     remote: &Remote,
@@ -211,12 +214,12 @@ fn check_sources(
     Ok(())
 }
 
-// Whether a refspec may take any number of refs.
+// Whether a refspec may match any number of refs.
 fn is_pattern(spec: &Spec<Global>) -> bool {
     spec.prefix().as_bytes().ends_with(b"/")
 }
 
-// Whether the server has the source of a refspec, if only as a HEAD that is unborn.
+// Whether the server has the source of a refspec, even as an unborn HEAD.
 fn has_source(listed: &LsReply<Global>, spec: &Spec<Global>) -> bool {
     if spec.is_head() && listed.unborn().is_some() {
         return true;
@@ -227,8 +230,8 @@ fn has_source(listed: &LsReply<Global>, spec: &Spec<Global>) -> bool {
     })
 }
 
-// Installs the pack, and then moves the refs. If their names are in each other's way, or are too many,
-// it installs nothing.
+// Installs the pack, and then moves the refs. If their names conflict, or there are too many, it
+// installs nothing.
 fn keep<R: Files + AllocGlobal>(rt: &R, found: &Directories, fetch: &Fetch) -> Result<(), Fault> {
     let client = &fetch.client;
     let updates = updates_of(rt.alloc(), &client.before, client.repo.refs())?;
@@ -240,8 +243,7 @@ fn keep<R: Files + AllocGlobal>(rt: &R, found: &Directories, fetch: &Fetch) -> R
     }
 }
 
-// Fails if the branch that is checked out in a work tree would move (git-fetch(1),
-// "--update-head-ok").
+// Fails if the checked-out branch of a work tree would move (git-fetch(1), "--update-head-ok").
 fn check_head<R>(rt: &R, found: &Directories, updates: &[RefMove]) -> Result<(), Fault>
 where
     R: Files + AllocGlobal,
@@ -278,7 +280,7 @@ fn check_branch(alloc: Global, branch: &RefName<Global>, updates: &[RefMove]) ->
     Ok(())
 }
 
-// Fails at the first name of a ref that is not UTF-8, since no path can be made of it.
+// Fails at the first ref name that is not UTF-8, since it has no path.
 fn check_names(alloc: Global, updates: &[RefMove]) -> Result<(), Fault> {
     for update in updates {
         let name = update.name.as_bytes();
@@ -307,7 +309,7 @@ fn install_and_move<R: Files + AllocGlobal>(
     Ok(())
 }
 
-// The refs that have moved.
+// Returns the moved refs.
 fn updates_of(
     alloc: Global,
     before: &Refs<Global>,
@@ -327,7 +329,7 @@ fn updates_of(
     Ok(updates)
 }
 
-// Fails if a ref stays where it was, since the move would be no fast-forward.
+// Fails if a ref was not moved because the update is not a fast-forward.
 fn check_moved(alloc: Global, fetched: &Fetched<Global>) -> Result<(), Fault> {
     let settled = &fetched.settled;
     for (place, update) in settled.updates.iter().enumerate() {
@@ -341,7 +343,7 @@ fn check_moved(alloc: Global, fetched: &Fetched<Global>) -> Result<(), Fault> {
     Ok(())
 }
 
-// Prints what became of each ref, unless it is to be quiet.
+// Prints the result for each ref, unless quiet.
 fn report_unless<R: Print + AllocGlobal>(
     rt: &R,
     report: Report,
@@ -353,7 +355,7 @@ fn report_unless<R: Print + AllocGlobal>(
     print_report(rt, report.is_terminal, fetched)
 }
 
-// Prints what became of each ref.
+// Prints the result for each ref.
 fn print_report<R: Print + AllocGlobal>(
     rt: &R,
     is_terminal: bool,
@@ -371,7 +373,7 @@ fn print_report<R: Print + AllocGlobal>(
     }
 }
 
-/// Fetches into a repository. Nothing is written yet.
+/// Fetches into a repository, without writing anything yet.
 pub(crate) fn receive<R, E>(
     rt: &R,
     found: &Directories,
@@ -392,7 +394,7 @@ where
     }
 }
 
-// Fetches into a repository by an indexer.
+// Fetches into a repository with an indexer.
 fn receive_with<R, E>(
     rt: &R,
     found: &Directories,
@@ -459,7 +461,7 @@ where
     }
 }
 
-// Fails if a branch would move to a tag, a tree or a blob, or HEAD of a clone to a tree or a blob
+// Fails if a branch would move to a tag, tree or blob, or the HEAD of a clone to a tree or blob
 // (git-update-ref(1)).
 fn check_commits<R: Files>(
     alloc: Global,
@@ -482,8 +484,7 @@ fn check_commits<R: Files>(
     Ok(())
 }
 
-// Fails if HEAD of a clone, which is at this object or at the one to which this tag leads, would be
-// at no commit.
+// Fails if the HEAD of a clone, which is this object or its peeled object, is not a commit.
 fn check_head_commit<R: Files>(
     alloc: Global,
     remote: &Remote,
@@ -499,7 +500,7 @@ fn check_head_commit<R: Files>(
     Err(Fault::of(alloc, Sentence::NoHeadCommit { url }))
 }
 
-// Whether an object that came, or was here, is a commit.
+// Whether a received or existing object is a commit.
 fn is_commit<R: Files>(
     alloc: Global,
     remote: &Remote,
@@ -512,7 +513,7 @@ fn is_commit<R: Files>(
     }
 }
 
-// Connects to the server, and holds the conversation of a fetch.
+// Connects to the server, and performs the fetch.
 fn converse<R, E>(
     rt: &R,
     repo: &mut Repo<Global>,
@@ -532,7 +533,7 @@ where
     }
 }
 
-// The fault of a fetch. The indexer knows more of its own.
+// Returns the fault of a fetch, with the indexer's detail if there is one.
 fn fetch_fault<R: Files>(
     alloc: Global,
     remote: &Remote,
@@ -550,7 +551,7 @@ fn refused_pack(alloc: Global, remote: &Remote, fault: &RepositoryFault<Global>)
     Fault::of(alloc, Sentence::RefusedPack { url, fault })
 }
 
-// Holds the conversation of a fetch through buffers.
+// Performs a fetch through buffers.
 fn converse_with<R, S, E>(
     alloc: Global,
     peer: &Peer<S, Silence>,
@@ -575,12 +576,12 @@ where
     let mut source = FromRead::new(&mut reader);
     let mut sink = ToWrite::new(&mut writer);
     let fetched = fetch_git(repo, &mut source, &mut sink, indexer, &fetch);
-    // Bytes that could not be written are not tried again.
+    // Unwritten bytes are not retried.
     let (_peer, _unwritten) = writer.into_parts();
     fetched
 }
 
-// The fetch that is asked for: deltas may name their bases by offsets.
+// Returns the fetch request: deltas may name their bases by offset.
 fn fetch_of(wanted: Wanted<'_>, progress: bool) -> GitFetch<'_, Global> {
     GitFetch {
         hello: &wanted.remote.hello,

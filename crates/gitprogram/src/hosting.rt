@@ -1,5 +1,5 @@
-//! A repository that is served to a client, from its advertisement on. Its history is read once a request
-//! needs it.
+//! Serving a repository to a client, starting with the advertisement. Its history is read once a
+//! request needs it.
 
 ghost use Rattle.std.specs.Prelude.{⊤};
 
@@ -18,12 +18,12 @@ use ggraph::{Entry, PackFault, Packer};
 use ghello::write_advert;
 use gitobjects::{ObjectFiles, StoredFiles};
 use gitrepository::FormFault;
-use gpkt::{LineWriter, Sink, Source};
+use gpkt::{PacketWriter, Sink, Source};
 use gserve::{End, ExchangeEnd, MAX_ERR_TEXT, MAX_REQUESTS, OnePack, err_text, serve_one};
 use std::alloc::{AllocError, Global};
 use std::rt::Files;
 
-/// A conversation with a client: how many of its requests were answered, and how it came out.
+/// A conversation with a client: the number of answered requests, and the outcome.
 #[derive(Drop)]
 pub(crate) struct Conversation {
     pub(crate) requests: u32,
@@ -31,8 +31,8 @@ pub(crate) struct Conversation {
 }
 
 impl Conversation {
-    /// A conversation in which no request was answered.
-    pub(crate) fn failed(fault: Fault) -> Conversation {
+    /// Returns a conversation without answered requests.
+    pub(crate) fn without_answer(fault: Fault) -> Conversation {
         Conversation {
             requests: 0,
             outcome: Err(fault),
@@ -40,15 +40,15 @@ impl Conversation {
     }
 }
 
-// How many requests were answered, and how the connection ended; `None` if the next request may ask for
-// objects.
+// The number of answered requests, and how the connection ended, or `None` if the next request may
+// be a fetch.
 #[derive(Drop)]
 struct Answered {
     requests: u32,
     end: Option<End>,
 }
 
-/// Serves a repository from its advertisement on.
+/// Serves a repository, starting with the advertisement.
 pub(crate) fn serve_repository<R, S: Source, W: Sink>(
     rt: &R,
     found: &Directories,
@@ -75,17 +75,17 @@ where
     }
 }
 
-// Reads the refs of a repository, and opens as much of it as a request for them needs.
+// Reads the refs of a repository, and opens as much of it as ls-refs needs.
 fn open_extent<R: Files + AllocGlobal, F: ObjectFiles>(
     rt: &R,
     files: &F,
     found: &Directories,
 ) -> Result<Extent, NotOpened> {
     let listed = read_listed(rt.alloc(), rt, files, found)?;
-    open_shown(rt.alloc(), rt, files, found, listed)
+    open_shown(rt.alloc(), files, found, listed)
 }
 
-// A repository that can be served. It shows the refs and HEAD that the Git directory had as it was opened.
+// A repository that can be served. It shows the refs and HEAD from when it was opened.
 #[derive(Drop)]
 struct Opened<'f, F: ObjectFiles> {
     // The graph, the refs and HEAD.
@@ -94,7 +94,7 @@ struct Opened<'f, F: ObjectFiles> {
     packer: ObjectPacker<'f, F>,
 }
 
-// Opens the objects of a repository whose refs were shown, and reads its history unless it is known.
+// Opens the objects of a repository with shown refs, and reads its history unless it is known.
 fn open_whole<'f, F: ObjectFiles>(
     alloc: Global,
     files: &'f F,
@@ -108,7 +108,7 @@ fn open_whole<'f, F: ObjectFiles>(
     Ok(Opened { server, packer })
 }
 
-// Ends a conversation, since the repository is not opened.
+// Ends a conversation because the repository cannot be opened.
 fn refuse<W: Sink>(alloc: Global, cause: NotOpened, requests: u32, sink: &mut W) -> Conversation {
     let _ = send_not_opened(alloc, cause.form, sink);
     Conversation {
@@ -117,7 +117,7 @@ fn refuse<W: Sink>(alloc: Global, cause: NotOpened, requests: u32, sink: &mut W)
     }
 }
 
-// Advertises, and answers requests up to the first that may ask for objects.
+// Advertises capabilities, and answers the requests before the first possible fetch.
 fn show_refs<S: Source, W: Sink>(
     server: &Server<Global>,
     source: &mut Ahead<'_, S>,
@@ -151,7 +151,7 @@ fn show_refs<S: Source, W: Sink>(
     }
 }
 
-// Writes the advertisement (gitprotocol-v2(5), "Capability Advertisement"), and passes it on.
+// Writes the advertisement (gitprotocol-v2(5), "Capability Advertisement"), and flushes it.
 fn advertise<W: Sink>(server: &Server<Global>, sink: &mut W) -> Result<(), End> {
     let advert = match server.advert() {
         Ok(advert) => advert,
@@ -162,7 +162,7 @@ fn advertise<W: Sink>(server: &Server<Global>, sink: &mut W) -> Result<(), End> 
             return Err(End::Refused(fault));
         }
     };
-    let mut writer = LineWriter::new(sink);
+    let mut writer = PacketWriter::new(sink);
     let is_sent = write_advert(&advert, &mut writer).is_ok() && writer.push().is_ok();
     let _sink = writer.into_inner();
     if is_sent {
@@ -172,7 +172,7 @@ fn advertise<W: Sink>(server: &Server<Global>, sink: &mut W) -> Result<(), End> 
     }
 }
 
-// Answers all requests from the one with this number on.
+// Answers all requests starting with this number.
 fn answer_all<F: ObjectFiles, S: Source, W: Sink>(
     alloc: Global,
     found: &Directories,
@@ -199,7 +199,7 @@ fn answer_all<F: ObjectFiles, S: Source, W: Sink>(
     conversation_of(alloc, MAX_REQUESTS, End::Ended)
 }
 
-// How a connection ends with an exchange.
+// Returns how a connection ends after an exchange.
 fn end_after(exchange: ExchangeEnd) -> Option<End> {
     match exchange {
         ExchangeEnd::Answered => None,
@@ -210,7 +210,7 @@ fn end_after(exchange: ExchangeEnd) -> Option<End> {
     }
 }
 
-// A conversation of so many answers that ended so.
+// Returns a conversation with this number of answered requests and this end.
 fn conversation_of(alloc: Global, requests: u32, end: End) -> Conversation {
     let outcome = match end {
         End::Closed | End::Ended => Ok(()),
@@ -220,7 +220,7 @@ fn conversation_of(alloc: Global, requests: u32, end: End) -> Conversation {
     Conversation { requests, outcome }
 }
 
-// A packer for requests that ask for no object.
+// A packer for requests without objects.
 struct NoPacker;
 
 impl Packer<Global> for NoPacker {
@@ -233,7 +233,8 @@ impl Packer<Global> for NoPacker {
     }
 }
 
-// Says to the client that the repository is not opened, and why if its form is not read.
+// Tells the client that the repository cannot be opened, with the reason if its format is
+// unsupported.
 fn send_not_opened<W: Sink>(
     alloc: Global,
     form: Option<FormFault>,
@@ -252,7 +253,7 @@ fn send_not_opened<W: Sink>(
     Ok(())
 }
 
-// The fault of a request that was refused. The packer knows more of its own.
+// Returns the fault of a refused request, with the packer's detail if there is one.
 fn request_fault<F: ObjectFiles>(
     alloc: Global,
     found: &Directories,

@@ -6,16 +6,16 @@ use std::alloc::{AllocError, Global};
 use std::rc::{Rc, Weak};
 use std::time::SystemTime;
 
-// The most repositories that are kept.
+// The maximum number of kept repositories.
 const MAX_REPOSITORIES: usize = 64;
 
 // A repository.
 #[derive(Drop)]
 struct Kept {
     shown: Rc<Shown, Global>,
-    // Tickets for its objects, if connections have some.
+    // Tickets for its objects, if connections hold any.
     objects: Weak<u64, Global>,
-    // When the directory of packs was changed last, before they were opened; `None` if nobody knows.
+    // When the pack directory last changed before the objects were opened, or `None` if unknown.
     changed: Option<SystemTime>,
 }
 
@@ -24,30 +24,30 @@ impl Kept {
         self.shown.found.own.as_str()
     }
 
-    // Another owner of it.
+    // Returns another handle to it.
     fn share<'d, D>(&self, alloc: Global, disk: &'d D) -> Result<Shared<'d, D>, AllocError> {
         let shown = self.shown.clone()?;
         Shared::new(alloc, disk, shown, self.objects.upgrade(), self.changed)
     }
 }
 
-/// The repositories that were read last, the oldest first. They have at most 1,048,576 commits and
-/// tags together. A connection may still use one that is no longer kept.
+/// The most recently read repositories, oldest first. Together they have at most 1,048,576 commits
+/// and tags. A connection may still use one that is no longer kept.
 #[derive(Drop)]
 pub(crate) struct KeptRepositories {
     kept: Vec<Kept>,
 }
 
 impl KeptRepositories {
-    /// No repository.
+    /// Returns an empty list.
     pub(crate) fn new(alloc: Global) -> KeptRepositories {
         KeptRepositories {
             kept: Vec::new(alloc),
         }
     }
 
-    /// The repository with this Git directory, for another connection; `None` if it is not kept. It fails
-    /// only out of memory.
+    /// Returns the repository with this Git directory, for another connection, or `None` if it is
+    /// not kept. Fails only if out of memory.
     pub(crate) fn get<'d, D>(
         &self,
         alloc: Global,
@@ -60,8 +60,9 @@ impl KeptRepositories {
         }
     }
 
-    /// Keeps a repository in place of the one with the same Git directory. The oldest go if there are too
-    /// many. It fails out of memory, and keeps no repository of this Git directory then.
+    /// Keeps a repository and replaces the one with the same Git directory. The oldest are dropped
+    /// if there are too many. Fails only if out of memory, and then keeps no repository of this Git
+    /// directory.
     pub(crate) fn put<D>(&mut self, shared: &Shared<'_, D>) -> Result<(), AllocError> {
         let path = shared.shown.found.own.as_str();
         if let Some(place) = self.kept.iter().position(|kept| kept.path() == path) {
@@ -82,7 +83,7 @@ impl KeptRepositories {
         }
     }
 
-    // Lets the oldest repositories go until there is room for one with so many commits and tags.
+    // Drops the oldest repositories until there is room for `nodes` more commits and tags.
     fn make_room(&mut self, nodes: usize) {
         for _ in 0..MAX_REPOSITORIES {
             if self.has_room(nodes) {
@@ -103,7 +104,7 @@ impl KeptRepositories {
         }
     }
 
-    // How many commits and tags all of them have.
+    // Returns the total number of commits and tags.
     fn nodes(&self) -> usize {
         let mut nodes: usize = 0;
         for kept in &self.kept {

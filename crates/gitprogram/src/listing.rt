@@ -28,8 +28,8 @@ where
     print_peer(rt, is_terminal, text.as_slice())
 }
 
-// The prefixes that the server is asked for: none if there are more than a request takes, which asks
-// for all refs.
+// Returns the prefixes to request. If there are too many for a request, returns none, which
+// requests all refs.
 fn prefixes_to_ask(prefixes: &[Prefix<Global>]) -> &[Prefix<Global>] {
     if prefixes.len() <= MAX_PREFIXES {
         prefixes
@@ -38,7 +38,8 @@ fn prefixes_to_ask(prefixes: &[Prefix<Global>]) -> &[Prefix<Global>] {
     }
 }
 
-// The lines of the refs that begin with one of some prefixes, or of all if there is none.
+// Returns the lines of the refs that begin with one of these prefixes, or of all refs if there are
+// no prefixes.
 fn reply_text(
     alloc: Global,
     reply: &LsReply<Global>,
@@ -53,7 +54,7 @@ fn reply_text(
     Ok(text)
 }
 
-// The lines of the ref at a position, if it is listed.
+// Appends the lines of the ref at a position, if it is listed.
 fn put_at(
     text: &mut Vec<u8>,
     reply: &LsReply<Global>,
@@ -84,14 +85,14 @@ fn put_listed(
     }
 }
 
-// Whether a name begins with one of some prefixes, or there is none.
+// Whether a name begins with one of these prefixes, or there are no prefixes.
 fn is_listed(prefixes: &[Prefix<Global>], name: &[u8]) -> bool
     ensures { result ≡ is_listed prefixes.now name.now }
 {
     prefixes.is_empty() || begins_with_any(prefixes, name)
 }
 
-// Whether a name begins with one of some prefixes.
+// Whether a name begins with one of these prefixes.
 fn begins_with_any(prefixes: &[Prefix<Global>], name: &[u8]) -> bool
     ensures { result ≡ list_any (starts_with nat_eq name.now) prefixes.now }
 {
@@ -100,7 +101,7 @@ fn begins_with_any(prefixes: &[Prefix<Global>], name: &[u8]) -> bool
         .any(|prefix| name.starts_with(prefix.as_bytes()))
 }
 
-// The line of a ref, and that of the object to which it leads if it is at a tag.
+// Appends the line of a ref, and that of the peeled object of a tag.
 fn put_ref(text: &mut Vec<u8>, line: &RefLine<Global>) -> Result<(), AllocError>
     ensures { OnOk result (text.new.items ≡ text.old.items ++ ref_lines line.now) }
 {
@@ -111,7 +112,7 @@ fn put_ref(text: &mut Vec<u8>, line: &RefLine<Global>) -> Result<(), AllocError>
     }
 }
 
-// A line of an id and a name with an ending.
+// Appends a line of an id and a name with an ending.
 fn put_line(text: &mut Vec<u8>, id: &Oid, name: &[u8], ending: &[u8]) -> Result<(), AllocError>
     ensures { OnOk result (text.new.items ≡ text.old.items ++ id_line id.now (name.now ++ ending.now)) }
 {

@@ -1,4 +1,4 @@
-//! A repository that is opened.
+//! Opening a repository to serve it or to fetch into it.
 
 ghost use Rattle.std.specs.Prelude.{◌≡◌};
 ghost use Rattle.gitprogram.specs.Sharing.{server_in};
@@ -9,7 +9,7 @@ use crate::sentences::Sentence;
 use ganswer::Server;
 use ggraph::{Head, Refs, Repository};
 use gitobjects::{ObjectFiles, ObjectReader, QuickReader};
-use gitrefs::PackedPeels;
+use gitrefs::{PackedPeels, PeeledRefs};
 use gitrepository::{
     FormFault, RepositoryFault, StorePacker, Tips, add_leaves, check_form, lead_with_newest,
     open_refs, open_repository, open_store, open_tips, read_commit_graph,
@@ -28,14 +28,14 @@ pub(crate) type ObjectPacker<'f, F> = StorePacker<'f, F, Global>;
 pub(crate) struct NotOpened {
     /// The fault.
     pub(crate) fault: Fault,
-    /// The form of the repository, if that is why it is not read.
+    /// The format of the repository, if it is unsupported.
     pub(crate) form: Option<FormFault>,
-    /// Whether the objects of too many others are open.
+    /// Whether too many other repositories are open.
     pub(crate) is_busy: bool,
 }
 
 impl NotOpened {
-    /// The objects of too many others are open.
+    /// Returns the fault of too many open repositories.
     pub(crate) fn busy(alloc: Global) -> NotOpened {
         NotOpened {
             fault: Fault::of(alloc, Sentence::Busy),
@@ -55,18 +55,17 @@ impl From<AllocError> for NotOpened {
     }
 }
 
-/// How much of its repository a server has.
+/// How much of its repository a server has read.
 #[derive(Drop)]
 pub(crate) enum Extent {
     /// It has the whole history.
     Whole(Server<Global>),
-    /// It has the objects at which refs are, and what tags among them lead to. It answers requests for
-    /// refs alone.
+    /// It has the objects that refs point to, and their peeled objects. It answers only ls-refs.
     Tips(Server<Global>),
 }
 
 impl Extent {
-    /// The server.
+    /// Returns the server.
     pub(crate) fn server(&self) -> &Server<Global>
         ensures { result.now ≡ server_in self.now }
     {
@@ -76,15 +75,16 @@ impl Extent {
     }
 }
 
-/// The refs and HEAD of a repository, as its Git directory has them.
+/// The refs and HEAD of a repository, as in its Git directory.
 #[derive(Drop)]
 pub(crate) struct Listed {
     refs: Refs<Global>,
     head: Head<Global>,
+    peels: PackedPeels,
 }
 
 impl Listed {
-    /// Whether a server has these refs and this HEAD. One that left out a ref has others.
+    /// Whether a server has these refs and this HEAD. A server that left out a ref does not.
     pub(crate) fn is_of(&self, server: &Server<Global>) -> bool {
         has_refs(server, &self.refs, &self.head)
     }
@@ -103,7 +103,7 @@ pub(crate) fn read_listed<R: Files, F: ObjectFiles>(
     found: &Directories,
 ) -> Result<Listed, NotOpened> {
     match find_listed(alloc, rt, files, found) {
-        Ok((refs, head)) => Ok(Listed { refs, head }),
+        Ok(PeeledRefs { refs, head, peels }) => Ok(Listed { refs, head, peels }),
         Err(fault) => Err(not_opened(alloc, found, &fault)),
     }
 }
@@ -113,50 +113,51 @@ fn find_listed<R: Files, F: ObjectFiles>(
     rt: &R,
     files: &F,
     found: &Directories,
-) -> Result<(Refs<Global>, Head<Global>), RepositoryFault<Global>> {
+) -> Result<PeeledRefs, RepositoryFault<Global>> {
     check_form(files, alloc, found.common.as_str())?;
-    Ok(found.refs(alloc, rt).read_refs()?)
+    Ok(found.refs(alloc, rt).read_peeled_refs()?)
 }
 
-/// Opens as much of a repository as a request for refs needs. These are the objects at which refs are. If one
-/// is not found at once, the whole history is read.
-pub(crate) fn open_shown<R: Files, F: ObjectFiles>(
+/// Opens as much of a repository as ls-refs needs: the objects that refs point to. If one is not
+/// found quickly, the whole history is read.
+pub(crate) fn open_shown<F: ObjectFiles>(
     alloc: Global,
-    rt: &R,
     files: &F,
     found: &Directories,
     listed: Listed,
 ) -> Result<Extent, NotOpened> {
-    match find_shown(alloc, rt, files, found, listed) {
+    match find_shown(alloc, files, found, listed) {
         Ok(Shown::Tips(tips)) => Ok(Extent::Tips(make_server(alloc, found, tips)?)),
         Ok(Shown::Whole(whole)) => Ok(Extent::Whole(make_server(alloc, found, whole)?)),
         Err(fault) => Err(not_opened(alloc, found, &fault)),
     }
 }
 
-// A repository before its refs are shown.
+// A repository opened for showing its refs.
 #[derive(Drop)]
 enum Shown {
-    // The objects at which refs are were looked at.
+    // The objects that refs point to were found.
     Tips(Repository<Global>),
     // Its history was read.
     Whole(Repository<Global>),
 }
 
-fn find_shown<R: Files, F: ObjectFiles>(
+fn find_shown<F: ObjectFiles>(
     alloc: Global,
-    rt: &R,
     files: &F,
     found: &Directories,
     listed: Listed,
 ) -> Result<Shown, RepositoryFault<Global>> {
     let path = found.common.as_str();
-    let peels = found.refs(alloc, rt).packed_peels()?;
-    if let Some(tips) = find_tips(alloc, files, path, &peels, &listed)? {
+    if let Some(tips) = find_tips(alloc, files, path, &listed)? {
         return Ok(Shown::Tips(tips));
     }
     let mut reader = open_reader(alloc, files, path)?;
-    let Listed { refs, head } = listed;
+    let Listed {
+        refs,
+        head,
+        peels: _peels,
+    } = listed;
     let whole = read_history(alloc, files, path, &mut reader, &refs, head)?;
     Ok(Shown::Whole(whole))
 }
@@ -170,16 +171,16 @@ fn is_same_head(one: &Head<Global>, other: &Head<Global>) -> bool {
     }
 }
 
-// The objects at which refs and HEAD are; `None` if one is not found at once. No pack stays open.
+// Returns the objects that refs and HEAD point to, or `None` if one is not found quickly. No pack
+// stays open.
 fn find_tips<F: ObjectFiles>(
     alloc: Global,
     files: &F,
     path: &str,
-    peels: &PackedPeels,
     listed: &Listed,
 ) -> Result<Option<Repository<Global>>, RepositoryFault<Global>> {
     let mut reader = QuickReader::open(files, alloc, path)?;
-    open_tips(&mut reader, peels, &listed.refs, &listed.head)
+    open_tips(&mut reader, &listed.peels, &listed.refs, &listed.head)
 }
 
 /// Opens the objects of a repository whose history is known.
@@ -194,7 +195,7 @@ pub(crate) fn open_objects<'f, F: ObjectFiles>(
     }
 }
 
-/// Opens the objects of a repository whose refs were shown, and reads its history.
+/// Opens the objects of a repository with shown refs, and reads its history.
 pub(crate) fn open_history<'f, F: ObjectFiles>(
     alloc: Global,
     files: &'f F,
@@ -207,7 +208,7 @@ pub(crate) fn open_history<'f, F: ObjectFiles>(
     }
 }
 
-// The history of the refs and HEAD that were shown, and a reader of its objects.
+// Returns the history of the shown refs and HEAD, and a reader of its objects.
 fn find_whole<'f, F: ObjectFiles>(
     alloc: Global,
     files: &'f F,
@@ -221,7 +222,7 @@ fn find_whole<'f, F: ObjectFiles>(
     Ok((whole, reader))
 }
 
-// The history that refs and HEAD reach.
+// Returns the history that refs and HEAD reach.
 fn read_history<F: ObjectFiles>(
     alloc: Global,
     files: &F,
@@ -263,8 +264,8 @@ fn make_server(
     }
 }
 
-/// Opens a repository to fetch into it from a server whose refs are at these ids. Its refs have others in
-/// front of them, so that its newest objects are offered first.
+/// Opens a repository to fetch into it from a server whose refs have these ids. Extra refs precede
+/// its refs, so that it sends its newest objects as haves first.
 pub(crate) fn open_client<'f, R: Files, F: ObjectFiles>(
     alloc: Global,
     rt: &R,
@@ -316,7 +317,7 @@ pub(crate) fn open_reader<'f, F: ObjectFiles>(
     Ok(ObjectReader::new(store)?)
 }
 
-/// The fault of the repository at a path.
+/// Returns the fault of the repository at a path.
 pub(crate) fn repository_fault(
     alloc: Global,
     path: &str,

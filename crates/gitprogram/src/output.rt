@@ -6,10 +6,10 @@ use gitwords::{Shown, clean_byte};
 use std::io;
 use std::io::Write;
 
-// So many bytes are cleaned at a time.
+// The number of bytes cleaned at a time.
 const PIECE: usize = 512;
 
-/// A writer of standard output. If it is a terminal, the bytes of a peer are cleaned.
+/// A writer of standard output. Bytes from a peer are cleaned if it is a terminal.
 #[derive(Drop)]
 pub(crate) struct Output<W> {
     writer: W,
@@ -17,7 +17,7 @@ pub(crate) struct Output<W> {
 }
 
 impl<W: Write> Output<W> {
-    /// The output that this writer is.
+    /// Returns an output with this writer.
     pub(crate) fn new(writer: W, is_terminal: bool) -> Output<W> {
         Output {
             writer,
@@ -49,7 +49,7 @@ pub(crate) fn print<R: Print + AllocGlobal>(rt: &R, text: &[u8]) -> Result<(), F
     print_peer(rt, false, text)
 }
 
-/// Writes a text with bytes of a peer to standard output. If that is a terminal, they are cleaned.
+/// Writes a text with bytes from a peer to standard output. They are cleaned if it is a terminal.
 pub(crate) fn print_peer<R: Print + AllocGlobal>(
     rt: &R,
     is_terminal: bool,

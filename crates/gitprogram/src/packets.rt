@@ -1,9 +1,9 @@
-//! The packets of a server's answer as they pass by, for those who watch them.
+//! Observing the packets of a server's reply as they pass.
 
-// The packet after which packs come (gitprotocol-v2(5), "fetch"); the line feed may be missing.
+// The packet before a pack (gitprotocol-v2(5), "fetch"); the line feed may be missing.
 const PACKFILE: &[u8] = b"packfile\n";
 
-/// A part of the packets that is of interest.
+/// An interesting part of the packets.
 #[derive(Clone, Copy)]
 pub(crate) enum Seen<'b> {
     /// Bytes of a pack.
@@ -16,14 +16,14 @@ pub(crate) enum Seen<'b> {
     Nothing,
 }
 
-// The place that was reached.
+// The current position in the packets.
 #[derive(Clone, Copy)]
-enum Place {
-    // In the four digits of a packet: so many came, and they say this number.
+enum PacketPosition {
+    // In the four length digits of a packet: how many have arrived, and their value.
     Digits { count: u8, number: u16 },
-    // In a payload: so many bytes came, and so many are left.
+    // In a payload: how many bytes have arrived, and how many are left.
     Payload { before: u16, left: u16 },
-    // After a packet that is malformed. Nothing more is seen.
+    // After a malformed packet. Nothing more is observed.
     Lost,
 }
 
@@ -35,24 +35,24 @@ enum Band {
     Other,
 }
 
-/// A watcher of packets. It holds no bytes.
+/// An observer of packets. It stores no bytes.
 #[derive(Drop)]
 pub(crate) struct Packets {
-    place: Place,
-    // Whether the payload, as far as it came, begins the packet after which packs come.
+    place: PacketPosition,
+    // Whether the payload so far is a prefix of `packfile`.
     begins_packs: bool,
-    // Whether packs come, each packet of a side band.
+    // Whether the packets are side-band packets of a pack.
     has_bands: bool,
     band: Band,
 }
 
-const START: Place = Place::Digits {
+const START: PacketPosition = PacketPosition::Digits {
     count: 0,
     number: 0,
 };
 
 impl Packets {
-    /// A watcher to whom no byte was shown.
+    /// Returns an observer that has seen no bytes.
     pub(crate) fn new() -> Packets {
         Packets {
             place: START,
@@ -62,28 +62,31 @@ impl Packets {
         }
     }
 
-    /// Looks at some bytes that come next, and returns how many they are and what they are. These
-    /// are none only if there are no bytes.
+    /// Examines some of the next bytes, and returns how many and what they are. The number is 0
+    /// only if there are no bytes.
     pub(crate) fn look<'b>(&mut self, bytes: &'b [u8]) -> (usize, Seen<'b>) {
         let Some((first, _)) = bytes.split_first() else {
             return (0, Seen::Nothing);
         };
         match self.place {
-            Place::Digits { count, number } => (1, self.look_at_digit(*first, count, number)),
-            Place::Payload { before, left } => self.look_at_payload(bytes, before, left),
-            Place::Lost => (bytes.len(), Seen::Nothing),
+            PacketPosition::Digits { count, number } => (
+                1,
+                self.look_at_digit(*first, count, number),
+            ),
+            PacketPosition::Payload { before, left } => self.look_at_payload(bytes, before, left),
+            PacketPosition::Lost => (bytes.len(), Seen::Nothing),
         }
     }
 
-    // Looks at a digit.
+    // Examines a digit.
     fn look_at_digit<'b>(&mut self, byte: u8, count: u8, number: u16) -> Seen<'b> {
         let Some(digit) = char::from(byte).to_digit(16) else {
-            self.place = Place::Lost;
+            self.place = PacketPosition::Lost;
             return Seen::Nothing;
         };
         let number = (number << 4) | (digit as u16);
         if count < 3 {
-            self.place = Place::Digits {
+            self.place = PacketPosition::Digits {
                 count: count + 1,
                 number,
             };
@@ -92,12 +95,12 @@ impl Packets {
         self.begin_packet(number)
     }
 
-    // Begins the packet of so many bytes, its digits included.
+    // Begins a packet of `length` bytes, including its digits.
     fn begin_packet<'b>(&mut self, length: u16) -> Seen<'b> {
         self.begins_packs = true;
         self.band = Band::Other;
         if length > 4 {
-            self.place = Place::Payload {
+            self.place = PacketPosition::Payload {
                 before: 0,
                 left: length - 4,
             };
@@ -111,7 +114,7 @@ impl Packets {
         Seen::Nothing
     }
 
-    // Looks at bytes of a payload.
+    // Examines bytes of a payload.
     fn look_at_payload<'b>(
         &mut self,
         bytes: &'b [u8],
@@ -129,13 +132,13 @@ impl Packets {
             self.compare(seen, before);
         }
         self.pass(before, left, count as u16);
-        (count, self.shown(seen))
+        (count, self.show_packet(seen))
     }
 
-    // Passes so many bytes of a payload.
+    // Skips `count` bytes of a payload.
     fn pass(&mut self, before: u16, left: u16, count: u16) {
         if count < left {
-            self.place = Place::Payload {
+            self.place = PacketPosition::Payload {
                 before: before.saturating_add(count),
                 left: left - count,
             };
@@ -147,7 +150,7 @@ impl Packets {
         }
     }
 
-    // Compares bytes of a payload with the packet after which packs come.
+    // Compares bytes of a payload with the `packfile` packet.
     fn compare(&mut self, bytes: &[u8], before: u16) {
         let rest = PACKFILE.get(before as usize..).unwrap_or(&[]);
         if !rest.starts_with(bytes) {
@@ -155,7 +158,7 @@ impl Packets {
         }
     }
 
-    fn shown<'b>(&self, bytes: &'b [u8]) -> Seen<'b> {
+    fn show_packet<'b>(&self, bytes: &'b [u8]) -> Seen<'b> {
         match self.band {
             Band::Pack => Seen::Pack(bytes),
             Band::Text => Seen::Text(bytes),
@@ -164,7 +167,7 @@ impl Packets {
     }
 }
 
-// The band that the first byte names.
+// Returns the band that the first byte names.
 fn band_of(bytes: &[u8]) -> Band {
     match bytes.first() {
         Some(1) => Band::Pack,

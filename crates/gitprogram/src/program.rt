@@ -1,4 +1,4 @@
-//! The arguments, and the work that each command is.
+//! Reading the arguments, and running each command.
 
 ghost use Rattle.std.specs.Prelude.{◌≡◌, MatchResult};
 
@@ -10,23 +10,23 @@ use crate::listing::list_refs;
 use crate::sentences::Sentence;
 use crate::serving::serve;
 use crate::uploading::upload_pack;
-use gitwords::{Answer, Command, Stream, read_words};
+use gitwords::{Answer, GitrepoCommand, Stream, read_words};
 use std::io::{ErrorKind, IsTerminal, Write};
 use std::net::Net;
 use std::rt::{Clock, Env, Files};
 use std::{env, io};
 
-// The exit statuses of a command that failed, and of wrong arguments.
+// The exit statuses for a failed command, and for wrong arguments.
 const FAILED: u8 = 1;
 
 const WRONG_USAGE: u8 = 2;
 
 /// Runs `gitrepo` with the arguments of the runtime, over its files, standard streams and sockets.
-/// Faults, progress and the lines of connections go to `stderr`. If standard output is a terminal, the
-/// bytes of a peer are cleaned for it.
+/// Faults, progress and the lines about connections are written to `stderr`. If standard output is
+/// a terminal, bytes from a peer are cleaned.
 ///
-/// It returns the exit status: 0; 1 if a fault was printed; 2 if the arguments are wrong.
-pub fn run<R, W>(rt: &R, is_terminal: bool, stderr: &mut W) -> u8
+/// Returns the exit status: 0; 1 if a fault was printed; 2 if the arguments are wrong.
+pub fn run_gitrepo<R, W>(rt: &R, is_terminal: bool, stderr: &mut W) -> u8
 where
     R: Env + Files + Input + Print + AllocGlobal + Clock + Net,
     W: Write + IsTerminal,
@@ -51,7 +51,7 @@ fn arguments<R: Env + AllocGlobal>(rt: &R) -> Result<Vec<String>, ErrorKind> {
     }
 }
 
-// Refuses arguments that the runtime does not hand over.
+// Refuses arguments that the runtime cannot provide.
 fn refuse_arguments<R: AllocGlobal, W: Write>(rt: &R, kind: ErrorKind, errors: &mut W) -> u8 {
     if kind == ErrorKind::OutOfMemory {
         return finish(Err(Fault::Memory), errors);
@@ -60,7 +60,7 @@ fn refuse_arguments<R: AllocGlobal, W: Write>(rt: &R, kind: ErrorKind, errors: &
     WRONG_USAGE
 }
 
-// Prints the answer that is given in place of a command, and returns its status.
+// Prints the answer that replaces a command, and returns its status.
 fn print_answer<R: Print, W: Write>(rt: &R, answer: &Answer, errors: &mut W) -> u8 {
     if let Answer::Memory = answer {
         return finish(Err(Fault::Memory), errors);
@@ -94,7 +94,7 @@ fn finish<W: Write>(outcome: Result<(), Fault>, errors: &mut W) -> u8
 
 fn run_command<R, W>(
     rt: &R,
-    command: &Command<'_>,
+    command: &GitrepoCommand<'_>,
     is_terminal: bool,
     errors: &mut W,
 ) -> Result<(), Fault>
@@ -103,11 +103,11 @@ where
     W: Write + IsTerminal,
 {
     match command {
-        Command::Check { dir } => check(rt, dir),
-        Command::Clone(asked) => clone_remote(rt, asked, errors),
-        Command::Fetch(asked) => fetch_remote(rt, asked, is_terminal, errors),
-        Command::Ls(asked) => list_refs(rt, asked, is_terminal),
-        Command::Serve(asked) => serve(rt, asked, errors),
-        Command::UploadPack { dir } => upload_pack(rt, dir),
+        GitrepoCommand::Check { dir } => check(rt, dir),
+        GitrepoCommand::Clone(asked) => clone_remote(rt, asked, errors),
+        GitrepoCommand::Fetch(asked) => fetch_remote(rt, asked, is_terminal, errors),
+        GitrepoCommand::Ls(asked) => list_refs(rt, asked, is_terminal),
+        GitrepoCommand::Serve(asked) => serve(rt, asked, errors),
+        GitrepoCommand::UploadPack { dir } => upload_pack(rt, dir),
     }
 }

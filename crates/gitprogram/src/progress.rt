@@ -6,14 +6,14 @@ use std::alloc::{AllocError, Global};
 use std::io::{Read, Write};
 use std::{fmt, io};
 
-// The bytes of the header of a pack (gitformat-pack(5)): `PACK`, the version, and how many objects
-// there are.
+// The length of the header of a pack (gitformat-pack(5)): `PACK`, the version, and the number of
+// objects.
 const HEADER: usize = 12;
 
-// The progress is shown again after so many bytes.
+// The number of bytes between two updates of the progress.
 const STEP: u64 = 262_144;
 
-// The word before each line of the server, as git has it.
+// The prefix of each line from the server, as in Git.
 const REMOTE: &[u8] = b"remote: ";
 
 /// Progress of a fetch.
@@ -23,29 +23,29 @@ pub(crate) struct Progress<'e, E> {
     is_shown: bool,
     packets: Packets,
     pack: PackSeen,
-    // How many bytes had come when the progress was shown last.
+    // The number of received bytes at the last update.
     shown: u64,
     line: Line,
-    // The text that is to be printed.
+    // The text to be printed.
     text: Vec<u8>,
 }
 
-// The line that is open on the terminal.
+// The open line on the terminal.
 #[derive(Clone, Copy, PartialEq, Eq)]
 enum Line {
-    // None.
+    // There is none.
     New,
-    // One of the server, of which the end did not come.
+    // An unfinished line from the server.
     Server,
-    // One about a pack, which is shown anew as more comes.
+    // A line about a pack, which is updated as more bytes arrive.
     Pack,
 }
 
-// What was seen of a pack.
+// The observed part of a pack.
 #[derive(Clone, Copy)]
 struct PackSeen {
     bytes: u64,
-    // How many of its objects are announced, as far as the header came.
+    // The number of objects in the header, as far as it has arrived.
     objects: u32,
 }
 
@@ -55,7 +55,7 @@ const NO_PACK: PackSeen = PackSeen {
 };
 
 impl<'e, E: Write> Progress<'e, E> {
-    /// Progress on these errors, if it is to be shown.
+    /// Returns a `Progress` that writes to `errors` if `is_shown` is set.
     pub(crate) fn new(alloc: Global, errors: &'e mut E, is_shown: bool) -> Progress<'e, E> {
         Progress {
             errors,
@@ -68,12 +68,12 @@ impl<'e, E: Write> Progress<'e, E> {
         }
     }
 
-    /// Whether it is shown.
+    /// Whether the progress is shown.
     pub(crate) fn is_shown(&self) -> bool {
         self.is_shown
     }
 
-    // Shows the progress of some bytes of the server. Out of memory it leaves some out.
+    // Shows the progress for some bytes from the server. If out of memory, some output is left out.
     fn watch(&mut self, bytes: &[u8]) {
         if !self.is_shown {
             return;
@@ -105,7 +105,7 @@ impl<'e, E: Write> Progress<'e, E> {
         }
     }
 
-    // Shows how much of a pack came, now and then.
+    // Shows from time to time how much of a pack has arrived.
     fn show_pack(&mut self, bytes: &[u8]) -> Result<(), AllocError> {
         self.pack.pass(bytes);
         if self.pack.bytes < self.shown.saturating_add(STEP) {
@@ -126,7 +126,7 @@ impl<'e, E: Write> Progress<'e, E> {
         Ok(())
     }
 
-    // Goes on with a line, or ends another one that is open.
+    // Continues a line, or ends another open line.
     fn begin_line(&mut self, line: Line) -> Result<(), AllocError> {
         if self.line != Line::New && self.line != line {
             self.text.push(b'\n')?;
@@ -142,7 +142,7 @@ impl<'e, E: Write> Progress<'e, E> {
         self.text.extend_from_slice(line.as_bytes())
     }
 
-    // Shows a text of the server.
+    // Shows a text from the server.
     fn show_text(&mut self, text: &[u8]) -> Result<(), AllocError> {
         for piece in text.split_inclusive(|byte| is_line_end(*byte)) {
             self.show_piece(piece)?;
@@ -150,7 +150,7 @@ impl<'e, E: Write> Progress<'e, E> {
         Ok(())
     }
 
-    // Shows a piece of a line of the server.
+    // Shows a piece of a line from the server.
     fn show_piece(&mut self, piece: &[u8]) -> Result<(), AllocError> {
         let goes_on = self.line == Line::Server;
         self.begin_line(Line::Server)?;
@@ -164,7 +164,7 @@ impl<'e, E: Write> Progress<'e, E> {
         Ok(())
     }
 
-    /// Ends the line that is open, if there is one.
+    /// Ends the open line, if there is one.
     pub(crate) fn finish(&mut self) {
         if self.line != Line::New {
             let _ = self.errors.write_all(b"\n");
@@ -178,7 +178,7 @@ fn is_line_end(byte: u8) -> bool {
 }
 
 impl PackSeen {
-    // Passes bytes of the pack.
+    // Counts bytes of the pack.
     fn pass(&mut self, bytes: &[u8]) {
         for byte in bytes.iter().take(HEADER) {
             if 8 <= self.bytes && self.bytes < HEADER as u64 {
@@ -213,7 +213,7 @@ impl fmt::Display for Size {
     }
 }
 
-/// A reader whose bytes are watched.
+/// A reader whose bytes are observed.
 #[derive(Drop)]
 pub(crate) struct Watched<'p, 'e, D, E> {
     reader: D,
@@ -221,7 +221,7 @@ pub(crate) struct Watched<'p, 'e, D, E> {
 }
 
 impl<'p, 'e, D, E> Watched<'p, 'e, D, E> {
-    /// The reader, with the progress that watches it.
+    /// Returns the reader, observed by `progress`.
     pub(crate) fn new(reader: D, progress: &'p mut Progress<'e, E>) -> Watched<'p, 'e, D, E> {
         Watched { reader, progress }
     }

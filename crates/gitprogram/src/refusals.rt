@@ -1,37 +1,37 @@
-//! The packets by which a client is refused.
+//! The packets that refuse a client.
 
-use gpkt::{LineWriter, Sink, WriteFault};
+use gpkt::{PacketWriter, Sink, WriteFault};
 use std::io;
 use std::io::Write;
 
-/// Writes the packet of an error (gitprotocol-pack(5), "error-line"), and passes it on.
+/// Writes an error packet (gitprotocol-pack(5), "error-line"), and flushes it.
 pub(crate) fn send_error<W: Sink>(text: &[u8], sink: &mut W) -> Result<(), WriteFault> {
-    let mut writer = LineWriter::new(sink);
+    let mut writer = PacketWriter::new(sink);
     let sent = send_text(text, &mut writer);
     let _sink = writer.into_inner();
     sent
 }
 
-fn send_text<W: Sink>(text: &[u8], writer: &mut LineWriter<W>) -> Result<(), WriteFault> {
+fn send_text<W: Sink>(text: &[u8], writer: &mut PacketWriter<W>) -> Result<(), WriteFault> {
     writer.text2(b"ERR ", text)?;
     writer.push()
 }
 
-/// The error line for a client whose path names no repository that is served, as git-daemon(1) has it.
+/// The error line for a path that does not name a served repository, as in git-daemon(1).
 pub(crate) const NOT_SERVED: &[u8] = b"access denied or repository not exported: ";
 
-/// The error line for a client whose first line is malformed, as that of an older protocol is.
+/// The error line for a malformed first line, such as that of an older protocol.
 pub(crate) const BAD_FIRST_LINE: &[u8] =
     b"upload-pack: bad line: gitrepo serves protocol version 2 alone (git -c protocol.version=2)";
 
-/// The error line for a client of a repository that is not opened.
+/// The error line for a repository that cannot be opened.
 pub(crate) const NOT_OPENED: &[u8] = b"upload-pack: the repository cannot be read";
 
-/// The error line for a client of a repository that is not opened because too many others are.
+/// The error line for a repository that cannot be opened because too many others are open.
 pub(crate) const BUSY: &[u8] =
     b"upload-pack: the server has too many repositories open: try again later";
 
-/// The error line for a client whose request is over a limit.
+/// The error line for a request that exceeds a limit.
 pub(crate) const LIMITS: &[u8] =
     b"upload-pack: a request has at most 1,024 wants, 4,096 haves and 64 prefixes of ref names";
 
@@ -43,16 +43,16 @@ pub(crate) const FULL: &[u8] =
 pub(crate) const FULL_OF_ADDRESS: &[u8] =
     b"0051ERR upload-pack: there are too many connections from your address: try later\n";
 
-/// The error line for a client whose pack is not made.
+/// The error line for a pack that cannot be made.
 pub(crate) const PACK_FAILED: &[u8] =
     b"upload-pack: pack failed: it would have more than 64 MiB, or an object is missing or refused here";
 
-// A packet of the libraries that does not name a limit.
+// An error packet of the libraries that does not name the limit.
 #[derive(Clone, Copy)]
 enum Wording {
-    // A request is over a limit.
+    // A request exceeds a limit.
     Request,
-    // A pack is not made.
+    // A pack cannot be made.
     Pack,
 }
 
@@ -66,8 +66,8 @@ impl Wording {
         }
     }
 
-    // The packet that is sent in its place.
-    fn sent(self) -> &'static [u8] {
+    // Returns the packet that is sent instead.
+    fn refusal_packet(self) -> &'static [u8] {
         match self {
             Wording::Request =>
                 b"0061ERR upload-pack: a request has at most 1,024 wants, 4,096 haves and 64 prefixes of ref names\n",
@@ -77,18 +77,18 @@ impl Wording {
     }
 }
 
-/// A writer that names the limits to a client that is refused for one. Bytes of other packets pass as
-/// they are.
+/// A writer that names the limits if a client is refused because of one. Other packets are
+/// unchanged.
 #[derive(Drop)]
 pub(crate) struct Worded<W> {
     writer: W,
-    // How many of the last bytes are held back, since they begin the packet of this wording.
+    // How many of the last bytes are held back, since they may begin the packet of this wording.
     held: usize,
     wording: Wording,
 }
 
 impl<W> Worded<W> {
-    /// A writer that holds nothing back.
+    /// Returns a writer without held bytes.
     pub(crate) fn new(writer: W) -> Worded<W> {
         Worded {
             writer,
@@ -97,12 +97,12 @@ impl<W> Worded<W> {
         }
     }
 
-    // The bytes that are held back.
+    // Returns the held bytes.
     fn held_bytes(&self) -> &'static [u8] {
         self.wording.packet().get(..self.held).unwrap_or(&[])
     }
 
-    // Holds some bytes back if they go on with a packet that has a wording. Answers whether they do.
+    // Holds bytes back if they continue a packet with a wording. Returns whether they do.
     fn hold(&mut self, buf: &[u8]) -> bool {
         let held = self.held_bytes();
         for wording in WORDINGS {
@@ -119,12 +119,12 @@ impl<W> Worded<W> {
 }
 
 impl<W: Write> Worded<W> {
-    // Writes the bytes that are held back, or the packet in their place.
+    // Writes the held bytes, or the packet that replaces them.
     fn write_held(&mut self) -> io::Result<()> {
         let held = self.held_bytes();
         self.held = 0;
         self.writer.write_all(if held == self.wording.packet() {
-            self.wording.sent()
+            self.wording.refusal_packet()
         } else {
             held
         })

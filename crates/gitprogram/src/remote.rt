@@ -17,14 +17,14 @@ use std::net::Net;
 pub(crate) struct Remote {
     /// Its URL.
     pub(crate) url: String,
-    /// The first line of a connection to it.
+    /// The first line of a connection to the repository.
     pub(crate) hello: Hello<Global>,
     // The address of the server, HOST:PORT.
     address: String,
 }
 
 impl Remote {
-    /// The repository that a URL names.
+    /// Returns the repository that a URL names.
     pub(crate) fn new(alloc: Global, url: &GitUrl<'_>) -> Result<Remote, Fault> {
         let text = url_text(alloc, url)?;
         let address = url.address(alloc)?;
@@ -52,8 +52,8 @@ impl Remote {
         }
     }
 
-    /// The refs of the repository that begin with one of some prefixes, or all if there is none. The
-    /// server may list others, too.
+    /// Returns the refs of the repository that begin with one of these prefixes, or all refs if
+    /// there are no prefixes. The server may also list others.
     pub(crate) fn list<N: Net>(
         &self,
         net: &N,
@@ -73,7 +73,7 @@ impl Remote {
         }
     }
 
-    /// The fault of a conversation with the server.
+    /// Returns the fault of a conversation with the server.
     pub(crate) fn fault(&self, alloc: Global, fault: &FetchFault<Global>) -> Fault {
         Fault::of(
             alloc,
@@ -85,7 +85,7 @@ impl Remote {
     }
 }
 
-// The text of a URL. The default port is left out.
+// Returns the text of a URL. The default port is left out.
 fn url_text(alloc: Global, url: &GitUrl<'_>) -> Result<String, AllocError> {
     let GitUrl { host, port, path } = url;
     if *port == DEFAULT_PORT {
@@ -95,7 +95,7 @@ fn url_text(alloc: Global, url: &GitUrl<'_>) -> Result<String, AllocError> {
     }
 }
 
-/// The ids of the refs in a reply, and those to which tags lead.
+/// Returns the ids of the refs in a reply, and the peeled ids of tags.
 pub(crate) fn tips_of(alloc: Global, reply: &LsReply<Global>) -> Result<Tips<Global>, AllocError> {
     let mut ids = Vec::new(alloc);
     for place in 0..reply.len() {

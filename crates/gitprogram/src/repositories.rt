@@ -13,14 +13,14 @@ use ganswer::ServeFault;
 use ggrammar::{MessageFault, Why};
 use ghello::Hello;
 use gserve::{MAX_ERR_TEXT, err_text};
-use gserver::{ErrText, Host, Served};
+use gserver::{ErrText, Host, ServedRepository};
 use std::alloc::{AllocError, Global};
 use std::cell::RefCell;
 use std::time::SystemTime;
 
-/// One who closes what no connection uses.
+/// Something that closes unused objects.
 pub(crate) trait Closes {
-    /// Closes what no connection uses.
+    /// Closes the objects that no connection uses.
     fn close_unused(&self);
 }
 
@@ -34,7 +34,7 @@ pub(crate) struct Repositories<'d, D> {
 }
 
 impl<'d, D> Repositories<'d, D> {
-    /// Those on a disk, of which none is read yet.
+    /// Returns the repositories on a disk, none of them read yet.
     pub(crate) fn new(alloc: Global, disk: &'d D, notes: &'d Notes) -> Repositories<'d, D> {
         Repositories {
             alloc,
@@ -44,7 +44,7 @@ impl<'d, D> Repositories<'d, D> {
         }
     }
 
-    // The repository that is kept, for another connection.
+    // Returns the kept repository, for another connection.
     fn find_kept(&self, found: &Directories) -> Result<Option<Shared<'d, D>>, AllocError> {
         match self.kept.try_borrow() {
             Ok(kept) => kept.get(self.alloc, self.disk, found.own.as_str()),
@@ -52,7 +52,7 @@ impl<'d, D> Repositories<'d, D> {
         }
     }
 
-    // The repository that is kept, if it has the same refs; otherwise the same one.
+    // Returns the kept repository if it has the same refs; otherwise returns `repo`.
     fn find_same(&self, repo: &Shared<'d, D>) -> Result<Shared<'d, D>, AllocError> {
         let server = repo.server();
         if let Some(kept) = self.find_kept(&repo.shown.found)? {
@@ -63,7 +63,7 @@ impl<'d, D> Repositories<'d, D> {
         repo.handle()
     }
 
-    // Whether a repository with other refs is kept: these are newer.
+    // Whether the kept repository has other, newer refs.
     fn has_others(&self, opened: &Shared<'d, D>) -> Result<bool, AllocError> {
         let server = opened.server();
         match self.find_kept(&opened.shown.found)? {
@@ -79,7 +79,7 @@ impl<'d, D> Repositories<'d, D> {
         }
     }
 
-    // Notes why a repository is not opened, and answers the words for the client.
+    // Records why a repository cannot be opened, and returns the text for the client.
     fn refuse(&self, cause: NotOpened) -> ErrText {
         let mut words = ErrText::new();
         match cause.form {
@@ -96,7 +96,7 @@ impl<'d, D> Repositories<'d, D> {
 }
 
 impl<'d, D: Disk> Repositories<'d, D> {
-    // The repository that a path names; or the words for the client if there is none.
+    // Returns the repository at a path, or the text for the client if there is none.
     fn find_path(&self, path: &[u8]) -> Result<Directories, ErrText> {
         let fault = match self.disk.find(path) {
             Ok(Some(found)) => return Ok(found),
@@ -110,7 +110,7 @@ impl<'d, D: Disk> Repositories<'d, D> {
         Err(words)
     }
 
-    // The repository in these directories, with the refs that are there now.
+    // Returns the repository in these directories, with its current refs.
     fn find_shown(&self, found: Directories) -> Result<Shared<'d, D>, NotOpened> {
         let listed = self.disk.list(&found)?;
         if let Some(shared) = self.find_kept(&found)? {
@@ -125,10 +125,10 @@ impl<'d, D: Disk> Repositories<'d, D> {
         Ok(shared)
     }
 
-    // The repository with its history and its objects. Connections with the same refs share them while the
-    // directory of packs stays as it is.
+    // Returns the repository with its history and its objects. Connections with the same refs share
+    // them while the pack directory is unchanged.
     fn open_shared(&self, repo: &Shared<'d, D>) -> Result<Shared<'d, D>, NotOpened> {
-        let changed = self.disk.changed(&repo.shown.found);
+        let changed = self.disk.change_time(&repo.shown.found);
         if repo.is_open_since(changed) {
             return Ok(repo.handle()?);
         }

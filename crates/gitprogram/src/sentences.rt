@@ -1,5 +1,5 @@
-//! The sentences with which a command fails, in one table. Each names the file or the URL and the
-//! cause, and says what to do if the cause does not.
+//! The sentences for failed commands. Each names the file or the URL and the cause, and says what
+//! to do if the cause does not.
 
 use ganswer::{BuildFault, ServeFault};
 use gclient::{ClientFault, FetchFault, MAX_SPECS, RepoFault};
@@ -10,7 +10,7 @@ use gitrefs::RefFault;
 use gitrepository::{FormFault, RepositoryFault};
 use gitwords::{Shown, clean_byte};
 use gname::{MAX_ID_TEXT, MAX_PACK, OUT_OF_MEMORY_TEXT, Oid};
-use gpkt::LineFault;
+use gpkt::PacketFault;
 use grequest::{MAX_HAVES, MAX_PREFIXES, MAX_WANTS};
 use gtcp::MAX_SILENCE;
 use std::alloc::Global;
@@ -22,47 +22,47 @@ use std::{fmt, io};
 pub(crate) enum Sentence<'a> {
     /// An argument is not UTF-8.
     NotText,
-    /// A path leads to no Git directory.
+    /// A path does not lead to a Git directory.
     NoRepository {
         path: &'a str,
     },
-    /// The directory of a clone is there, and is not empty.
+    /// The directory of a clone exists and is not empty.
     Occupied {
         path: &'a str,
     },
-    /// The system does not open a file.
+    /// The system cannot open a file.
     Open {
         path: &'a str,
         error: &'a io::Error,
     },
-    /// A file of a repository is refused, or an object.
+    /// A repository file or an object is refused.
     Repository {
         path: &'a str,
         fault: &'a RepositoryFault<Global>,
     },
-    /// Something is missing that a ref reaches, or refused.
+    /// An object that a ref reaches is missing or refused.
     BrokenRef {
         path: &'a str,
         name: &'a [u8],
         fault: &'a RepositoryFault<Global>,
     },
-    /// The branch that is checked out would move.
+    /// The checked-out branch would move.
     CheckedOut {
         name: &'a [u8],
     },
-    /// A ref stays where it was, since the move would be no fast-forward.
+    /// A ref was not moved because the update is not a fast-forward.
     NotForward {
         name: &'a [u8],
     },
-    /// A branch would move to an object that is no commit.
+    /// A branch would move to an object that is not a commit.
     NoCommit {
         name: &'a [u8],
     },
-    /// HEAD of a clone would be at an object that is no commit.
+    /// The HEAD of a clone would point to an object that is not a commit.
     NoHeadCommit {
         url: &'a str,
     },
-    /// A ref would move whose name is not UTF-8.
+    /// A ref with a name that is not UTF-8 would move.
     NoFileName {
         name: &'a [u8],
     },
@@ -76,11 +76,11 @@ pub(crate) enum Sentence<'a> {
         path: &'a str,
         fault: &'a RepoFault<Global>,
     },
-    /// The first line of a connection cannot name what the URL names.
+    /// The first line of a connection cannot express the URL.
     Address {
         url: &'a str,
     },
-    /// No connection to the server.
+    /// The server cannot be reached.
     Connect {
         url: &'a str,
         error: &'a io::Error,
@@ -90,17 +90,17 @@ pub(crate) enum Sentence<'a> {
         url: &'a str,
         fault: &'a FetchFault<Global>,
     },
-    /// The server does not have a ref that is fetched.
+    /// The server does not have a requested ref.
     NoRef {
         url: &'a str,
         name: &'a [u8],
     },
-    /// The pack that the server sent is refused.
+    /// The server's pack is refused.
     RefusedPack {
         url: &'a str,
         fault: &'a RepositoryFault<Global>,
     },
-    /// The address is not listened at.
+    /// The program cannot listen at the address.
     Listen {
         address: &'a str,
         error: &'a io::Error,
@@ -109,7 +109,7 @@ pub(crate) enum Sentence<'a> {
     Accept {
         error: &'a io::Error,
     },
-    /// A client's path names no repository that is served.
+    /// A client's path does not name a served repository.
     NotServed,
     /// A client's request is refused.
     Request(&'a ServeFault),
@@ -117,13 +117,13 @@ pub(crate) enum Sentence<'a> {
     ClientLost,
     /// The objects of too many repositories are open.
     Busy,
-    /// The client did not send its first line, or a request, in its time.
+    /// The client did not send its first line, or a request, in time.
     ClientSilent,
-    /// The client took no byte in its time.
+    /// The client received no byte in time.
     ClientStalled,
-    /// The connection took more than its time.
+    /// The connection exceeded its time limit.
     ClientSlow,
-    /// The client of `upload-pack` does not ask for version 2.
+    /// The client of `upload-pack` did not request version 2.
     NoVersion2,
     /// Standard output failed.
     NoOutput,
@@ -199,7 +199,7 @@ impl fmt::Display for Sentence<'_> {
     }
 }
 
-// A call that the system refused.
+// Writes a refused system call.
 fn write_refused<W: fmt::Write>(
     call: &str,
     name: &str,
@@ -210,7 +210,7 @@ fn write_refused<W: fmt::Write>(
     write_reason(error, f)
 }
 
-// The reason for which the system refused a call: its kind, unless it has none.
+// Writes why the system refused a call: the kind of the error, unless it has none.
 fn write_reason<W: fmt::Write>(error: &io::Error, f: &mut fmt::Formatter<W>) -> fmt::Result {
     match error.kind() {
         ErrorKind::Other | ErrorKind::Uncategorized => fmt::Display::fmt(error, f),
@@ -241,7 +241,7 @@ fn write_repository<W: fmt::Write>(
     }
 }
 
-// A file of the objects of a repository.
+// Writes a fault of an object file.
 fn write_store_file<W: fmt::Write>(
     fault: &FileFault<Global>,
     f: &mut fmt::Formatter<W>,
@@ -259,7 +259,7 @@ fn write_store_file<W: fmt::Write>(
     }
 }
 
-/// The form of a repository that is not read, after its name.
+/// Returns the text about an unsupported format, which follows the name of the repository.
 pub(crate) fn form_text(fault: FormFault) -> &'static str {
     match fault {
         FormFault::Shallow => "is shallow: 'git fetch --unshallow' makes it whole",
@@ -275,7 +275,7 @@ pub(crate) fn form_text(fault: FormFault) -> &'static str {
     }
 }
 
-// A ref whose file is malformed, or that leads to an object which is missing or refused.
+// Writes a fault of a ref with a malformed file, or with a missing or refused object.
 fn write_broken_ref<W: fmt::Write>(
     path: &str,
     name: &[u8],
@@ -327,8 +327,7 @@ fn write_refs<W: fmt::Write>(
     }
 }
 
-// The file of a ref. Peers choose the names of refs, so the part of its path below the repository is
-// shown cleaned.
+// A ref file. Peers choose ref names, so the part of the path below the repository is cleaned.
 #[derive(Clone, Copy)]
 struct RefFile<'a> {
     repository: &'a str,
@@ -418,16 +417,16 @@ fn write_repo<W: fmt::Write>(fault: &RepoFault<Global>, f: &mut fmt::Formatter<W
     }
 }
 
-// A packet of the server that is refused.
+// Writes a refused packet of the server.
 fn write_message<W: fmt::Write>(frame: u64, why: &Why, f: &mut fmt::Formatter<W>) -> fmt::Result {
     match why {
         Why::RemoteErr(text) | Why::RemoteFatal(text) => {
             write!(f, "the server says: {}", Clean(text.as_bytes()))
         }
-        Why::Ended | Why::Line(LineFault::Truncated) => {
+        Why::Ended | Why::Line(PacketFault::Truncated) => {
             f.write_str("the connection ended early: try again")
         }
-        Why::Line(LineFault::Io | LineFault::Failed) => write!(
+        Why::Line(PacketFault::Io | PacketFault::Failed) => write!(
             f,
             "the connection was lost, or the server was silent for {MAX_SILENCE} seconds: try again"
         ),
@@ -441,7 +440,7 @@ fn write_message<W: fmt::Write>(frame: u64, why: &Why, f: &mut fmt::Formatter<W>
         Why::BadText if frame == 0 => {
             f.write_str("the server does not speak protocol version 2: use git")
         }
-        Why::Memory | Why::Line(LineFault::Memory) => f.write_str(OUT_OF_MEMORY_TEXT),
+        Why::Memory | Why::Line(PacketFault::Memory) => f.write_str(OUT_OF_MEMORY_TEXT),
         _ => write!(
             f,
             "packet {frame} of the server's answer is malformed: {why}"
@@ -467,17 +466,17 @@ fn write_request<W: fmt::Write>(fault: &ServeFault, f: &mut fmt::Formatter<W>) -
     }
 }
 
-// A packet of the client that is refused.
+// Writes a refused packet of the client.
 fn write_request_message<W: fmt::Write>(
     frame: u64,
     why: &Why,
     f: &mut fmt::Formatter<W>,
 ) -> fmt::Result {
     match why {
-        Why::Ended | Why::Line(LineFault::Truncated) => {
+        Why::Ended | Why::Line(PacketFault::Truncated) => {
             f.write_str("the client ended the connection early")
         }
-        Why::Line(LineFault::Io | LineFault::Failed) => {
+        Why::Line(PacketFault::Io | PacketFault::Failed) => {
             f.write_str("the connection to the client was lost, or its time was over")
         }
         Why::Limit => write!(
@@ -486,14 +485,14 @@ fn write_request_message<W: fmt::Write>(
             Thousands(MAX_WANTS),
             Thousands(MAX_HAVES)
         ),
-        Why::Memory | Why::Line(LineFault::Memory) => f.write_str(OUT_OF_MEMORY_TEXT),
+        Why::Memory | Why::Line(PacketFault::Memory) => f.write_str(OUT_OF_MEMORY_TEXT),
         _ => write!(f, "packet {frame} of the request is refused: {why}"),
     }
 }
 
 // ---- parts
 
-/// The bytes of a peer as a terminal may show them on one line.
+/// Bytes from a peer, shown on one line that is safe for a terminal.
 #[derive(Clone, Copy)]
 pub(crate) struct Clean<'a>(pub(crate) &'a [u8]);
 
@@ -506,7 +505,7 @@ impl fmt::Display for Clean<'_> {
     }
 }
 
-// A line feed and a tab are no bytes of one line.
+// A line feed and a tab do not belong on one line.
 fn clean_char(byte: u8) -> char {
     match clean_byte(byte, Shown::Lines) {
         b'\n' | b'\t' => '?',
@@ -520,7 +519,7 @@ fn write_id<W: fmt::Write>(id: &Oid, f: &mut fmt::Formatter<W>) -> fmt::Result {
     f.write_str(str::from_utf8(&digits[..count]).unwrap_or(""))
 }
 
-// A number, with a comma before each three digits.
+// A number with thousands separators.
 #[derive(Clone, Copy)]
 struct Thousands(usize);
 

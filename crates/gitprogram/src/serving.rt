@@ -1,4 +1,4 @@
-//! `gitrepo serve`: repositories served to those who connect.
+//! `gitrepo serve`: serving repositories to clients.
 
 use crate::directory::{Exports, open_fault};
 use crate::disk::Disk;
@@ -15,7 +15,7 @@ use gevents::{Event, EventLoop, Limits, Refusal};
 use gitobjects::{ObjectFiles, StoredFiles};
 use gitwords::ServeArgs;
 use gparts::PartPacker;
-use gserver::{Host, Served};
+use gserver::{Host, ServedRepository};
 use mio::net::TcpListener;
 use std::alloc::Global;
 use std::io;
@@ -23,8 +23,8 @@ use std::io::{ErrorKind, Write};
 use std::net::{Net, ToSocketAddrs};
 use std::rt::{Clock, Files};
 
-/// Serves the repositories below a directory to those who connect, many at once. A line about each
-/// connection goes to `errors`.
+/// Serves the repositories below a directory to many clients at once. A line about each connection
+/// is written to `errors`.
 pub(crate) fn serve<R, E>(rt: &R, asked: &ServeArgs<'_>, errors: &mut E) -> Result<(), Fault>
 where
     R: Files + Print + AllocGlobal + Clock + Net,
@@ -49,7 +49,7 @@ where
     }
 }
 
-// Serves the repositories of files to those who connect.
+// Serves the repositories in these files to clients.
 fn serve_files<R, F, E>(
     rt: &R,
     files: &F,
@@ -70,7 +70,7 @@ where
     serve_disk(rt, &stored, listener, &limits_of(asked), errors)
 }
 
-// Serves the repositories on a disk to those who connect.
+// Serves the repositories on a disk to clients.
 fn serve_disk<R, D, E>(
     rt: &R,
     disk: &D,
@@ -95,7 +95,7 @@ where
     )
 }
 
-// Serves all whom a loop accepts.
+// Serves all clients that a loop accepts.
 fn serve_all<'h, R, H, K, E>(
     rt: &R,
     host: &'h H,
@@ -106,7 +106,7 @@ fn serve_all<'h, R, H, K, E>(
 where
     R: AllocGlobal + Clock,
     H: Host<Global, K> + Closes,
-    K: Served<Global> + PartPacker<Global> + Blames + Drop,
+    K: ServedRepository<Global> + PartPacker<Global> + Blames + Drop,
     E: Write,
 {
     let served = serve_each(rt, host, notes, &mut clients, errors);
@@ -114,7 +114,7 @@ where
     served
 }
 
-// Serves them until no more are accepted, and all have gone.
+// Serves clients until no more are accepted, and all are gone.
 fn serve_each<'h, R, H, K, E>(
     rt: &R,
     host: &'h H,
@@ -125,7 +125,7 @@ fn serve_each<'h, R, H, K, E>(
 where
     R: AllocGlobal + Clock,
     H: Host<Global, K> + Closes,
-    K: Served<Global> + PartPacker<Global> + Blames + Drop,
+    K: ServedRepository<Global> + PartPacker<Global> + Blames + Drop,
     E: Write,
 {
     for _ in 0..u64::MAX {
@@ -136,7 +136,7 @@ where
     Ok(())
 }
 
-// Does what is to be done at the next event. If there is none, it answers `false`.
+// Handles the next event. Returns `false` if there is none.
 fn serve_next<'h, R, H, K, E>(
     rt: &R,
     host: &'h H,
@@ -147,7 +147,7 @@ fn serve_next<'h, R, H, K, E>(
 where
     R: AllocGlobal + Clock,
     H: Host<Global, K> + Closes,
-    K: Served<Global> + PartPacker<Global> + Blames + Drop,
+    K: ServedRepository<Global> + PartPacker<Global> + Blames + Drop,
     E: Write,
 {
     match clients.next(rt)? {
@@ -166,7 +166,7 @@ where
     Ok(true)
 }
 
-// The packet for a client that is one too many.
+// Returns the packet for a client over the connection limit.
 fn packet_of(why: Refusal) -> &'static [u8] {
     match why {
         Refusal::Full => FULL,
@@ -174,7 +174,7 @@ fn packet_of(why: Refusal) -> &'static [u8] {
     }
 }
 
-// Why a client is refused, for the log.
+// Returns why a client is refused, for the log.
 fn words_of(why: Refusal) -> &'static str {
     match why {
         Refusal::Full => "there are too many connections",
@@ -182,7 +182,7 @@ fn words_of(why: Refusal) -> &'static str {
     }
 }
 
-// The limits of a server with these arguments.
+// Returns the limits of a server with these arguments.
 fn limits_of(asked: &ServeArgs<'_>) -> Limits {
     let mut limits = Limits::default();
     limits.accepted = asked.connections;
@@ -195,7 +195,7 @@ fn limits_of(asked: &ServeArgs<'_>) -> Limits {
     limits
 }
 
-// Checks that the base directory is there.
+// Checks that the base directory exists.
 fn check_base<R: Files + AllocGlobal>(rt: &R, base: &str) -> Result<(), Fault> {
     match rt.metadata(base) {
         Ok(metadata) if metadata.is_dir() => Ok(()),
@@ -207,7 +207,7 @@ fn check_base<R: Files + AllocGlobal>(rt: &R, base: &str) -> Result<(), Fault> {
     }
 }
 
-// Listens at the first of the addresses of a text, HOST:PORT, that can be listened at.
+// Listens at the first usable address of a text, HOST:PORT.
 fn listen<R: Net>(rt: &R, address: &str) -> io::Result<TcpListener> {
     let mut last = io::Error::from(ErrorKind::AddrNotAvailable);
     for address in address.to_socket_addrs(rt)? {
@@ -219,7 +219,7 @@ fn listen<R: Net>(rt: &R, address: &str) -> io::Result<TcpListener> {
     Err(last)
 }
 
-// Says at which port connections are accepted.
+// Prints the port on which connections are accepted.
 fn announce<R: Print + AllocGlobal>(rt: &R, listener: &TcpListener) -> Result<(), Fault> {
     match listener.local_addr() {
         Ok(address) => {

@@ -11,13 +11,13 @@ use ganswer::{ServeFault, Server};
 use ggraph::{Entry, PackFault};
 use gitrepository::StoreParts;
 use gparts::PartPacker;
-use gserver::Served;
+use gserver::ServedRepository;
 use std::alloc::{AllocError, Global};
 use std::cell::RefCell;
 use std::rc::Rc;
 use std::time::SystemTime;
 
-/// The refs, HEAD and as much of the history of a repository as was read.
+/// The refs and HEAD of a repository, and the history read so far.
 #[derive(Drop)]
 pub(crate) struct Shown {
     /// Its directories.
@@ -26,28 +26,28 @@ pub(crate) struct Shown {
     pub(crate) extent: Extent,
 }
 
-/// One who knows why the last call failed.
+/// A handle that knows why the last call failed.
 pub(crate) trait Blames {
-    /// Why it failed, which is given away.
+    /// Takes the reason for the failure.
     fn take_fault(&self) -> Option<Fault>;
 }
 
-/// A repository that several connections share. Each connection has handles of its own.
+/// A repository that several connections share. Each connection has its own handles.
 #[derive(Drop)]
 pub(crate) struct Shared<'d, D> {
     alloc: Global,
     disk: &'d D,
     pub(crate) shown: Rc<Shown, Global>,
-    /// The ticket for its objects, once a connection asked for some.
+    /// The ticket for its objects, once a connection needs them.
     pub(crate) objects: Option<Ticket>,
-    /// When the directory of packs was changed last, before they were opened; `None` if nobody knows.
+    /// When the pack directory last changed before the objects were opened, or `None` if unknown.
     pub(crate) changed: Option<SystemTime>,
-    // Why the packer failed, for all handles of one connection.
+    // The fault of the packer, for all handles of one connection.
     fault: Rc<RefCell<Option<Fault>>, Global>,
 }
 
 impl<'d, D> Shared<'d, D> {
-    /// The first handle of a connection. It fails only out of memory.
+    /// Returns the first handle of a connection. Fails only if out of memory.
     pub(crate) fn new(
         alloc: Global,
         disk: &'d D,
@@ -65,21 +65,21 @@ impl<'d, D> Shared<'d, D> {
         })
     }
 
-    /// The same, for a connection that has not asked for objects.
+    /// Returns the repository without its objects, for a connection that does not need them.
     pub(crate) fn without_objects(self) -> Shared<'d, D> {
         let mut shared = self;
         shared.objects = None;
         shared
     }
 
-    /// Whether its objects are open, and the directory of packs was changed last as it was opened.
+    /// Whether its objects are open, and the pack directory is unchanged since.
     pub(crate) fn is_open_since(&self, changed: Option<SystemTime>) -> bool {
         self.objects.is_some() && changed.is_some() && self.changed == changed
     }
 }
 
 impl<D: Disk> Shared<'_, D> {
-    // Notes why the packer failed. It knows more of its own faults.
+    // Records why the packer failed, with its own detail.
     fn note(&self, ticket: &Ticket, fault: PackFault) -> PackFault {
         let cause = match fault {
             PackFault::Other => self.disk.take_fault(ticket, &self.shown.found),
@@ -103,7 +103,7 @@ impl<D> Blames for Shared<'_, D> {
     }
 }
 
-/// A value to be shared. It fails only out of memory, and the value is then lost.
+/// Returns a shared value. Fails only if out of memory, and the value is then dropped.
 pub(crate) fn share<T: Drop>(alloc: Global, value: T) -> Result<Rc<T, Global>, AllocError> {
     match Rc::new(alloc, value) {
         Ok(shared) => Ok(shared),
@@ -149,7 +149,7 @@ impl<D: Disk> PartPacker<Global> for Shared<'_, D> {
     }
 }
 
-impl<D> Served<Global> for Shared<'_, D> {
+impl<D> ServedRepository<Global> for Shared<'_, D> {
     ghost use Rattle.gitprogram.specs.Sharing.{server_in};
 
     ghost server = { λ shared. server_in shared.shown.value.extent };

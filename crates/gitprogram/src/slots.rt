@@ -1,4 +1,4 @@
-//! The places for objects that are open.
+//! The slots for open object stores.
 
 ghost use Rattle.std.specs.Prelude.{◌<◌, [], IfOk, MatchResult, Some, length};
 ghost use Rattle.gparts.specs.Parts.{Begins, GivesPart};
@@ -13,50 +13,50 @@ use std::alloc::Global;
 use std::cell::RefCell;
 use std::rc::Weak;
 
-// How many slots a row has, and how many rows there are.
+// The number of slots in a row, and the number of rows.
 const ROW: u64 = 4;
 
-/// The most repositories whose objects are open at once.
+/// The maximum number of repositories whose objects are open at once.
 pub(crate) const MAX_OPEN: u64 = 16;
 
-// A place: nothing is open there, or objects with these tickets are.
+// The content of a slot: nothing, or objects with these tickets.
 #[derive(Drop)]
-enum Place<'f, F: ObjectFiles> {
+enum PacketPosition<'f, F: ObjectFiles> {
     Vacant,
     Open(Weak<u64, Global>, ObjectPacker<'f, F>),
 }
 
-impl<'f, F: ObjectFiles> Place<'f, F> {
-    // Whether there is a ticket for it.
+impl<'f, F: ObjectFiles> PacketPosition<'f, F> {
+    // Whether a ticket for it exists.
     fn is_used(&self) -> bool {
         match self {
-            Place::Vacant => false,
-            Place::Open(tickets, _) => tickets.strong_count() > 0,
+            PacketPosition::Vacant => false,
+            PacketPosition::Open(tickets, _) => tickets.strong_count() > 0,
         }
     }
 
     fn packer(&self) -> Option<&ObjectPacker<'f, F>> {
         match self {
-            Place::Vacant => None,
-            Place::Open(_, packer) => Some(packer),
+            PacketPosition::Vacant => None,
+            PacketPosition::Open(_, packer) => Some(packer),
         }
     }
 }
 
-/// A place for objects that are open as long as there is a ticket for them.
+/// A slot for objects that stay open while a ticket for them exists.
 #[derive(Drop)]
 pub(crate) struct Slot<'f, F: ObjectFiles> {
-    place: RefCell<Place<'f, F>>,
+    place: RefCell<PacketPosition<'f, F>>,
 }
 
 impl<'f, F: ObjectFiles> Slot<'f, F> {
     fn vacant() -> Slot<'f, F> {
         Slot {
-            place: RefCell::new(Place::Vacant),
+            place: RefCell::new(PacketPosition::Vacant),
         }
     }
 
-    /// Whether other objects may have it.
+    /// Whether other objects may use the slot.
     pub(crate) fn is_free(&self) -> bool {
         match self.place.try_borrow() {
             Ok(place) => !place.is_used(),
@@ -64,20 +64,20 @@ impl<'f, F: ObjectFiles> Slot<'f, F> {
         }
     }
 
-    /// Closes the objects, if there is no ticket for them.
+    /// Closes the objects if no ticket for them exists.
     pub(crate) fn close_unused(&self) {
         if let Ok(mut place) = self.place.try_borrow_mut() {
             if !place.is_used() {
-                *place = Place::Vacant;
+                *place = PacketPosition::Vacant;
             }
         }
     }
 
-    /// Puts objects with these tickets there, and answers whether it did.
+    /// Puts objects with these tickets into the slot, and returns whether it did.
     pub(crate) fn fill(&self, tickets: Weak<u64, Global>, packer: ObjectPacker<'f, F>) -> bool {
         match self.place.try_borrow_mut() {
             Ok(mut place) => {
-                *place = Place::Open(tickets, packer);
+                *place = PacketPosition::Open(tickets, packer);
                 true
             }
             Err(_) => false,
@@ -102,7 +102,7 @@ impl<'f, F: ObjectFiles> Slot<'f, F> {
         }
     }
 
-    /// Puts the next bytes of a pack into the front of `out`, and answers how many: 0 if it was given whole.
+    /// Copies the next bytes of a pack to the front of `out`, and returns how many: 0 at the end.
     pub(crate) fn part(
         &self,
         parts: &mut StoreParts<Global>,
@@ -123,7 +123,7 @@ impl<'f, F: ObjectFiles> Slot<'f, F> {
         }
     }
 
-    /// The fault of the last call that answered `Other`, which is given away.
+    /// Takes the fault of the last call that returned `Other`.
     pub(crate) fn take_fault(&self) -> Option<RepositoryFault<Global>> {
         match self.place.try_borrow() {
             Ok(place) => place.packer()?.take_fault(),
@@ -132,7 +132,7 @@ impl<'f, F: ObjectFiles> Slot<'f, F> {
     }
 }
 
-// A row of slots. They are fields, since the prover does not cover the drop of a vector of them.
+// A row of slots. They are fields, since the prover does not support dropping a vector of slots.
 #[derive(Drop)]
 struct Row<'f, F: ObjectFiles> {
     a: Slot<'f, F>,
@@ -161,7 +161,7 @@ impl<'f, F: ObjectFiles> Row<'f, F> {
     }
 }
 
-/// The slots, with numbers from 0 on, below [`MAX_OPEN`].
+/// The slots, numbered from 0 to below [`MAX_OPEN`].
 #[derive(Drop)]
 pub(crate) struct Slots<'f, F: ObjectFiles> {
     a: Row<'f, F>,
@@ -171,7 +171,7 @@ pub(crate) struct Slots<'f, F: ObjectFiles> {
 }
 
 impl<'f, F: ObjectFiles> Slots<'f, F> {
-    /// Slots in which nothing is open.
+    /// Returns empty slots.
     pub(crate) fn vacant() -> Slots<'f, F> {
         Slots {
             a: Row::vacant(),
@@ -181,7 +181,7 @@ impl<'f, F: ObjectFiles> Slots<'f, F> {
         }
     }
 
-    /// The slot with a number.
+    /// Returns the slot with a number.
     pub(crate) fn at(&self, number: u64) -> &Slot<'f, F> {
         let row = match number / ROW {
             0 => &self.a,

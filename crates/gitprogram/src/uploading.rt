@@ -14,14 +14,14 @@ use std::io::{BufReader, BufWriter};
 use std::rt::{Env, Files};
 use std::{env, io};
 
-/// The bytes of a reply that go out in one write.
+/// The number of reply bytes sent in one write.
 pub(crate) const REPLY_BUFFER: usize = 65_536;
 
-// The error line for a client whose protocol is an older one.
+// The error line for a client with an older protocol.
 const NO_VERSION_2: &[u8] =
     b"gitrepo serves protocol version 2 alone: use git -c protocol.version=2";
 
-// The error line for a client of a repository that is not there.
+// The error line for a missing repository.
 const NOT_THERE: &[u8] = b"upload-pack: no such repository";
 
 /// Serves a repository on standard input and output (git-upload-pack(1)).
@@ -40,12 +40,12 @@ where
     let mut worded = Worded::new(&mut writer);
     let mut sink = ToWrite::new(&mut worded);
     let upload = upload_to(rt, dir, &mut source, &mut sink);
-    // Bytes that could not be written are not tried again.
+    // Unwritten bytes are not retried.
     let (_writer, _unwritten) = writer.into_parts();
     upload
 }
 
-// Serves it between a source and a sink.
+// Serves the repository with a source and a sink.
 fn upload_to<R, S: Source, W: Sink>(
     rt: &R,
     dir: &str,
@@ -69,7 +69,7 @@ where
     }
 }
 
-// The path that is meant: a `~` before a slash is the directory HOME, since ssh passes it on as it is.
+// Expands a `~` before a slash to HOME, since ssh does not expand it.
 fn expand_home<R: Env + AllocGlobal>(rt: &R, dir: &str) -> Result<String, AllocError> {
     let Some(rest) = dir.strip_prefix("~/") else {
         return String::from_str(rt.alloc(), dir);
@@ -83,7 +83,8 @@ fn expand_home<R: Env + AllocGlobal>(rt: &R, dir: &str) -> Result<String, AllocE
     }
 }
 
-// Whether the client speaks version 2 of the protocol (gitprotocol-v2(5), "SSH and File Transport").
+// Whether the client speaks version 2 of the protocol (gitprotocol-v2(5), "SSH and File
+// Transport").
 fn has_version_2<R: Env + AllocGlobal>(rt: &R) -> bool {
     match env::var(rt, "GIT_PROTOCOL") {
         Ok(keys) => names_version_2(keys.as_str()),
@@ -91,7 +92,7 @@ fn has_version_2<R: Env + AllocGlobal>(rt: &R) -> bool {
     }
 }
 
-// Whether one of the keys, between which colons are, is that of version 2.
+// Whether one of the colon-separated keys selects version 2.
 fn names_version_2(keys: &str) -> bool
     ensures { result ≡ names_version_2 keys.now }
 {

@@ -1,4 +1,4 @@
-//! One end of a connection of the server, with what is said of it in the log.
+//! The server's side of a connection, with its log data.
 
 ghost use Rattle.std.specs.Prelude.{◌≡◌, ◌⊎◌, []};
 
@@ -7,22 +7,22 @@ use crate::notes::Notes;
 use gdialogue::{Answer, Side};
 use ggrammar::{Message, MessageFault, Why};
 use gparts::PartPacker;
-use gserver::{Served, ServerReply, Speech};
+use gserver::{ServedRepository, ServerReply, Speech};
 use std::alloc::Global;
 
-/// A server's side, and what is said of its connection in the log.
+/// The server's side of a connection, and the data for the log.
 #[derive(Drop)]
 pub(crate) struct Visitor<'n, S> {
     side: S,
     notes: &'n Notes,
-    // Whether a first line was heard.
+    // Whether a first line was received.
     has_path: bool,
     path: Vec<u8>,
     fault: Option<Fault>,
 }
 
 impl<'n, S> Visitor<'n, S> {
-    /// A side that has heard nothing.
+    /// Returns a side that has received nothing.
     pub(crate) fn new(side: S, notes: &'n Notes) -> Visitor<'n, S>
         ensures { result.side ≡ side }
     {
@@ -35,8 +35,8 @@ impl<'n, S> Visitor<'n, S> {
         }
     }
 
-    /// The side, the path that the client asked for, which is empty if it asked for none, and why it was
-    /// refused by the repositories.
+    /// Returns the side, the requested path, and the repositories' fault. The path is empty if the
+    /// client did not request one.
     pub(crate) fn into_parts(self) -> (S, Vec<u8>, Option<Fault>)
     where
         S: Drop,
@@ -50,7 +50,7 @@ impl<'n, S> Visitor<'n, S> {
         (side, path, fault)
     }
 
-    // Takes what the last call noted.
+    // Takes the notes of the last call.
     fn take_notes(&mut self)
         ensures { self.new.side ≡ self.old.side }
     {
@@ -68,7 +68,7 @@ impl<S, M, K> Side<M, ServerReply<Global, K, K::Parts>> for Visitor<'_, S>
 where
     S: Side<M, ServerReply<Global, K, K::Parts>>,
     M: Message,
-    K: Served<Global> + PartPacker<Global> + Drop,
+    K: ServedRepository<Global> + PartPacker<Global> + Drop,
 {
     ghost judge = { λ visitor. S.judge visitor.side };
 

@@ -1,4 +1,4 @@
-//! The connections of the server, and the line of the log about each.
+//! The connections of the server, and the log line about each.
 
 ghost use Rattle.gtalk.specs.Talks.{no_talk};
 
@@ -11,7 +11,7 @@ use gdialogue::Dialogue;
 use gevents::{End, Ended};
 use ggrammar::Ends;
 use gparts::PartPacker;
-use gserver::{Heard, Host, Served, ServerReply, ServerSide};
+use gserver::{Heard, Host, ServedRepository, ServerReply, ServerSide};
 use gtalk::Conversation;
 use std::alloc::Global;
 use std::io::Write;
@@ -29,14 +29,14 @@ pub(crate) type Held<'h, H, K> = Dialogue<
 pub(crate) fn begin<'h, H, K>(alloc: Global, host: &'h H, notes: &'h Notes) -> Held<'h, H, K>
 where
     H: Host<Global, K>,
-    K: Served<Global> + PartPacker<Global> + Drop,
+    K: ServedRepository<Global> + PartPacker<Global> + Drop,
     ensures { ⟦<Held<'h, H, K> as Conversation>⟧.holds result no_talk }
 {
     let side = ServerSide::new(host, alloc, Ends::Plain);
     Dialogue::new(Visitor::new(side, notes))
 }
 
-/// Writes the line about a connection that has ended.
+/// Writes the log line about an ended connection.
 pub(crate) fn log_ended<H, K, E>(
     alloc: Global,
     ended: Ended<Held<'_, H, K>, Global>,
@@ -44,7 +44,7 @@ pub(crate) fn log_ended<H, K, E>(
 )
 where
     H: Host<Global, K>,
-    K: Served<Global> + PartPacker<Global> + Blames + Drop,
+    K: ServedRepository<Global> + PartPacker<Global> + Blames + Drop,
     E: Write,
 {
     let Ended {
@@ -69,7 +69,7 @@ where
     let _ = writeln!(errors, "{line}");
 }
 
-// Why a connection was not served to its end, if so.
+// Returns why a connection was not served to its end, if it was not.
 fn fault_of<H, K: Blames>(
     alloc: Global,
     side: &ServerSide<'_, Global, H, K>,
@@ -93,7 +93,7 @@ fn fault_of<H, K: Blames>(
     Some(Fault::of(alloc, said))
 }
 
-// Why a request was refused, if one was.
+// Returns why a request was refused, if one was.
 fn fault_of_side<H, K: Blames>(
     alloc: Global,
     side: &ServerSide<'_, Global, H, K>,
@@ -111,11 +111,11 @@ fn fault_of_side<H, K: Blames>(
 #[derive(Clone, Copy)]
 struct Line<'p, 'f> {
     address: SocketAddr,
-    // The path that the client asked for; empty if it asked for none.
+    // The requested path; empty if the client did not request one.
     path: &'p [u8],
-    // How many requests came.
+    // The number of requests received.
     requests: u32,
-    // How many bytes were sent.
+    // The number of bytes sent.
     bytes: u64,
     took: time::Duration,
     fault: Option<&'f Fault>,

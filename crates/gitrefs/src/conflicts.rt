@@ -1,12 +1,12 @@
-//! Refs of which one has the name of another's directory.
+//! Directory/file conflicts between ref names.
 
 use gname::RefName;
 use std::alloc::{AllocError, Allocator};
 
-/// The first of the names, which are in order, whose directory, or one above it, is another of them.
+/// Returns the first of these sorted names with a parent directory that is also one of the names.
 ///
-/// The names with which a name begins come before it, and between them and it come only names that
-/// begin so, too. So it is compared with these alone. It fails only out of memory.
+/// The prefixes of a name sort before it, and only names with the same prefix are between them. So
+/// each name is compared only with these prefixes. Fails only if out of memory.
 pub(crate) fn first_conflict<'n, A: Allocator + Copy>(
     alloc: A,
     names: &[&'n RefName<A>],
@@ -23,7 +23,7 @@ pub(crate) fn first_conflict<'n, A: Allocator + Copy>(
     Ok(None)
 }
 
-// Takes away those of the texts, each of which begins the next one, with which a text does not begin.
+// Removes the texts that are not prefixes of `text`. Each text is a prefix of the next one.
 fn keep_fronts<A: Allocator + Copy>(fronts: &mut Vec<&[u8], A>, text: &[u8]) {
     for _ in 0..fronts.len() {
         match fronts.last() {
@@ -35,7 +35,7 @@ fn keep_fronts<A: Allocator + Copy>(fronts: &mut Vec<&[u8], A>, text: &[u8]) {
     }
 }
 
-// Whether a slash comes in a text after one of those with which it begins.
+// Whether a slash follows one of these prefixes in a text.
 fn lies_in_one(fronts: &[&[u8]], text: &[u8]) -> bool {
     for front in fronts {
         if text.get(front.len()) == Some(&b'/') {

@@ -1,4 +1,4 @@
-//! A git directory, as far as its refs go.
+//! The refs of a Git directory.
 
 use crate::fault::{Cause, RefFault};
 use crate::git_file::{GitFile, sync_directory};
@@ -14,20 +14,20 @@ use std::fs::{File, Files};
 use std::io::{ErrorKind, Read};
 use std::path::Path;
 
-/// A git directory, as far as its refs go (gitrepository-layout(5)).
+/// The refs of a Git directory (gitrepository-layout(5)).
 #[derive(Drop)]
 pub struct GitDirectory<'r, R: Files, A: Allocator + Copy = Global> {
     pub(crate) files: &'r R,
     pub(crate) alloc: A,
     pub(crate) path: &'r str,
-    // The directory of HEAD: that of a linked worktree, or the same.
+    // The directory of HEAD: that of a linked worktree, or the Git directory itself.
     head_path: &'r str,
 }
 
-// The first directory of a new repository: the run that makes it makes the repository.
+// The first directory of a new repository: the run that creates it makes the repository.
 const OBJECTS: &str = "objects";
 
-// The other ones, each after the one in which it lies.
+// The other directories, each after its parent.
 const DIRECTORIES: [&str; 5] = [
     "objects/info",
     "objects/pack",
@@ -36,25 +36,25 @@ const DIRECTORIES: [&str; 5] = [
     "refs/tags",
 ];
 
-// What a new repository has in its directory. HEAD goes first, since a directory without it is no
+// The files of a new repository. HEAD is removed first, since a directory without it is not a
 // repository.
 const FILES: [&str; 3] = ["HEAD", "config", "packed-refs"];
 
-// What is removed of a new repository besides. Objects go last: until then no other run can make a
-// repository here.
+// The folders of a new repository to remove. `objects` is removed last: until then no other run can
+// make a repository here.
 const FOLDERS: [&str; 2] = ["refs", OBJECTS];
 
-/// Whether the directory of a new repository was made with it.
+/// Whether the directory of a new repository was created.
 #[derive(Clone, Copy, Debug, PartialEq, Eq, Drop)]
 pub enum Origin {
-    /// It was made.
+    /// The directory was created.
     Made,
-    /// It was there, and empty.
+    /// The directory existed, and was empty.
     Found,
 }
 
 impl<'r, R: Files, A: Allocator + Copy> GitDirectory<'r, R, A> {
-    /// The git directory with this path. Nothing is opened yet.
+    /// Returns the Git directory with this path, without opening anything.
     pub fn new(alloc: A, files: &'r R, path: &'r str) -> GitDirectory<'r, R, A> {
         GitDirectory {
             files,
@@ -64,9 +64,14 @@ impl<'r, R: Files, A: Allocator + Copy> GitDirectory<'r, R, A> {
         }
     }
 
-    /// The git directory of a linked worktree (git-worktree(1)): HEAD lies in its own directory, and
-    /// all refs below `refs/` in the common one. Nothing is opened yet.
-    pub fn linked(alloc: A, files: &'r R, common: &'r str, own: &'r str) -> GitDirectory<'r, R, A> {
+    /// Returns the Git directory of a linked worktree (git-worktree(1)), without opening anything.
+    /// HEAD is in its own directory, and all refs below `refs/` are in the common one.
+    pub fn linked_worktree(
+        alloc: A,
+        files: &'r R,
+        common: &'r str,
+        own: &'r str,
+    ) -> GitDirectory<'r, R, A> {
         GitDirectory {
             files,
             alloc,
@@ -75,7 +80,7 @@ impl<'r, R: Files, A: Allocator + Copy> GitDirectory<'r, R, A> {
         }
     }
 
-    /// The path of a ref's file, or of HEAD.
+    /// Returns the path of a ref file, or of HEAD.
     pub(crate) fn path_of(&self, name: &RefName<A>) -> Result<FilePath<A>, RefFault<A>> {
         if name.is_head() {
             FilePath::of_ref(self.alloc, self.head_path, name)
@@ -84,14 +89,13 @@ impl<'r, R: Files, A: Allocator + Copy> GitDirectory<'r, R, A> {
         }
     }
 
-    /// Makes a repository with this configuration and without objects and refs, whose HEAD points at
-    /// this branch (git-init(1)). Its directory is made with those above it, or is there and empty. All
-    /// of it is brought to the disk.
+    /// Creates a repository with this configuration, whose HEAD points at this branch
+    /// (git-init(1)). It has no objects or refs. Its directory is created with its parents, or
+    /// exists and is empty. Everything is synced.
     ///
-    /// If there is a file in the directory, or anything other has its name, it fails with `Exists`
-    /// and changes nothing. So it does if another run makes a repository there at the same time, and
-    /// was first. If a call of the system fails, it fails with `System`, and the repository is removed
-    /// again.
+    /// Fails with `Exists` and changes nothing if the directory has a file, or if its path is not a
+    /// directory. The same happens if another run was first to make a repository there. Fails with
+    /// `System` if a system call fails, and removes the repository again.
     pub fn make(&self, config: &[u8], branch: &Target<A>) -> Result<Origin, RefFault<A>> {
         let origin = self.make_own()?;
         if let Err(fault) = self.claim() {
@@ -107,8 +111,8 @@ impl<'r, R: Files, A: Allocator + Copy> GitDirectory<'r, R, A> {
         }
     }
 
-    /// Removes a repository that was made, as far as the system does so. A directory that was there
-    /// stays, and is empty again.
+    /// Removes a new repository, as far as the system permits. An existing directory remains, and
+    /// is empty again.
     pub fn unmake(&self, origin: Origin) {
         match origin {
             Origin::Made => {
@@ -120,7 +124,7 @@ impl<'r, R: Files, A: Allocator + Copy> GitDirectory<'r, R, A> {
         }
     }
 
-    // Makes the directory, unless it is there and empty. Those above it are made, too.
+    // Creates the directory and its parents, unless it exists and is empty.
     fn make_own(&self) -> Result<Origin, RefFault<A>> {
         if let Some(parent) = Path::new(self.path).parent() {
             if let Err(error) = fs::create_dir_all(self.files, parent) {
@@ -140,8 +144,8 @@ impl<'r, R: Files, A: Allocator + Copy> GitDirectory<'r, R, A> {
         }
     }
 
-    // Makes the first directory of a new repository. If two runs do so at the same time, one fails with
-    // `Exists`, and leaves all as it is.
+    // Creates the first directory of a new repository. If two runs do so at the same time, one
+    // fails with `Exists` and changes nothing.
     fn claim(&self) -> Result<(), RefFault<A>> {
         let path = self.path_below(OBJECTS)?;
         match fs::create_dir(self.files, path.as_str()) {
@@ -153,14 +157,14 @@ impl<'r, R: Files, A: Allocator + Copy> GitDirectory<'r, R, A> {
         }
     }
 
-    // Removes the directory that was made, if it is still empty.
+    // Removes the created directory, if it is still empty.
     fn leave(&self, origin: Origin) {
         if origin == Origin::Made {
             let _ = fs::remove_dir(self.files, self.path);
         }
     }
 
-    // Whether the path is that of a directory without files.
+    // Whether the path names a directory without files.
     fn is_empty(&self) -> bool {
         match fs::read_dir(&(self.files, &self.alloc), self.path) {
             Ok(mut entries) => entries.next().is_none(),
@@ -168,7 +172,7 @@ impl<'r, R: Files, A: Allocator + Copy> GitDirectory<'r, R, A> {
         }
     }
 
-    // Removes what a new repository has in its directory.
+    // Removes the contents of a new repository.
     fn clear(&self) -> Result<(), RefFault<A>> {
         for name in FILES {
             let path = self.path_below(name)?;
@@ -181,7 +185,7 @@ impl<'r, R: Files, A: Allocator + Copy> GitDirectory<'r, R, A> {
         Ok(())
     }
 
-    // The path of a file of the directory.
+    // Returns the path of a file in the directory.
     fn path_below(&self, name: &str) -> Result<String<A>, RefFault<A>> {
         let mut path = String::from_str(self.alloc, self.path)?;
         path.push_str("/")?;
@@ -189,8 +193,8 @@ impl<'r, R: Files, A: Allocator + Copy> GitDirectory<'r, R, A> {
         Ok(path)
     }
 
-    // Fills the directory of a new repository. HEAD comes last, since a directory without it is no
-    // repository.
+    // Fills the directory of a new repository. HEAD is written last, since a directory without it
+    // is not a repository.
     fn fill(&self, config: &[u8], branch: &Target<A>) -> Result<(), RefFault<A>> {
         self.sync_name(self.path_below(OBJECTS)?.as_str())?;
         for name in DIRECTORIES {
@@ -210,7 +214,7 @@ impl<'r, R: Files, A: Allocator + Copy> GitDirectory<'r, R, A> {
         }
     }
 
-    // Brings the name of a file or a directory to the disk.
+    // Syncs the name of a file or a directory.
     fn sync_name(&self, path: &str) -> Result<(), RefFault<A>> {
         match sync_directory(self.files, path) {
             Ok(()) => Ok(()),
@@ -218,10 +222,11 @@ impl<'r, R: Files, A: Allocator + Copy> GitDirectory<'r, R, A> {
         }
     }
 
-    /// Replaces HEAD: it is at an id, or points at a ref (git-symbolic-ref(1)). If there is to be no
-    /// HEAD, it is left as it is.
+    /// Replaces HEAD with a detached id or a symbolic ref (git-symbolic-ref(1)). HEAD is unchanged
+    /// if `head` is `Head::None`.
     ///
-    /// It fails with `Locked`, `System` or `Memory`. HEAD is as it was then, or the whole new one.
+    /// Fails with `Locked`, `System` or `Memory`. HEAD is then either unchanged or completely
+    /// replaced.
     pub fn set_head(&self, head: &Head<A>) -> Result<(), RefFault<A>> {
         match head {
             Head::None => Ok(()),
@@ -236,10 +241,10 @@ impl<'r, R: Files, A: Allocator + Copy> GitDirectory<'r, R, A> {
         self.lock(path)?.replace(text.as_slice())
     }
 
-    /// Tests whether these can be the refs of a repository. [`GitDirectory::write_packed_refs`] begins with
-    /// this test. A caller can make it before objects come.
+    /// Checks whether these can be the refs of a repository. [`GitDirectory::write_packed_refs`]
+    /// begins with this check. A caller can make it before receiving objects.
     ///
-    /// It fails with `Conflict` if one ref has the name of another's directory, and with `Memory`.
+    /// Fails with `Conflict` if one ref has the name of another's directory, and with `Memory`.
     pub fn check_refs(&self, refs: &Refs<A>) -> Result<(), RefFault<A>> {
         let mut names = Vec::new(self.alloc);
         for pair in refs.as_slice() {
@@ -248,13 +253,13 @@ impl<'r, R: Files, A: Allocator + Copy> GitDirectory<'r, R, A> {
         self.check_apart(names.as_slice())
     }
 
-    /// Writes `packed-refs` of a repository that has none, as a clone does (git-pack-refs(1)). The
-    /// peeled ids are those of the objects to which tags lead, by the names of the tags. Without
-    /// them, the header does not say that they are there.
+    /// Writes `packed-refs` in a repository that has none, as a clone does (git-pack-refs(1)). The
+    /// peeled ids are given by the names of their tags. Without them, the header does not claim
+    /// peeled ids.
     ///
-    /// It fails with `Missing`; with `Conflict` if one ref has the name of another's directory;
-    /// with `Exists` if there is a `packed-refs`; with `Locked`, `System` or `Memory`. Then there
-    /// is no new file, or the whole one. Its lock is removed.
+    /// Fails with `Conflict` if one ref has the name of another's directory, and with `Exists` if
+    /// `packed-refs` exists. Also fails with `Missing`, `Locked`, `System` or `Memory`. The new
+    /// file is then either missing or complete. Its lock is removed.
     pub fn write_packed_refs(
         &self,
         refs: &Refs<A>,
@@ -273,7 +278,7 @@ impl<'r, R: Files, A: Allocator + Copy> GitDirectory<'r, R, A> {
         packed.replace(text.as_slice())
     }
 
-    // There is a `HEAD`, as each git directory has one.
+    // Checks that there is a `HEAD`, as in every Git directory.
     pub(crate) fn check_repository(&self) -> Result<(), RefFault<A>> {
         let path = self.path_of(&RefName::head(self.alloc)?)?;
         match self.files.symlink_metadata(path.as_str()) {
@@ -285,7 +290,7 @@ impl<'r, R: Files, A: Allocator + Copy> GitDirectory<'r, R, A> {
         }
     }
 
-    // The fault of a ref's file.
+    // Returns the fault of a ref file.
     pub(crate) fn fault_of(&self, name: &RefName<A>, cause: Cause) -> RefFault<A> {
         match self.path_of(name) {
             Ok(path) => RefFault::at(self.alloc, path.as_str(), cause),
@@ -293,14 +298,14 @@ impl<'r, R: Files, A: Allocator + Copy> GitDirectory<'r, R, A> {
         }
     }
 
-    // Locks a file of the directory, and reads it.
+    // Locks a file in the directory, and reads it.
     pub(crate) fn lock(&self, path: FilePath<A>) -> Result<LockedFile<'r, R, A>, RefFault<A>> {
         let file = GitFile::new(self.alloc, self.files, path)?;
         LockedFile::lock(self.alloc, file)
     }
 
-    // The text of a file of the directory; `None` if it is not there. A pipe is not opened, since that
-    // might wait for ever.
+    // Returns the text of a file in the directory, or `None` if it does not exist. A pipe is not
+    // opened, since that might block forever.
     pub(crate) fn read(&self, path: &FilePath<A>) -> Result<Option<Vec<u8, A>>, RefFault<A>> {
         if is_special(self.files, path.as_str()) {
             return Err(RefFault::at(self.alloc, path.as_str(), Cause::Malformed));
@@ -318,7 +323,7 @@ impl<'r, R: Files, A: Allocator + Copy> GitDirectory<'r, R, A> {
     }
 }
 
-// Whether a path is that of something that is neither a file nor a directory.
+// Whether a path names something other than a file or a directory.
 fn is_special<R: Files>(files: &R, path: &str) -> bool {
     match files.metadata(path) {
         Ok(metadata) => !metadata.is_file() && !metadata.is_dir(),

@@ -9,43 +9,43 @@ use std::alloc::{AllocError, AllocFailed, Allocator, Global};
 use std::error::Error;
 use std::{fmt, io};
 
-/// Why the text of a file could not be read.
+/// Why the text of a file cannot be parsed.
 #[derive(Clone, Copy, Debug, PartialEq, Eq, Drop)]
 pub enum TextFault {
-    /// It does not have the form of the file.
+    /// The text has the wrong form.
     Malformed,
     /// Out of memory.
     Memory,
 }
 
-/// The cause for which a file of a git directory is not read or written.
+/// Why a file of a Git directory cannot be read or written.
 #[derive(Debug, Drop)]
 pub enum Cause {
-    /// Its text does not have the form of the file.
+    /// Its text has the wrong form.
     Malformed,
-    /// Its lockfile is there already.
+    /// Its lockfile already exists.
     Locked,
-    /// It is there already.
+    /// It already exists.
     Exists,
-    /// There is no `HEAD`, so this is no git directory.
+    /// There is no `HEAD`, so this is not a Git directory.
     Missing,
-    /// The ref is not where it was.
+    /// The ref has moved.
     Moved,
     /// The ref is symbolic, or its file is a symbolic link.
     Symbolic,
-    /// Its name is that of a directory of refs, or a ref has the name of its directory.
+    /// Its name is that of a ref directory, or its directory has the name of a ref.
     Conflict,
-    /// Its name is not UTF-8, so no path can be made of it.
+    /// Its name is not UTF-8, so it has no path.
     Utf8,
     /// There would be more than 65,536 refs, or the ref is `HEAD`.
     Refs,
-    /// Its new id is none of SHA-1.
+    /// Its new id is not a SHA-1 id.
     Format,
     /// The system refused a call.
     System(io::Error),
 }
 
-/// Why refs could not be read or written.
+/// Why refs cannot be read or written.
 #[derive(Drop)]
 pub enum RefFault<A: Allocator + Copy = Global> {
     /// Out of memory.
@@ -60,7 +60,7 @@ pub enum RefFault<A: Allocator + Copy = Global> {
 }
 
 impl<A: Allocator + Copy> RefFault<A> {
-    /// The fault of the file with this path.
+    /// Returns the fault of the file with this path.
     pub(crate) fn at(alloc: A, path: &str, cause: Cause) -> RefFault<A> {
         match String::from_str(alloc, path) {
             Ok(path) => RefFault::File { path, cause },
@@ -68,7 +68,7 @@ impl<A: Allocator + Copy> RefFault<A> {
         }
     }
 
-    /// The fault of a file whose call the system refused.
+    /// Returns the fault of a refused system call on this file.
     pub(crate) fn system(alloc: A, path: &str, error: io::Error) -> RefFault<A> {
         if error.kind() == io::ErrorKind::OutOfMemory {
             RefFault::Memory

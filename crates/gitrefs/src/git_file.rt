@@ -1,7 +1,7 @@
-//! A file of a git directory, and the lockfile beside it.
+//! A file of a Git directory, and its lockfile.
 //!
-//! It is another storage than `StoredFile` of `glockfile`: it need not be there, it is no symbolic
-//! link, and it keeps the cause of a failure.
+//! Unlike `StoredFile` of `glockfile`, this storage allows a missing file, refuses a symbolic link,
+//! and keeps the cause of a failure.
 
 ghost use Rattle.std.specs.Prelude.{◌≡◌, IfOk, None};
 ghost use Rattle.glockfile.specs.declared.storage.Lockfile.TheVariants.{Absent};
@@ -16,17 +16,16 @@ use std::marker::Model;
 use std::path::Path;
 use std::{fs, io};
 
-/// A file of a git directory, and the lockfile beside it, whose name is that of the file and
-/// `.lock`. A file that is not there has no text. The directories in which it lies are made with
-/// the lockfile. The lockfile is open only while it is written, so a thousand locks need one
-/// descriptor.
+/// A file of a Git directory, and its lockfile, named like the file with `.lock` appended. A
+/// missing file has no text. Its parent directories are created with the lockfile. The lockfile is
+/// open only while it is written, so a thousand locks need one descriptor.
 #[derive(Drop)]
 pub(crate) struct GitFile<'r, R: Files, A: Allocator + Copy = Global> {
     files: &'r R,
     alloc: A,
     path: FilePath<A>,
     lock_path: String<A>,
-    // The lockfile, once it is written and until it is synced.
+    // The lockfile, from when it is written until it is synced.
     lock: Option<R::File>,
     is_locked: bool,
     lockfile: Lockfile,
@@ -42,7 +41,7 @@ impl<'r, R: Files, A: Allocator + Copy> Model for GitFile<'r, R, A> {
 }
 
 impl<'r, R: Files, A: Allocator + Copy> GitFile<'r, R, A> {
-    /// The file with this path. Nothing is opened yet. It fails out of memory.
+    /// Returns the file with this path, without opening it. Fails only if out of memory.
     pub(crate) fn new(
         alloc: A,
         files: &'r R,
@@ -64,12 +63,12 @@ impl<'r, R: Files, A: Allocator + Copy> GitFile<'r, R, A> {
         })
     }
 
-    /// The path of the file.
+    /// Returns the path of the file.
     pub(crate) fn path(&self) -> &str {
         self.path.as_str()
     }
 
-    /// The fault of the file, after a call that failed so.
+    /// Returns the fault of the file after a failed call.
     pub(crate) fn into_fault(self, fault: StorageFault) -> RefFault<A> {
         match (fault, self.cause) {
             (StorageFault::Failed, Some(cause)) => {
@@ -79,7 +78,7 @@ impl<'r, R: Files, A: Allocator + Copy> GitFile<'r, R, A> {
         }
     }
 
-    // Keeps why the system refused a call.
+    // Keeps the error of a refused system call.
     fn refuse(&mut self, error: io::Error) -> StorageFault
         ensures { self.new ≡ self.old }
     {
@@ -90,7 +89,7 @@ impl<'r, R: Files, A: Allocator + Copy> GitFile<'r, R, A> {
         StorageFault::Failed
     }
 
-    // Keeps the cause for which a call fails.
+    // Keeps the cause of a failed call.
     fn fail(&mut self, cause: Cause) -> StorageFault
         ensures { self.new ≡ self.old }
     {
@@ -98,7 +97,7 @@ impl<'r, R: Files, A: Allocator + Copy> GitFile<'r, R, A> {
         StorageFault::Failed
     }
 
-    // Whether the path is that of a symbolic link.
+    // Whether the path names a symbolic link.
     fn is_symlink(&self) -> bool {
         match self.files.symlink_metadata(self.path.as_str()) {
             Ok(metadata) => metadata.is_symlink(),
@@ -106,7 +105,7 @@ impl<'r, R: Files, A: Allocator + Copy> GitFile<'r, R, A> {
         }
     }
 
-    // Takes an empty directory away that has the name of the file.
+    // Removes an empty directory with the name of the file.
     fn clear_directory(&mut self) -> Result<(), StorageFault>
         ensures { self.new ≡ self.old }
     {
@@ -117,7 +116,7 @@ impl<'r, R: Files, A: Allocator + Copy> GitFile<'r, R, A> {
     }
 }
 
-// Makes the directories in which a file lies.
+// Creates the parent directories of a file.
 fn make_parents<R: Files>(files: &R, path: &str) -> Result<(), Cause> {
     let Some(parent) = Path::new(path).parent() else {
         return Ok(());
@@ -129,12 +128,12 @@ fn make_parents<R: Files>(files: &R, path: &str) -> Result<(), Cause> {
     }
 }
 
-// Whether an error says that a part of a path is a file.
+// Whether an error means that a part of a path is a file.
 fn is_no_directory(kind: ErrorKind) -> bool {
     kind == ErrorKind::AlreadyExists || kind == ErrorKind::NotADirectory
 }
 
-/// Brings a new name to the disk, in the directory that it is in.
+/// Syncs the directory that holds a new name.
 pub(crate) fn sync_directory<R: Files>(files: &R, path: &str) -> io::Result<()> {
     let parent = match Path::new(path).parent() {
         Some(parent) if parent.as_str().is_empty() => Path::new("."),
@@ -218,7 +217,7 @@ impl<R: Files, A: Allocator + Copy> Storage for GitFile<'_, R, A> {
         if let Err(error) = fs::rename(self.files, self.lock_path.as_str(), self.path.as_str()) {
             return Err(self.refuse(error));
         }
-        // The file is replaced, whether or not its directory can be synced.
+        // The file is replaced even if its directory cannot be synced.
         let _ = sync_directory(self.files, self.path.as_str());
         self.lock = None;
         self.is_locked = false;

@@ -1,5 +1,5 @@
-//! Laws of the files of refs. Each function does nothing, and its contract is the law: a caller
-//! that calls it may rely on the law from there on.
+//! Laws of the files of refs. Each function does nothing, and its contract is the law: a caller may
+//! rely on the law after the call.
 
 ghost use Rattle.gitrefs.specs.PackedTexts.{WrittenRefsReadBack};
 ghost use Rattle.gitrefs.specs.Paths.{NamesDescend};
@@ -9,8 +9,7 @@ use gname::laws::{
     texts_have_one_reading,
 };
 
-/// The text of `packed-refs` that is written of refs reads back as these refs, with peeled ids or
-/// without.
+/// The `packed-refs` text written for refs reads back as these refs, with or without peeled ids.
 pub fn written_refs_read_back()
     ensures { WrittenRefsReadBack }
 {
@@ -21,7 +20,7 @@ pub fn written_refs_read_back()
     texts_have_one_reading();
 }
 
-/// No part of a ref name is empty, `.` or `..`. So the path of its file leads down from the git
+/// No part of a ref name is empty, `.` or `..`. So the path of its file descends from the Git
 /// directory.
 pub fn names_descend()
     ensures { NamesDescend }

@@ -13,7 +13,7 @@ use gname::Oid;
 use std::alloc::Allocator;
 use std::fs::Files;
 
-/// A file that this run has locked, and its text. Its lockfile is removed when it is dropped.
+/// A file that this run has locked, and its text. Its lockfile is removed on drop.
 pub(crate) struct LockedFile<'r, R: Files, A: Allocator + Copy> {
     file: GitFile<'r, R, A>,
     text: Vec<u8, A>,
@@ -41,12 +41,12 @@ impl<'r, R: Files, A: Allocator + Copy> LockedFile<'r, R, A> {
         }
     }
 
-    /// The path of the file.
+    /// Returns the path of the file.
     pub(crate) fn path(&self) -> &str {
         self.file.path()
     }
 
-    /// The text of the file; it is empty if the file is not there.
+    /// Returns the text of the file; it is empty if the file does not exist.
     pub(crate) fn text(&self) -> &[u8] {
         self.text.as_slice()
     }
@@ -60,7 +60,7 @@ impl<'r, R: Files, A: Allocator + Copy> LockedFile<'r, R, A> {
         }
     }
 
-    /// Writes the text of an id to the lockfile, and brings it to the disk. The file stays as it is.
+    /// Writes the text of an id to the lockfile, and syncs it. The file is unchanged.
     pub(crate) fn prepare(self, alloc: A, id: &Oid) -> Result<PreparedFile<'r, R, A>, RefFault<A>> {
         let LockedFile { mut file, text: _ } = self;
         match prepare_ref(alloc, &mut file, id) {
@@ -70,7 +70,7 @@ impl<'r, R: Files, A: Allocator + Copy> LockedFile<'r, R, A> {
     }
 }
 
-/// A file whose new text is in its lockfile, on the disk. The lockfile is removed when it is dropped.
+/// A file whose new text is in its synced lockfile. The lockfile is removed on drop.
 pub(crate) struct PreparedFile<'r, R: Files, A: Allocator + Copy> {
     file: GitFile<'r, R, A>,
     ghost prepared: { file ≡ Synced },
@@ -94,10 +94,9 @@ impl<'r, R: Files, A: Allocator + Copy> PreparedFile<'r, R, A> {
     }
 }
 
-/// Writes the text of an id to the lockfile of a ref's file, which is locked, and brings it to the
-/// disk (git-update-ref(1)).
+/// Writes the text of an id to the lockfile of a locked ref file, and syncs it (git-update-ref(1)).
 ///
-/// It fails with `Failed` or `Memory`; the lockfile is removed then. The file stays as it is.
+/// Fails with `Failed` or `Memory`; the lockfile is removed then. The file is unchanged.
 pub fn prepare_ref<A: Allocator + Copy, T: Storage>(
     alloc: A,
     file: &mut T,
@@ -118,7 +117,7 @@ pub fn prepare_ref<A: Allocator + Copy, T: Storage>(
     }
 }
 
-// Writes a text to the lockfile, and brings it to the disk.
+// Writes a text to the lockfile, syncs it, and removes the lockfile on failure.
 fn prepare_text<T: Storage>(file: &mut T, text: &[u8]) -> Result<(), StorageFault>
     requires { T.lockfile file.old ≡ Empty }
     ensures written { OnOk result (HasWritten (T.texts file.new) text.now) }
@@ -147,10 +146,10 @@ fn write_text<T: Storage>(file: &mut T, text: &[u8]) -> Result<(), StorageFault>
     file.sync()
 }
 
-/// Gives a file the text that is in its lockfile, and unlocks it.
+/// Replaces a file with its lockfile, and unlocks it.
 ///
-/// It fails with `Failed` or `Memory`; the file has the old text then, or the whole new one. This run
-/// holds no lockfile at the end.
+/// Fails with `Failed` or `Memory`; the file then has the old text or the whole new one. This run
+/// holds no lockfile afterwards.
 pub fn commit_file<T: Storage>(file: &mut T) -> Result<(), StorageFault>
     requires { T.lockfile file.old ≡ Synced }
     ensures states { WhereKnown (T.texts file.old) (T.texts file.new)

@@ -1,4 +1,4 @@
-//! The file of a loose ref.
+//! Loose ref files.
 
 ghost use Rattle.std.specs.Prelude.{◌≡◌, IfOk, MatchOption, MatchResult};
 ghost use Rattle.gname.specs.Names.{IsRefName, Name};
@@ -8,23 +8,23 @@ ghost use Rattle.gitrefs.specs.LooseRefs.{IsLooseRefFile, IsTarget, LooseRefOf};
 use crate::fault::TextFault;
 use crate::words::{cut_id, cut_word, ends_word, is_blank, skip_blank, strip};
 use gname::laws::{names_are_clean, texts_have_one_reading};
-use gname::{Oid, RefName};
+use gname::{NameFault, Oid, RefName};
 use std::alloc::{Allocator, Global};
 
-/// The meaning of a ref's file (gitrepository-layout(5), "refs").
+/// The value of a ref file (gitrepository-layout(5), "refs").
 #[derive(Debug, Drop)]
 pub enum LooseRef<A: Allocator + Copy = Global> {
-    /// The ref is at this id.
+    /// The ref points to this id.
     Id(Oid),
-    /// The ref is symbolic: it is where the ref of this name is (git-symbolic-ref(1)).
+    /// The ref is symbolic and points at the ref with this name (git-symbolic-ref(1)).
     Symref(RefName<A>),
 }
 
-/// Reads the text of a loose ref's file, or of `HEAD`: forty hexadecimal digits, or `ref:` and the
-/// name of another ref. White space may surround the name. It may also follow the digits, and then
-/// anything may come after it.
+/// Parses the text of a loose ref file, or of `HEAD`: forty hexadecimal digits, or `ref:` and the
+/// name of another ref. White space may surround the name. It may also follow the digits, and
+/// anything may follow that.
 ///
-/// It fails with `Malformed` if the text has another form, and with `Memory`.
+/// Fails with `Malformed` if the text has another form, and with `Memory`.
 pub fn parse_loose_ref<A: Allocator + Copy>(alloc: A, text: &[u8]) -> Result<LooseRef<A>, TextFault>
     ensures { MatchResult result (λ value. LooseRefOf text.now value)
         (IsTextFault (IsLooseRefFile text.now)) }
@@ -47,7 +47,7 @@ pub fn parse_loose_ref<A: Allocator + Copy>(alloc: A, text: &[u8]) -> Result<Loo
     }
 }
 
-// The name after the word `ref:`.
+// Returns the name after `ref:`.
 fn parse_target<A: Allocator + Copy>(alloc: A, text: &[u8]) -> Result<RefName<A>, TextFault>
     ensures { MatchResult result (λ name. IsTarget text.now name)
         (IsTextFault ((name : Name) × IsTarget text.now name)) }
@@ -66,7 +66,8 @@ fn parse_target<A: Allocator + Copy>(alloc: A, text: &[u8]) -> Result<RefName<A>
     }
 }
 
-/// The ref name with these bytes; `None` if no ref has this name. It fails with `Memory` alone.
+/// Returns the ref name with these bytes, or `None` if they are not a ref name. Fails only with
+/// `Memory`.
 pub(crate) fn name_of<A: Allocator + Copy>(
     alloc: A,
     text: &[u8],
@@ -74,11 +75,9 @@ pub(crate) fn name_of<A: Allocator + Copy>(
     ensures { IfOk result (λ found. MatchOption found (¬ (IsRefName text.now))
         (λ name. (name ≡ text.now) × IsRefName text.now)) }
 {
-    if let Err(_) = RefName::check(text) {
-        return Ok(None);
-    }
     match RefName::new(alloc, text) {
         Ok(name) => Ok(Some(name)),
-        Err(_) => Err(TextFault::Memory),
+        Err(NameFault::Memory) => Err(TextFault::Memory),
+        Err(_) => Ok(None),
     }
 }

@@ -20,11 +20,11 @@ pub struct PackedRef<A: Allocator + Copy = Global> {
     pub name: RefName<A>,
     /// Its id.
     pub id: Oid,
-    /// The object to which the tag with that id leads, if the file says so.
+    /// The peeled object of the tag with that id, if the file lists it.
     pub peeled: Option<Oid>,
 }
 
-// A line, and the id of the line of `^` after it.
+// A line, and the id of the peeled line after it.
 #[derive(Clone, Copy)]
 struct Line<'a> {
     name: &'a [u8],
@@ -32,10 +32,11 @@ struct Line<'a> {
     peeled: Option<Oid>,
 }
 
-/// Reads the text of `packed-refs` (git-pack-refs(1)): perhaps a header, and for each ref a line of
-/// an id, a space and a name. A line of `^` and an id may follow. The refs may come in any order.
+/// Parses the text of `packed-refs` (git-pack-refs(1)): an optional header, and for each ref a line
+/// of an id, a space and a name. A peeled line of `^` and an id may follow. The refs may be in any
+/// order.
 ///
-/// A line whose name is no ref name below `refs/` is left out. It fails with `Malformed` if the
+/// A line whose name is not a ref name below `refs/` is left out. Fails with `Malformed` if the
 /// text has another form, and with `Memory`.
 pub fn parse_packed_refs<A: Allocator + Copy>(
     alloc: A,
@@ -53,7 +54,8 @@ pub fn parse_packed_refs<A: Allocator + Copy>(
     }
 }
 
-// The text after the header, or the whole text if it has none; `None` if the header is malformed.
+// Returns the text after the header, or the whole text if it has none, or `None` if the header is
+// malformed.
 fn after_header(text: &[u8]) -> Option<&[u8]>
     ensures { MatchOption result ((rest : List ℕ) → ¬ (BeginsWithHeader text.now rest))
         (λ rest. BeginsWithHeader text.now rest.now) }
@@ -70,7 +72,7 @@ fn after_header(text: &[u8]) -> Option<&[u8]>
     }
 }
 
-// The refs of lines.
+// Returns the refs of the lines.
 fn parse_lines<A: Allocator + Copy>(
     alloc: A,
     text: &[u8],
@@ -93,14 +95,14 @@ fn parse_lines<A: Allocator + Copy>(
     Ok(refs)
 }
 
-// Whether no byte is left.
+// Whether no bytes are left.
 fn is_over(text: &[u8]) -> bool
     ensures { IsTrue result ↔ (text.now ≡ []) }
 {
     text.is_empty()
 }
 
-// The first line of a text with the line of `^` after it, and the text that follows.
+// Returns the first line of a text with its peeled line, and the text that follows.
 fn cut_ref(text: &[u8]) -> Option<(Line<'_>, &[u8])>
     ensures line { MatchOption result
         ((line : PackedLine) (rest : List ℕ) → ¬ (BeginsWithLine text.now line rest))
@@ -127,8 +129,8 @@ fn cut_ref(text: &[u8]) -> Option<(Line<'_>, &[u8])>
     Some((line, peeled.1))
 }
 
-// The id of a line of `^`, if the text begins with one, and the text after it; `None` if that line
-// is malformed.
+// Returns the id of the peeled line at the start of the text, if any, and the text after it.
+// Returns `None` if that line is malformed.
 fn cut_peeled(text: &[u8]) -> Option<(Option<Oid>, &[u8])>
     ensures line { MatchOption result
         ((peeled : Option Id) (rest : List ℕ) → ¬ (BeginsWithPeeled text.now peeled rest))
@@ -147,7 +149,7 @@ fn cut_peeled(text: &[u8]) -> Option<(Option<Oid>, &[u8])>
     }
 }
 
-// Adds the ref of a line, if its name is one below `refs/`. It fails with `Memory` alone.
+// Appends the ref of a line, if its name is below `refs/`. Fails only with `Memory`.
 fn push_ref<A: Allocator + Copy>(
     alloc: A,
     refs: &mut Vec<PackedRef<A>, A>,

@@ -1,4 +1,4 @@
-//! The text of `packed-refs`, as it is written.
+//! Writing the text of `packed-refs`.
 
 ghost use Rattle.std.specs.List.{flat_map};
 ghost use Rattle.std.specs.Prelude.{◌≡◌, ◌++◌, IfOk, OnOk};
@@ -8,8 +8,8 @@ use gname::{Oid, RefName};
 use grefs::Refs;
 use std::alloc::{AllocError, Allocator};
 
-/// The text of `packed-refs` (git-pack-refs(1)) without peeled ids: a header, and a line for each
-/// ref, in the order of their names. It fails where out of memory.
+/// Returns the text of `packed-refs` (git-pack-refs(1)) without peeled ids: a header, and a line
+/// for each ref, sorted by name. Fails only if out of memory.
 pub fn packed_refs_text<A: Allocator + Copy>(
     alloc: A,
     refs: &Refs<A>,
@@ -25,8 +25,8 @@ pub fn packed_refs_text<A: Allocator + Copy>(
     Ok(text)
 }
 
-/// The text of `packed-refs` with peeled ids, by the names of the tags that lead to them. If a ref
-/// has a peeled id, a line of `^` and that id follows its own. It fails where out of memory.
+/// Returns the text of `packed-refs` with peeled ids, given by the names of their tags. If a ref
+/// has a peeled id, a line of `^` and that id follows its line. Fails only if out of memory.
 pub fn peeled_refs_text<A: Allocator + Copy>(
     alloc: A,
     refs: &Refs<A>,
@@ -44,7 +44,7 @@ pub fn peeled_refs_text<A: Allocator + Copy>(
     Ok(text)
 }
 
-// Adds the line of a ref.
+// Appends the line of a ref.
 fn push_line<A: Allocator + Copy>(
     text: &mut Vec<u8, A>,
     name: &RefName<A>,
@@ -59,7 +59,7 @@ fn push_line<A: Allocator + Copy>(
     Ok(())
 }
 
-// Adds the line of a peeled id, if there is one.
+// Appends the line of a peeled id, if there is one.
 fn push_peeled<A: Allocator + Copy>(
     text: &mut Vec<u8, A>,
     peeled: Option<Oid>,

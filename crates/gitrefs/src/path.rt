@@ -1,4 +1,4 @@
-//! The paths of files of a git directory.
+//! The paths of files of a Git directory.
 
 ghost use Rattle.std.specs.Prelude.{◌≡◌, ◌++◌, ◌∷◌, IfOk, codes, string_bytes};
 ghost use Rattle.gitrefs.specs.Paths.{PathIsBelow};
@@ -9,7 +9,7 @@ use std::alloc::{AllocError, Allocator, Global};
 use std::io::ErrorKind;
 use std::marker::Model;
 
-/// The path of a file of a git directory: a ref, `HEAD`, `packed-refs` or `config`.
+/// The path of a file of a Git directory: a ref, `HEAD`, `packed-refs` or `config`.
 #[derive(Debug, Drop)]
 pub(crate) struct FilePath<A: Allocator + Copy = Global> {
     text: String<A>,
@@ -24,9 +24,9 @@ impl<A: Allocator + Copy> Model for FilePath<A> {
 }
 
 impl<A: Allocator + Copy> FilePath<A> {
-    /// The path of the file of a ref, or of `HEAD`.
+    /// Returns the path of the file of a ref, or of `HEAD`.
     ///
-    /// It fails with `Utf8` if the name is not UTF-8, and with `Memory`.
+    /// Fails with `Utf8` if the name is not UTF-8, and with `Memory`.
     pub(crate) fn of_ref(
         alloc: A,
         git_dir: &str,
@@ -40,21 +40,21 @@ impl<A: Allocator + Copy> FilePath<A> {
         }
     }
 
-    /// The path of `packed-refs`.
+    /// Returns the path of `packed-refs`.
     pub(crate) fn of_packed_refs(alloc: A, git_dir: &str) -> Result<FilePath<A>, AllocError>
         ensures { IfOk result (λ path. PathIsBelow git_dir.now path (codes "packed-refs")) }
     {
         join(alloc, git_dir, "packed-refs")
     }
 
-    /// The path of `config`.
+    /// Returns the path of `config`.
     pub(crate) fn of_config(alloc: A, git_dir: &str) -> Result<FilePath<A>, AllocError>
         ensures { IfOk result (λ path. PathIsBelow git_dir.now path (codes "config")) }
     {
         join(alloc, git_dir, "config")
     }
 
-    /// The text of the path.
+    /// Returns the text of the path.
     pub(crate) fn as_str(&self) -> &str
         ensures { result.now ≡ self.now }
     {
@@ -62,7 +62,7 @@ impl<A: Allocator + Copy> FilePath<A> {
     }
 }
 
-// The path of a file of the git directory.
+// Returns the path of a file of the Git directory.
 fn join<A: Allocator + Copy>(alloc: A, git_dir: &str, name: &str) -> Result<FilePath<A>, AllocError>
     ensures { IfOk result (λ path. PathIsBelow git_dir.now path name.now) }
 {
@@ -72,8 +72,8 @@ fn join<A: Allocator + Copy>(alloc: A, git_dir: &str, name: &str) -> Result<File
     Ok(FilePath { text })
 }
 
-/// Whether an error says that nothing is at a path. A part of the path may be a file, or have become
-/// one.
+/// Whether an error means that a path does not exist. A part of the path may be a file, or have
+/// become one.
 pub(crate) fn is_absent(kind: ErrorKind) -> bool {
     matches!(kind, ErrorKind::NotFound | ErrorKind::NotADirectory)
 }

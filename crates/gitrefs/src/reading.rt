@@ -1,15 +1,15 @@
-//! The refs of a git directory, as they are read.
+//! Reading the refs of a Git directory.
 
 use crate::directory::GitDirectory;
 use crate::fault::{Cause, RefFault, TextFault};
 use crate::loose::{LooseRef, name_of, parse_loose_ref};
 use crate::packed::{PackedRef, parse_packed_refs};
 use crate::path::{FilePath, is_absent};
+use crate::peels::{PackedPeels, is_fully_peeled};
 use crate::values::{Values, head_of, refs_of, unless_null};
 use gname::RefName;
 use grefs::{Head, Refs, RefsFault};
-use std::alloc::{Allocator, Global};
-use std::collections::BTreeMap;
+use std::alloc::{AllocError, Allocator, Global};
 use std::fs::{DirEntry, Files, Metadata};
 use std::io::ErrorKind;
 use std::{fs, io};
@@ -17,18 +17,38 @@ use std::{fs, io};
 // The directory of all loose refs.
 const REFS: &str = "refs";
 
-// The thing under the name of a ref.
+// The kind of file at the path of a ref.
 #[derive(Drop)]
-enum Place<A: Allocator + Copy = Global> {
-    // Nothing.
+enum RefEntry<A: Allocator + Copy = Global> {
+    // There is no file.
     Empty,
     // A directory of refs.
     Directory,
-    // The file of a ref; `None` if it is broken.
+    // The file of a ref, or `None` if it is broken.
     Ref(Option<LooseRef<A>>),
 }
 
-// The directories that are to be read, and the refs so far.
+/// The refs of `packed-refs`.
+#[derive(Drop)]
+pub(crate) struct PackedRefs<A: Allocator + Copy> {
+    /// The refs, in file order.
+    pub(crate) refs: Vec<PackedRef<A>, A>,
+    /// Whether its header claims that each tag has its peeled id.
+    pub(crate) are_peeled: bool,
+}
+
+/// The refs of a Git directory, its HEAD, and what `packed-refs` says about its objects.
+#[derive(Drop)]
+pub struct PeeledRefs<A: Allocator + Copy = Global> {
+    /// The refs below `refs/`.
+    pub refs: Refs<A>,
+    /// HEAD.
+    pub head: Head<A>,
+    /// The peeled objects in `packed-refs`.
+    pub peels: PackedPeels<A>,
+}
+
+// The directories still to be read, and the refs so far.
 #[derive(Drop)]
 struct Walk<A: Allocator + Copy> {
     directories: Vec<String<A>, A>,
@@ -36,33 +56,57 @@ struct Walk<A: Allocator + Copy> {
 }
 
 impl<R: Files, A: Allocator + Copy> GitDirectory<'_, R, A> {
-    /// The refs below `refs/`, and HEAD (gitrepository-layout(5)). A loose ref goes before a line
-    /// of `packed-refs`. A symbolic ref is at the id to which it leads. HEAD is at the last name to
-    /// which it leads, whether or not there is such a ref.
+    /// Reads the refs below `refs/`, and HEAD (gitrepository-layout(5)). A loose ref takes
+    /// precedence over a line of `packed-refs`. A symbolic ref has the id that it resolves to. HEAD
+    /// points at the last name that it leads to, whether or not that ref exists.
     ///
-    /// A ref is left out if its name is no ref name, its file is malformed, its id is all zeros, or
-    /// it leads to no id. It fails with `Malformed` if `packed-refs` or `HEAD` is malformed, with
+    /// A ref is left out if its name is invalid, its file is malformed, its id is all zeros, or it
+    /// resolves to no id. Fails with `Malformed` if `packed-refs` or `HEAD` is malformed, with
     /// `Refs` if there are too many refs, with `System` or `Memory`.
     pub fn read_refs(&self) -> Result<(Refs<A>, Head<A>), RefFault<A>> {
-        let values = self.read_values()?;
-        let refs = match refs_of(self.alloc, &values) {
+        let mut values = self.read_loose_values()?;
+        add_packed(&mut values, self.packed_refs()?.refs)?;
+        self.refs_and_head(values)
+    }
+
+    /// Reads the refs below `refs/` and HEAD, as [`GitDirectory::read_refs`] does, and what
+    /// `packed-refs` says about its objects. It says nothing if its header lacks `fully-peeled`, or
+    /// if the file does not exist.
+    pub fn read_peeled_refs(&self) -> Result<PeeledRefs<A>, RefFault<A>> {
+        let mut values = self.read_loose_values()?;
+        let packed = self.packed_refs()?;
+        let peels = if packed.are_peeled {
+            PackedPeels::of_refs(self.alloc, packed.refs.as_slice())?
+        } else {
+            PackedPeels::none(self.alloc)
+        };
+        add_packed(&mut values, packed.refs)?;
+        let (refs, head) = self.refs_and_head(values)?;
+        Ok(PeeledRefs { refs, head, peels })
+    }
+
+    // Returns the refs below `refs/` and HEAD, from these values.
+    fn refs_and_head(&self, values: Values<A>) -> Result<(Refs<A>, Head<A>), RefFault<A>> {
+        let head = head_of(self.alloc, &values)?;
+        let refs = match refs_of(self.alloc, values) {
             Ok(refs) => refs,
             Err(RefsFault::Memory) => return Err(RefFault::Memory),
             Err(RefsFault::Refs) => return Err(RefFault::at(self.alloc, self.path, Cause::Refs)),
         };
-        match head_of(self.alloc, &values)? {
+        match head {
             Some(head) => Ok((refs, head)),
             None => Err(self.fault_of(&RefName::head(self.alloc)?, Cause::Malformed)),
         }
     }
 
-    /// The first ref, in the order of the names, whose file is malformed or whose id is all zeros, and
-    /// its fault; `None` if there is none. [`GitDirectory::read_refs`] leaves these out.
+    /// Returns the first ref, by name, whose file is malformed or whose id is all zeros, and its
+    /// fault. Returns `None` if there is none. [`GitDirectory::read_refs`] leaves such refs out.
     ///
-    /// It fails with `Malformed` if `packed-refs` is malformed, with `System` or `Memory`.
+    /// Fails with `Malformed` if `packed-refs` is malformed, with `System` or `Memory`.
     pub fn broken_ref(&self) -> Result<Option<(RefName<A>, RefFault<A>)>, RefFault<A>> {
-        let values = self.read_values()?;
-        for (name, value) in values.iter() {
+        let mut values = self.read_loose_values()?;
+        add_packed(&mut values, self.packed_refs()?.refs)?;
+        for (name, value) in values.as_slice() {
             if value.is_none() {
                 let fault = self.fault_of(name, Cause::Malformed);
                 return Ok(Some((name.copy_in(self.alloc)?, fault)));
@@ -71,45 +115,37 @@ impl<R: Files, A: Allocator + Copy> GitDirectory<'_, R, A> {
         Ok(None)
     }
 
-    // HEAD and the refs below `refs/`, as their files say.
-    fn read_values(&self) -> Result<Values<A>, RefFault<A>> {
+    // Reads HEAD and the loose refs below `refs/`, unresolved.
+    fn read_loose_values(&self) -> Result<Values<A>, RefFault<A>> {
         let mut walk = Walk {
             directories: Vec::new(self.alloc),
-            values: BTreeMap::new(self.alloc),
+            values: Values::new(self.alloc),
         };
         let head = RefName::head(self.alloc)?;
-        if let Place::Ref(value) = self.look(&head)? {
-            walk.values.insert(head, value)?;
+        if let RefEntry::Ref(value) = self.look(&head)? {
+            walk.values.push(head, value)?;
         }
         self.read_loose(&mut walk)?;
-        self.read_packed(&mut walk.values)?;
         Ok(walk.values)
     }
 
-    /// The refs of `packed-refs`; none if the file is not there.
-    pub(crate) fn packed_refs(&self) -> Result<Vec<PackedRef<A>, A>, RefFault<A>> {
+    /// Returns the refs of `packed-refs`; none if the file does not exist.
+    pub(crate) fn packed_refs(&self) -> Result<PackedRefs<A>, RefFault<A>> {
         let path = FilePath::of_packed_refs(self.alloc, self.path)?;
         let Some(text) = self.read(&path)? else {
-            return Ok(Vec::new(self.alloc));
+            return Ok(PackedRefs {
+                refs: Vec::new(self.alloc),
+                are_peeled: false,
+            });
         };
+        let are_peeled = is_fully_peeled(text.as_slice());
         match parse_packed_refs(self.alloc, text.as_slice()) {
-            Ok(refs) => Ok(refs),
+            Ok(refs) => Ok(PackedRefs { refs, are_peeled }),
             Err(TextFault::Memory) => Err(RefFault::Memory),
             Err(TextFault::Malformed) => {
                 Err(RefFault::at(self.alloc, path.as_str(), Cause::Malformed))
             }
         }
-    }
-
-    // Adds the refs of `packed-refs` that are not loose.
-    fn read_packed(&self, values: &mut Values<A>) -> Result<(), RefFault<A>> {
-        for packed in self.packed_refs()? {
-            if values.get(&packed.name).is_none() {
-                let value = unless_null(LooseRef::Id(packed.id));
-                values.insert(packed.name, value)?;
-            }
-        }
-        Ok(())
     }
 
     // Reads the files below `refs`, directory by directory.
@@ -124,8 +160,8 @@ impl<R: Files, A: Allocator + Copy> GitDirectory<'_, R, A> {
         Ok(())
     }
 
-    // Reads the files of a directory. A file whose name is not UTF-8 is left out. The directory may be a
-    // file by now, unless it is `refs` itself.
+    // Reads the files of a directory. A file whose name is not UTF-8 is left out. The directory may
+    // be a file by now, unless it is `refs` itself.
     fn read_directory(&self, directory: &str, walk: &mut Walk<A>) -> Result<(), RefFault<A>> {
         let mut path = String::from_str(self.alloc, self.path)?;
         path.push_str("/")?;
@@ -146,8 +182,8 @@ impl<R: Files, A: Allocator + Copy> GitDirectory<'_, R, A> {
         Ok(())
     }
 
-    // Reads a file of a directory, or keeps it for later if it is a directory. A symbolic link that
-    // leads nowhere is left out.
+    // Reads a file of a directory, or keeps it for later if it is a directory. A dangling symbolic
+    // link is left out.
     fn read_entry(
         &self,
         directory: &str,
@@ -161,20 +197,20 @@ impl<R: Files, A: Allocator + Copy> GitDirectory<'_, R, A> {
             return Ok(());
         };
         let path = self.path_of(&name)?;
-        if let None = self.found(&path, self.files.metadata(path.as_str()))? {
+        if let None = self.metadata_of(&path, self.files.metadata(path.as_str()))? {
             return Ok(());
         }
         match self.look(&name)? {
-            Place::Empty => Ok(()),
-            Place::Directory => Ok(walk.directories.push(text)?),
-            Place::Ref(value) => {
-                walk.values.insert(name, value)?;
+            RefEntry::Empty => Ok(()),
+            RefEntry::Directory => Ok(walk.directories.push(text)?),
+            RefEntry::Ref(value) => {
+                walk.values.push(name, value)?;
                 Ok(())
             }
         }
     }
 
-    // The ref name that a text is.
+    // Returns the ref name with this text, if it is one.
     fn ref_name(&self, text: &[u8]) -> Result<Option<RefName<A>>, RefFault<A>> {
         match name_of(self.alloc, text) {
             Ok(name) => Ok(name),
@@ -182,27 +218,28 @@ impl<R: Files, A: Allocator + Copy> GitDirectory<'_, R, A> {
         }
     }
 
-    // Looks under the name of a ref. A symbolic link to a ref's name is a symbolic ref, as Git once
-    // made them; any other one is followed.
-    fn look(&self, name: &RefName<A>) -> Result<Place<A>, RefFault<A>> {
+    // Looks up the path of a ref. A symbolic link to a ref name is a symbolic ref, as Git once made
+    // them; any other link is followed.
+    fn look(&self, name: &RefName<A>) -> Result<RefEntry<A>, RefFault<A>> {
         let path = self.path_of(name)?;
-        let Some(metadata) = self.found(&path, self.files.symlink_metadata(path.as_str()))? else {
-            return Ok(Place::Empty);
+        let Some(metadata) = self.metadata_of(&path, self.files.symlink_metadata(path.as_str()))?
+        else {
+            return Ok(RefEntry::Empty);
         };
         if !metadata.is_symlink() {
             return self.look_at(&path, &metadata);
         }
         if let Some(target) = self.link_target(&path)? {
-            return Ok(Place::Ref(Some(LooseRef::Symref(target))));
+            return Ok(RefEntry::Ref(Some(LooseRef::Symref(target))));
         }
-        match self.found(&path, self.files.metadata(path.as_str()))? {
+        match self.metadata_of(&path, self.files.metadata(path.as_str()))? {
             Some(metadata) => self.look_at(&path, &metadata),
-            None => Ok(Place::Ref(None)),
+            None => Ok(RefEntry::Ref(None)),
         }
     }
 
-    // The metadata of a file; `None` if it is not there.
-    fn found(
+    // Returns the metadata of a file, or `None` if it does not exist.
+    fn metadata_of(
         &self,
         path: &FilePath<A>,
         metadata: io::Result<Metadata>,
@@ -214,7 +251,7 @@ impl<R: Files, A: Allocator + Copy> GitDirectory<'_, R, A> {
         }
     }
 
-    // The name of the ref to which a symbolic link leads, if it leads to one below `refs/`.
+    // Returns the ref name that a symbolic link points to, if it is below `refs/`.
     fn link_target(&self, path: &FilePath<A>) -> Result<Option<RefName<A>>, RefFault<A>> {
         match self.files.read_link(self.alloc, path.as_str()) {
             Ok(target) if target.as_str().starts_with("refs/") => {
@@ -224,21 +261,32 @@ impl<R: Files, A: Allocator + Copy> GitDirectory<'_, R, A> {
         }
     }
 
-    // Looks at a path that is no symbolic link.
-    fn look_at(&self, path: &FilePath<A>, metadata: &Metadata) -> Result<Place<A>, RefFault<A>> {
+    // Looks up a path that is not a symbolic link.
+    fn look_at(&self, path: &FilePath<A>, metadata: &Metadata) -> Result<RefEntry<A>, RefFault<A>> {
         if metadata.is_dir() {
-            return Ok(Place::Directory);
+            return Ok(RefEntry::Directory);
         }
         if !metadata.is_file() {
-            return Ok(Place::Ref(None));
+            return Ok(RefEntry::Ref(None));
         }
         let Some(text) = self.read(path)? else {
-            return Ok(Place::Empty);
+            return Ok(RefEntry::Empty);
         };
         match parse_loose_ref(self.alloc, text.as_slice()) {
-            Ok(value) => Ok(Place::Ref(unless_null(value))),
-            Err(TextFault::Malformed) => Ok(Place::Ref(None)),
+            Ok(value) => Ok(RefEntry::Ref(unless_null(value))),
+            Err(TextFault::Malformed) => Ok(RefEntry::Ref(None)),
             Err(TextFault::Memory) => Err(RefFault::Memory),
         }
     }
+}
+
+// Adds the refs of `packed-refs` that are not loose.
+fn add_packed<A: Allocator + Copy>(
+    values: &mut Values<A>,
+    refs: Vec<PackedRef<A>, A>,
+) -> Result<(), AllocError> {
+    for packed in refs {
+        values.push(packed.name, unless_null(LooseRef::Id(packed.id)))?;
+    }
+    values.sort()
 }

@@ -1,4 +1,4 @@
-//! The texts of the files of refs, as they are written.
+//! Writing the texts of ref files.
 
 ghost use Rattle.std.specs.Prelude.{◌≡◌, IfOk};
 ghost use Rattle.gitrefs.specs.LooseRefs.{IsSymrefFile};
@@ -8,7 +8,7 @@ use gname::Oid;
 use grefs::Target;
 use std::alloc::{AllocError, Allocator};
 
-/// The text of a ref's file: the digits of its id, and an LF.
+/// Returns the text of a ref file: the digits of its id, and an LF.
 pub(crate) fn ref_text<A: Allocator + Copy>(alloc: A, id: &Oid) -> Result<Vec<u8, A>, AllocError>
     ensures { IfOk result (λ text. text.items ≡ ref_text id.now) }
 {
@@ -18,7 +18,7 @@ pub(crate) fn ref_text<A: Allocator + Copy>(alloc: A, id: &Oid) -> Result<Vec<u8
     Ok(text)
 }
 
-/// The text of HEAD that points at a branch.
+/// Returns the text of a HEAD that points at a branch.
 pub(crate) fn branch_text<A: Allocator + Copy>(
     alloc: A,
     branch: &Target<A>,

@@ -1,4 +1,4 @@
-//! Refs are moved, all or none as far as it can be known before.
+//! Moving refs: all or none, as far as can be checked in advance.
 
 use crate::conflicts::first_conflict;
 use crate::directory::GitDirectory;
@@ -10,27 +10,27 @@ use grefs::{MAX_REFS, Refs, RefsFault};
 use std::alloc::{Allocator, Global};
 use std::fs::Files;
 
-/// A ref that is to be moved (git-update-ref(1)).
+/// A ref to be moved (git-update-ref(1)).
 #[derive(Debug, Drop)]
 pub struct RefUpdate<A: Allocator + Copy = Global> {
     /// Its name, which is below `refs/`.
     pub name: RefName<A>,
-    /// Its id, which is tested under the lock; `None` if there must be no such ref.
+    /// Its old id, which is checked under the lock, or `None` if the ref must not exist.
     pub old: Option<Oid>,
     /// Its new id.
     pub new: Oid,
 }
 
 impl<R: Files, A: Allocator + Copy> GitDirectory<'_, R, A> {
-    /// Moves refs (git-update-ref(1)). Each is locked and read. When all are where they must be,
-    /// each is replaced. A ref that is not loose is where `packed-refs` says. Reflogs are left
-    /// alone.
+    /// Moves refs (git-update-ref(1)). Each ref is locked and read. If all have their old ids, each
+    /// is replaced. A ref that is not loose has its id from `packed-refs`. Reflogs are not changed.
     ///
-    /// It fails with `Missing`, with `Format` if a new id is none of SHA-1, with `Conflict` if one ref
-    /// has the name of another's directory, with `Refs`, `Locked`, `Moved`, `Symbolic`, `Malformed` or
-    /// `Utf8`; no ref has moved then. It fails with `System` or `Memory`; no ref has moved then either,
-    /// unless the system refuses to rename a file. Each is where it was, or where it is to be. The locks
-    /// that it made are removed; directories that it made for them may stay.
+    /// Fails with `Format` if a new id is not a SHA-1 id, and with `Conflict` if one ref has the
+    /// name of another's directory. Fails with `Missing`, `Refs`, `Locked`, `Moved`, `Symbolic`,
+    /// `Malformed` or `Utf8`. No ref has moved after any of these. Fails with `System` or `Memory`;
+    /// no ref has moved after these either, unless the system refuses to rename a file. Each ref
+    /// has its old or its new id. The new locks are removed; directories created for them may
+    /// remain.
     pub fn update_refs(&self, updates: &[RefUpdate<A>]) -> Result<(), RefFault<A>> {
         self.check_updates(updates)?;
         let mut locked = Vec::new(self.alloc);
@@ -45,11 +45,12 @@ impl<R: Files, A: Allocator + Copy> GitDirectory<'_, R, A> {
         self.move_all(locked, updates)
     }
 
-    /// Tests the names of refs that are to be moved, before anything is locked:
-    /// [`GitDirectory::update_refs`] begins with this test. A caller can make it before objects come. Old
-    /// ids, links and locks are not tested.
+    /// Checks the names of refs to be moved, before anything is locked.
+    /// [`GitDirectory::update_refs`] begins with this check. A caller can make it before it fetches
+    /// objects. Old ids, links and locks are not checked.
     ///
-    /// It fails with `Missing`, `Format`, `Conflict`, `Refs`, `Malformed`, `Utf8`, `System` or `Memory`.
+    /// Fails with `Missing`, `Format`, `Conflict`, `Refs`, `Malformed`, `Utf8`, `System` or
+    /// `Memory`.
     pub fn check_updates(&self, updates: &[RefUpdate<A>]) -> Result<(), RefFault<A>> {
         self.check_repository()?;
         self.check_formats(updates)?;
@@ -58,8 +59,8 @@ impl<R: Files, A: Allocator + Copy> GitDirectory<'_, R, A> {
         self.check_conflicts(&refs, updates)
     }
 
-    // Replaces the files of refs. All new texts are on the disk before the first file is replaced, so a
-    // disk that is full moves no ref.
+    // Replaces ref files. All new texts are synced before the first file is replaced, so no ref
+    // moves if the disk is full.
     fn move_all(
         &self,
         locked: Vec<LockedFile<'_, R, A>, A>,
@@ -75,7 +76,7 @@ impl<R: Files, A: Allocator + Copy> GitDirectory<'_, R, A> {
         Ok(())
     }
 
-    // The new ids are those of SHA-1, as all ids of the directory are.
+    // Checks that the new ids are SHA-1 ids, like all ids of the directory.
     fn check_formats(&self, updates: &[RefUpdate<A>]) -> Result<(), RefFault<A>> {
         for update in updates {
             if update.new.format() != Format::Sha1 {
@@ -85,7 +86,7 @@ impl<R: Files, A: Allocator + Copy> GitDirectory<'_, R, A> {
         Ok(())
     }
 
-    // There are not too many refs afterwards, and HEAD is none of those that are moved.
+    // Checks that there are not too many refs afterwards, and that HEAD is not moved.
     fn check_count(&self, refs: &Refs<A>, updates: &[RefUpdate<A>]) -> Result<(), RefFault<A>> {
         let mut count = refs.len();
         for update in updates {
@@ -99,7 +100,7 @@ impl<R: Files, A: Allocator + Copy> GitDirectory<'_, R, A> {
         Ok(())
     }
 
-    // Two of the refs that there will be are not a file and its directory.
+    // Checks that no two of the resulting refs are a file and its directory.
     fn check_conflicts(&self, refs: &Refs<A>, updates: &[RefUpdate<A>]) -> Result<(), RefFault<A>> {
         let mut names = Vec::new(self.alloc);
         for pair in refs.as_slice() {
@@ -112,8 +113,8 @@ impl<R: Files, A: Allocator + Copy> GitDirectory<'_, R, A> {
         self.check_apart(names.as_slice())
     }
 
-    /// None of the names, which are in order, is that of another's directory. It fails with `Conflict`
-    /// or `Memory`.
+    /// Checks that none of these sorted names is the directory of another. Fails with `Conflict` or
+    /// `Memory`.
     pub(crate) fn check_apart(&self, names: &[&RefName<A>]) -> Result<(), RefFault<A>> {
         match first_conflict(self.alloc, names)? {
             Some(name) => Err(self.fault_of(name, Cause::Conflict)),
@@ -121,10 +122,10 @@ impl<R: Files, A: Allocator + Copy> GitDirectory<'_, R, A> {
         }
     }
 
-    // The refs of `packed-refs`. The first line of a name counts, as where refs are read.
+    // Returns the refs of `packed-refs`. The first line for a name counts, as in `read_refs`.
     fn packed_ids(&self) -> Result<Refs<A>, RefFault<A>> {
         let mut refs = Refs::new(self.alloc);
-        for packed in self.packed_refs()? {
+        for packed in self.packed_refs()?.refs {
             if refs.get(&packed.name).is_some() {
                 continue;
             }
@@ -139,7 +140,7 @@ impl<R: Files, A: Allocator + Copy> GitDirectory<'_, R, A> {
         Ok(refs)
     }
 
-    // The ref of a locked file is where it must be.
+    // Checks that the ref of a locked file has its old id.
     fn check_unmoved(
         &self,
         file: &LockedFile<'_, R, A>,
@@ -158,7 +159,7 @@ impl<R: Files, A: Allocator + Copy> GitDirectory<'_, R, A> {
         }
     }
 
-    // The id of a loose ref, whose file is locked.
+    // Returns the id of a loose ref with a locked file.
     fn loose_id(&self, file: &LockedFile<'_, R, A>) -> Result<Oid, RefFault<A>> {
         let value = match parse_loose_ref(self.alloc, file.text()) {
             Ok(value) => value,

@@ -1,4 +1,4 @@
-//! The parts of the files of refs: words, lines and white space.
+//! The parts of ref files: words, lines and white space.
 
 ghost use Rattle.std.specs.Prelude.{◌≡◌, ◌≢◌, ◌++◌, ◌∷◌, ◌<◌, ◌↔◌, List, ℕ, All, IfSome, IsTrue, MatchOption, length, position, true, false};
 ghost use Rattle.gname.specs.Ids.{Id};
@@ -9,10 +9,10 @@ use gname::Oid;
 use gname::laws::texts_have_one_reading;
 use memchr::memchr;
 
-// The digits of an id.
+// The number of digits of an id.
 const ID_TEXT: usize = 40;
 
-/// The rest of a text that begins with the word; `None` of any other text.
+/// Returns the rest of a text that begins with the word; `None` for any other text.
 pub(crate) fn strip<'a>(word: &[u8], text: &'a [u8]) -> Option<&'a [u8]>
     ensures { MatchOption result ((rest : List ℕ) → ¬ (text.now ≡ word.now ++ rest))
         (λ rest. text.now ≡ word.now ++ rest.now) }
@@ -20,7 +20,7 @@ pub(crate) fn strip<'a>(word: &[u8], text: &'a [u8]) -> Option<&'a [u8]>
     text.strip_prefix(word)
 }
 
-/// The first line of a text, and what comes after its LF; `None` if there is no LF.
+/// Returns the first line of a text, and the text after its LF, or `None` if there is no LF.
 pub(crate) fn cut_line(text: &[u8]) -> Option<(&[u8], &[u8])>
     ensures { MatchOption result
         ((front rest : List ℕ) → ¬ (text.now ≡ front ++ 10 ∷ rest))
@@ -32,7 +32,7 @@ pub(crate) fn cut_line(text: &[u8]) -> Option<(&[u8], &[u8])>
     }
 }
 
-/// The id whose digits begin the text, and the text after them; `None` if no id begins the text.
+/// Returns the id at the start of the text, and the text after it, or `None` if there is none.
 pub(crate) fn cut_id(text: &[u8]) -> Option<(Oid, &[u8])>
     ensures { MatchOption result
         ((id : Id) (rest : List ℕ) → ¬ (BeginsWithId text.now id rest))
@@ -49,7 +49,7 @@ pub(crate) fn cut_id(text: &[u8]) -> Option<(Oid, &[u8])>
     }
 }
 
-// So many bytes of a text, and the rest; `None` if the text is shorter.
+// Returns the first `count` bytes of a text, and the rest, or `None` if the text is shorter.
 fn split_front(count: usize, text: &[u8]) -> Option<(&[u8], &[u8])>
     ensures { MatchOption result (length text.now < count)
         (λ parts. (length parts.0.now ≡ count) × (text.now ≡ parts.0.now ++ parts.1.now)) }
@@ -57,14 +57,14 @@ fn split_front(count: usize, text: &[u8]) -> Option<(&[u8], &[u8])>
     text.split_at_checked(count)
 }
 
-// Whether a byte is white space, as Git takes it.
+// Whether a byte is white space for Git.
 pub(crate) fn is_space(byte: u8) -> bool
     ensures { result ≡ is_space byte }
 {
     byte == b'\t' || byte == b'\n' || byte == b'\r' || byte == b' '
 }
 
-/// Whether a text is white space alone.
+/// Whether a text has only white space.
 pub(crate) fn is_blank(text: &[u8]) -> bool
     ensures { IsTrue result ↔ IsBlank text.now }
 {
@@ -81,21 +81,21 @@ pub(crate) fn ends_word(text: &[u8]) -> bool
     }
 }
 
-// The place of the first byte that is white space.
+// Returns the index of the first white-space byte.
 fn space_at(text: &[u8]) -> Option<usize>
     ensures { result ≡ position is_space text.now }
 {
     text.iter().position(|byte| is_space(*byte))
 }
 
-// The place of the first byte that is no white space.
+// Returns the index of the first byte that is not white space.
 fn other_at(text: &[u8]) -> Option<usize>
     ensures { result ≡ position is_other text.now }
 {
     text.iter().position(|byte| !is_space(*byte))
 }
 
-/// The white space at the front of a text, and the text after it.
+/// Returns the white space at the front of a text, and the text after it.
 pub(crate) fn skip_blank(text: &[u8]) -> (&[u8], &[u8])
     ensures parts { text.now ≡ result.0.now ++ result.1.now }
     ensures blank { IsBlank result.0.now }
@@ -107,7 +107,7 @@ pub(crate) fn skip_blank(text: &[u8]) -> (&[u8], &[u8])
     }
 }
 
-/// The word at the front of a text, and the text after it.
+/// Returns the word at the front of a text, and the text after it.
 pub(crate) fn cut_word(text: &[u8]) -> (&[u8], &[u8])
     ensures parts { text.now ≡ result.0.now ++ result.1.now }
     ensures word { All (λ b. is_space b ≡ false) result.0.now }

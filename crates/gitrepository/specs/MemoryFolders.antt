@@ -1,6 +1,6 @@
 -- Folders in memory.
 use Rattle.gitrepository.specs.Installing.{Arrival, Folder, IndexComes, PackComes}
-use Rattle.gitrepository.specs.declared.folder.Stage.{Stage}
+use Rattle.gitrepository.specs.declared.folder.PackFileStage.{PackFileStage}
 use Rattle.gitrepository.specs.declared.memory_folder.PackFile.{PackFile}
 use Rattle.gitrepository.specs.declared.memory_folder.PackFile.TheVariants.{Index, Pack}
 
@@ -12,4 +12,4 @@ file_of (Index bytes) = IndexComes bytes.items
 -- what came to a folder, and how far this run is with a pack
 pub record Held : Type 0 where
   pub folder : Folder
-  pub stage : Stage
+  pub stage : PackFileStage

@@ -1,4 +1,4 @@
-//! The objects of a pack that comes.
+//! The objects of an incoming pack.
 
 ghost use Rattle.std.specs.Prelude.{◌≡◌, ◌++◌, ◌∷◌, [], List, All, IfOk, IfSome, OnOk};
 ghost use Rattle.gdag.specs.Graphs.{Holds};
@@ -20,49 +20,50 @@ use std::alloc::Allocator;
 use std::hash::BuildHasherDefault;
 use std::marker::Model;
 
-// The most bytes that may be kept of what the objects of a pack name, and of its commits and tags:
-// 112 MiB. Deltas make many objects from few bytes.
+// The maximum memory for the ids that objects of a pack name, and for its commits and tags: 112
+// MiB. Deltas make many objects from few bytes.
 const MAX_KEPT: usize = 117_440_512;
 
-// The bytes that are kept at most of an id that is named, of a commit or a tag, and of each of its
-// parents. The spare room of tables counts, and so does what memory takes for itself.
+// The maximum memory for a named id, for a commit or tag, and for each of its parents. This
+// includes spare room in tables and the overhead of the allocator.
 const NEED_BYTES: usize = 56;
 
 const ENTRY_BYTES: usize = 96;
 
 const PARENT_BYTES: usize = 34;
 
-// The line of the tree of a commit, and that of a parent.
+// The lengths of the tree line and of a parent line of a commit.
 const TREE_LINE: usize = 46;
 
 const PARENT_LINE: usize = 48;
 
-// The most bytes of a commit, a tree or a tag: 64 MiB. A tree of so many has two million entries.
+// The maximum size of a commit, a tree or a tag: 64 MiB. A tree of this size has two million
+// entries.
 const MAX_LINKING: usize = 67_108_864;
 
-/// All that is known of the objects of a pack that comes. Contracts see the entries of its commits
+/// The known facts about the objects of an incoming pack. Contracts see the entries of its commits
 /// and tags.
 #[derive(Drop)]
 pub(crate) struct Arrival<A: Allocator + Copy> {
     alloc: A,
     entries: Vec<Entry<A>, A>,
-    // The types of the objects that are named.
+    // The types of the named objects.
     needs: IndexMap<Oid, ObjectType, IdHasher, A>,
-    // The bytes that may still be kept.
+    // The remaining number of bytes that may be kept.
     room: usize,
     folders: LooseFolders,
     fault: Option<RepositoryFault<A>>,
 }
 
-/// A visitor of the objects of a pack that comes, with the store to which they come, and the ids at
-/// which refs of the peer are.
+/// A visitor of the objects of an incoming pack, with the store that receives them and the ids of
+/// the peer's refs.
 #[derive(Drop)]
 pub(crate) struct Inspector<'a, 'r, 't, 'f, F: ObjectFiles, A: Allocator + Copy> {
-    // All that is known of the objects.
+    // The known facts about the objects.
     arrival: &'a mut Arrival<A>,
     // A reader of the store.
     reader: &'r mut ObjectReader<'f, F, A>,
-    // The ids at which refs of the peer are.
+    // The ids of the peer's refs.
     tips: &'t Tips<A>,
 }
 
@@ -79,7 +80,7 @@ impl<A: Allocator + Copy> Model for Arrival<A> {
 }
 
 impl<A: Allocator + Copy> Arrival<A> {
-    /// No object has come yet.
+    /// Returns an arrival without objects.
     pub(crate) fn new(alloc: A) -> Arrival<A> {
         Arrival {
             alloc,
@@ -91,18 +92,18 @@ impl<A: Allocator + Copy> Arrival<A> {
         }
     }
 
-    /// The fault for which an object was refused, which is given away; `None` if there is none.
+    /// Takes the fault of the refused object, or `None` if there is none.
     pub(crate) fn take_fault(&mut self) -> Option<RepositoryFault<A>> {
         self.fault.take()
     }
 
-    // Keeps the fault for which an object is refused.
+    // Keeps the fault of a refused object.
     fn keep_fault(&mut self, fault: RepositoryFault<A>) {
         self.fault = Some(fault);
     }
 
-    /// The entries, once each object that is named is in the pack or in the store, with the type by
-    /// which it is named.
+    /// Returns the entries, once each named object is in the pack or in the store with the expected
+    /// type.
     pub(crate) fn into_entries<F: ObjectFiles>(
         self,
         reader: &mut ObjectReader<'_, F, A>,
@@ -124,7 +125,7 @@ impl<A: Allocator + Copy> Arrival<A> {
         Ok(entries)
     }
 
-    // The place of an object that is here; `None` if it is not.
+    // Returns the place of an object in the store, or `None` if it is not there.
     fn find<F: ObjectFiles>(
         &mut self,
         store: &ObjectStore<'_, F, A>,
@@ -133,7 +134,7 @@ impl<A: Allocator + Copy> Arrival<A> {
         store.find_in(id, &mut self.folders)
     }
 
-    // Learns of an object.
+    // Records an object.
     fn learn(
         &mut self,
         tips: &Tips<A>,
@@ -154,7 +155,7 @@ impl<A: Allocator + Copy> Arrival<A> {
         }
     }
 
-    // Adds the entry of a tag, and then that of the tree or the blob that it names.
+    // Adds the entry of a tag, then that of the tree or blob it names.
     fn learn_tag(&mut self, id: &Oid, body: &[u8]) -> Result<(), RepositoryFault<A>>
         requires { id_of types.Tag body.now ≡ id.now }
     {
@@ -165,8 +166,8 @@ impl<A: Allocator + Copy> Arrival<A> {
         }
     }
 
-    // Notes the objects to which an object links. It fails with `TooLarge` if a commit, a tree or a
-    // tag has too many bytes, and with `Parents` if a commit has too many parents.
+    // Notes the objects that an object names. Fails with `TooLarge` if a commit, a tree or a tag
+    // has too many bytes, and with `Parents` if a commit has too many parents.
     fn need_links(
         &mut self,
         id: &Oid,
@@ -180,13 +181,13 @@ impl<A: Allocator + Copy> Arrival<A> {
             ObjectType::Blob => Ok(()),
             ObjectType::Tree => self.need_entries(id, body),
             ObjectType::Commit if has_many_parents(body) => {
-                Err(RepositoryFault::refused(id, ObjectCause::Parents))
+                Err(RepositoryFault::object_fault(id, ObjectCause::Parents))
             }
             ObjectType::Commit | ObjectType::Tag => self.need_all(id, kind, body),
         }
     }
 
-    // Notes the objects to which a commit or a tag links, and that it is kept itself.
+    // Notes the objects that a commit or tag names, and the memory for the object itself.
     fn need_all(
         &mut self,
         id: &Oid,
@@ -204,8 +205,7 @@ impl<A: Allocator + Copy> Arrival<A> {
         Ok(())
     }
 
-    // Notes the objects of a tree's entries, one after the other: a list of all would take more
-    // than the tree.
+    // Notes the objects of a tree one by one: a list of all would need more memory than the tree.
     fn need_entries(&mut self, id: &Oid, body: &[u8]) -> Result<(), RepositoryFault<A>> {
         let mut rest = body;
         for _entry in 0..body.len() {
@@ -213,7 +213,7 @@ impl<A: Allocator + Copy> Arrival<A> {
                 break;
             }
             let Some((entry, after)) = split_entry(rest) else {
-                return Err(RepositoryFault::refused(id, ObjectCause::Malformed));
+                return Err(RepositoryFault::object_fault(id, ObjectCause::Malformed));
             };
             if let Some(link) = entry.link() {
                 self.need(link)?;
@@ -223,11 +223,11 @@ impl<A: Allocator + Copy> Arrival<A> {
         Ok(())
     }
 
-    // Notes that an object is named. It fails with `TooLarge` if too many are.
+    // Notes a named object. Fails with `TooLarge` if there are too many.
     fn need(&mut self, link: Link) -> Result<(), RepositoryFault<A>> {
         match self.needs.get(&link.id).copied() {
             Some(kind) if kind == link.kind => Ok(()),
-            Some(_) => Err(RepositoryFault::refused(&link.id, ObjectCause::Type)),
+            Some(_) => Err(RepositoryFault::object_fault(&link.id, ObjectCause::Type)),
             None => {
                 self.take_room(NEED_BYTES)?;
                 self.needs.insert(link.id, link.kind)?;
@@ -236,7 +236,7 @@ impl<A: Allocator + Copy> Arrival<A> {
         }
     }
 
-    // Takes room for so many bytes more. It fails with `TooLarge` if there is too little.
+    // Reserves `bytes` more bytes. Fails with `TooLarge` if too few remain.
     fn take_room(&mut self, bytes: usize) -> Result<(), RepositoryFault<A>> {
         match self.room.checked_sub(bytes) {
             Some(room) => {
@@ -275,8 +275,8 @@ impl<A: Allocator + Copy> Arrival<A> {
     }
 }
 
-// The bytes that are kept of a commit or a tag with so many links. With a tag there may be a leaf.
-// The first link of a commit is its tree, which is no parent.
+// Returns the memory for a commit or tag with `links` links. A tag may have a leaf. The first link
+// of a commit is its tree, which is not a parent.
 fn bytes_of(kind: ObjectType, links: usize) -> usize {
     let (entries, parents) = match kind {
         ObjectType::Tag => (2 * ENTRY_BYTES, links),
@@ -285,13 +285,12 @@ fn bytes_of(kind: ObjectType, links: usize) -> usize {
     PARENT_BYTES.saturating_mul(parents).saturating_add(entries)
 }
 
-// Whether a commit has the lines of more parents than one of a graph may have. Its message does not
-// count.
+// Whether a commit has more parent lines than a graph allows. Its message does not count.
 fn has_many_parents(commit: &[u8]) -> bool {
     (0..MAX_PARENTS.saturating_add(1)).all(|number| is_parent_line(commit, number))
 }
 
-// Whether the line with this number after that of the tree names a parent.
+// Whether line `number` after the tree line names a parent.
 fn is_parent_line(commit: &[u8], number: usize) -> bool {
     let start = number.saturating_mul(PARENT_LINE).saturating_add(TREE_LINE);
     match commit.get(start..) {
@@ -300,7 +299,7 @@ fn is_parent_line(commit: &[u8], number: usize) -> bool {
     }
 }
 
-// The leaf of the tree or blob that a tag names; `None` if it names a commit or a tag.
+// Returns the leaf of the tree or blob that a tag names, or `None` if it names a commit or a tag.
 fn named_leaf<A: Allocator + Copy>(alloc: A, tag: &[u8]) -> Option<Entry<A>>
     ensures { IfSome result (λ entry. (entries : List (Entry A))
         → Holds entries (id_of types.Tag tag.now) → IsRead entries entry) }
@@ -319,8 +318,7 @@ fn named_leaf<A: Allocator + Copy>(alloc: A, tag: &[u8]) -> Option<Entry<A>>
     }
 }
 
-// Whether an object that is named is in the pack or in the store, with the type by which it is
-// named.
+// Whether a named object is in the pack or in the store, with the expected type.
 fn check_need<F: ObjectFiles, A: Allocator + Copy>(
     reader: &mut ObjectReader<'_, F, A>,
     pack: &IndexedPack<A>,
@@ -333,12 +331,12 @@ fn check_need<F: ObjectFiles, A: Allocator + Copy>(
     if kind == need.kind {
         Ok(())
     } else {
-        Err(RepositoryFault::refused(&need.id, ObjectCause::Type))
+        Err(RepositoryFault::object_fault(&need.id, ObjectCause::Type))
     }
 }
 
 impl<'a, 'r, 't, 'f, F: ObjectFiles, A: Allocator + Copy> Inspector<'a, 'r, 't, 'f, F, A> {
-    /// A visitor that adds to what is known of the objects.
+    /// Returns a visitor that records the objects.
     pub(crate) fn new(
         arrival: &'a mut Arrival<A>,
         reader: &'r mut ObjectReader<'f, F, A>,
@@ -351,12 +349,12 @@ impl<'a, 'r, 't, 'f, F: ObjectFiles, A: Allocator + Copy> Inspector<'a, 'r, 't, 
         }
     }
 
-    /// The fault for which an object was refused, which is given away; `None` if there is none.
+    /// Takes the fault of the refused object, or `None` if there is none.
     pub(crate) fn take_fault(&mut self) -> Option<RepositoryFault<A>> {
         self.arrival.take_fault()
     }
 
-    // Compares an object with the one that is here, if there is one.
+    // Compares an object with the one in the store, if there is one.
     fn compare(
         &mut self,
         id: &Oid,
@@ -368,13 +366,13 @@ impl<'a, 'r, 't, 'f, F: ObjectFiles, A: Allocator + Copy> Inspector<'a, 'r, 't, 
         };
         match self.reader.read_found(id, found)? {
             Some(own) if own.kind != kind || own.body.as_slice() != body => {
-                Err(RepositoryFault::refused(id, ObjectCause::Differs))
+                Err(RepositoryFault::object_fault(id, ObjectCause::Differs))
             }
             _ => Ok(()),
         }
     }
 
-    // Compares an object with the one that is here, and learns of it.
+    // Compares an object with the one in the store, and records it.
     fn inspect(&mut self, id: &Oid, kind: ObjectType, body: &[u8]) -> Result<(), RepositoryFault<A>>
         requires { id_of kind body.now ≡ id.now }
     {

@@ -1,4 +1,4 @@
-//! Checking a repository: all that its refs reach is there.
+//! Checking the connectivity of a repository: every object that its refs reach exists.
 
 ghost use Rattle.std.specs.Prelude.{◌≡◌, [], IfOk, length};
 ghost use Rattle.gdag.specs.Graphs as graphs;
@@ -15,27 +15,27 @@ use gname::Oid;
 use std::alloc::Allocator;
 use std::fs::Files;
 
-/// How much a repository has.
+/// The counts of a repository.
 #[derive(Clone, Copy, Debug, PartialEq, Eq, Drop)]
 pub struct Checked {
-    /// Its refs below `refs/`.
+    /// The number of its refs below `refs/`.
     pub refs: usize,
-    /// The commits and tags that the refs and HEAD reach, and the trees and blobs at which refs and
-    /// tags are.
+    /// The number of commits and tags that the refs and HEAD reach, and of trees and blobs that
+    /// refs and tags point to.
     pub nodes: usize,
-    /// All objects that these reach, themselves included.
+    /// The number of all objects that these reach, themselves included.
     pub objects: u32,
 }
 
-/// Checks that all that the refs and HEAD of a Git directory reach is there: commits, tags, trees
-/// and blobs. The id of each is computed. A ref whose file is malformed is a fault, too. A commit-graph
-/// is not believed.
+/// Checks that every object that the refs and HEAD of a Git directory reach exists: commits, tags,
+/// trees and blobs. The id of each is computed. A malformed ref file is a fault, too. A
+/// commit-graph is not trusted.
 ///
-/// The reader is that of the same directory. It can be used again after each fault.
+/// The reader must read the same directory. It can be used again after any fault.
 ///
-/// It fails with `Ref` at the first ref whose file is malformed, or at the first object that is missing
-/// or refused. The fault names the object and the ref, and refs come in the order of their names. It fails with `Repository` if the refs
-/// are not read, and where out of memory.
+/// Fails with `Ref` at the first malformed ref file, or at the first missing or refused object. The
+/// fault names the object and the ref. Refs are checked in the order of their names. Fails with
+/// `Repository` if the refs cannot be read, or if out of memory.
 pub fn check_repository<R: Files, F: ObjectFiles, A: Allocator + Copy>(
     directory: &GitDirectory<'_, R, A>,
     reader: &mut ObjectReader<'_, F, A>,
@@ -54,7 +54,7 @@ pub fn check_repository<R: Files, F: ObjectFiles, A: Allocator + Copy>(
     }
 }
 
-/// Checks that all that these refs and HEAD reach is there, as [`check_repository`] does.
+/// Checks that every object that these refs and HEAD reach exists, as [`check_repository`] does.
 pub fn check_refs<F: ObjectFiles, A: Allocator + Copy>(
     reader: &mut ObjectReader<'_, F, A>,
     refs: &Refs<A>,
@@ -75,7 +75,7 @@ pub fn check_refs<F: ObjectFiles, A: Allocator + Copy>(
     if let Err(fault) = check_head(&mut history, &mut gathering, head) {
         return Err(CheckFault::of_head(alloc, fault));
     }
-    let objects = gathering.sent();
+    let objects = gathering.sent_count();
     match history.into_graph() {
         Ok(graph) => Ok(Checked {
             refs: refs.len(),
@@ -86,7 +86,7 @@ pub fn check_refs<F: ObjectFiles, A: Allocator + Copy>(
     }
 }
 
-// Checks what HEAD reaches and what no ref did.
+// Checks the objects that HEAD reaches and no ref did.
 fn check_head<F: ObjectFiles, A: Allocator + Copy>(
     history: &mut History<'_, A>,
     gathering: &mut Gathering<'_, '_, F, A>,
@@ -100,7 +100,7 @@ fn check_head<F: ObjectFiles, A: Allocator + Copy>(
     }
 }
 
-// Checks what a ref at this id reaches and what no ref before it did.
+// Checks the objects that a ref at this id reaches and no earlier ref did.
 fn check_ref<F: ObjectFiles, A: Allocator + Copy>(
     history: &mut History<'_, A>,
     gathering: &mut Gathering<'_, '_, F, A>,

@@ -12,17 +12,18 @@ use gitobjects::{Cause, ObjectFiles, ObjectStore};
 use gname::{MAX_ID_TEXT, Oid};
 use std::alloc::{AllocError, Allocator};
 
-// The most bytes of the files of a commit-graph: 512 MiB.
+// The maximum size of the files of a commit-graph: 512 MiB.
 const MAX_FILES: usize = 536_870_912;
 
-// The most bytes of the file `commit-graph-chain`: 1,024 lines.
+// The maximum size of the file `commit-graph-chain`: 1,024 lines.
 const MAX_CHAIN: usize = 41_984;
 
-/// The commit-graph of a Git directory: the file `objects/info/commit-graph`. If that is not read, it
-/// is the chain below `objects/info/commit-graphs`, which ends before the first file that is missing,
-/// too large or malformed. If `core.commitGraph` is off (git-config(1)), it has no commit.
+/// Returns the commit-graph of a Git directory: the file `objects/info/commit-graph`. If that file
+/// is not read, it is the chain below `objects/info/commit-graphs`. The chain ends before the first
+/// file that is missing, too large or malformed. If `core.commitGraph` is off (git-config(1)), the
+/// commit-graph has no commits.
 ///
-/// It fails out of memory alone.
+/// Fails only if out of memory.
 pub fn read_commit_graph<F: ObjectFiles, A: Allocator + Copy>(
     files: &F,
     alloc: A,
@@ -58,7 +59,7 @@ fn add_chain<F: ObjectFiles, A: Allocator + Copy>(
     Ok(())
 }
 
-// The checksums of the files of the chain, the lowest first; none if it is not read.
+// Returns the checksums of the files of the chain, lowest first; none if the chain is not read.
 fn chain_of<F: ObjectFiles, A: Allocator + Copy>(
     files: &F,
     alloc: A,
@@ -71,7 +72,7 @@ fn chain_of<F: ObjectFiles, A: Allocator + Copy>(
     }
 }
 
-// The path of a file of the chain.
+// Returns the path of a file of the chain.
 fn graph_path<A: Allocator + Copy>(
     alloc: A,
     folder: &str,
@@ -83,7 +84,7 @@ fn graph_path<A: Allocator + Copy>(
     format!(in alloc; "{folder}/graph-{digits}.graph")
 }
 
-// Adds a file to a commit-graph, and answers how many bytes it has; `None` if it is not added.
+// Adds a file to a commit-graph, and returns its size, or `None` if it is not added.
 fn add_file<F: ObjectFiles, A: Allocator + Copy>(
     files: &F,
     alloc: A,
@@ -102,7 +103,7 @@ fn add_file<F: ObjectFiles, A: Allocator + Copy>(
     }
 }
 
-// The bytes of a file; `None` if it is missing, too large or not read.
+// Returns the bytes of a file, or `None` if it is missing, too large or not read.
 fn read_file<F: ObjectFiles, A: Allocator + Copy>(
     files: &F,
     alloc: A,
@@ -116,10 +117,10 @@ fn read_file<F: ObjectFiles, A: Allocator + Copy>(
     }
 }
 
-/// The entry of the commit with this id, as the commit-graph says. It is `None` if the commit-graph or
-/// the store has no such commit, or the commit has more parents than a node.
+/// Returns the entry of this commit as the commit-graph lists it. Returns `None` if the
+/// commit-graph or the store lacks the commit, or it has too many parents for a node.
 ///
-/// It fails out of memory alone.
+/// Fails only if out of memory.
 pub(crate) fn known_entry<F: ObjectFiles, A: Allocator + Copy>(
     commits: &CommitGraph<A>,
     store: &ObjectStore<'_, F, A>,
@@ -136,8 +137,8 @@ pub(crate) fn known_entry<F: ObjectFiles, A: Allocator + Copy>(
     }
 }
 
-// The entry of the commit with this id, which is at this position; `None` if it has more parents than
-// a node.
+// Returns the entry of the commit with this id at this position, or `None` if it has too many
+// parents for a node.
 fn entry_at<A: Allocator + Copy>(
     alloc: A,
     commits: &CommitGraph<A>,
@@ -157,7 +158,7 @@ fn entry_at<A: Allocator + Copy>(
     Ok(Some(Entry { id: *id, node }))
 }
 
-// The ids of the commits at these positions.
+// Returns the ids of the commits at these positions.
 fn parents_at<A: Allocator + Copy>(
     alloc: A,
     commits: &CommitGraph<A>,

@@ -1,4 +1,4 @@
-//! The entries of a pack that goes out: those of packs are copied as they lie.
+//! The entries of an outgoing pack: entries of stored packs are copied unchanged.
 
 use crate::fates::{Fate, Fates};
 use crate::fault::RepositoryFault;
@@ -10,24 +10,24 @@ use gname::Oid;
 use gzlib::Deflater;
 use std::alloc::{AllocError, Allocator};
 
-/// How the objects of a pack went out.
+/// How the objects of a pack were sent.
 #[derive(Clone, Copy, Debug, PartialEq, Eq, Drop)]
 pub struct PackCounts {
-    /// Whole objects that were copied.
+    /// The number of copied whole objects.
     pub whole: u32,
-    /// Deltas that were copied.
+    /// The number of copied deltas.
     pub deltas: u32,
-    /// Loose objects, which were deflated anew, or deltas of them.
+    /// The number of loose objects, which were deflated again or sent as deltas.
     pub loose: u32,
-    /// Deltas whose base does not go out, and entries that are broken while their objects are whole
-    /// in another place. Their objects were deflated anew, or deltas of them.
+    /// The number of deltas whose base is not sent, and of broken entries whose objects are intact
+    /// elsewhere. These objects were deflated again or sent as deltas.
     pub renewed: u32,
-    /// How many of the last two went out as deltas.
+    /// How many of the last two were sent as deltas.
     pub made: u32,
 }
 
 impl PackCounts {
-    /// No object.
+    /// The counts without objects.
     pub(crate) const NONE: PackCounts = PackCounts {
         whole: 0,
         deltas: 0,
@@ -36,7 +36,7 @@ impl PackCounts {
         made: 0,
     };
 
-    /// The number of all objects. It stays at the greatest number if there are more.
+    /// Returns the total number of objects, saturating at the maximum.
     pub fn objects(&self) -> u32 {
         let copied = self.whole.saturating_add(self.deltas);
         copied
@@ -45,8 +45,8 @@ impl PackCounts {
     }
 }
 
-/// An entry that goes out next: its form, the bytes to which its stream inflates, and bytes that end
-/// with this stream.
+/// The next entry to send: its form, the size of its inflated stream, and bytes that end with this
+/// stream.
 #[derive(Drop)]
 pub(crate) struct NextEntry<A: Allocator + Copy> {
     pub(crate) form: EntryForm,
@@ -56,13 +56,13 @@ pub(crate) struct NextEntry<A: Allocator + Copy> {
 }
 
 impl<A: Allocator + Copy> NextEntry<A> {
-    /// The stream.
+    /// Returns the stream.
     pub(crate) fn stream(&self) -> &[u8] {
         self.bytes.as_slice().get(self.from..).unwrap_or(b"")
     }
 }
 
-// An object that lies in a pack: its id, its place in the index, and its path.
+// An object in a pack: its id, its place in the index, and its path.
 #[derive(Clone, Copy, Drop)]
 struct Packed {
     id: Oid,
@@ -70,7 +70,7 @@ struct Packed {
     path: PathHash,
 }
 
-// An object that is deflated anew: its id, its path, and how many such objects were found before.
+// An object to deflate again: its id, its path, and how many such objects were found before.
 #[derive(Clone, Copy, Drop)]
 struct Anew {
     id: Oid,
@@ -78,15 +78,15 @@ struct Anew {
     number: usize,
 }
 
-// How far the objects of packs are: a pack, and how many of its entries were looked at.
+// The progress through the packs: a pack, and how many of its entries were examined.
 #[derive(Clone, Copy, Drop)]
 struct Progress {
     pack: usize,
     number: usize,
 }
 
-/// What goes out, entry after entry. First come entries of packs, in the order in which they lie there,
-/// and then objects that are deflated anew.
+/// The objects to send, entry by entry. Pack entries are first, in pack order, followed by objects
+/// that are deflated again.
 #[derive(Drop)]
 pub(crate) struct Copying<A: Allocator + Copy> {
     alloc: A,
@@ -94,11 +94,11 @@ pub(crate) struct Copying<A: Allocator + Copy> {
     deflater: Deflater<A>,
     counts: PackCounts,
     progress: Progress,
-    // The position of each entry of the pack that is copied now, by its place in the index; 0 if it
-    // was not put.
+    // The position of each entry of the current pack, by its place in the index; 0 if it was not
+    // written.
     starts: Vec<usize, A>,
-    // The objects that are to be deflated anew, how many of them were, and the last ones. They are in
-    // order once all packs were gone through.
+    // The objects to deflate again, how many were deflated, and the last ones. They are sorted once
+    // all packs were examined.
     anew: Vec<Anew, A>,
     renewed: usize,
     is_sorted: bool,
@@ -106,7 +106,7 @@ pub(crate) struct Copying<A: Allocator + Copy> {
 }
 
 impl<A: Allocator + Copy> Copying<A> {
-    /// All that is sent, of which nothing went out yet.
+    /// Returns the objects to send, before the first entry.
     pub(crate) fn new(alloc: A, fates: Fates<A>) -> Result<Copying<A>, AllocError> {
         Ok(Copying {
             alloc,
@@ -122,12 +122,12 @@ impl<A: Allocator + Copy> Copying<A> {
         })
     }
 
-    /// How the objects went out so far.
+    /// How the objects were sent so far.
     pub(crate) fn counts(&self) -> PackCounts {
         self.counts
     }
 
-    /// The next entry, which goes to this position; `None` if there is no more.
+    /// Returns the next entry, to be written at this position, or `None` if there are no more.
     pub(crate) fn next<F: ObjectFiles>(
         &mut self,
         reader: &mut ObjectReader<'_, F, A>,
@@ -145,7 +145,7 @@ impl<A: Allocator + Copy> Copying<A> {
         self.next_anew(reader)
     }
 
-    // The next entry of the pack; `None` if it has no more.
+    // Returns the next entry of the pack, or `None` if it has no more entries.
     fn next_of_pack<F: ObjectFiles>(
         &mut self,
         reader: &mut ObjectReader<'_, F, A>,
@@ -168,7 +168,7 @@ impl<A: Allocator + Copy> Copying<A> {
         Ok(None)
     }
 
-    // The object whose entry lies in a pack as the one with this number, if it is sent.
+    // Returns the object of the entry with this number in a pack, if it is sent.
     fn sent_at<F: ObjectFiles>(
         &self,
         reader: &ObjectReader<'_, F, A>,
@@ -183,8 +183,8 @@ impl<A: Allocator + Copy> Copying<A> {
         }
     }
 
-    // An entry that is copied to this position; `None` if it can't go out as it lies. Then its object is
-    // deflated anew later.
+    // Returns an entry copied to this position, or `None` if it cannot be copied unchanged. Its
+    // object is then deflated again later.
     fn copy_entry<F: ObjectFiles>(
         &mut self,
         reader: &mut ObjectReader<'_, F, A>,
@@ -203,10 +203,10 @@ impl<A: Allocator + Copy> Copying<A> {
         if let Some(slot) = self.starts.get_mut(object.place) {
             *slot = position;
         }
-        Ok(Some(self.copied(form, entry)))
+        Ok(Some(self.reuse_entry(form, entry)))
     }
 
-    // Adds an object of a pack to those that are deflated anew.
+    // Adds a pack object to those that are deflated again.
     fn renew(&mut self, object: Packed) -> Result<(), RepositoryFault<A>> {
         self.counts.renewed = self.counts.renewed.saturating_add(1);
         self.add_anew(&object.id, object.path)
@@ -221,8 +221,8 @@ impl<A: Allocator + Copy> Copying<A> {
         Ok(())
     }
 
-    // An entry with its own stream.
-    fn copied(&mut self, form: EntryForm, entry: RawEntry<A>) -> NextEntry<A> {
+    // Returns an entry with its own stream.
+    fn reuse_entry(&mut self, form: EntryForm, entry: RawEntry<A>) -> NextEntry<A> {
         match form {
             EntryForm::Whole(_) => self.counts.whole = self.counts.whole.saturating_add(1),
             _ => self.counts.deltas = self.counts.deltas.saturating_add(1),
@@ -235,8 +235,8 @@ impl<A: Allocator + Copy> Copying<A> {
         }
     }
 
-    // The form in which an entry goes out at this position; `None` if its base does not go out. A
-    // delta names the place to which its base goes.
+    // Returns the form of an entry at this position, or `None` if its base is not sent. A delta
+    // names the new position of its base.
     fn form_of<F: ObjectFiles>(
         &self,
         reader: &ObjectReader<'_, F, A>,
@@ -269,7 +269,7 @@ impl<A: Allocator + Copy> Copying<A> {
         }
     }
 
-    // The next object that is deflated anew; `None` if there is no more.
+    // Returns the next object, deflated again, or `None` if there are no more.
     fn next_anew<F: ObjectFiles>(
         &mut self,
         reader: &mut ObjectReader<'_, F, A>,
@@ -285,7 +285,7 @@ impl<A: Allocator + Copy> Copying<A> {
         Ok(Some(self.deflated_anew(reader, &object.id)?))
     }
 
-    // Adds the loose objects that are sent to those that are deflated anew.
+    // Adds the loose objects to send to those that are deflated again.
     fn add_loose(&mut self) -> Result<(), RepositoryFault<A>> {
         for number in 0..self.fates.loose_count() {
             let Some((id, fate)) = self.fates.loose_at(number) else {
@@ -299,15 +299,15 @@ impl<A: Allocator + Copy> Copying<A> {
         Ok(())
     }
 
-    // Puts the objects that are deflated anew in order. Those with paths that end alike come one after
-    // the other, as deltas of them are likely small.
+    // Sorts the objects to deflate again. Objects whose paths end alike are adjacent, as deltas
+    // between them are probably small.
     fn sort_anew(&mut self) {
         self.anew
             .sort_unstable_by_key(|object| (object.path, object.number));
         self.is_sorted = true;
     }
 
-    // The entry of an object, as a delta or whole. Its id is computed.
+    // Returns the entry of an object, as a delta or whole. The id of the object is computed.
     fn deflated_anew<F: ObjectFiles>(
         &mut self,
         reader: &mut ObjectReader<'_, F, A>,
@@ -317,7 +317,7 @@ impl<A: Allocator + Copy> Copying<A> {
         let delta = self.window.best_delta(&object)?;
         let entry = match &delta {
             Some(delta) => self.delta_entry(delta)?,
-            None => self.deflated(EntryForm::Whole(object.kind), object.body.as_slice())?,
+            None => self.deflate_entry(EntryForm::Whole(object.kind), object.body.as_slice())?,
         };
         self.window.push(id, object, &delta)?;
         Ok(entry)
@@ -325,11 +325,11 @@ impl<A: Allocator + Copy> Copying<A> {
 
     fn delta_entry(&mut self, delta: &Delta<A>) -> Result<NextEntry<A>, RepositoryFault<A>> {
         self.counts.made = self.counts.made.saturating_add(1);
-        self.deflated(EntryForm::RefDelta(delta.base), delta.text.as_slice())
+        self.deflate_entry(EntryForm::RefDelta(delta.base), delta.text.as_slice())
     }
 
-    // An entry whose stream inflates to these bytes.
-    fn deflated(
+    // Returns an entry whose stream inflates to these bytes.
+    fn deflate_entry(
         &mut self,
         form: EntryForm,
         bytes: &[u8],
@@ -345,7 +345,7 @@ impl<A: Allocator + Copy> Copying<A> {
     }
 }
 
-// An entry as it lies; `None` if it is broken. Its object may be whole in another place.
+// Returns an entry unchanged, or `None` if it is broken. Its object may be intact elsewhere.
 fn whole_entry<F: ObjectFiles, A: Allocator + Copy>(
     reader: &mut ObjectReader<'_, F, A>,
     pack: usize,

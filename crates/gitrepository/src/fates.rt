@@ -1,4 +1,4 @@
-//! The fates of objects: which go out, and which do not.
+//! The fates of objects: which are sent, and which are not.
 
 use crate::fault::RepositoryFault;
 use crate::path_hash::PathHash;
@@ -9,19 +9,19 @@ use indexmap::IndexMap;
 use std::alloc::Allocator;
 use std::hash::BuildHasherDefault;
 
-/// Whether an object goes out.
+/// Whether an object is sent.
 #[derive(Clone, Copy, Debug, PartialEq, Eq)]
 pub(crate) enum Fate {
-    /// It is not settled.
+    /// The fate is undecided.
     Open,
-    /// The object goes out. It was found at this path.
+    /// The object is sent. It was found at this path.
     Sent(PathHash),
-    /// The object does not go out: the peer has it.
+    /// The object is not sent: the peer has it.
     Left,
 }
 
 impl Fate {
-    /// Whether the object goes out.
+    /// Whether the object is sent.
     pub(crate) fn is_sent(self) -> bool {
         match self {
             Fate::Sent(_) => true,
@@ -29,7 +29,7 @@ impl Fate {
         }
     }
 
-    /// The same fate, of an entry of the tree that has this one.
+    /// Returns the fate of an entry of a tree with this fate.
     pub(crate) fn of_entry(self, name: &[u8]) -> Fate {
         match self {
             Fate::Sent(path) => Fate::Sent(path.join(name)),
@@ -38,18 +38,18 @@ impl Fate {
     }
 }
 
-/// The fates of all objects of a store. Those of a pack are listed by their places in its index.
+/// The fates of all objects of a store. The fates for a pack are listed by place in its index.
 #[derive(Drop)]
 pub(crate) struct Fates<A: Allocator + Copy> {
     alloc: A,
     packed: Vec<Vec<Fate, A>, A>,
     loose: IndexMap<Oid, Fate, IdHasher, A>,
-    // The objects that go out.
+    // The number of objects to send.
     sent: u32,
 }
 
 impl<A: Allocator + Copy> Fates<A> {
-    /// All objects of all stores are open.
+    /// Returns fates in which every object is undecided.
     pub(crate) fn new(alloc: A) -> Fates<A> {
         Fates {
             alloc,
@@ -59,12 +59,12 @@ impl<A: Allocator + Copy> Fates<A> {
         }
     }
 
-    /// How many objects go out.
-    pub(crate) fn sent(&self) -> u32 {
+    /// Returns the number of objects to send.
+    pub(crate) fn sent_count(&self) -> u32 {
         self.sent
     }
 
-    /// The fate of the object that was found here.
+    /// Returns the fate of the object found here.
     pub(crate) fn of(&self, id: &Oid, found: Found) -> Fate {
         match found {
             Found::Packed { pack, place } => match self.packed.get(pack) {
@@ -75,17 +75,17 @@ impl<A: Allocator + Copy> Fates<A> {
         }
     }
 
-    /// The fate of an object that was found loose. It keeps its fate if Git packs it meanwhile.
+    /// Returns the fate of an object found loose. It keeps its fate if Git packs it meanwhile.
     pub(crate) fn of_loose(&self, id: &Oid) -> Fate {
-        // Most repositories have few or none of these, and then no id need be hashed.
+        // Most repositories have few or no such objects; with none, no id is hashed.
         if self.loose.is_empty() {
             return Fate::Open;
         }
         self.loose.get(id).copied().unwrap_or(Fate::Open)
     }
 
-    /// The id of the object that was found loose and settled as the one with this number, and its
-    /// fate; `None` past the last.
+    /// Returns the id and the fate of the decided loose object with this number; `None` past the
+    /// last.
     pub(crate) fn loose_at(&self, number: usize) -> Option<(Oid, Fate)> {
         match self.loose.get_index(number) {
             Some((id, fate)) => Some((*id, *fate)),
@@ -93,12 +93,12 @@ impl<A: Allocator + Copy> Fates<A> {
         }
     }
 
-    /// How many objects were found loose and settled.
+    /// Returns the number of decided loose objects.
     pub(crate) fn loose_count(&self) -> usize {
         self.loose.len()
     }
 
-    /// Settles the fate of an object that was found here and is open.
+    /// Decides the fate of an undecided object found here.
     pub(crate) fn settle<F: ObjectFiles>(
         &mut self,
         store: &ObjectStore<'_, F, A>,
@@ -129,7 +129,7 @@ impl<A: Allocator + Copy> Fates<A> {
         }
     }
 
-    // Makes room for the objects of all packs up to this one.
+    // Makes room for the objects of all packs up to and including this one.
     fn make_room<F: ObjectFiles>(
         &mut self,
         store: &ObjectStore<'_, F, A>,

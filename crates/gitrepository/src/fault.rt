@@ -1,4 +1,4 @@
-//! Why a repository is not read, packed or added to.
+//! Why a repository cannot be read, packed or added to.
 
 use ggraph::{GraphFault, MAX_NODES, MAX_PARENTS, RefsFault};
 use gitobject::ObjectFault;
@@ -15,42 +15,42 @@ use std::{fmt, io};
 pub enum ObjectCause {
     /// Its bytes do not have the form of its type.
     Malformed,
-    /// It has another type than the object that names it says.
+    /// Its type differs from the type that names it.
     Type,
-    /// Another object with the same id is there.
+    /// The store has a different object with the same id.
     Differs,
     /// It has more than [`MAX_PARENTS`] parents.
     Parents,
 }
 
-/// Why a repository of some form is not read (git-config(1), "core.repositoryFormatVersion",
+/// Why a repository format is unsupported (git-config(1), "core.repositoryFormatVersion",
 /// "extensions").
 #[derive(Clone, Copy, Debug, PartialEq, Eq)]
 pub enum FormFault {
-    /// It is shallow: some commits have parents that are left out.
+    /// It is shallow: some commits lack their parents.
     Shallow,
     /// Its ids are not SHA-1: `extensions.objectFormat`.
     ObjectFormat,
     /// Its refs are not in files: `extensions.refStorage`.
     RefStorage,
-    /// It is a partial clone: objects that are named may be left out.
+    /// It is a partial clone: named objects may be missing.
     PartialClone,
     /// Its version is neither 0 nor 1: `core.repositoryFormatVersion`.
     Version,
-    /// It has an extension that is not known.
+    /// It has an unknown extension.
     Extension,
     /// Its configuration is malformed.
     Config,
 }
 
-/// Why a repository is not read, packed or added to.
+/// Why a repository cannot be read, packed or added to.
 #[derive(Drop)]
 pub enum RepositoryFault<A: Allocator + Copy> {
     /// Out of memory.
     Memory,
     /// An object is missing, or a file that holds objects is refused.
     Store(StoreFault<A>),
-    /// The refs are not read.
+    /// The refs cannot be read.
     Refs(RefFault<A>),
     /// An object is refused.
     Object {
@@ -59,11 +59,11 @@ pub enum RepositoryFault<A: Allocator + Copy> {
         /// The fault.
         cause: ObjectCause,
     },
-    /// The refs reach more commits and tags than a graph holds.
+    /// The refs reach too many commits and tags for a graph.
     Objects,
-    /// A pack is refused, or can't be written.
+    /// A pack is refused or cannot be written.
     Pack(PackFileFault),
-    /// The number of objects in a pack that is written is not the one that was counted.
+    /// The number of objects in a written pack differs from the counted number.
     Count,
     /// The system refused a call on a file.
     File {
@@ -72,23 +72,23 @@ pub enum RepositoryFault<A: Allocator + Copy> {
         /// The system's error.
         error: io::Error,
     },
-    /// The repository has a form that is not read.
+    /// The repository has an unsupported format.
     Form {
-        /// The path of the file that says so.
+        /// The path of the file that shows it.
         path: String<A>,
-        /// The form.
+        /// The format.
         fault: FormFault,
     },
-    /// The packer or the indexer is at work already.
+    /// The packer or the indexer is already in use.
     Busy,
 }
 
-/// Why a repository is not whole.
+/// Why a repository is not intact.
 #[derive(Drop)]
 pub enum CheckFault<A: Allocator + Copy> {
-    /// The repository is not read, or out of memory.
+    /// The repository cannot be read, or out of memory.
     Repository(RepositoryFault<A>),
-    /// An object that a ref or HEAD reaches is missing or refused, or the file of a ref is malformed.
+    /// An object that a ref or HEAD reaches is missing or refused, or a ref file is malformed.
     Ref {
         /// The name of the ref, or `HEAD`.
         name: RefName<A>,
@@ -98,7 +98,7 @@ pub enum CheckFault<A: Allocator + Copy> {
 }
 
 impl<A: Allocator + Copy> CheckFault<A> {
-    /// The fault of an object that a ref reaches.
+    /// Returns the fault of an object that a ref reaches.
     pub(crate) fn of_ref(alloc: A, name: &RefName<A>, fault: RepositoryFault<A>) -> CheckFault<A> {
         match name.copy_in(alloc) {
             Ok(name) => CheckFault::Ref { name, fault },
@@ -106,7 +106,7 @@ impl<A: Allocator + Copy> CheckFault<A> {
         }
     }
 
-    /// The fault of an object that HEAD reaches.
+    /// Returns the fault of an object that HEAD reaches.
     pub(crate) fn of_head(alloc: A, fault: RepositoryFault<A>) -> CheckFault<A> {
         match RefName::head(alloc) {
             Ok(name) => CheckFault::Ref { name, fault },
@@ -116,31 +116,31 @@ impl<A: Allocator + Copy> CheckFault<A> {
 }
 
 impl<A: Allocator + Copy> RepositoryFault<A> {
-    /// The fault of an object.
+    /// Returns the fault of an object.
     pub(crate) fn of_object(id: &Oid, fault: ObjectFault) -> RepositoryFault<A> {
         match fault {
-            ObjectFault::Malformed => RepositoryFault::refused(id, ObjectCause::Malformed),
+            ObjectFault::Malformed => RepositoryFault::object_fault(id, ObjectCause::Malformed),
             ObjectFault::Memory => RepositoryFault::Memory,
         }
     }
 
-    /// The fault of an object that is refused for this cause.
-    pub(crate) fn refused(id: &Oid, cause: ObjectCause) -> RepositoryFault<A> {
+    /// Returns the fault of an object refused for this cause.
+    pub(crate) fn object_fault(id: &Oid, cause: ObjectCause) -> RepositoryFault<A> {
         RepositoryFault::Object { id: *id, cause }
     }
 
-    /// The fault of an object that the graph refuses.
+    /// Returns the fault of an object that the graph refuses.
     pub(crate) fn of_node(id: &Oid, fault: GraphFault) -> RepositoryFault<A> {
         match fault {
             GraphFault::Memory => RepositoryFault::Memory,
             GraphFault::TooMany => RepositoryFault::Objects,
-            GraphFault::TooManyParents => RepositoryFault::refused(id, ObjectCause::Parents),
-            GraphFault::Conflict { .. } => RepositoryFault::refused(id, ObjectCause::Differs),
-            _ => RepositoryFault::refused(id, ObjectCause::Malformed),
+            GraphFault::TooManyParents => RepositoryFault::object_fault(id, ObjectCause::Parents),
+            GraphFault::Conflict { .. } => RepositoryFault::object_fault(id, ObjectCause::Differs),
+            _ => RepositoryFault::object_fault(id, ObjectCause::Malformed),
         }
     }
 
-    /// The fault of the file with this path.
+    /// Returns the fault of the file with this path.
     pub(crate) fn of_file(alloc: A, path: &str, error: io::Error) -> RepositoryFault<A> {
         if error.kind() == io::ErrorKind::OutOfMemory {
             return RepositoryFault::Memory;
@@ -151,7 +151,7 @@ impl<A: Allocator + Copy> RepositoryFault<A> {
         }
     }
 
-    /// The fault of the file with this path, which is read as those of objects are.
+    /// Returns the fault of an object file with this path.
     pub(crate) fn of_cause(alloc: A, path: &str, cause: Cause) -> RepositoryFault<A> {
         if cause == Cause::Memory {
             return RepositoryFault::Memory;
@@ -162,7 +162,7 @@ impl<A: Allocator + Copy> RepositoryFault<A> {
         }
     }
 
-    /// The fault of a repository whose form the file with this path says.
+    /// Returns the fault of a repository whose format the file with this path shows.
     pub(crate) fn of_form(alloc: A, path: &str, fault: FormFault) -> RepositoryFault<A> {
         match String::from_str(alloc, path) {
             Ok(path) => RepositoryFault::Form { path, fault },
@@ -172,7 +172,7 @@ impl<A: Allocator + Copy> RepositoryFault<A> {
 }
 
 impl FormFault {
-    // The table of forms that are not read.
+    // Describes each unsupported format.
     fn text(self) -> &'static str {
         match self {
             FormFault::Shallow => {
@@ -244,7 +244,7 @@ fn write_object<W: fmt::Write>(
     write!(f, " {cause}")
 }
 
-// The table of the faults of packs.
+// Writes the text of a pack fault.
 fn write_pack<W: fmt::Write>(fault: PackFileFault, f: &mut fmt::Formatter<W>) -> fmt::Result {
     match fault {
         PackFileFault::Memory => f.write_str(OUT_OF_MEMORY_TEXT),

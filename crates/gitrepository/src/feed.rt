@@ -1,4 +1,4 @@
-//! A pack on its way to a Git directory.
+//! A pack while a Git directory receives it.
 
 ghost use Rattle.std.specs.Prelude.{◌≡◌, ◌++◌, [], ℕ, IfOk, OnOk};
 ghost use Rattle.gitpack.specs.Packs.{IsFramed};
@@ -14,17 +14,16 @@ use gitpack::{IndexedPack, PackFileFault};
 use std::alloc::{AllocError, Allocator};
 use std::marker::Model;
 
-/// A pack that came, and its index.
+/// A received pack and its index.
 #[derive(Drop)]
 pub struct Received<A: Allocator + Copy> {
-    /// The pack as it came.
+    /// The pack as received.
     pub bytes: Vec<u8, A>,
     /// Its index.
     pub index: IndexedPack<A>,
 }
 
-/// A pack of which a part came, and what is known of its objects. Contracts see the bytes that
-/// came.
+/// A partly received pack, and what is known about its objects. Contracts see the received bytes.
 #[derive(Drop)]
 pub struct StoreFeed<A: Allocator + Copy> {
     pack: LimitedPack<A>,
@@ -40,7 +39,7 @@ impl<A: Allocator + Copy> Model for StoreFeed<A> {
 }
 
 impl<A: Allocator + Copy> StoreFeed<A> {
-    /// A pack of which nothing came.
+    /// Returns a pack without received bytes.
     pub(crate) fn new(alloc: A) -> StoreFeed<A>
         ensures { result ≡ [] }
     {
@@ -50,8 +49,8 @@ impl<A: Allocator + Copy> StoreFeed<A> {
         }
     }
 
-    /// Takes the next bytes. It fails only out of memory.
-    pub(crate) fn take<F: ObjectFiles>(
+    /// Takes the next bytes. Fails only if out of memory.
+    pub(crate) fn take_piece<F: ObjectFiles>(
         &mut self,
         reader: &mut ObjectReader<'_, F, A>,
         tips: &Tips<A>,
@@ -63,7 +62,7 @@ impl<A: Allocator + Copy> StoreFeed<A> {
         feed_pack(&mut self.pack, piece, &mut inspector)
     }
 
-    /// The pack, once it came whole, and the entries of its commits and tags.
+    /// Returns the pack, once it is complete, and the entries of its commits and tags.
     pub(crate) fn finish<F: ObjectFiles>(
         self,
         reader: &mut ObjectReader<'_, F, A>,
@@ -81,7 +80,7 @@ impl<A: Allocator + Copy> StoreFeed<A> {
     }
 }
 
-// Gives a pack its next bytes. It fails only out of memory.
+// Feeds the next bytes to a pack. Fails only if out of memory.
 fn feed_pack<F: ObjectFiles, A: Allocator + Copy>(
     pack: &mut LimitedPack<A>,
     piece: &[u8],
@@ -92,8 +91,7 @@ fn feed_pack<F: ObjectFiles, A: Allocator + Copy>(
     pack.feed(piece, inspector)
 }
 
-// Indexes a pack that came whole. The fault is that for which an object was refused, if there is
-// one.
+// Indexes a complete pack. Returns the fault of the refused object, if there is one.
 fn finish_pack<F: ObjectFiles, A: Allocator + Copy>(
     pack: LimitedPack<A>,
     inspector: &mut Inspector<'_, '_, '_, '_, F, A>,
@@ -108,7 +106,7 @@ fn finish_pack<F: ObjectFiles, A: Allocator + Copy>(
     }
 }
 
-// The fault for which an object was refused.
+// Returns the fault of the refused object.
 fn refusal<A: Allocator + Copy>(fault: Option<RepositoryFault<A>>) -> RepositoryFault<A> {
     match fault {
         Some(fault) => fault,

@@ -1,22 +1,22 @@
-//! A folder of packs, to which the two files of a pack come.
+//! A folder of packs, which receives the two files of a pack.
 
 ghost use Rattle.std.specs.Prelude.{◌≡◌, ◌∷◌, [], Option, MatchResult, OnOk};
 ghost use Rattle.gitrepository.specs.Installing.{Comes, Folder, IndexComes, MayCome, PackComes, WhereKnown};
-ghost use Rattle.gitrepository.specs.declared.folder.Stage.{Stage};
-ghost use Rattle.gitrepository.specs.declared.folder.Stage.TheVariants.{Start, PackWritten, PackSynced, IndexWritten, Ready, PackNamed, Done, Failed};
+ghost use Rattle.gitrepository.specs.declared.folder.PackFileStage.{PackFileStage};
+ghost use Rattle.gitrepository.specs.declared.folder.PackFileStage.TheVariants.{Start, PackWritten, PackSynced, IndexWritten, Ready, PackNamed, Done, Failed};
 
-/// How far this run is with the files of a pack.
+/// The progress of this run with the files of a pack.
 #[derive(Clone, Copy, Debug, PartialEq, Eq)]
-pub enum Stage {
-    /// There is no file.
+pub enum PackFileStage {
+    /// No file is written.
     Start,
     /// The pack is in a temporary file.
     PackWritten,
-    /// The temporary file is on the disk.
+    /// The temporary file is synced.
     PackSynced,
     /// The index is in a temporary file, too.
     IndexWritten,
-    /// Both files are on the disk.
+    /// Both files are synced.
     Ready,
     /// The pack has its name.
     PackNamed,
@@ -27,16 +27,16 @@ pub enum Stage {
 }
 
 /// A folder of packs (gitrepository-layout(5), "objects/pack"). Git finds a pack by its index, and
-/// reads no temporary file.
+/// does not read temporary files.
 pub trait PackFolder {
-    /// Why a call fails.
+    /// The fault of a call.
     type Fault: Drop;
 
-    // The files that came to the folder, where they are known.
+    // The files that the folder received, if they are known.
     ghost known: { Self → Option Folder };
 
-    // How far this run is.
-    ghost stage: { Self → Stage };
+    // The progress of this run.
+    ghost stage: { Self → PackFileStage };
 
     /// Writes the pack to a new temporary file.
     fn write_pack(&mut self, bytes: &[u8]) -> Result<(), Self::Fault>
@@ -47,7 +47,7 @@ pub trait PackFolder {
             (λ before after. (after.arrivals ≡ before.arrivals)
             × OnOk result (after.pack ≡ bytes.now)) };
 
-    /// Brings that file to the disk.
+    /// Syncs that file.
     fn sync_pack(&mut self) -> Result<(), Self::Fault>
         requires { stage self.old ≡ PackWritten }
         ensures stage { MatchResult result (λ _. stage self.new ≡ PackSynced)
@@ -63,14 +63,14 @@ pub trait PackFolder {
             (λ before after. (after.arrivals ≡ before.arrivals) × (after.pack ≡ before.pack)
             × OnOk result (after.index ≡ bytes.now)) };
 
-    /// Brings that file to the disk.
+    /// Syncs that file.
     fn sync_index(&mut self) -> Result<(), Self::Fault>
         requires { stage self.old ≡ IndexWritten }
         ensures stage { MatchResult result (λ _. stage self.new ≡ Ready)
             (λ _. stage self.new ≡ Failed) }
         ensures known { known self.new ≡ known self.old };
 
-    /// Gives the pack its name, and brings the name to the disk. At `Err` it may have the name.
+    /// Gives the pack its name, and syncs the folder. On `Err` the pack may have its name.
     fn name_pack(&mut self) -> Result<(), Self::Fault>
         requires { stage self.old ≡ Ready }
         ensures stage { MatchResult result (λ _. stage self.new ≡ PackNamed)
@@ -80,7 +80,7 @@ pub trait PackFolder {
             × MatchResult result (λ _. Comes before after (PackComes before.pack ∷ []))
             (λ _. MayCome before after (PackComes before.pack))) };
 
-    /// Gives the index its name, and brings the name to the disk. At `Err` it may have the name.
+    /// Gives the index its name, and syncs the folder. On `Err` the index may have its name.
     fn name_index(&mut self) -> Result<(), Self::Fault>
         requires { stage self.old ≡ PackNamed }
         ensures stage { MatchResult result (λ _. stage self.new ≡ Done)
@@ -89,7 +89,7 @@ pub trait PackFolder {
             (λ before after. MatchResult result (λ _. Comes before after (IndexComes before.index ∷ []))
             (λ _. MayCome before after (IndexComes before.index))) };
 
-    /// Removes the temporary files that this run made. One that the system does not remove stays.
+    /// Removes the temporary files of this run. A file that the system cannot remove remains.
     fn clean(&mut self)
         requires { stage self.old ≡ Failed }
         ensures stage { stage self.new ≡ Start }

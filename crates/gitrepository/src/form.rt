@@ -1,14 +1,14 @@
-//! The form of a repository. One that this crate does not read is refused.
+//! The format of a repository. An unsupported format is refused.
 
 use crate::fault::{FormFault, RepositoryFault};
 use gitconfig::{ConfigFault, Setting, parse_config};
 use gitobjects::{Cause, ObjectFiles, ObjectStore};
 use std::alloc::{AllocError, Allocator};
 
-// The most bytes of a configuration: 1 MiB.
+// The maximum size of a configuration: 1 MiB.
 const MAX_CONFIG: usize = 1_048_576;
 
-// The extensions that change nothing of what is read or written here.
+// The extensions that do not affect this crate.
 const KNOWN: [&[u8]; 5] = [
     b"noop",
     b"noop-v1",
@@ -20,12 +20,12 @@ const KNOWN: [&[u8]; 5] = [
 // The values for no (git-config(1), "Values").
 const NO: [&[u8]; 5] = [b"", b"false", b"no", b"off", b"0"];
 
-/// Opens the objects of the Git directory with this path, unless the repository has a form that is
-/// not read: it is shallow or a partial clone, it has SHA-256 ids or a reftable, or its
-/// configuration names another version or extension (git-config(1), "core.repositoryFormatVersion",
-/// "extensions"). Alternates are read.
+/// Opens the objects of the Git directory with this path, including alternates. A repository in an
+/// unsupported format is refused: it is shallow or a partial clone, or has SHA-256 ids or a
+/// reftable. So is one whose configuration names another version or extension (git-config(1),
+/// "core.repositoryFormatVersion", "extensions").
 ///
-/// It fails with `Form` at such a repository, and as [`ObjectStore::open`] does.
+/// Fails with `Form` if the format is unsupported, and as [`ObjectStore::open`] does.
 pub fn open_store<'f, F: ObjectFiles, A: Allocator + Copy>(
     files: &'f F,
     alloc: A,
@@ -35,8 +35,8 @@ pub fn open_store<'f, F: ObjectFiles, A: Allocator + Copy>(
     Ok(ObjectStore::open(files, alloc, git_dir)?)
 }
 
-/// Checks that the repository of a Git directory has a form that is read. It fails as [`open_store`]
-/// does at one that has not.
+/// Checks that the repository of a Git directory has a supported format. Otherwise it fails as
+/// [`open_store`] does.
 pub fn check_form<F: ObjectFiles, A: Allocator + Copy>(
     files: &F,
     alloc: A,
@@ -47,7 +47,7 @@ pub fn check_form<F: ObjectFiles, A: Allocator + Copy>(
     check_promisors(files, alloc, git_dir)
 }
 
-/// The path of a file of a Git directory.
+/// Returns the path of a file of a Git directory.
 pub(crate) fn path_of<A: Allocator + Copy>(
     alloc: A,
     git_dir: &str,
@@ -59,7 +59,7 @@ pub(crate) fn path_of<A: Allocator + Copy>(
     Ok(path)
 }
 
-// Checks the configuration. Git takes a repository without one for one of version 0.
+// Checks the configuration. Git treats a repository without one as version 0.
 fn check_config<F: ObjectFiles, A: Allocator + Copy>(
     files: &F,
     alloc: A,
@@ -78,8 +78,8 @@ fn check_config<F: ObjectFiles, A: Allocator + Copy>(
     }
 }
 
-/// Whether the configuration turns the commit-graph off (git-config(1), "core.commitGraph"). A
-/// configuration that is not read turns nothing off. It fails out of memory alone.
+/// Whether the configuration turns the commit-graph off (git-config(1), "core.commitGraph"). An
+/// unreadable configuration turns nothing off. Fails only if out of memory.
 pub(crate) fn turns_commit_graph_off<F: ObjectFiles, A: Allocator + Copy>(
     files: &F,
     alloc: A,
@@ -89,8 +89,8 @@ pub(crate) fn turns_commit_graph_off<F: ObjectFiles, A: Allocator + Copy>(
 }
 
 /// Whether the configuration says that the repository is bare: it has no work tree (git-config(1),
-/// "core.bare"). It is `None` if the configuration does not say so, or is not read. It fails out of
-/// memory alone.
+/// "core.bare"). Returns `None` if the configuration does not say, or cannot be read. Fails only if
+/// out of memory.
 pub fn is_bare<F: ObjectFiles, A: Allocator + Copy>(
     files: &F,
     alloc: A,
@@ -99,7 +99,7 @@ pub fn is_bare<F: ObjectFiles, A: Allocator + Copy>(
     core_flag(files, alloc, git_dir, b"bare")
 }
 
-// The value of a variable of the section `core`, which is yes or no; `None` if it is not set.
+// Returns the value of a Boolean variable of the section `core`, or `None` if it is not set.
 fn core_flag<F: ObjectFiles, A: Allocator + Copy>(
     files: &F,
     alloc: A,
@@ -119,7 +119,8 @@ fn core_flag<F: ObjectFiles, A: Allocator + Copy>(
     }
 }
 
-// The value of the last setting of a variable of the section `core`; `None` if there is none.
+// Returns the value of the last setting of a variable of the section `core`, or `None` if there is
+// none.
 fn last_flag<A: Allocator + Copy>(settings: &[Setting<A>], name: &[u8]) -> Option<bool> {
     let mut flag = None;
     for setting in settings {
@@ -134,7 +135,7 @@ fn is_of_core<A: Allocator + Copy>(setting: &Setting<A>, name: &[u8]) -> bool {
     setting.section.as_slice() == b"core".as_slice() && setting.name.as_slice() == name
 }
 
-// Whether the value is one of those for no. A name without a value is yes.
+// Whether the value means no. A name without a value means yes.
 fn is_no<A: Allocator + Copy>(setting: &Setting<A>) -> bool {
     match &setting.value {
         Some(value) => NO
@@ -144,7 +145,7 @@ fn is_no<A: Allocator + Copy>(setting: &Setting<A>) -> bool {
     }
 }
 
-// A shallow repository has a file `shallow` (gitrepository-layout(5), "shallow").
+// Refuses a shallow repository, which has a file `shallow` (gitrepository-layout(5), "shallow").
 fn check_shallow<F: ObjectFiles, A: Allocator + Copy>(
     files: &F,
     alloc: A,
@@ -158,7 +159,7 @@ fn check_shallow<F: ObjectFiles, A: Allocator + Copy>(
     }
 }
 
-// A partial clone has packs of objects that are promised (git-index-pack(1), `--promisor`).
+// Refuses a partial clone, which has packs of promised objects (git-index-pack(1), `--promisor`).
 fn check_promisors<F: ObjectFiles, A: Allocator + Copy>(
     files: &F,
     alloc: A,
@@ -174,14 +175,15 @@ fn check_promisors<F: ObjectFiles, A: Allocator + Copy>(
     }
 }
 
-// Whether one of the names, each of which has a NUL after it, ends with `.promisor`.
+// Whether one of these NUL-terminated names ends with `.promisor`.
 fn lists_promisor(names: &[u8]) -> bool {
     names
         .split(|byte| *byte == 0)
         .any(|name| name.ends_with(b".promisor"))
 }
 
-// Why a repository with this configuration is not read; `None` if it is. It fails out of memory.
+// Returns why a repository with this configuration is unsupported, or `None` if it is supported.
+// Fails only if out of memory.
 fn form_of<A: Allocator + Copy>(alloc: A, text: &[u8]) -> Result<Option<FormFault>, AllocError> {
     match parse_config(alloc, text) {
         Ok(settings) => Ok(fault_of_all(settings.as_slice())),
@@ -190,7 +192,7 @@ fn form_of<A: Allocator + Copy>(alloc: A, text: &[u8]) -> Result<Option<FormFaul
     }
 }
 
-// Why a repository with these settings is not read; `None` if it is.
+// Returns why a repository with these settings is unsupported, or `None` if it is supported.
 fn fault_of_all<A: Allocator + Copy>(settings: &[Setting<A>]) -> Option<FormFault> {
     let is_version_1 = settings.iter().any(|setting| sets_version_1(setting));
     settings
@@ -198,7 +200,7 @@ fn fault_of_all<A: Allocator + Copy>(settings: &[Setting<A>]) -> Option<FormFaul
         .find_map(|setting| fault_of(setting, is_version_1))
 }
 
-// Whether the setting is that of version 1.
+// Whether the setting selects version 1.
 fn sets_version_1<A: Allocator + Copy>(setting: &Setting<A>) -> bool {
     is_version(setting) && has_value(setting, b"1")
 }
@@ -214,7 +216,7 @@ fn has_value<A: Allocator + Copy>(setting: &Setting<A>, value: &[u8]) -> bool {
     }
 }
 
-// Why a repository with this setting is not read; `None` if it is.
+// Returns why a repository with this setting is unsupported, or `None` if it is supported.
 fn fault_of<A: Allocator + Copy>(setting: &Setting<A>, is_version_1: bool) -> Option<FormFault> {
     if is_version(setting) {
         if has_value(setting, b"0") || has_value(setting, b"1") {
@@ -246,7 +248,7 @@ fn extension_fault<A: Allocator + Copy>(
     }
 }
 
-// Whether an extension changes nothing of what is read or written here.
+// Whether an extension does not affect this crate.
 fn is_known(name: &[u8]) -> bool {
     KNOWN.iter().any(|known| *known == name)
 }

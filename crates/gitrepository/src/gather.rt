@@ -1,4 +1,4 @@
-//! The objects that go with a list of commits and tags.
+//! The objects to send with a list of commits and tags.
 
 use crate::fates::{Fate, Fates};
 use crate::fault::{ObjectCause, RepositoryFault};
@@ -9,8 +9,8 @@ use gitobjects::{Found, Object, ObjectFiles, ObjectReader, StoreFault};
 use gname::Oid;
 use std::alloc::Allocator;
 
-/// The fates of objects that go with a list of commits and tags. These are sent. So are the trees
-/// and blobs that they reach and that no parent outside of the list reaches.
+/// Returns the fates of objects for a list of commits and tags. The commits and tags are sent. So
+/// are the trees and blobs they reach, unless a parent outside the list reaches them.
 pub(crate) fn gather<F: ObjectFiles, A: Allocator + Copy>(
     reader: &mut ObjectReader<'_, F, A>,
     entries: &[Entry<A>],
@@ -22,7 +22,7 @@ pub(crate) fn gather<F: ObjectFiles, A: Allocator + Copy>(
     Ok(gathering.fates)
 }
 
-// A tree that was settled, and whose entries are not.
+// A decided tree whose entries are undecided.
 #[derive(Clone, Copy, Drop)]
 struct Tree {
     id: Oid,
@@ -36,13 +36,13 @@ pub(crate) struct Gathering<'r, 'f, F: ObjectFiles, A: Allocator + Copy> {
     alloc: A,
     pub(crate) reader: &'r mut ObjectReader<'f, F, A>,
     fates: Fates<A>,
-    // Whether each object is read, and compared with its id and with the type by which it is named.
+    // Whether to read each object and check its id and type.
     is_strict: bool,
 }
 
 impl<'r, 'f, F: ObjectFiles, A: Allocator + Copy> Gathering<'r, 'f, F, A> {
-    /// No object is settled. If `is_strict` is set, each object has to have its id, and the type by
-    /// which a tree or a tag names it.
+    /// Returns a `Gathering` in which every object is undecided. If `is_strict` is set, each object
+    /// must have its id and the type that a tree or tag names.
     pub(crate) fn new(
         reader: &'r mut ObjectReader<'f, F, A>,
         is_strict: bool,
@@ -57,12 +57,12 @@ impl<'r, 'f, F: ObjectFiles, A: Allocator + Copy> Gathering<'r, 'f, F, A> {
         }
     }
 
-    /// How many objects are sent.
-    pub(crate) fn sent(&self) -> u32 {
-        self.fates.sent()
+    /// Returns the number of objects to send.
+    pub(crate) fn sent_count(&self) -> u32 {
+        self.fates.sent_count()
     }
 
-    /// Sends an object and the trees and blobs that it reaches, unless it is settled.
+    /// Sends an object and the trees and blobs it reaches, unless it is decided.
     pub(crate) fn send(&mut self, id: &Oid) -> Result<(), RepositoryFault<A>> {
         let fate = Fate::Sent(PathHash::NONE);
         match self.settle(id, fate)? {
@@ -79,7 +79,7 @@ impl<'r, 'f, F: ObjectFiles, A: Allocator + Copy> Gathering<'r, 'f, F, A> {
         Ok(())
     }
 
-    // Leaves out what the parents reach that are not sent: the peer has these.
+    // Leaves out what unsent parents reach: the peer has it.
     fn leave_out_parents(&mut self, entries: &[Entry<A>]) -> Result<(), RepositoryFault<A>> {
         for entry in entries {
             self.leave_out(entry.node.parents.as_slice())?;
@@ -104,12 +104,12 @@ impl<'r, 'f, F: ObjectFiles, A: Allocator + Copy> Gathering<'r, 'f, F, A> {
         Ok(())
     }
 
-    // The place of an object.
+    // Returns the place of an object.
     fn locate(&mut self, id: &Oid) -> Result<Found, RepositoryFault<A>> {
         if let Some(found) = self.reader.store().find(id)? {
             return Ok(found);
         }
-        // Reading an object that is not found lists the packs anew.
+        // Reading a missing object lists the packs again.
         let _object = self.reader.read(id)?;
         match self.reader.store().find(id)? {
             Some(found) => Ok(found),
@@ -117,7 +117,7 @@ impl<'r, 'f, F: ObjectFiles, A: Allocator + Copy> Gathering<'r, 'f, F, A> {
         }
     }
 
-    // Settles the fate of an object, and answers its place; `None` if the fate was settled.
+    // Decides the fate of an object, and returns its place, or `None` if the fate was decided.
     fn settle(&mut self, id: &Oid, fate: Fate) -> Result<Option<Found>, RepositoryFault<A>> {
         if self.fates.of_loose(id) != Fate::Open {
             return Ok(None);
@@ -130,8 +130,8 @@ impl<'r, 'f, F: ObjectFiles, A: Allocator + Copy> Gathering<'r, 'f, F, A> {
         Ok(Some(found))
     }
 
-    // Settles what the tree of a commit reaches, or a tree. A tag is settled alone, as the object
-    // that it names is in the list too.
+    // Decides what a tree or the tree of a commit reaches. A tag is decided alone, as the object it
+    // names is also in the list.
     fn walk_from(&mut self, id: &Oid, fate: Fate) -> Result<(), RepositoryFault<A>> {
         let object = self.read_object(id)?;
         let body = object.body.as_slice();
@@ -155,20 +155,20 @@ impl<'r, 'f, F: ObjectFiles, A: Allocator + Copy> Gathering<'r, 'f, F, A> {
         }
         match tag_link(body) {
             Some(link) => self.check_object(link),
-            None => Err(RepositoryFault::refused(id, ObjectCause::Malformed)),
+            None => Err(RepositoryFault::object_fault(id, ObjectCause::Malformed)),
         }
     }
 
-    // Checks that an object has its id, and the type by which it is named.
+    // Checks that an object has its id and the expected type.
     fn check_object(&mut self, link: Link) -> Result<(), RepositoryFault<A>> {
         if self.reader.read_checked(&link.id)?.kind == link.kind {
             Ok(())
         } else {
-            Err(RepositoryFault::refused(&link.id, ObjectCause::Type))
+            Err(RepositoryFault::object_fault(&link.id, ObjectCause::Type))
         }
     }
 
-    // The link of a commit to its tree.
+    // Returns the link of a commit to its tree.
     fn tree_of(&self, id: &Oid, body: &[u8]) -> Result<Link, RepositoryFault<A>> {
         match commit_links(self.alloc, body) {
             Ok(links) => Ok(Link {
@@ -179,7 +179,7 @@ impl<'r, 'f, F: ObjectFiles, A: Allocator + Copy> Gathering<'r, 'f, F, A> {
         }
     }
 
-    // Settles what some trees reach. Each object is settled once, so this ends.
+    // Decides what some trees reach. Each object is decided once, so the loop ends.
     fn walk_trees(&mut self, trees: Vec<Tree, A>) -> Result<(), RepositoryFault<A>> {
         let mut trees = trees;
         for _ in 0..u64::MAX {
@@ -200,7 +200,7 @@ impl<'r, 'f, F: ObjectFiles, A: Allocator + Copy> Gathering<'r, 'f, F, A> {
         }
     }
 
-    // The object that was found here.
+    // Returns the object found here.
     fn read_found(&mut self, id: &Oid, found: Found) -> Result<Object<A>, RepositoryFault<A>> {
         if self.is_strict {
             return self.read_object(id);
@@ -214,12 +214,12 @@ impl<'r, 'f, F: ObjectFiles, A: Allocator + Copy> Gathering<'r, 'f, F, A> {
     fn read_tree(&mut self, tree: Tree) -> Result<Object<A>, RepositoryFault<A>> {
         let object = self.read_found(&tree.id, tree.found)?;
         if object.kind != ObjectType::Tree {
-            return Err(RepositoryFault::refused(&tree.id, ObjectCause::Type));
+            return Err(RepositoryFault::object_fault(&tree.id, ObjectCause::Type));
         }
         Ok(object)
     }
 
-    // Settles what a tree names, and adds the trees among it to those that are to be walked.
+    // Decides the objects that a tree names, and adds the trees among them to those to walk.
     fn walk_entries(
         &mut self,
         id: &Oid,
@@ -243,8 +243,7 @@ impl<'r, 'f, F: ObjectFiles, A: Allocator + Copy> Gathering<'r, 'f, F, A> {
         Ok(())
     }
 
-    // Settles an object that is named, and adds it to the trees that are to be walked if it is a
-    // tree that was open.
+    // Decides a named object. An undecided tree is added to the trees to walk.
     fn settle_link(
         &mut self,
         link: Link,

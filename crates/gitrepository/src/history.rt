@@ -1,4 +1,4 @@
-//! The commits and tags that some ids reach, parents first.
+//! The commits and tags that given ids reach, parents first.
 
 ghost use Rattle.std.specs.Prelude.{◌≡◌, [], IfOk, IfSome, OnOk, length};
 ghost use Rattle.gitcommitgraph.specs.Chains.{graph_commits};
@@ -16,24 +16,24 @@ use gname::Oid;
 use std::alloc::Allocator;
 use std::marker::Model;
 
-// A parent that is looked at, and the kind of its child.
+// A parent to visit, and the kind of its child.
 #[derive(Clone, Copy, Drop)]
 struct Parent {
     id: Oid,
     child: Kind,
 }
 
-/// The commits and tags that were read so far. A tree or a blob at which a ref or a tag is counts
-/// as a commit without parents.
+/// The commits and tags that were read so far. A tree or blob that a ref or tag points to counts as
+/// a commit without parents.
 #[derive(Drop)]
 pub(crate) struct History<'g, A: Allocator + Copy> {
     alloc: A,
-    // What says the parents of commits, so that these are not read.
+    // The commit-graph, which lists the parents of commits so that they are not read.
     commits: &'g CommitGraph<A>,
-    // The objects that were read with all that they reach.
+    // The objects that were read with everything they reach.
     graph: Graph<A>,
-    // A path of objects that were read: each is a parent of the one before. And of each, how many
-    // of its parents were looked at.
+    // A path of objects, each a parent of the one before, and for each how many of its parents were
+    // visited.
     path: Vec<Entry<A>, A>,
     looked: Vec<usize, A>,
 }
@@ -53,8 +53,8 @@ impl<'g, A: Allocator + Copy> Model for History<'g, A> {
 }
 
 impl<'g, A: Allocator + Copy> History<'g, A> {
-    /// No object. The commit-graph says the parents of commits. There is room for as many objects as it
-    /// has commits.
+    /// Returns a history without objects. The commit-graph lists the parents of commits. The
+    /// history has room for as many objects as it has commits.
     pub(crate) fn new(alloc: A, commits: &'g CommitGraph<A>) -> History<'g, A>
         ensures { result.commits ≡ graph_commits commits.now }
     {
@@ -69,14 +69,14 @@ impl<'g, A: Allocator + Copy> History<'g, A> {
         }
     }
 
-    /// How many objects there are.
+    /// Returns the number of objects.
     pub(crate) fn len(&self) -> usize
         ensures { result ≡ length self.now.graph.entries }
     {
         self.graph.len()
     }
 
-    /// The id of the object that came as the one with this number, from 0; `None` past the last.
+    /// Returns the id of the object with this number, from 0; `None` past the last.
     pub(crate) fn id_at(&self, place: usize) -> Option<Oid> {
         match self.graph.at(place) {
             Some((id, _node)) => Some(*id),
@@ -84,7 +84,7 @@ impl<'g, A: Allocator + Copy> History<'g, A> {
         }
     }
 
-    /// Adds the object with this id, and all that it reaches.
+    /// Adds the object with this id, and everything it reaches.
     pub(crate) fn add<F: ObjectFiles>(
         &mut self,
         reader: &mut ObjectReader<'_, F, A>,
@@ -107,8 +107,8 @@ impl<'g, A: Allocator + Copy> History<'g, A> {
         Ok(())
     }
 
-    // Goes on to the next parent of the last object on the path. If there is none, the object
-    // enters the graph. Answers whether there was an object.
+    // Moves to the next parent of the last object on the path. If there is none, adds the object to
+    // the graph. Returns whether there was an object.
     fn step<F: ObjectFiles>(
         &mut self,
         reader: &mut ObjectReader<'_, F, A>,
@@ -124,7 +124,7 @@ impl<'g, A: Allocator + Copy> History<'g, A> {
         }
     }
 
-    // The last object on the path enters the graph. Answers whether there was an object.
+    // Adds the last object on the path to the graph. Returns whether there was an object.
     fn insert_last(&mut self) -> Result<bool, RepositoryFault<A>>
         ensures { self.new.commits ≡ self.old.commits }
     {
@@ -158,7 +158,7 @@ impl<'g, A: Allocator + Copy> History<'g, A> {
         }
     }
 
-    // The next parent of the last object on the path.
+    // Returns the next parent of the last object on the path.
     fn next_parent(&mut self) -> Option<Parent>
         ensures { self.new ≡ self.old }
     {
@@ -170,8 +170,8 @@ impl<'g, A: Allocator + Copy> History<'g, A> {
         Some(Parent { id, child })
     }
 
-    // Puts an object on the path, unless the graph has it. A path that leads back to
-    // itself is cut when it is too long.
+    // Puts an object on the path, unless the graph has it. A cyclic path is cut when it is too
+    // long.
     #[tactic(auto, using(crate::proofs::HistoryLemmas::known_pushed))]
     fn reach<F: ObjectFiles>(
         &mut self,
@@ -192,7 +192,8 @@ impl<'g, A: Allocator + Copy> History<'g, A> {
         Ok(())
     }
 
-    // The entry of an object: that of a commit as the commit-graph says, or the object is read.
+    // Returns the entry of an object. It is the commit-graph's entry of a commit, or the object is
+    // read.
     fn find<F: ObjectFiles>(
         &self,
         reader: &mut ObjectReader<'_, F, A>,
@@ -206,7 +207,7 @@ impl<'g, A: Allocator + Copy> History<'g, A> {
         }
     }
 
-    /// The graph of these objects. It fails with `Objects` if an object comes before a parent.
+    /// Returns the graph of these objects. Fails with `Objects` if an object precedes its parent.
     #[tactic(auto, using(crate::proofs::HistoryLemmas::is_history))]
     pub(crate) fn into_graph(self) -> Result<Graph<A>, RepositoryFault<A>>
         ensures { IfOk result (λ graph. IsHistory self.entry.commits graph) }
@@ -219,7 +220,7 @@ impl<'g, A: Allocator + Copy> History<'g, A> {
     }
 }
 
-// The entry of an object, whose id is computed. The parents of a commit must be commits.
+// Returns the entry of an object, whose id is computed. The parents of a commit must be commits.
 fn read_entry<F: ObjectFiles, A: Allocator + Copy>(
     alloc: A,
     reader: &mut ObjectReader<'_, F, A>,
@@ -230,7 +231,7 @@ fn read_entry<F: ObjectFiles, A: Allocator + Copy>(
     let id = parent.id;
     let object = reader.read_checked(&id)?;
     if parent.child == Kind::Commit && object.kind != ObjectType::Commit {
-        return Err(RepositoryFault::refused(&id, ObjectCause::Type));
+        return Err(RepositoryFault::object_fault(&id, ObjectCause::Type));
     }
     match entry_of(alloc, &id, object.kind, object.body.as_slice()) {
         Ok(entry) => Ok(entry),

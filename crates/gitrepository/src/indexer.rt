@@ -1,4 +1,4 @@
-//! An indexer of packs that come to a Git directory.
+//! An indexer of packs that a Git directory receives.
 
 ghost use Rattle.std.specs.Prelude.{◌≡◌, ◌++◌, ⊤, IfOk, OnOk};
 ghost use Rattle.gitrepository.specs.Packs.{IsIndexed};
@@ -13,17 +13,17 @@ use gname::Oid;
 use std::alloc::Allocator;
 use std::cell::RefCell;
 
-/// An indexer of packs that come to a Git directory. It keeps the last pack as it came.
+/// An indexer of packs that a Git directory receives. It keeps the last pack as received.
 ///
-/// Each object is inflated, and its id is computed. An object that an object of the pack names is
-/// in the pack or in the store, with the type by which it is named. An object that the store has
-/// too has the same bytes there.
+/// Each object is inflated, and its id is computed. Each object that the pack's objects name must
+/// be in the pack or in the store, with the expected type. If the store also has an object, the
+/// bytes must be equal.
 ///
 /// A pack is too large if it has more than 1,048,576 objects. An object may have 256 MiB, less 224
-/// bytes for each object of the pack, and so may a delta with its bases that are held and what it
-/// makes. A commit, a tree or a tag may have 64 MiB, all objects and deltas 4 GiB, and a chain
-/// 8,191 deltas. At most 112 MiB are kept of the ids that objects name and of commits: some two
-/// million ids, or 485,000 commits with a tree each.
+/// bytes for each object of the pack. The same limit covers a delta with its held bases and its
+/// result. A commit, tree or tag may have 64 MiB, all objects and deltas 4 GiB, and a chain 8,191
+/// deltas. At most 112 MiB hold named ids and commits: about two million ids, or 485,000 commits
+/// with a tree each.
 #[derive(Drop)]
 pub struct StoreIndexer<'t, 'f, F: ObjectFiles, A: Allocator + Copy> {
     reader: RefCell<ObjectReader<'f, F, A>>,
@@ -33,8 +33,8 @@ pub struct StoreIndexer<'t, 'f, F: ObjectFiles, A: Allocator + Copy> {
 }
 
 impl<'t, 'f, F: ObjectFiles, A: Allocator + Copy> StoreIndexer<'t, 'f, F, A> {
-    /// An indexer of packs that come to the store of the reader. Trees and blobs at which refs of
-    /// the peer are come as leaves of the graph.
+    /// Returns an indexer of packs that the reader's store receives. Trees and blobs that the
+    /// peer's refs point to become leaves of the graph.
     pub fn new(reader: ObjectReader<'f, F, A>, tips: &'t Tips<A>) -> StoreIndexer<'t, 'f, F, A> {
         StoreIndexer {
             reader: RefCell::new(reader),
@@ -44,7 +44,7 @@ impl<'t, 'f, F: ObjectFiles, A: Allocator + Copy> StoreIndexer<'t, 'f, F, A> {
         }
     }
 
-    /// The last pack that was accepted, which is given away; `None` if there is none.
+    /// Takes the last pack that was accepted, or `None` if there is none.
     pub fn take_received(&self) -> Option<Received<A>> {
         match self.received.try_replace(None) {
             Ok(received) => received,
@@ -52,8 +52,7 @@ impl<'t, 'f, F: ObjectFiles, A: Allocator + Copy> StoreIndexer<'t, 'f, F, A> {
         }
     }
 
-    /// The fault of the last call that answered `Other`, which is given away; `None` if there is
-    /// none.
+    /// Takes the fault of the last call that returned `Other`, or `None` if there is none.
     pub fn take_fault(&self) -> Option<RepositoryFault<A>> {
         match self.fault.try_replace(None) {
             Ok(fault) => fault,
@@ -61,9 +60,10 @@ impl<'t, 'f, F: ObjectFiles, A: Allocator + Copy> StoreIndexer<'t, 'f, F, A> {
         }
     }
 
-    /// The type of an object of the last pack that was accepted, or of the store.
+    /// Returns the type of an object of the last pack that was accepted, or of the store.
     ///
-    /// It fails with `Store` if the object is missing or not read, with `Busy`, and with `Memory`.
+    /// Fails with `Store` if the object is missing or cannot be read, with `Busy`, and with
+    /// `Memory`.
     pub fn kind_of(&self, id: &Oid) -> Result<ObjectType, RepositoryFault<A>> {
         if let Some(kind) = self.received_kind(id) {
             return Ok(kind);
@@ -74,7 +74,7 @@ impl<'t, 'f, F: ObjectFiles, A: Allocator + Copy> StoreIndexer<'t, 'f, F, A> {
         }
     }
 
-    // The type of an object of the last pack; `None` if it has no such object.
+    // Returns the type of an object of the last pack, or `None` if it has no such object.
     fn received_kind(&self, id: &Oid) -> Option<ObjectType> {
         match self.received.try_borrow() {
             Ok(received) => match &*received {
@@ -86,16 +86,16 @@ impl<'t, 'f, F: ObjectFiles, A: Allocator + Copy> StoreIndexer<'t, 'f, F, A> {
     }
 
     // Takes the next bytes of a pack.
-    fn take(&self, feed: &mut StoreFeed<A>, piece: &[u8]) -> Result<(), RepositoryFault<A>>
+    fn take_piece(&self, feed: &mut StoreFeed<A>, piece: &[u8]) -> Result<(), RepositoryFault<A>>
         ensures { OnOk result (feed.new ≡ feed.old ++ piece.now) }
     {
         match self.reader.try_borrow_mut() {
-            Ok(mut reader) => Ok(feed.take(&mut *reader, self.tips, piece)?),
+            Ok(mut reader) => Ok(feed.take_piece(&mut *reader, self.tips, piece)?),
             Err(_) => Err(RepositoryFault::Busy),
         }
     }
 
-    // Indexes a pack that came whole, and keeps it.
+    // Indexes a complete pack, and keeps it.
     fn receive(&self, feed: StoreFeed<A>) -> Result<Vec<Entry<A>, A>, RepositoryFault<A>>
         ensures { IfOk result (λ entries. IsIndexed feed entries.items) }
     {
@@ -109,7 +109,7 @@ impl<'t, 'f, F: ObjectFiles, A: Allocator + Copy> StoreIndexer<'t, 'f, F, A> {
         }
     }
 
-    // The fault that a caller sees. The cause is kept.
+    // Returns the fault for the caller, and keeps the cause.
     fn keep(&self, fault: RepositoryFault<A>) -> IndexFault {
         match fault {
             RepositoryFault::Memory => IndexFault::Memory,
@@ -135,7 +135,7 @@ impl<F: ObjectFiles, A: Allocator + Copy> Indexer<A> for StoreIndexer<'_, '_, F,
     }
 
     fn feed(&self, feed: &mut StoreFeed<A>, piece: &[u8]) -> Result<(), IndexFault> {
-        match self.take(feed, piece) {
+        match self.take_piece(feed, piece) {
             Ok(()) => Ok(()),
             Err(fault) => Err(self.keep(fault)),
         }

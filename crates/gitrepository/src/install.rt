@@ -1,8 +1,8 @@
-//! Installing a pack that came.
+//! Installing a received pack.
 
 ghost use Rattle.std.specs.Prelude.{◌≡◌, MatchResult};
 ghost use Rattle.gitrepository.specs.Installing.{Installs, WhereKnown, Writes};
-ghost use Rattle.gitrepository.specs.declared.folder.Stage.TheVariants.{Start, Done, Failed, Ready};
+ghost use Rattle.gitrepository.specs.declared.folder.PackFileStage.TheVariants.{Start, Done, Failed, Ready};
 
 use crate::fault::RepositoryFault;
 use crate::feed::Received;
@@ -12,10 +12,10 @@ use crate::stored_folder::StoredFolder;
 use std::alloc::Allocator;
 use std::fs::Files;
 
-/// Brings a pack and its index to a folder of packs. Both are written to temporary files and synced
-/// before one gets its name, and the pack gets its name before the index does.
+/// Installs a pack and its index in a folder of packs. Both are written to temporary files and
+/// synced before either is named. The pack is named before the index.
 ///
-/// It fails as the folder does. The folder then has none of the files, or the pack alone, or both.
+/// Fails as the folder does. The folder then has neither file, only the pack, or both.
 pub fn install_files<P: PackFolder>(
     folder: &mut P,
     pack: &[u8],
@@ -74,12 +74,12 @@ fn name_both<P: PackFolder>(folder: &mut P) -> Result<(), P::Fault>
     folder.name_index()
 }
 
-/// Installs a pack that came in a Git directory, as `objects/pack/pack-SUM.pack` and its index.
-/// `SUM` is the trailer of the pack. A pack of no objects is not installed. Git removes no object of
-/// the pack before the answer is dropped.
+/// Installs a received pack in a Git directory, as `objects/pack/pack-SUM.pack` and its index.
+/// `SUM` is the trailer of the pack. A pack without objects is not installed. Git keeps the objects
+/// of the pack until the returned value is dropped.
 ///
-/// It fails with `File` if the system refuses a call, and with `Memory`. Then there is no new pack
-/// that Git finds, or the whole one. A process that is killed can leave temporary files, and the file
+/// Fails with `File` if the system refuses a call, and with `Memory`. After a fault, Git finds
+/// either no new pack or all of it. A killed process can leave temporary files, and the file
 /// `pack-SUM.keep`.
 pub fn install_pack<'r, R: Files, A: Allocator + Copy>(
     alloc: A,

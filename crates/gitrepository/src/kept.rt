@@ -1,4 +1,4 @@
-//! A pack that came, until refs lead to its objects.
+//! A received pack, until refs reach its objects.
 
 use crate::fault::RepositoryFault;
 use std::alloc::Allocator;
@@ -6,12 +6,12 @@ use std::fs;
 use std::fs::{File, Files};
 use std::io::ErrorKind;
 
-/// The file `pack-SUM.keep` beside a pack that came (git-index-pack(1), "--keep"). While it is there,
-/// `git gc` does not remove the pack, though no ref leads to its objects yet. It is removed when this
-/// is dropped.
+/// The file `pack-SUM.keep` of a received pack (git-index-pack(1), "--keep"). While it exists,
+/// `git gc` does not remove the pack, even if no ref reaches its objects yet. It is removed on
+/// drop.
 pub struct KeptPack<'r, R: Files, A: Allocator + Copy> {
     files: &'r R,
-    // `None` if the file was there already, or there is no pack.
+    // `None` if the file already existed, or there is no pack.
     path: Option<String<A>>,
 }
 
@@ -25,12 +25,12 @@ impl<R: Files, A: Allocator + Copy> Drop for KeptPack<'_, R, A> {
 }
 
 impl<'r, R: Files, A: Allocator + Copy> KeptPack<'r, R, A> {
-    /// No pack.
+    /// Returns a `KeptPack` without a pack.
     pub(crate) fn none(files: &'r R) -> KeptPack<'r, R, A> {
         KeptPack { files, path: None }
     }
 
-    /// Makes the file with this path, unless it is there. It fails with `File` and `Memory`.
+    /// Creates the file with this path, unless it exists. Fails with `File` and `Memory`.
     pub(crate) fn make(
         alloc: A,
         files: &'r R,

@@ -1,4 +1,4 @@
-//! The trees and blobs at which refs of a peer are.
+//! The trees and blobs that refs of a peer point to.
 
 ghost use Rattle.std.specs.Prelude.{◌↔◌, IsTrue};
 ghost use Rattle.gitrepository.specs.Entries.{IsLeafType};
@@ -13,11 +13,11 @@ use gitobjects::{ObjectFiles, ObjectReader, StoreFault};
 use gname::Oid;
 use std::alloc::Allocator;
 
-/// Adds to a graph the trees and blobs at which refs of a peer are and that are here, with all that
-/// they reach. They count as commits without parents, so that a client does not ask for them.
+/// Adds to a graph the trees and blobs that refs of a peer point to, if the store has them and
+/// everything they reach. They count as commits without parents, so a client does not want them.
 ///
-/// It fails with `Store` if an object is not read, with `Objects` if the graph is full, and with
-/// `Memory`. Then some of them may have been added.
+/// Fails with `Store` if an object cannot be read, with `Objects` if the graph is full, and with
+/// `Memory`. Some of them may have been added then.
 pub fn add_leaves<F: ObjectFiles, A: Allocator + Copy>(
     reader: &mut ObjectReader<'_, F, A>,
     graph: &mut Graph<A>,
@@ -31,7 +31,7 @@ pub fn add_leaves<F: ObjectFiles, A: Allocator + Copy>(
     Ok(())
 }
 
-// Whether a tree or a blob with this id is here.
+// Whether the store has a tree or blob with this id.
 fn is_leaf<F: ObjectFiles, A: Allocator + Copy>(
     reader: &mut ObjectReader<'_, F, A>,
     id: &Oid,
@@ -42,8 +42,8 @@ fn is_leaf<F: ObjectFiles, A: Allocator + Copy>(
     Ok(is_leaf_type(reader.kind_of(id)?))
 }
 
-// Whether all that an object reaches is here. A fetch that was killed may have left a tree without
-// some of its files.
+// Whether the store has everything that an object reaches. A killed fetch may have left a tree
+// without some of its files.
 fn is_whole<F: ObjectFiles, A: Allocator + Copy>(
     reader: &mut ObjectReader<'_, F, A>,
     id: &Oid,
@@ -66,7 +66,7 @@ fn is_leaf_type(kind: ObjectType) -> bool
     }
 }
 
-// Adds the tree or the blob with this id. Its id is computed.
+// Adds the tree or blob with this id. Its id is computed.
 fn add_leaf<F: ObjectFiles, A: Allocator + Copy>(
     reader: &mut ObjectReader<'_, F, A>,
     graph: &mut Graph<A>,
@@ -74,7 +74,7 @@ fn add_leaf<F: ObjectFiles, A: Allocator + Copy>(
 ) -> Result<(), RepositoryFault<A>> {
     let object = reader.read_checked(id)?;
     if !is_leaf_type(object.kind) {
-        return Err(RepositoryFault::refused(id, ObjectCause::Type));
+        return Err(RepositoryFault::object_fault(id, ObjectCause::Type));
     }
     let node = leaf(reader.store().allocator());
     match graph.insert(Entry { id: *id, node }) {

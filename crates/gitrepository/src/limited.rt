@@ -1,4 +1,4 @@
-//! A pack that comes, within limits that its header sets.
+//! An incoming pack, within limits that its header sets.
 
 ghost use Rattle.std.specs.Prelude.{◌≡◌, ◌++◌, [], ℕ, IfOk, IfSome, OnOk};
 ghost use Rattle.gitpack.specs.Packs.{IsFramed};
@@ -7,31 +7,32 @@ use gitpack::{IncomingPack, IndexLimits, IndexedPack, ObjectVisitor, PackFileFau
 use std::alloc::{AllocError, Allocator};
 use std::marker::Model;
 
-// The most objects of a pack, and the most bytes of all its objects and deltas: 4 GiB.
+// The maximum number of objects of a pack, and the maximum total size of its objects and deltas: 4
+// GiB.
 const MAX_OBJECTS: usize = 1_048_576;
 
 const MAX_TOTAL: usize = 4_294_967_296;
 
-// The most bytes of an object: 256 MiB, less what the tables of the pack's objects may take. A delta,
-// its bases that are held and what it makes may have as many together. So a pack of few objects may
-// have large ones, and one of the most objects may hold 32 MiB.
+// The maximum size of an object: 256 MiB, less the tables of the pack's objects. A delta, its held
+// bases and its result share the same limit. So a small pack may have large objects, and a pack
+// with the maximum number of objects may hold 32 MiB.
 const MAX_HELD: usize = 268_435_456;
 
 const TABLE_BYTES: usize = 224;
 
-// The bytes of the header, and those before the number of objects.
+// The length of the header, and the offset of the number of objects.
 const HEADER: usize = 12;
 
 const BEFORE_COUNT: usize = 8;
 
-/// A pack that comes. How much is held of it at a time depends on the number of objects in its
-/// header. Contracts see the bytes that came.
+/// An incoming pack. The limits depend on the number of objects in its header. Contracts see the
+/// received bytes.
 #[derive(Drop)]
 pub(crate) struct LimitedPack<A: Allocator + Copy> {
     alloc: A,
-    // The bytes of the header that came.
+    // The received bytes of the header.
     head: Vec<u8, A>,
-    // The pack, once its header came whole.
+    // The pack, once its header is complete.
     pack: Option<IncomingPack<A>>,
 }
 
@@ -45,7 +46,7 @@ impl<A: Allocator + Copy> Model for LimitedPack<A> {
 }
 
 impl<A: Allocator + Copy> LimitedPack<A> {
-    /// A pack of which no byte came.
+    /// Returns a pack without received bytes.
     pub(crate) fn new(alloc: A) -> LimitedPack<A>
         ensures { result ≡ [] }
     {
@@ -56,7 +57,7 @@ impl<A: Allocator + Copy> LimitedPack<A> {
         }
     }
 
-    /// Takes the next bytes, as [`IncomingPack::feed`] does. It fails only out of memory.
+    /// Takes the next bytes, as [`IncomingPack::feed`] does. Fails only if out of memory.
     pub(crate) fn feed<V: ObjectVisitor>(
         &mut self,
         piece: &[u8],
@@ -80,7 +81,7 @@ impl<A: Allocator + Copy> LimitedPack<A> {
         }
     }
 
-    /// The pack as it came, and its objects, as [`IncomingPack::finish`] answers them.
+    /// Returns the received pack and its objects, as [`IncomingPack::finish`] does.
     pub(crate) fn finish<V: ObjectVisitor>(
         self,
         visitor: &mut V,
@@ -95,8 +96,8 @@ impl<A: Allocator + Copy> LimitedPack<A> {
     }
 }
 
-// The pack that begins with these bytes; `None` if they are no whole header yet. It fails only out
-// of memory.
+// Returns the pack that begins with these bytes, or `None` if the header is incomplete. Fails only
+// if out of memory.
 fn begin<A: Allocator + Copy, V: ObjectVisitor>(
     alloc: A,
     head: &[u8],
@@ -112,14 +113,14 @@ fn begin<A: Allocator + Copy, V: ObjectVisitor>(
     Ok(Some(pack))
 }
 
-// The number of objects that a header names; `None` if it is not whole.
+// Returns the number of objects in a header, or `None` if it is incomplete.
 fn count_in(head: &[u8]) -> Option<u32> {
     let after = head.get(BEFORE_COUNT..)?;
     let count = after.first_chunk::<4>()?;
     Some(u32::from_be_bytes(*count))
 }
 
-// How much a pack of so many objects may ask for.
+// Returns the limits for a pack of `count` objects.
 fn limits_of(count: u32) -> IndexLimits {
     let tables = (count as usize).saturating_mul(TABLE_BYTES);
     let held = MAX_HELD.saturating_sub(tables);

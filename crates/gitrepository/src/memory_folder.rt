@@ -2,9 +2,9 @@
 
 ghost use Rattle.std.specs.Prelude.{◌≡◌, [], Some, map};
 ghost use Rattle.gitrepository.specs.MemoryFolders.{file_of};
-ghost use Rattle.gitrepository.specs.declared.folder.Stage.TheVariants.{Start};
+ghost use Rattle.gitrepository.specs.declared.folder.PackFileStage.TheVariants.{Start};
 
-use crate::folder::{PackFolder, Stage};
+use crate::folder::{PackFileStage, PackFolder};
 use std::alloc::{AllocError, Allocator};
 use std::marker::Model;
 use std::mem;
@@ -18,15 +18,15 @@ pub enum PackFile<A: Allocator + Copy> {
     Index(Vec<u8, A>),
 }
 
-/// A folder of packs in memory, for tests. It keeps all that came to it, in order. Its calls fail
-/// only out of memory.
+/// A folder of packs in memory, for tests. It keeps every received file, in order. Its calls fail
+/// only if out of memory.
 #[derive(Drop)]
 pub struct MemoryFolder<A: Allocator + Copy> {
     alloc: A,
     arrivals: Vec<PackFile<A>, A>,
     pack: Vec<u8, A>,
     index: Vec<u8, A>,
-    stage: Stage,
+    stage: PackFileStage,
 }
 
 impl<A: Allocator + Copy> Model for MemoryFolder<A> {
@@ -46,7 +46,7 @@ impl<A: Allocator + Copy> Model for MemoryFolder<A> {
 }
 
 impl<A: Allocator + Copy> MemoryFolder<A> {
-    /// A folder to which nothing came.
+    /// Returns an empty folder.
     pub fn new(alloc: A) -> MemoryFolder<A>
         ensures stage { result.stage ≡ Start }
         ensures arrivals { result.folder.arrivals ≡ [] }
@@ -56,11 +56,11 @@ impl<A: Allocator + Copy> MemoryFolder<A> {
             arrivals: Vec::new(alloc),
             pack: Vec::new(alloc),
             index: Vec::new(alloc),
-            stage: Stage::Start,
+            stage: PackFileStage::Start,
         }
     }
 
-    /// All files that came, in order.
+    /// Returns all received files, in order.
     pub fn arrivals(&self) -> &[PackFile<A>]
         ensures { map file_of result.now ≡ self.now.folder.arrivals }
     {
@@ -76,48 +76,48 @@ impl<A: Allocator + Copy> PackFolder for MemoryFolder<A> {
     ghost stage = { λ f. f.stage };
 
     fn write_pack(&mut self, bytes: &[u8]) -> Result<(), AllocError> {
-        self.stage = Stage::Failed;
+        self.stage = PackFileStage::Failed;
         self.pack = bytes.to_vec(self.alloc)?;
-        self.stage = Stage::PackWritten;
+        self.stage = PackFileStage::PackWritten;
         Ok(())
     }
 
     fn sync_pack(&mut self) -> Result<(), AllocError> {
-        self.stage = Stage::PackSynced;
+        self.stage = PackFileStage::PackSynced;
         Ok(())
     }
 
     fn write_index(&mut self, bytes: &[u8]) -> Result<(), AllocError> {
-        self.stage = Stage::Failed;
+        self.stage = PackFileStage::Failed;
         self.index = bytes.to_vec(self.alloc)?;
-        self.stage = Stage::IndexWritten;
+        self.stage = PackFileStage::IndexWritten;
         Ok(())
     }
 
     fn sync_index(&mut self) -> Result<(), AllocError> {
-        self.stage = Stage::Ready;
+        self.stage = PackFileStage::Ready;
         Ok(())
     }
 
     fn name_pack(&mut self) -> Result<(), AllocError> {
-        self.stage = Stage::Failed;
+        self.stage = PackFileStage::Failed;
         let bytes = mem::replace(&mut self.pack, Vec::new(self.alloc));
         self.arrivals.push(PackFile::Pack(bytes))?;
-        self.stage = Stage::PackNamed;
+        self.stage = PackFileStage::PackNamed;
         Ok(())
     }
 
     fn name_index(&mut self) -> Result<(), AllocError> {
-        self.stage = Stage::Failed;
+        self.stage = PackFileStage::Failed;
         let bytes = mem::replace(&mut self.index, Vec::new(self.alloc));
         self.arrivals.push(PackFile::Index(bytes))?;
-        self.stage = Stage::Done;
+        self.stage = PackFileStage::Done;
         Ok(())
     }
 
     fn clean(&mut self) {
         self.pack = Vec::new(self.alloc);
         self.index = Vec::new(self.alloc);
-        self.stage = Stage::Start;
+        self.stage = PackFileStage::Start;
     }
 }

@@ -1,4 +1,4 @@
-//! A new repository, as a clone makes it.
+//! A new repository, made by a clone.
 
 use crate::fault::RepositoryFault;
 use crate::feed::Received;
@@ -12,7 +12,7 @@ use std::alloc::Allocator;
 use std::fs::Files;
 
 /// A new bare repository (git-clone(1), `--bare`). If it is dropped before it is finished, it is
-/// removed, as far as the system does so. A directory that was there stays, and is empty again.
+/// removed as far as the system permits. An existing directory remains, and is empty again.
 pub struct NewRepository<'r, R: Files, A: Allocator + Copy> {
     alloc: A,
     files: &'r R,
@@ -36,12 +36,12 @@ impl<R: Files, A: Allocator + Copy> Drop for NewRepository<'_, R, A> {
 }
 
 impl<'r, R: Files, A: Allocator + Copy> NewRepository<'r, R, A> {
-    /// Makes a bare repository in a new directory, or in one that is empty. It has neither objects
-    /// nor refs, its remote `origin` is at this URL, and HEAD points at this branch.
+    /// Creates a bare repository in a new or empty directory. It has no objects or refs, its remote
+    /// `origin` has this URL, and HEAD points at this branch.
     ///
-    /// It fails with `Refs` if the directory is not empty, if another run makes a repository there
-    /// at the same time, or if the system refuses a call. It fails with `Memory`, too. Then nothing
-    /// new is there, as far as the system removes it.
+    /// Fails with `Refs` if the directory is not empty, another run creates a repository there at
+    /// the same time, or the system refuses a call. Also fails with `Memory`. After a fault nothing
+    /// new remains, if the system permits the removal.
     pub fn make(
         alloc: A,
         files: &'r R,
@@ -59,12 +59,12 @@ impl<'r, R: Files, A: Allocator + Copy> NewRepository<'r, R, A> {
         })
     }
 
-    /// Brings what was fetched to the repository, and keeps it: the pack, if there is one, then the
-    /// refs as `packed-refs`, and then HEAD. The graph says to which objects tags lead.
+    /// Writes the fetched data and keeps the repository: the pack, if there is one, then the refs
+    /// as `packed-refs`, and then HEAD. The graph peels tags.
     ///
-    /// It fails with `File` and `Refs` if the system refuses a call, with `Refs` if one ref has the
-    /// name of another's directory, and with `Memory`. Then the repository is removed. The names
-    /// are judged before the pack is written.
+    /// Fails with `File` and `Refs` if the system refuses a call, with `Refs` if one ref has the
+    /// name of another's directory, and with `Memory`. The repository is then removed. The names
+    /// are checked before the pack is written.
     pub fn finish(
         self,
         received: Option<&Received<A>>,
@@ -80,13 +80,13 @@ impl<'r, R: Files, A: Allocator + Copy> NewRepository<'r, R, A> {
         Ok(())
     }
 
-    // Tests the names of the refs, before anything is written.
+    // Checks the names of the refs, before anything is written.
     fn check_refs(&self, refs: &Refs<A>) -> Result<(), RepositoryFault<A>> {
         GitDirectory::new(self.alloc, self.files, self.path).check_refs(refs)?;
         Ok(())
     }
 
-    // Brings the pack to the repository, and keeps it until refs lead to its objects.
+    // Installs the pack, and keeps it until refs reach its objects.
     fn install(
         &self,
         received: Option<&Received<A>>,
@@ -111,7 +111,7 @@ impl<'r, R: Files, A: Allocator + Copy> NewRepository<'r, R, A> {
     }
 }
 
-// The names of the refs that are at tags, each with the object to which its tag leads.
+// Returns the names of the refs that point to tags, each with its peeled object.
 fn peeled_refs<A: Allocator + Copy>(
     alloc: A,
     graph: &Graph<A>,
@@ -129,7 +129,7 @@ fn peeled_refs<A: Allocator + Copy>(
     Ok(peeled)
 }
 
-// Puts the object to which the tag of a ref leads.
+// Adds the peeled object of a ref.
 fn set_peeled<A: Allocator + Copy>(
     peeled: &mut Refs<A>,
     name: RefName<A>,

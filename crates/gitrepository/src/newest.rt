@@ -1,4 +1,4 @@
-//! The newest objects at which refs are.
+//! The newest objects that refs point to.
 
 ghost use Rattle.std.specs.Prelude.{IfOk, OnOk};
 ghost use Rattle.gdag.specs.Graphs.{Holds};
@@ -10,26 +10,26 @@ use ggraph::{Graph, MAX_REFS, Refs, distinct_ids};
 use gname::{NameFault, Oid, RefName};
 use std::alloc::{AllocError, Allocator};
 
-// The most refs that are put in front.
+// The maximum number of refs put first.
 const MAX_NEWEST: usize = 256;
 
-// The bytes of a name that is too long for a file.
+// The length of a name that is too long for a file.
 const LONG_NAME: usize = 256;
 
-// An object at which a ref is, and how many objects the longest chain of parents below it has.
+// An object that a ref points to, and the length of the longest chain of parents below it.
 #[derive(Clone, Copy, Drop)]
 struct Tip {
     id: Oid,
     height: usize,
 }
 
-/// The same refs, and in front of them others at the newest objects among theirs, 256 at most. An object
-/// is newer than another if a longer chain of parents lies below it. So a client that offers the objects
-/// of its refs in the order of their names offers the newest first. Git goes by the dates of commits.
+/// Returns the same refs, preceded by at most 256 refs to their newest objects. An object is newer
+/// than another if it has a longer chain of parents. A client that sends haves in the order of ref
+/// names thus offers the newest objects first. Git orders them by commit date.
 ///
-/// The names of the others begin with `refs/`, and then have 256 bytes of `!`. No file has so long a
-/// name, so no ref of a Git directory gets such a name. No ref is put in front if one of the refs has such
-/// a name, or if there might be too many refs once so many more came. It fails with `Memory`.
+/// The names of the added refs begin with `refs/` and 256 bytes of `!`. No file has such a long
+/// name, so no ref of a Git directory has one. No ref is added if one of the refs has such a name,
+/// or if there might be too many refs after `more` others. Fails with `Memory`.
 pub fn lead_with_newest<A: Allocator + Copy>(
     graph: &Graph<A>,
     refs: &Refs<A>,
@@ -49,7 +49,7 @@ pub fn lead_with_newest<A: Allocator + Copy>(
     Ok(leading)
 }
 
-// The beginning of the names of refs that are put in front.
+// Returns the prefix of the names of added refs.
 fn leading_prefix<A: Allocator + Copy>(alloc: A) -> Result<String<A>, AllocError> {
     let mut prefix = String::from_str(alloc, "refs/")?;
     for _byte in 0..LONG_NAME {
@@ -58,19 +58,19 @@ fn leading_prefix<A: Allocator + Copy>(alloc: A) -> Result<String<A>, AllocError
     Ok(prefix)
 }
 
-// Whether there is room for refs in front, once so many more came.
+// Whether there is room for added refs and `more` others.
 fn has_room<A: Allocator + Copy>(refs: &Refs<A>, more: usize) -> bool {
     refs.len().saturating_add(more) <= MAX_REFS - MAX_NEWEST
 }
 
-// Whether the name of one of the refs begins so.
+// Whether the name of one of the refs begins with the prefix.
 fn is_taken<A: Allocator + Copy>(refs: &Refs<A>, prefix: &str) -> bool {
     refs.as_slice()
         .iter()
         .any(|pair| pair.0.as_bytes().starts_with(prefix.as_bytes()))
 }
 
-// Puts refs at the newest objects, under names that begin so.
+// Adds refs to the newest objects, with names that begin with the prefix.
 fn put_newest<A: Allocator + Copy>(
     graph: &Graph<A>,
     leading: &mut Refs<A>,
@@ -89,7 +89,7 @@ fn put_newest<A: Allocator + Copy>(
     Ok(())
 }
 
-// Puts a ref with this name at an object.
+// Adds a ref with this name to an object.
 fn put_named<A: Allocator + Copy>(
     graph: &Graph<A>,
     refs: &mut Refs<A>,
@@ -105,7 +105,7 @@ fn put_named<A: Allocator + Copy>(
     }
 }
 
-// Puts a ref at an object, if the graph holds it.
+// Adds a ref to an object, if the graph holds it.
 fn put<A: Allocator + Copy>(
     graph: &Graph<A>,
     refs: &mut Refs<A>,
@@ -121,7 +121,7 @@ fn put<A: Allocator + Copy>(
     }
 }
 
-// The newest objects at which refs are, the newest first, each once.
+// Returns the newest objects that refs point to, newest first, each once.
 fn newest_tips<A: Allocator + Copy>(
     graph: &Graph<A>,
     refs: &Refs<A>,
@@ -139,7 +139,7 @@ fn newest_tips<A: Allocator + Copy>(
     Ok(tips)
 }
 
-// The height of each object of a graph, in order.
+// Returns the height of each object of a graph, in order.
 fn heights_of<A: Allocator + Copy>(graph: &Graph<A>) -> Result<Vec<usize, A>, AllocError> {
     let mut heights = Vec::with_capacity(graph.allocator(), graph.len())?;
     for place in 0..graph.len() {
@@ -149,7 +149,7 @@ fn heights_of<A: Allocator + Copy>(graph: &Graph<A>) -> Result<Vec<usize, A>, Al
     Ok(heights)
 }
 
-// The height of the object at a place, from those of its parents.
+// Returns the height of the object at a place, from the heights of its parents.
 fn height_at<A: Allocator + Copy>(graph: &Graph<A>, heights: &[usize], place: usize) -> usize {
     let Some((_id, node)) = graph.at(place) else {
         return 0;
@@ -161,9 +161,9 @@ fn height_at<A: Allocator + Copy>(graph: &Graph<A>, heights: &[usize], place: us
     below.saturating_add(1)
 }
 
-// The height of the object with this id, if it is known; 0 otherwise.
+// Returns the height of the object with this id, if it is known; 0 otherwise.
 fn height_of<A: Allocator + Copy>(graph: &Graph<A>, heights: &[usize], id: &Oid) -> usize {
-    match graph.number(id) {
+    match graph.position(id) {
         Some(number) => heights.get(number).copied().unwrap_or(0),
         None => 0,
     }

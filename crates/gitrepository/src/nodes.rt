@@ -1,4 +1,4 @@
-//! The nodes of objects: what a graph holds of them.
+//! The nodes of objects, as a graph holds them.
 
 ghost use Rattle.std.specs.Prelude.{◌≡◌, IfOk};
 ghost use Rattle.gitobject.specs.Naming.{id_of};
@@ -10,9 +10,9 @@ use gitobject::{ObjectFault, ObjectType, commit_links, tag_link};
 use gname::Oid;
 use std::alloc::Allocator;
 
-/// The entry of the object with this id, this type and these bytes.
+/// Returns the entry of the object with this id, this type and these bytes.
 ///
-/// It fails with `Malformed` if the bytes do not have the form of the type, and with `Memory`.
+/// Fails with `Malformed` if the bytes do not have the form of the type, and with `Memory`.
 pub(crate) fn entry_of<A: Allocator + Copy>(
     alloc: A,
     id: &Oid,
@@ -27,7 +27,7 @@ pub(crate) fn entry_of<A: Allocator + Copy>(
     Ok(Entry { id: *id, node })
 }
 
-// The node of an object.
+// Returns the node of an object.
 fn node_of<A: Allocator + Copy>(
     alloc: A,
     kind: ObjectType,
@@ -64,8 +64,8 @@ fn node_of_tag<A: Allocator + Copy>(alloc: A, body: &[u8]) -> Result<Node<A>, Ob
     Ok(Node { kind, parents })
 }
 
-/// The node of a tree or a blob at which a ref or a tag is. A graph has no kind for these: the node
-/// is that of a commit without parents.
+/// Returns the node of a tree or blob that a ref or tag points to. A graph has no kind for these:
+/// they have the node of a commit without parents.
 pub(crate) fn leaf<A: Allocator + Copy>(alloc: A) -> Node<A>
     ensures { result ≡ leaf }
 {

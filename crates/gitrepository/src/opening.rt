@@ -1,4 +1,4 @@
-//! Opening a repository: the graph of all that its refs reach, the refs, and HEAD.
+//! Opening a repository: its refs, HEAD, and the graph of everything they reach.
 
 ghost use Rattle.std.specs.Prelude.{◌≡◌, IfOk, OnOk};
 ghost use Rattle.gdag.specs.Graphs.{Holds};
@@ -12,19 +12,20 @@ use gitcommitgraph::CommitGraph;
 use gitobjects::{ObjectFiles, ObjectReader, StoreFault};
 use gitrefs::GitDirectory;
 use gname::{Oid, RefName};
+use grefs::{MAX_REFS, is_below_refs};
 use std::alloc::Allocator;
 use std::fs::Files;
 
-/// The repository of a Git directory: its refs, HEAD, and the commits and tags that these reach,
-/// parents first. A tree or a blob at which a ref or a tag is counts as a commit without parents. A
-/// ref whose object is not there is left out, as Git leaves it out.
+/// Opens the repository of a Git directory: its refs, HEAD, and the commits and tags they reach,
+/// parents first. A tree or blob that a ref or tag points to counts as a commit without parents. A
+/// ref whose object is missing is left out, as in Git.
 ///
-/// The reader is that of the same directory. It can be used again after each fault. A commit of the
-/// commit-graph whose object is there is not read: the commit-graph says its parents.
+/// The reader must read the same directory. It can be used again after any fault. A commit is not
+/// read if the commit-graph lists it and its object exists.
 ///
-/// It fails with `Refs` if the refs are not read. It fails with `Store` if an object that is
-/// reached is missing or is not read, and with `Object` if one is refused. It fails with `Objects`
-/// if there are more commits and tags than a graph holds, and with `Memory`.
+/// Fails with `Refs` if the refs cannot be read. Fails with `Store` if a reached object is missing
+/// or cannot be read, and with `Object` if one is refused. Fails with `Objects` if there are too
+/// many commits and tags for a graph, and with `Memory`.
 pub fn open_repository<R: Files, F: ObjectFiles, A: Allocator + Copy>(
     directory: &GitDirectory<'_, R, A>,
     reader: &mut ObjectReader<'_, F, A>,
@@ -38,7 +39,7 @@ pub fn open_repository<R: Files, F: ObjectFiles, A: Allocator + Copy>(
     open_refs(reader, commits, &listed, head)
 }
 
-/// The repository with these refs and HEAD, as [`open_repository`] answers it.
+/// Returns the repository with these refs and HEAD, as [`open_repository`] does.
 pub fn open_refs<F: ObjectFiles, A: Allocator + Copy>(
     reader: &mut ObjectReader<'_, F, A>,
     commits: &CommitGraph<A>,
@@ -54,7 +55,7 @@ pub fn open_refs<F: ObjectFiles, A: Allocator + Copy>(
     Ok(Repository { graph, refs, head })
 }
 
-// The graph of all that the refs and HEAD reach.
+// Returns the graph of everything the refs and HEAD reach.
 fn graph_of<F: ObjectFiles, A: Allocator + Copy>(
     reader: &mut ObjectReader<'_, F, A>,
     commits: &CommitGraph<A>,
@@ -75,7 +76,7 @@ fn graph_of<F: ObjectFiles, A: Allocator + Copy>(
     history.into_graph()
 }
 
-// Whether an object is there. Git may have packed it since the packs were listed.
+// Whether an object exists. Git may have packed it since the packs were listed.
 fn is_there<F: ObjectFiles, A: Allocator + Copy>(
     reader: &mut ObjectReader<'_, F, A>,
     id: &Oid,
@@ -90,7 +91,7 @@ fn is_there<F: ObjectFiles, A: Allocator + Copy>(
     }
 }
 
-/// The refs whose objects the graph holds.
+/// Returns the refs whose objects the graph holds.
 pub(crate) fn held_refs<A: Allocator + Copy>(
     alloc: A,
     graph: &Graph<A>,
@@ -108,8 +109,8 @@ pub(crate) fn held_refs<A: Allocator + Copy>(
     Ok(refs)
 }
 
-/// Puts a ref at an object of the graph.
-#[tactic(auto, using(crate::proofs::RefLemmas::AreHeld_set))]
+/// Adds a ref to an object of the graph.
+#[tactic(auto, using(crate::proofs::RefLemmas::AreHeld_set, crate::proofs::RefLemmas::AreHeld_push))]
 pub(crate) fn set_held<A: Allocator + Copy>(
     graph: &Graph<A>,
     refs: &mut Refs<A>,
@@ -119,6 +120,13 @@ pub(crate) fn set_held<A: Allocator + Copy>(
     requires { Holds graph.now.entries id }
     ensures { AreHeld graph.now refs.old → OnOk result (AreHeld graph.now refs.new) }
 {
+    // The search is skipped if the name sorts after the others.
+    if refs.len() < MAX_REFS && is_below_refs(&name) && refs.are_below(name.as_bytes()) {
+        return match refs.push(name, id) {
+            Ok(()) => Ok(()),
+            Err(_) => Err(RepositoryFault::Memory),
+        };
+    }
     match refs.set(name, id) {
         Ok(()) => Ok(()),
         Err(_) => Err(RepositoryFault::Memory),

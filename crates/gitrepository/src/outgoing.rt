@@ -1,4 +1,4 @@
-//! A pack that is given in parts, with as many entries as its header says.
+//! A pack returned in parts, with as many entries as its header says.
 
 ghost use Rattle.std.specs.Prelude.{◌≡◌, ◌+◌, ◌≤◌, ◌↔◌, [], ◌++◌, List, ℕ, IfOk, IsTrue, OnOk, length, take};
 ghost use Rattle.gname.specs.Limits.{max_pack};
@@ -10,30 +10,30 @@ use gname::MAX_PACK;
 use sha1::Sha1;
 use std::alloc::{AllocError, Allocator};
 
-// The bytes of the trailer of a pack.
+// The length of the trailer of a pack.
 const TRAILER: usize = 20;
 
-/// A pack that is given away while it is made. It holds what was made last.
+/// A pack that is returned in parts while it is built. It holds the last bytes built.
 #[derive(Drop)]
 pub(crate) struct Outgoing<A: Allocator + Copy> {
-    // The bytes that were made last, and how many of them were given.
+    // The last bytes built, and how many of them were returned.
     bytes: Vec<u8, A>,
     given: usize,
-    // How many bytes were made in all, and how many may be given yet.
+    // The total number of bytes built, and how many more may be returned.
     made: usize,
     left: usize,
-    // All that was made, but for the trailer.
+    // The SHA-1 of all bytes built, except the trailer.
     sum: Sha1,
-    // The entries that the header says, and those that were put.
+    // The number of entries in the header, and the number written.
     count: u32,
     put: u32,
-    // Whether the last entry is whole, and whether the trailer was made.
+    // Whether the last entry is whole, and whether the trailer was built.
     is_whole: bool,
     is_over: bool,
 }
 
 impl<A: Allocator + Copy> Outgoing<A> {
-    /// A pack of so many entries, none of which is put yet.
+    /// Returns a pack of `count` entries, without any entry yet.
     pub(crate) fn new(alloc: A, count: u32) -> Result<Outgoing<A>, AllocError>
         ensures going { IfOk result (λ pack. IsGoing pack []) }
         ensures left { IfOk result (λ pack. pack.left ≡ max_pack) }
@@ -55,31 +55,30 @@ impl<A: Allocator + Copy> Outgoing<A> {
         })
     }
 
-    /// The position at which the next entry begins.
+    /// Returns the offset of the next entry.
     pub(crate) fn position(&self) -> usize {
         self.made
     }
 
-    /// Whether all that was made was given.
+    /// Whether all bytes built were returned.
     pub(crate) fn is_given(&self) -> bool
         ensures { IsTrue result ↔ (length self.now.bytes.items ≤ self.now.given) }
     {
         self.given >= self.bytes.len()
     }
 
-    /// Whether all of the pack was given.
+    /// Whether the whole pack was returned.
     pub(crate) fn is_given_whole(&self) -> bool
         ensures { IsTrue result → IsGivenWhole self.now }
     {
         self.is_over && self.is_given()
     }
 
-    /// Puts an entry of this form after all that was given. Its zlib stream is given, and inflates to
-    /// `size` bytes.
+    /// Appends an entry of this form with this zlib stream, which inflates to `size` bytes.
     ///
-    /// It fails with `Count` if there are too many entries, one was not put whole, or not all was
-    /// given. It fails with `Pack` if the pack is too large, and with `Memory`. After a fault the pack
-    /// is of no use.
+    /// Fails with `Count` if there are too many entries, the last was incomplete, or bytes remain
+    /// to be returned. Fails with `Pack` if the pack is too large, and with `Memory`. After a fault
+    /// the pack is unusable.
     pub(crate) fn put(
         &mut self,
         form: EntryForm,
@@ -104,10 +103,10 @@ impl<A: Allocator + Copy> Outgoing<A> {
         Ok(())
     }
 
-    /// Puts the trailer after all that was given.
+    /// Appends the trailer.
     ///
-    /// It fails with `Count` if fewer or more entries were put than the header says, or not all was
-    /// given, and with `Memory`. After a fault the pack is of no use.
+    /// Fails with `Count` if the number of entries differs from the header, or bytes remain to be
+    /// returned. Fails with `Memory`. After a fault the pack is unusable.
     pub(crate) fn finish(&mut self) -> Result<(), RepositoryFault<A>>
         ensures going { OnOk result (GoesOn self.old self.new) }
         ensures left { self.new.left ≡ self.old.left }
@@ -126,9 +125,9 @@ impl<A: Allocator + Copy> Outgoing<A> {
         Ok(())
     }
 
-    /// Gives the next bytes of those that were made: they go to the front of `out`. It answers how many.
+    /// Copies the next bytes built to the front of `out`, and returns how many.
     ///
-    /// It fails with `Pack` if the pack is too large. Then nothing was given.
+    /// Fails with `Pack` if the pack is too large. No bytes were returned then.
     pub(crate) fn give(&mut self, out: &mut [u8]) -> Result<usize, RepositoryFault<A>>
         ensures fits { IfOk result (λ count. count ≤ length out.new) }
         ensures length { length out.new ≡ length out.old }

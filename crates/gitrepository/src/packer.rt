@@ -16,15 +16,15 @@ use gparts::PartPacker;
 use std::alloc::Allocator;
 use std::cell::{Cell, RefCell};
 
-// The bytes of a part of a pack that is written whole.
+// The size of the parts of a pack that is written whole.
 const PART: usize = 65_536;
 
 /// A packer of the objects of a Git directory.
 ///
-/// A pack has the commits and tags that are asked for. It has all trees and blobs that these reach
-/// and that no parent outside of the list reaches. An entry of a pack goes out as it lies: whole, or
-/// as a delta if its base goes out too. Other objects are deflated anew, as deltas of one another
-/// where these are small.
+/// A pack has the listed commits and tags. It also has all trees and blobs they reach, unless a
+/// parent outside the list reaches them. A pack entry is copied unchanged: whole, or as a delta if
+/// its base is sent too. Other objects are deflated again, as deltas of each other if these are
+/// small.
 #[derive(Drop)]
 pub struct StorePacker<'f, F: ObjectFiles, A: Allocator + Copy> {
     reader: RefCell<ObjectReader<'f, F, A>>,
@@ -33,7 +33,7 @@ pub struct StorePacker<'f, F: ObjectFiles, A: Allocator + Copy> {
 }
 
 impl<'f, F: ObjectFiles, A: Allocator + Copy> StorePacker<'f, F, A> {
-    /// A packer of the objects that the reader reads.
+    /// Returns a packer of the objects that the reader reads.
     pub fn new(reader: ObjectReader<'f, F, A>) -> StorePacker<'f, F, A> {
         StorePacker {
             reader: RefCell::new(reader),
@@ -42,13 +42,12 @@ impl<'f, F: ObjectFiles, A: Allocator + Copy> StorePacker<'f, F, A> {
         }
     }
 
-    /// How the objects of the last pack went out.
+    /// Returns how the objects of the last pack were sent.
     pub fn counts(&self) -> PackCounts {
         self.counts.get()
     }
 
-    /// The fault of the last call that answered `Other`, which is given away; `None` if there is
-    /// none.
+    /// Takes the fault of the last call that returned `Other`, or `None` if there is none.
     pub fn take_fault(&self) -> Option<RepositoryFault<A>> {
         match self.fault.try_replace(None) {
             Ok(fault) => fault,
@@ -56,7 +55,7 @@ impl<'f, F: ObjectFiles, A: Allocator + Copy> StorePacker<'f, F, A> {
         }
     }
 
-    // The pack of some commits and tags, all of it.
+    // Returns the whole pack of some commits and tags.
     fn write(&self, alloc: A, entries: &[Entry<A>]) -> Result<Vec<u8, A>, RepositoryFault<A>>
         ensures { IfOk result (λ pack. MayPack (λ list bytes. IsWholePack bytes) entries.now pack.items) }
     {
@@ -73,7 +72,7 @@ impl<'f, F: ObjectFiles, A: Allocator + Copy> StorePacker<'f, F, A> {
         Err(RepositoryFault::Count)
     }
 
-    // The pack of some commits and tags, of which nothing is given yet.
+    // Starts the pack of some commits and tags.
     fn start(&self, alloc: A, entries: &[Entry<A>]) -> Result<StoreParts<A>, RepositoryFault<A>>
         ensures going { IfOk result (λ parts. IsGoing parts.outgoing []) }
         ensures left { IfOk result (λ parts. parts.outgoing.left ≡ max_pack) }
@@ -84,7 +83,7 @@ impl<'f, F: ObjectFiles, A: Allocator + Copy> StorePacker<'f, F, A> {
         StoreParts::begin(&mut *reader, alloc, entries)
     }
 
-    // Gives the next bytes of a pack, and answers how many: 0 if all were given.
+    // Copies the next bytes of a pack to `out`, and returns how many: 0 at the end.
     fn fill(&self, parts: &mut StoreParts<A>, out: &mut [u8]) -> Result<usize, RepositoryFault<A>>
         requires { 0 < length out.old }
         ensures fits { IfOk result (λ count. count ≤ length out.new) }
@@ -101,7 +100,7 @@ impl<'f, F: ObjectFiles, A: Allocator + Copy> StorePacker<'f, F, A> {
         Ok(count)
     }
 
-    // The fault that a caller sees. The cause is kept.
+    // Returns the fault for the caller, and keeps the cause.
     fn keep(&self, fault: RepositoryFault<A>) -> PackFault {
         match fault {
             RepositoryFault::Memory => PackFault::Memory,

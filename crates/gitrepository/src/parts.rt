@@ -1,4 +1,4 @@
-//! A pack of the objects of a Git directory, given in parts.
+//! A pack of the objects of a Git directory, returned in parts.
 
 ghost use Rattle.std.specs.Prelude.{◌≡◌, ◌+◌, ◌<◌, ◌≤◌, [], ◌++◌, List, ℕ, IfOk, OnOk, length, take};
 ghost use Rattle.gname.specs.Limits.{max_pack};
@@ -13,7 +13,7 @@ use ggraph::Entry;
 use gitobjects::{ObjectFiles, ObjectReader};
 use std::alloc::Allocator;
 
-/// A pack of some commits and tags and of what goes with them, which is given in parts. It holds one
+/// A pack of some commits and tags with their trees and blobs, returned in parts. It holds one
 /// entry at a time.
 #[derive(Drop)]
 pub struct StoreParts<A: Allocator + Copy> {
@@ -22,7 +22,7 @@ pub struct StoreParts<A: Allocator + Copy> {
 }
 
 impl<A: Allocator + Copy> StoreParts<A> {
-    /// The pack of these entries, of which nothing is given yet.
+    /// Starts the pack of these entries.
     pub(crate) fn begin<F: ObjectFiles>(
         reader: &mut ObjectReader<'_, F, A>,
         alloc: A,
@@ -32,18 +32,18 @@ impl<A: Allocator + Copy> StoreParts<A> {
         ensures left { IfOk result (λ parts. parts.outgoing.left ≡ max_pack) }
     {
         let fates = gather(reader, entries)?;
-        let outgoing = Outgoing::new(alloc, fates.sent())?;
+        let outgoing = Outgoing::new(alloc, fates.sent_count())?;
         let copying = Copying::new(alloc, fates)?;
         Ok(StoreParts { outgoing, copying })
     }
 
-    /// How the objects went out so far.
+    /// Returns how the objects were sent so far.
     pub(crate) fn counts(&self) -> PackCounts {
         self.copying.counts()
     }
 
-    /// Gives the next bytes: they go to the front of `out`, and fill it unless the pack ends. It answers
-    /// how many: 0 if all were given.
+    /// Copies the next bytes to the front of `out`, and fills it unless the pack ends. Returns how
+    /// many bytes: 0 at the end.
     pub(crate) fn fill<F: ObjectFiles>(
         &mut self,
         reader: &mut ObjectReader<'_, F, A>,
@@ -69,7 +69,7 @@ impl<A: Allocator + Copy> StoreParts<A> {
         Ok(filled)
     }
 
-    // Gives some of the next bytes.
+    // Copies some of the next bytes.
     fn give_some<F: ObjectFiles>(
         &mut self,
         reader: &mut ObjectReader<'_, F, A>,
@@ -87,7 +87,7 @@ impl<A: Allocator + Copy> StoreParts<A> {
         self.outgoing.give(out)
     }
 
-    // Makes the next entry, or the trailer.
+    // Builds the next entry, or the trailer.
     fn advance<F: ObjectFiles>(
         &mut self,
         reader: &mut ObjectReader<'_, F, A>,

@@ -1,15 +1,15 @@
-//! Hashes of paths, by which objects are put in order before deltas are made of them.
+//! Path hashes, which sort objects before deltas are made.
 
-/// The hash of the path at which an object was found. The last bytes of a path count most, so that
-/// the versions of a file come one after the other, and after them files with the same ending.
+/// The hash of the path at which an object was found. The last bytes of a path count most. So the
+/// versions of a file are adjacent, followed by files with the same ending.
 #[derive(Clone, Copy, Debug, PartialEq, Eq, PartialOrd, Ord)]
 pub(crate) struct PathHash(u32);
 
 impl PathHash {
-    /// The hash of no path: that of commits, of tags, and of the tree of a commit.
+    /// The hash for objects without a path: commits, tags, and the tree of a commit.
     pub(crate) const NONE: PathHash = PathHash(0);
 
-    /// The hash of the path of an entry of the tree at this path.
+    /// Returns the hash of the path of an entry of the tree at this path.
     pub(crate) fn join(self, name: &[u8]) -> PathHash {
         let mut hash = self.push(b'/');
         for byte in name {
@@ -18,7 +18,8 @@ impl PathHash {
         hash
     }
 
-    // The hash of the path with a byte more. Each earlier byte counts a fourth of what it did.
+    // Returns the hash of the path with another byte. Each earlier byte counts a quarter as much as
+    // before.
     fn push(self, byte: u8) -> PathHash {
         PathHash((self.0 >> 2).wrapping_add(u32::from(byte) << 24))
     }

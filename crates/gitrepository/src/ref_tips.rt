@@ -1,4 +1,4 @@
-//! The objects at which refs are, without the history that these reach.
+//! The objects that refs point to, without their history.
 
 ghost use Rattle.std.specs.Prelude.{IfOk, IfSome};
 ghost use Rattle.gitrepository.specs.Repositories.{AreHeld};
@@ -13,7 +13,7 @@ use gitrefs::{PackedPeels, Peel};
 use gname::Oid;
 use std::alloc::{AllocError, Allocator};
 
-// The most tags that lead to one another.
+// The maximum length of a chain of tags.
 const MAX_TAGS: usize = 64;
 
 // A tag, and the object that it names.
@@ -23,12 +23,12 @@ struct Tag {
     target: Oid,
 }
 
-/// The objects at which refs and HEAD are, and what these lead to if they are tags, as a repository. Each
-/// object that is no tag counts as a commit without parents. A request for refs needs no more. A tag of
-/// `packed-refs` leads at once to the object that the file names.
+/// Returns a repository of the objects that refs and HEAD point to, with the peeled objects of
+/// tags. Any other object counts as a commit without parents. This is enough for ls-refs. A tag of
+/// `packed-refs` leads directly to the peeled object in that file.
 ///
-/// It is `None` if one of the objects is not found or not read, or if there are too many. The repository
-/// has to be opened then. It fails with `Memory`.
+/// Returns `None` if an object is missing or cannot be read, or if there are too many. The caller
+/// must then open the repository. Fails with `Memory`.
 pub fn open_tips<F: ObjectFiles, A: Allocator + Copy>(
     reader: &mut QuickReader<'_, F, A>,
     peels: &PackedPeels<A>,
@@ -39,14 +39,15 @@ pub fn open_tips<F: ObjectFiles, A: Allocator + Copy>(
         AreHeld repository.graph repository.refs)) }
 {
     let alloc = reader.allocator();
+    let peels = held_peels(reader, peels)?;
     let mut graph = Graph::new(alloc);
     for pair in listed.as_slice() {
-        if !add_tip(&mut graph, reader, peels, &pair.1)? {
+        if !add_tip(&mut graph, reader, &peels, &pair.1)? {
             return Ok(None);
         }
     }
     if let Head::Id(id) = head {
-        if !add_tip(&mut graph, reader, peels, id)? {
+        if !add_tip(&mut graph, reader, &peels, id)? {
             return Ok(None);
         }
     }
@@ -55,11 +56,45 @@ pub fn open_tips<F: ObjectFiles, A: Allocator + Copy>(
     Ok(Some(Repository { graph, refs, head }))
 }
 
-// Adds the object with this id, and what it leads to. Answers whether it was found.
+// The `packed-refs` data about held objects, sorted by id.
+#[derive(Drop)]
+struct HeldPeels<A: Allocator + Copy> {
+    peels: Vec<(Oid, Peel), A>,
+}
+
+impl<A: Allocator + Copy> HeldPeels<A> {
+    // Returns the data about the object with this id, or `None` if there is none.
+    fn get(&self, id: &Oid) -> Option<Peel> {
+        let place = self.peels.binary_search_by_key(id, |pair| pair.0).ok()?;
+        Some(self.peels.get(place)?.1)
+    }
+
+    // Whether the file lists the object with this id.
+    fn has(&self, id: &Oid) -> bool {
+        self.get(id).is_some()
+    }
+}
+
+// Looks for the objects in the order of their ids, so that each part of an index is read once.
+fn held_peels<F: ObjectFiles, A: Allocator + Copy>(
+    reader: &mut QuickReader<'_, F, A>,
+    peels: &PackedPeels<A>,
+) -> Result<HeldPeels<A>, AllocError> {
+    let listed = peels.as_slice();
+    let mut peels = Vec::with_capacity(reader.allocator(), listed.len())?;
+    for pair in listed {
+        if reader.holds(&pair.0)? {
+            peels.push(*pair)?;
+        }
+    }
+    Ok(HeldPeels { peels })
+}
+
+// Adds the object with this id, and its peeled object. Returns whether it was found.
 fn add_tip<F: ObjectFiles, A: Allocator + Copy>(
     graph: &mut Graph<A>,
     reader: &mut QuickReader<'_, F, A>,
-    peels: &PackedPeels<A>,
+    peels: &HeldPeels<A>,
     id: &Oid,
 ) -> Result<bool, RepositoryFault<A>> {
     if graph.contains(id) {
@@ -68,29 +103,27 @@ fn add_tip<F: ObjectFiles, A: Allocator + Copy>(
     let Some(peel) = peels.get(id) else {
         return add_read(graph, reader, id);
     };
-    match peeled(&peel) {
-        None => Ok(reader.holds(id)? && add_leaf(graph, id)?),
+    match peel_target(&peel) {
+        None => add_leaf(graph, id),
         Some(target) => {
+            if !peels.has(&target) {
+                return add_read(graph, reader, id);
+            }
             let tag = Tag { id: *id, target };
-            Ok(
-                reader.holds(id)?
-                    && reader.holds(&target)?
-                    && add_leaf(graph, &target)?
-                    && add_tag(graph, tag)?,
-            )
+            Ok(add_leaf(graph, &target)? && add_tag(graph, tag)?)
         }
     }
 }
 
-// The object to which a tag leads; `None` of an object that is no tag.
-fn peeled(peel: &Peel) -> Option<Oid> {
+// Returns the object to which a tag leads, or `None` if the object is not a tag.
+fn peel_target(peel: &Peel) -> Option<Oid> {
     match peel {
         Peel::Itself => None,
         Peel::To(target) => Some(*target),
     }
 }
 
-// Adds an object of which `packed-refs` says nothing, and what it leads to.
+// Adds an object that `packed-refs` does not list, and its peeled object.
 fn add_read<F: ObjectFiles, A: Allocator + Copy>(
     graph: &mut Graph<A>,
     reader: &mut QuickReader<'_, F, A>,
@@ -117,7 +150,7 @@ fn add_read<F: ObjectFiles, A: Allocator + Copy>(
     Ok(false)
 }
 
-// The object that a tag names; `None` if the tag is not read or malformed.
+// Returns the object that a tag names, or `None` if the tag cannot be read or is malformed.
 fn target_of<F: ObjectFiles, A: Allocator + Copy>(
     reader: &mut QuickReader<'_, F, A>,
     id: &Oid,
@@ -131,7 +164,7 @@ fn target_of<F: ObjectFiles, A: Allocator + Copy>(
     }
 }
 
-// Adds tags that lead to one another, the last of the list first.
+// Adds a chain of tags, the last of the list first.
 fn add_tags<A: Allocator + Copy>(
     graph: &mut Graph<A>,
     tags: Vec<Tag, A>,
@@ -145,7 +178,7 @@ fn add_tags<A: Allocator + Copy>(
     Ok(true)
 }
 
-// Adds a tag. Answers whether the graph has it, and not another object with its id.
+// Adds a tag. Returns whether the graph has it, and not another object with its id.
 fn add_tag<A: Allocator + Copy>(
     graph: &mut Graph<A>,
     tag: Tag,
@@ -155,7 +188,7 @@ fn add_tag<A: Allocator + Copy>(
     add(graph, &tag.id, Node { kind, parents })
 }
 
-// Adds an object that is no tag, in the same way.
+// Adds an object that is not a tag, in the same way.
 fn add_leaf<A: Allocator + Copy>(
     graph: &mut Graph<A>,
     id: &Oid,

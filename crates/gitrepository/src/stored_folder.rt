@@ -1,10 +1,10 @@
 //! The folder of packs of a Git directory.
 
 ghost use Rattle.std.specs.Prelude.{◌≡◌, None, IfOk};
-ghost use Rattle.gitrepository.specs.declared.folder.Stage.TheVariants.{Start};
+ghost use Rattle.gitrepository.specs.declared.folder.PackFileStage.TheVariants.{Start};
 
 use crate::fault::RepositoryFault;
-use crate::folder::{PackFolder, Stage};
+use crate::folder::{PackFileStage, PackFolder};
 use gname::{MAX_ID_TEXT, Oid};
 use std::alloc::{AllocError, Allocator};
 use std::fs::{File, Files, OpenFile, OpenOptions};
@@ -13,10 +13,10 @@ use std::marker::Model;
 use std::os::unix::fs::OpenOptionsExt;
 use std::{fs, io};
 
-// How many names of temporary files are tried.
+// The number of temporary file names to try.
 const MAX_TRIES: usize = 1_000;
 
-// The permissions of both files, as Git has them: all may read, and none may write.
+// The permissions of both files, as in Git: all may read, and none may write.
 const READ_ALONE: u32 = 0o444;
 
 /// The folder of packs of a Git directory, and the names of the files of a pack there.
@@ -32,7 +32,7 @@ pub(crate) struct StoredFolder<'r, R: Files, A: Allocator + Copy> {
     index_path: String<A>,
     pack: Option<Temporary<R, A>>,
     index: Option<Temporary<R, A>>,
-    stage: Stage,
+    stage: PackFileStage,
 }
 
 // A temporary file that this run made.
@@ -43,16 +43,16 @@ struct Temporary<R: Files, A: Allocator + Copy> {
 }
 
 impl<'r, R: Files, A: Allocator + Copy> Model for StoredFolder<'r, R, A> {
-    ghost use Rattle.gitrepository.specs.declared.folder.Stage.{Stage};
+    ghost use Rattle.gitrepository.specs.declared.folder.PackFileStage.{PackFileStage};
 
-    ghost Value = { Stage };
+    ghost Value = { PackFileStage };
 
     ghost view = { λ f. f.stage };
 }
 
 impl<'r, R: Files, A: Allocator + Copy> StoredFolder<'r, R, A> {
-    /// The folder of packs of a Git directory, which is made if it is not there, and the names of
-    /// the files of the pack with this trailer.
+    /// Returns the folder of packs of a Git directory, with the file names of the pack with this
+    /// trailer. Creates the folder if it does not exist.
     pub(crate) fn new(
         alloc: A,
         files: &'r R,
@@ -65,7 +65,7 @@ impl<'r, R: Files, A: Allocator + Copy> StoredFolder<'r, R, A> {
         let stem = digits_of(alloc, checksum)?;
         let pack_path = file_path(alloc, path.as_str(), stem.as_str(), ".pack")?;
         let index_path = file_path(alloc, path.as_str(), stem.as_str(), ".idx")?;
-        let (pack, index, stage) = (None, None, Stage::Start);
+        let (pack, index, stage) = (None, None, PackFileStage::Start);
         Ok(StoredFolder {
             files,
             alloc,
@@ -79,7 +79,7 @@ impl<'r, R: Files, A: Allocator + Copy> StoredFolder<'r, R, A> {
         })
     }
 
-    /// The path of the file that keeps the pack.
+    /// Returns the path of the file that keeps the pack.
     pub(crate) fn keep_path(&self) -> Result<String<A>, AllocError> {
         let path = self.pack_path.as_str();
         let mut kept = String::from_str(self.alloc, path.strip_suffix(".pack").unwrap_or(path))?;
@@ -87,8 +87,8 @@ impl<'r, R: Files, A: Allocator + Copy> StoredFolder<'r, R, A> {
         Ok(kept)
     }
 
-    // Makes a new temporary file with these bytes. Git removes a file whose name begins so once it is
-    // old (git-prune(1)).
+    // Creates a new temporary file with these bytes. Git removes old files with such names
+    // (git-prune(1)).
     fn write(&self, name: &str, bytes: &[u8]) -> Result<Temporary<R, A>, RepositoryFault<A>> {
         for number in 0..MAX_TRIES {
             let folder = self.path.as_str();
@@ -108,7 +108,7 @@ impl<'r, R: Files, A: Allocator + Copy> StoredFolder<'r, R, A> {
         Err(RepositoryFault::of_file(self.alloc, self.path.as_str(), error))
     }
 
-    // Writes bytes to a new temporary file. It is removed if that fails.
+    // Writes bytes to a new temporary file. On failure the file is removed.
     fn fill(
         &self,
         temporary: Temporary<R, A>,
@@ -125,8 +125,7 @@ impl<'r, R: Files, A: Allocator + Copy> StoredFolder<'r, R, A> {
         }
     }
 
-    // Renames a temporary file, and brings its new name to the disk. The file is removed if it
-    // can't be renamed.
+    // Renames a temporary file, and syncs the folder. The file is removed if it cannot be renamed.
     fn name(
         &self,
         temporary: Option<Temporary<R, A>>,
@@ -145,7 +144,7 @@ impl<'r, R: Files, A: Allocator + Copy> StoredFolder<'r, R, A> {
         }
     }
 
-    // Brings a temporary file to the disk.
+    // Syncs a temporary file.
     fn sync(&self, temporary: &Option<Temporary<R, A>>) -> Result<(), RepositoryFault<A>> {
         let Some(temporary) = temporary else {
             return Err(RepositoryFault::Busy);
@@ -160,7 +159,7 @@ impl<'r, R: Files, A: Allocator + Copy> StoredFolder<'r, R, A> {
     }
 }
 
-// Makes a new file.
+// Creates a new file.
 fn create<R: Files>(files: &R, path: &str) -> io::Result<R::File> {
     OpenOptions::new()
         .write(true)
@@ -169,12 +168,12 @@ fn create<R: Files>(files: &R, path: &str) -> io::Result<R::File> {
         .open(files, path)
 }
 
-// Brings the names in a folder to the disk.
+// Syncs a folder.
 fn sync_folder<R: Files>(files: &R, path: &str) -> io::Result<()> {
     File::open(files, path)?.sync_all()
 }
 
-// The path of the folder of packs, which is made if it is not there.
+// Returns the path of the folder of packs. Creates the folder if it does not exist.
 fn make_folder<R: Files, A: Allocator + Copy>(
     alloc: A,
     files: &R,
@@ -194,7 +193,7 @@ fn make_folder<R: Files, A: Allocator + Copy>(
     }
 }
 
-// The path of a file of the pack with this trailer.
+// Returns the path of a file of the pack with this trailer.
 fn file_path<A: Allocator + Copy>(
     alloc: A,
     folder: &str,
@@ -208,7 +207,7 @@ fn file_path<A: Allocator + Copy>(
     Ok(path)
 }
 
-// The hexadecimal digits of an id.
+// Returns the hexadecimal digits of an id.
 fn digits_of<A: Allocator + Copy>(alloc: A, id: &Oid) -> Result<String<A>, AllocError> {
     let mut digits = [0; MAX_ID_TEXT];
     let count = id.to_hex(&mut digits);
@@ -230,52 +229,52 @@ impl<R: Files, A: Allocator + Copy> PackFolder for StoredFolder<'_, R, A> {
     ghost stage = { λ f. f };
 
     fn write_pack(&mut self, bytes: &[u8]) -> Result<(), RepositoryFault<A>> {
-        self.stage = Stage::Failed;
+        self.stage = PackFileStage::Failed;
         self.pack = Some(self.write("pack", bytes)?);
-        self.stage = Stage::PackWritten;
+        self.stage = PackFileStage::PackWritten;
         Ok(())
     }
 
     fn sync_pack(&mut self) -> Result<(), RepositoryFault<A>> {
-        self.stage = Stage::Failed;
+        self.stage = PackFileStage::Failed;
         self.sync(&self.pack)?;
-        self.stage = Stage::PackSynced;
+        self.stage = PackFileStage::PackSynced;
         Ok(())
     }
 
     fn write_index(&mut self, bytes: &[u8]) -> Result<(), RepositoryFault<A>> {
-        self.stage = Stage::Failed;
+        self.stage = PackFileStage::Failed;
         self.index = Some(self.write("idx", bytes)?);
-        self.stage = Stage::IndexWritten;
+        self.stage = PackFileStage::IndexWritten;
         Ok(())
     }
 
     fn sync_index(&mut self) -> Result<(), RepositoryFault<A>> {
-        self.stage = Stage::Failed;
+        self.stage = PackFileStage::Failed;
         self.sync(&self.index)?;
-        self.stage = Stage::Ready;
+        self.stage = PackFileStage::Ready;
         Ok(())
     }
 
     fn name_pack(&mut self) -> Result<(), RepositoryFault<A>> {
-        self.stage = Stage::Failed;
+        self.stage = PackFileStage::Failed;
         let pack = self.pack.take();
         self.name(pack, self.pack_path.as_str())?;
-        self.stage = Stage::PackNamed;
+        self.stage = PackFileStage::PackNamed;
         Ok(())
     }
 
     fn name_index(&mut self) -> Result<(), RepositoryFault<A>> {
-        self.stage = Stage::Failed;
+        self.stage = PackFileStage::Failed;
         let index = self.index.take();
         self.name(index, self.index_path.as_str())?;
-        self.stage = Stage::Done;
+        self.stage = PackFileStage::Done;
         Ok(())
     }
 
     fn clean(&mut self) {
         remove(self.files, self.pack.take());
         remove(self.files, self.index.take());
-        self.stage = Stage::Start;
+        self.stage = PackFileStage::Start;
     }
 }

@@ -1,4 +1,4 @@
-//! The ids at which the refs of a peer are.
+//! The ids of a peer's refs.
 
 ghost use Rattle.std.specs.Prelude.{◌≡◌};
 
@@ -6,7 +6,7 @@ use gname::Oid;
 use std::alloc::{AllocError, Allocator};
 use std::marker::Model;
 
-/// The ids at which the refs of a peer are, in order.
+/// The sorted ids of a peer's refs.
 #[derive(Drop)]
 pub struct Tips<A: Allocator + Copy> {
     ids: Vec<Oid, A>,
@@ -22,19 +22,19 @@ impl<A: Allocator + Copy> Model for Tips<A> {
 }
 
 impl<A: Allocator + Copy> Tips<A> {
-    /// These ids, which may come in any order. It fails out of memory.
+    /// Returns the sorted ids. Fails only if out of memory.
     pub fn new(alloc: A, ids: &[Oid]) -> Result<Tips<A>, AllocError> {
         let mut ids = ids.to_vec(alloc)?;
         ids.sort_unstable();
         Ok(Tips { ids })
     }
 
-    /// Whether a ref of the peer is at this id.
+    /// Whether a ref of the peer has this id.
     pub fn contains(&self, id: &Oid) -> bool {
         self.ids.binary_search(id).is_ok()
     }
 
-    /// The ids, in order.
+    /// Returns the ids, in order.
     pub fn as_slice(&self) -> &[Oid]
         ensures { result.now ≡ self.now }
     {

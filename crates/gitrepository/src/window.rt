@@ -1,4 +1,4 @@
-//! The objects of a pack of which deltas are made.
+//! The window of objects that are bases of new deltas.
 
 use gitobject::ObjectType;
 use gitobjects::Object;
@@ -6,26 +6,26 @@ use gitpack::DeltaBase;
 use gname::Oid;
 use std::alloc::{AllocError, Allocator};
 
-// The most objects in the window, and the most bytes of all of them.
+// The maximum number of objects in the window, and their maximum total size.
 const MAX_BASES: usize = 10;
 
 const MAX_BYTES: usize = 33_554_432;
 
-// The fewest and the most bytes of an object in the window: 50 bytes, and 8 MiB.
+// The minimum and maximum size of an object in the window: 50 bytes, and 8 MiB.
 const LEAST_BODY: usize = 50;
 
 const MOST_BODY: usize = 8_388_608;
 
-// The most deltas of a chain.
+// The maximum length of a delta chain.
 const MAX_CHAIN: usize = 50;
 
-// The bytes of the id of the base, which come before a delta.
+// The length of the id of the base, which precedes a delta.
 const BASE_ID: usize = 20;
 
-// How many times as large as its target a base is at most.
+// The maximum ratio of the size of a base to that of its target.
 const MAX_RATIO: usize = 32;
 
-// An object in the window: its id, and how many deltas lead to it.
+// An object in the window: its id, and the depth of its delta chain.
 #[derive(Drop)]
 struct Base<A: Allocator + Copy> {
     id: Oid,
@@ -41,22 +41,22 @@ pub(crate) struct Delta<A: Allocator + Copy> {
     pub(crate) base: Oid,
     /// Its bytes.
     pub(crate) text: Vec<u8, A>,
-    // How many deltas lead to what it makes.
+    // The depth of its delta chain.
     depth: usize,
 }
 
-/// The last objects of a pack that went out: bases of deltas.
+/// The last objects sent in a pack, as bases of deltas.
 #[derive(Drop)]
 pub(crate) struct Window<A: Allocator + Copy> {
     alloc: A,
-    // The last one comes last.
+    // The most recent base is last.
     bases: Vec<Base<A>, A>,
-    // The bytes of their bodies.
+    // The total size of their bodies.
     bytes: usize,
 }
 
 impl<A: Allocator + Copy> Window<A> {
-    /// A window with no object.
+    /// Returns an empty window.
     pub(crate) fn new(alloc: A) -> Window<A> {
         Window {
             alloc,
@@ -65,8 +65,8 @@ impl<A: Allocator + Copy> Window<A> {
         }
     }
 
-    /// The smallest delta that is found of an object; `None` if none is that is small enough. Its
-    /// base is the last one from here on.
+    /// Returns the smallest delta found for an object, or `None` if none is small enough. Its base
+    /// becomes the most recent one.
     pub(crate) fn best_delta(
         &mut self,
         object: &Object<A>,
@@ -98,8 +98,8 @@ impl<A: Allocator + Copy> Window<A> {
         }
     }
 
-    /// Puts in an object that went out, as this delta or whole. It goes in only if its size is fit,
-    /// and others go, as they went in, until there is room.
+    /// Adds an object that was sent as this delta or whole, if its size is suitable. The oldest
+    /// objects are removed until there is room.
     pub(crate) fn push(
         &mut self,
         id: &Oid,
@@ -123,7 +123,7 @@ impl<A: Allocator + Copy> Window<A> {
         Ok(())
     }
 
-    // Lets objects go, the first ones, until there is room for one of this size.
+    // Removes the first objects until there is room for one of this size.
     fn make_room(&mut self, size: usize) {
         for _base in 0..MAX_BASES {
             let has_room = self.bytes.saturating_add(size) <= MAX_BYTES;
@@ -146,7 +146,7 @@ impl<A: Allocator + Copy> Window<A> {
 }
 
 impl<A: Allocator + Copy> Base<A> {
-    // The most bytes of a delta of this base that is worth making; 0 if none is.
+    // Returns the maximum size of a worthwhile delta of this base; 0 if there is none.
     fn limit(&self, object: &Object<A>, best: &Option<(usize, Delta<A>)>) -> usize {
         let size = object.body.len();
         let length = self.body.len();
@@ -157,7 +157,7 @@ impl<A: Allocator + Copy> Base<A> {
             Some((_, delta)) => (delta.text.len().saturating_sub(1), delta.depth),
             None => ((size / 2).saturating_sub(BASE_ID), 1),
         };
-        // A longer chain has to save more.
+        // A longer chain must save more.
         let left = MAX_CHAIN.saturating_sub(self.depth);
         let limit = most.saturating_mul(left) / MAX_CHAIN.saturating_sub(depth).saturating_add(1);
         if size.saturating_sub(length) >= limit {
@@ -166,7 +166,7 @@ impl<A: Allocator + Copy> Base<A> {
         limit
     }
 
-    // A delta of this base.
+    // Returns a delta of this base.
     fn delta(&self, text: Vec<u8, A>) -> Delta<A> {
         Delta {
             base: self.id,
@@ -176,12 +176,12 @@ impl<A: Allocator + Copy> Base<A> {
     }
 }
 
-// Whether an object of this size is a base, and is sent as a delta.
+// Whether an object of this size may be a base, and be sent as a delta.
 fn has_fit_size(size: usize) -> bool {
     LEAST_BODY <= size && size <= MOST_BODY
 }
 
-// How many deltas lead to an object that is sent as this delta, or whole.
+// Returns the depth of the delta chain of an object that is sent as this delta or whole.
 fn depth_of<A: Allocator + Copy>(delta: &Option<Delta<A>>) -> usize {
     match delta {
         Some(delta) => delta.depth,

@@ -1,8 +1,8 @@
 -- What is true of each command that arguments ask for.
 use Rattle.std.specs.Prelude.{ℕ, ◌≤◌, List, length, IfSome}
 use Rattle.gitwords.specs.Urls.{IsGitUrl, IsListenAddress}
-use Rattle.gitwords.specs.declared.command.Command.{Command}
-use Rattle.gitwords.specs.declared.command.Command.TheVariants.{Check, Clone, Fetch, Ls, Serve, UploadPack}
+use Rattle.gitwords.specs.declared.command.GitrepoCommand.{GitrepoCommand}
+use Rattle.gitwords.specs.declared.command.GitrepoCommand.TheVariants.{Check, Clone, Fetch, Ls, Serve, UploadPack}
 use Rattle.gitwords.specs.declared.url.GitUrl.{GitUrl}
 
 -- the parts of a URL
@@ -15,7 +15,7 @@ IsServed count = (1 ≤ count) × (count ≤ 1_000_000)
 
 -- A URL is one, there is a refspec for a fetch, connections are accepted at HOST:PORT, and there is at least one, also at
 -- once, also from one address.
-abbrev pub IsCommand : Command → Type 0
+abbrev pub IsCommand : GitrepoCommand → Type 0
 IsCommand (Check dir) = Unit {0}
 IsCommand (Clone asked) = IsUrl asked.url
 IsCommand (Fetch asked) = IsUrl asked.url × (1 ≤ length asked.specs.items)

@@ -1,11 +1,11 @@
-//! Answers that are printed in place of a command.
+//! Answers that are printed instead of running a command.
 
 ghost use Rattle.std.specs.Prelude.{◌≡◌};
 ghost use Rattle.gitwords.specs.Answers.{answer_status, answer_stream, answer_text};
 
 use gname::OUT_OF_MEMORY_TEXT;
 
-/// An answer that `gitrepo` prints in place of a command, before it ends.
+/// An answer that `gitrepo` prints instead of running a command.
 #[derive(Debug, Drop)]
 pub enum Answer {
     /// The help or the version, as lines.
@@ -26,7 +26,7 @@ pub enum Stream {
 }
 
 impl Answer {
-    /// The text to print. A line feed ends it, except out of memory.
+    /// Returns the text to print. It ends with a line feed, except for `Memory`.
     pub fn text(&self) -> &str
         ensures { result.now ≡ answer_text self.now }
     {
@@ -36,7 +36,7 @@ impl Answer {
         }
     }
 
-    /// The stream on which it is printed.
+    /// Returns the stream on which it is printed.
     pub fn stream(&self) -> Stream
         ensures { result ≡ answer_stream self.now }
     {
@@ -46,7 +46,7 @@ impl Answer {
         }
     }
 
-    /// The exit status: 0, 2 for wrong usage, or 1 out of memory.
+    /// Returns the exit status: 0, 2 for wrong usage, or 1 if out of memory.
     pub fn status(&self) -> u8
         ensures { result ≡ answer_status self.now }
     {

@@ -1,14 +1,14 @@
-//! The commands of a command line.
+//! The commands of the program.
 
 ghost use Rattle.std.specs.Prelude.{◌≡◌, ◌&&◌, ◌||◌, not};
 
 use crate::url::GitUrl;
 use gname::Prefix;
-use grefspec::Spec;
+use grefs::Spec;
 
-/// A command that the arguments ask for. Texts are lent from the arguments.
+/// A parsed command. Its texts are borrowed from the arguments.
 #[derive(Debug, Drop)]
-pub enum Command<'a> {
+pub enum GitrepoCommand<'a> {
     /// `check DIR`
     Check {
         /// The directory of the repository.
@@ -34,12 +34,12 @@ pub enum Command<'a> {
 pub struct Verbosity {
     /// `--quiet`: print no report, and show progress only if `progress` is set.
     pub quiet: bool,
-    /// `--progress`: show progress on a standard error that is no terminal, too.
+    /// `--progress`: show progress even if standard error is not a terminal.
     pub progress: bool,
 }
 
 impl Verbosity {
-    /// Whether progress is shown on a standard error that is a terminal, or is none.
+    /// Whether progress is shown, depending on whether standard error is a terminal.
     pub fn shows_progress(self, is_terminal: bool) -> bool
         ensures { result ≡ (self.progress || (is_terminal && not self.quiet)) }
     {
@@ -47,21 +47,21 @@ impl Verbosity {
     }
 }
 
-/// A repository that is cloned.
+/// The arguments of `clone`.
 #[derive(Clone, Copy, Debug, Drop)]
 pub struct CloneArgs<'a> {
-    /// How much is printed.
+    /// How much to print.
     pub verbosity: Verbosity,
     /// The repository of the server.
     pub url: GitUrl<'a>,
-    /// The directory that is made.
+    /// The directory to create.
     pub dir: &'a str,
 }
 
-/// Refs that are fetched.
+/// The arguments of `fetch`.
 #[derive(Debug, Drop)]
 pub struct FetchArgs<'a> {
-    /// How much is printed.
+    /// How much to print.
     pub verbosity: Verbosity,
     /// The directory of the repository.
     pub dir: &'a str,
@@ -71,27 +71,29 @@ pub struct FetchArgs<'a> {
     pub specs: Vec<Spec>,
 }
 
-/// Refs that are listed.
+/// The arguments of `ls`.
 #[derive(Debug, Drop)]
 pub struct LsArgs<'a> {
     /// The repository of the server.
     pub url: GitUrl<'a>,
-    /// Names that begin with one of these are listed. All names are listed if there are none.
+    /// The prefixes of names to list. All names are listed if there are none.
     pub prefixes: Vec<Prefix>,
 }
 
-/// Repositories that are served.
+/// The arguments of `serve`.
 #[derive(Clone, Copy, Debug, Drop)]
 pub struct ServeArgs<'a> {
-    /// The address where connections are accepted, HOST:PORT. The system picks a port in place of 0.
+    /// The address to listen at, HOST:PORT. The system picks the port if it is 0.
     pub listen: &'a str,
-    /// How many connections are served, from 1 to 1,000,000. `None` if there is no limit.
+    /// The number of connections to serve, from 1 to 1,000,000, or `None` if there is no limit.
     pub connections: Option<u32>,
-    /// The most connections at once, from 1 to 1,000,000. `None` if nothing is said of it.
+    /// The maximum number of connections at once, from 1 to 1,000,000, or `None` if not given.
     pub max_connections: Option<u32>,
-    /// The most connections at once from one address, from 1 to 1,000,000. `None` if nothing is said of it.
+    /// The maximum number of connections at once from one address, from 1 to 1,000,000, or `None`
+    /// if not given.
     pub max_per_address: Option<u32>,
-    /// Whether a repository needs no file `git-daemon-export-ok` (git-daemon(1), "--export-all").
+    /// Whether to serve repositories without a file `git-daemon-export-ok` (git-daemon(1),
+    /// "--export-all").
     pub export_all: bool,
     /// The base directory.
     pub base: &'a str,

@@ -1,4 +1,4 @@
-//! Why a text is no URL.
+//! Why a text is not a URL.
 
 ghost use Rattle.std.specs.Prelude.{◌≡◌, Some};
 ghost use Rattle.gitwords.specs.Faults.{cause_text, transport_text, url_fault_text};
@@ -6,7 +6,7 @@ ghost use Rattle.gitwords.specs.Faults.{cause_text, transport_text, url_fault_te
 use std::error::Error;
 use std::fmt;
 
-/// A URL that `gitrepo` cannot fetch from. Its text is one sentence, which names the URL and says
+/// A URL that `gitrepo` cannot fetch from. Its text is one sentence that names the URL and says
 /// what to do.
 #[derive(Clone, Copy, Debug, Drop)]
 pub struct UrlFault<'a> {
@@ -16,18 +16,19 @@ pub struct UrlFault<'a> {
     pub cause: Cause,
 }
 
-/// The cause for which a URL is refused.
+/// Why a URL is refused.
 #[derive(Clone, Copy, Debug, PartialEq, Eq, Drop)]
 pub enum Cause {
     /// It does not begin with `git://`.
     Transport(Transport),
     /// No slash follows the host.
     NoPath,
-    /// No host comes before the path: no name, no IPv4 address, and no IPv6 address in brackets.
+    /// The text before the path is not a host: a name, an IPv4 address, or an IPv6 address in
+    /// brackets.
     BadHost,
     /// No number from 1 to 65,535 follows the host and its colon.
     BadPort,
-    /// The path has more than 1,000 bytes, a percent sign, or a byte that is no printable ASCII.
+    /// The path has more than 1,000 bytes, a percent sign, or a byte that is not printable ASCII.
     BadPath,
 }
 
@@ -38,14 +39,14 @@ pub enum Transport {
     Ssh,
     /// By HTTP or HTTPS.
     Http,
-    /// As a file: `file://`, or a path.
+    /// By a local path: `file://`, or a path.
     File,
-    /// In no way that Git itself knows.
+    /// Git itself does not know the transport.
     Unknown,
 }
 
 impl Cause {
-    // The rest of the sentence, after the URL.
+    // Returns the rest of the sentence, after the URL.
     fn phrase(self) -> &'static str
         ensures { result.now ≡ cause_text self }
     {
@@ -64,7 +65,7 @@ impl Cause {
 }
 
 impl Transport {
-    /// The transport of a URL that does not begin with `git://`.
+    /// Returns the transport of a URL that does not begin with `git://`.
     pub(crate) fn of(url: &str) -> Transport {
         match url.split_once("://") {
             Some((scheme, _)) => Transport::of_scheme(scheme),
@@ -94,7 +95,7 @@ impl Transport {
     }
 }
 
-// Whether a text has a colon before its first slash, as HOST:PATH has.
+// Whether a text has a colon before its first slash, like HOST:PATH.
 fn has_host(text: &str) -> bool {
     match text.split_once(':') {
         Some((host, _)) => !host.contains('/'),

@@ -1,13 +1,13 @@
-//! Numbers of a command line.
+//! Numbers in arguments.
 
 ghost use Rattle.std.specs.Prelude.{◌≤◌, ◌<◌, ◌^◌, ℕ, MatchOption};
 ghost use Rattle.std.specs.Net.Grammar.{IsNumber};
 ghost use Rattle.gitwords.specs.Numbers.{IsCount};
 
-// The most connections that are served.
+// The maximum number of connections.
 const MAX_CONNECTIONS: u32 = 1_000_000;
 
-/// How many connections a text says: decimal digits that say a number from 1 to 1,000,000.
+/// Returns the number of connections in a text: decimal digits for a number from 1 to 1,000,000.
 pub(crate) fn connections_of(text: &str) -> Option<u32>
     ensures { MatchOption result ((count : ℕ) → ¬ (IsCount text.now count)) (IsCount text.now) }
 {
@@ -17,7 +17,8 @@ pub(crate) fn connections_of(text: &str) -> Option<u32>
     }
 }
 
-/// The number that decimal digits say, if it is below 2^32. `parse` takes a `+` before them, too.
+/// Returns the number with these decimal digits, if it is below 2^32. `parse` would also accept a
+/// leading `+`.
 pub(crate) fn number_of(digits: &str) -> Option<u32>
     ensures { MatchOption result
         ((number : ℕ) → number < 2 ^ 32 → ¬ (IsNumber 10 digits.now number))

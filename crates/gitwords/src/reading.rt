@@ -1,11 +1,11 @@
-//! A command line, read.
+//! Reading the arguments.
 
 ghost use Rattle.std.specs.Prelude.{◌≤◌, IfOk, IfSome, length};
 ghost use Rattle.gitwords.specs.Commands.{IsCommand, IsServed, IsUrl};
 ghost use Rattle.gitwords.specs.Urls.{IsListenAddress};
 
 use crate::answer::Answer;
-use crate::command::{CloneArgs, Command, FetchArgs, LsArgs, ServeArgs, Verbosity};
+use crate::command::{CloneArgs, FetchArgs, GitrepoCommand, LsArgs, ServeArgs, Verbosity};
 use crate::fault::UrlFault;
 use crate::number::connections_of;
 use crate::url::{GitUrl, is_listen_address};
@@ -13,14 +13,14 @@ use crate::usage::{program, usage_of};
 use clap::ArgMatches;
 use clap::error::ErrorKind;
 use gname::{NameFault, OUT_OF_MEMORY_TEXT, Prefix};
-use grefspec::{Spec, SpecFault};
+use grefs::{Spec, SpecFault};
 use std::alloc::{AllocError, AllocFailed, Global};
 use std::fmt;
 
-// Why arguments that `clap` takes are no command.
+// Why arguments that `clap` accepts are not a command.
 #[derive(Drop)]
 enum WordFault<'a> {
-    // The word of this name is missing.
+    // The argument with this name is missing.
     Missing(&'static str),
     Url(UrlFault<'a>),
     Spec(&'a str),
@@ -30,12 +30,12 @@ enum WordFault<'a> {
     Memory,
 }
 
-/// The command that these arguments ask for, the first of which is the program's own name. The
-/// command is well-formed (`specs/Commands.antt`).
+/// Parses the arguments into a command. The first argument is the program name. The command is
+/// well-formed (`specs/Commands.antt`).
 ///
-/// Otherwise it returns the answer that `gitrepo` prints before it ends: the help or the version that
-/// was asked for, the mistake in the arguments, or out of memory.
-pub fn read_words<'a>(alloc: Global, words: &'a [String]) -> Result<Command<'a>, Answer>
+/// Otherwise fails with the answer to print: the requested help or version, the mistake in the
+/// arguments, or out of memory.
+pub fn read_words<'a>(alloc: Global, words: &'a [String]) -> Result<GitrepoCommand<'a>, Answer>
     ensures { IfOk result IsCommand }
 {
     let matches = match parse(alloc, words) {
@@ -55,7 +55,7 @@ fn parse<'a>(alloc: Global, words: &'a [String]) -> Result<ArgMatches<'a>, clap:
     program(alloc)?.try_get_matches_from(words)
 }
 
-// The answer to arguments that `clap` refuses, and to the flags for help and the version.
+// Returns the answer to arguments that `clap` refuses, and to the flags for help and the version.
 fn answer_of_clap(alloc: Global, error: clap::Error) -> Answer {
     let kind = error.kind();
     if kind == ErrorKind::OutOfMemory {
@@ -70,7 +70,7 @@ fn answer_of_clap(alloc: Global, error: clap::Error) -> Answer {
     }
 }
 
-// The answer to wrong words of a command, in `clap`'s form.
+// Returns the answer to wrong arguments of a command, in `clap`'s form.
 fn answer_of(alloc: Global, name: &str, fault: WordFault<'_>) -> Answer {
     if let WordFault::Memory = fault {
         return Answer::Memory;
@@ -89,7 +89,7 @@ fn read_command<'a>(
     alloc: Global,
     name: &str,
     words: &ArgMatches<'a>,
-) -> Result<Command<'a>, WordFault<'a>>
+) -> Result<GitrepoCommand<'a>, WordFault<'a>>
     ensures { IfOk result IsCommand }
 {
     match name {
@@ -97,30 +97,33 @@ fn read_command<'a>(
         "fetch" => fetch_command(alloc, words),
         "ls" => ls_command(alloc, words),
         "serve" => serve_command(words),
-        "upload-pack" => Ok(Command::UploadPack {
+        "upload-pack" => Ok(GitrepoCommand::UploadPack {
             dir: word(words, "DIR")?,
         }),
-        "check" => Ok(Command::Check {
+        "check" => Ok(GitrepoCommand::Check {
             dir: word(words, "DIR")?,
         }),
         _ => Err(WordFault::Missing("COMMAND")),
     }
 }
 
-fn clone_command<'a>(words: &ArgMatches<'a>) -> Result<Command<'a>, WordFault<'a>>
+fn clone_command<'a>(words: &ArgMatches<'a>) -> Result<GitrepoCommand<'a>, WordFault<'a>>
     ensures { IfOk result IsCommand }
 {
-    Ok(Command::Clone(CloneArgs {
+    Ok(GitrepoCommand::Clone(CloneArgs {
         verbosity: verbosity(words),
         url: url(words)?,
         dir: word(words, "DIR")?,
     }))
 }
 
-fn fetch_command<'a>(alloc: Global, words: &ArgMatches<'a>) -> Result<Command<'a>, WordFault<'a>>
+fn fetch_command<'a>(
+    alloc: Global,
+    words: &ArgMatches<'a>,
+) -> Result<GitrepoCommand<'a>, WordFault<'a>>
     ensures { IfOk result IsCommand }
 {
-    Ok(Command::Fetch(FetchArgs {
+    Ok(GitrepoCommand::Fetch(FetchArgs {
         verbosity: verbosity(words),
         dir: word(words, "DIR")?,
         url: url(words)?,
@@ -128,19 +131,22 @@ fn fetch_command<'a>(alloc: Global, words: &ArgMatches<'a>) -> Result<Command<'a
     }))
 }
 
-fn ls_command<'a>(alloc: Global, words: &ArgMatches<'a>) -> Result<Command<'a>, WordFault<'a>>
+fn ls_command<'a>(
+    alloc: Global,
+    words: &ArgMatches<'a>,
+) -> Result<GitrepoCommand<'a>, WordFault<'a>>
     ensures { IfOk result IsCommand }
 {
-    Ok(Command::Ls(LsArgs {
+    Ok(GitrepoCommand::Ls(LsArgs {
         url: url(words)?,
         prefixes: prefixes(alloc, words)?,
     }))
 }
 
-fn serve_command<'a>(words: &ArgMatches<'a>) -> Result<Command<'a>, WordFault<'a>>
+fn serve_command<'a>(words: &ArgMatches<'a>) -> Result<GitrepoCommand<'a>, WordFault<'a>>
     ensures { IfOk result IsCommand }
 {
-    Ok(Command::Serve(ServeArgs {
+    Ok(GitrepoCommand::Serve(ServeArgs {
         listen: listen(words)?,
         connections: connections(words, "connections")?,
         max_connections: connections(words, "max-connections")?,
@@ -177,7 +183,7 @@ fn listen<'a>(words: &ArgMatches<'a>) -> Result<&'a str, WordFault<'a>>
     }
 }
 
-// The number of connections that an option says, if it is there.
+// Returns the number of connections from an option, if it is present.
 fn connections<'a>(words: &ArgMatches<'a>, name: &'static str) -> Result<Option<u32>, WordFault<'a>>
     ensures { IfOk result (λ count. IfSome count IsServed) }
 {

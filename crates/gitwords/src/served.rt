@@ -7,7 +7,7 @@ ghost use Rattle.gitwords.specs.Served.{IsServedPath, StaysBelow, components, en
 use std::alloc::{AllocError, Allocator};
 use std::marker::Model;
 
-/// The text that follows a client's path in the name of a directory.
+/// The ending of a directory name, after the client's path.
 #[derive(Clone, Copy, Debug, PartialEq, Eq, Drop)]
 pub enum Ending {
     /// `PATH/.git`
@@ -21,7 +21,7 @@ pub enum Ending {
 }
 
 impl Ending {
-    /// The endings in the order in which Git tries them.
+    /// Returns the endings in the order that Git tries them.
     pub fn in_order() -> [Ending; 4]
         ensures { result ≡ endings }
     {
@@ -33,7 +33,7 @@ impl Ending {
         ]
     }
 
-    /// The text of the ending.
+    /// Returns the text of the ending.
     pub fn text(self) -> &'static str
         ensures { result.now ≡ ending_text self }
     {
@@ -46,7 +46,7 @@ impl Ending {
     }
 }
 
-/// A client's path, of which each component may be the name of a directory (git-daemon(1)).
+/// A client's path, whose components may each be the name of a directory (git-daemon(1)).
 #[derive(Debug, Drop)]
 pub struct ServedPath<'a> {
     relative: &'a str,
@@ -61,9 +61,9 @@ impl<'a> Model for ServedPath<'a> {
 }
 
 impl<'a> ServedPath<'a> {
-    /// The path of a client, without its first slash, and without one at its end. `None` if it does
-    /// not begin with a slash, or if a component is empty or begins with a dot: then the path names no
-    /// directory.
+    /// Parses the path of a client, and removes its first slash and an optional slash at its end.
+    /// Returns `None` if it does not begin with a slash, or if a component is empty or begins with
+    /// a dot. A path like this does not name a directory.
     pub fn parse(path: &'a str) -> Option<ServedPath<'a>>
         ensures { MatchOption result ((rest : List ℕ) → ¬ (IsServedPath path.now rest))
             (IsServedPath path.now) }
@@ -79,7 +79,8 @@ impl<'a> ServedPath<'a> {
         }
     }
 
-    /// The path with this ending, relative to the base directory. It fails only when out of memory.
+    /// Returns the path with this ending, relative to the base directory. Fails only if out of
+    /// memory.
     pub fn candidate<A: Allocator + Copy>(
         &self,
         alloc: A,
@@ -94,7 +95,7 @@ impl<'a> ServedPath<'a> {
     }
 }
 
-// The text without the slash at its end, if there is one.
+// Returns the text without the slash at its end, if there is one.
 fn without_last_slash(text: &str) -> &str
     ensures { (text.now ≡ result.now ++ 47 ∷ [])
         ⊎ ((text.now ≡ result.now) × ((front : List ℕ) → text.now ≢ front ++ 47 ∷ [])) }
@@ -115,7 +116,7 @@ fn has_names(relative: &str) -> bool
         .all(|part| is_name(part))
 }
 
-// Whether a component is not empty, and its first byte is no dot.
+// Whether a component is not empty, and its first byte is not a dot.
 fn is_name(component: &[u8]) -> bool
     ensures { result ≡ is_name component.now }
 {

@@ -1,4 +1,4 @@
-//! Bytes of a peer, for a terminal.
+//! Cleaning bytes from a peer for a terminal.
 
 ghost use Rattle.std.specs.Prelude.{◌≡◌, ◌++◌, IfOk, OnOk};
 ghost use Rattle.gitwords.specs.Clean.{clean_byte, clean_text};
@@ -10,12 +10,12 @@ use std::alloc::{AllocError, Allocator};
 pub enum Shown {
     /// Lines of text.
     Lines,
-    /// Lines of progress: a carriage return begins a line anew.
+    /// Progress lines: a carriage return restarts the line.
     Progress,
 }
 
-/// The byte itself where it is printable ASCII, a line feed or a tab, or a carriage return of a
-/// progress line. A question mark for each other byte.
+/// Returns the byte itself if it is printable ASCII, a line feed or a tab, or a carriage return in
+/// a progress line. Returns a question mark for any other byte.
 pub fn clean_byte(byte: u8, shown: Shown) -> u8
     ensures { result ≡ clean_byte shown byte }
 {
@@ -26,7 +26,7 @@ pub fn clean_byte(byte: u8, shown: Shown) -> u8
     }
 }
 
-/// The bytes of a peer, each one cleaned. It fails only when out of memory.
+/// Returns the cleaned bytes. Fails only if out of memory.
 pub fn clean<A: Allocator + Copy>(
     alloc: A,
     bytes: &[u8],
@@ -40,8 +40,8 @@ pub fn clean<A: Allocator + Copy>(
         .collect(alloc)
 }
 
-/// Adds the bytes of a peer to a text, each one cleaned. It fails only when out of memory, and has
-/// then added some of them.
+/// Appends the cleaned bytes to a text. Fails only if out of memory, and may then have appended
+/// some of them.
 pub fn push_clean<A: Allocator + Copy>(
     text: &mut Vec<u8, A>,
     bytes: &[u8],

@@ -11,10 +11,10 @@ use crate::number::number_of;
 use std::alloc::{AllocError, Allocator};
 use std::net::Ipv6Addr;
 
-/// The port of the Git transport, for a URL that names none.
+/// The default port of the Git transport.
 pub const DEFAULT_PORT: u16 = 9418;
 
-// The most bytes of a host and of a path, as of those in the first line of a connection.
+// The maximum length of a host and of a path, as in the first line of a connection.
 const MAX_HOST: usize = 255;
 
 const MAX_PATH: usize = 1_000;
@@ -22,7 +22,7 @@ const MAX_PATH: usize = 1_000;
 // The highest port.
 const MAX_PORT: u32 = 65_535;
 
-// How a URL of the Git transport begins.
+// The beginning of a URL of the Git transport.
 const SCHEME: &str = "git://";
 
 /// A URL of the Git transport: `git://HOST[:PORT]/PATH` (git-clone(1), "GIT URLS").
@@ -32,14 +32,14 @@ pub struct GitUrl<'a> {
     pub host: &'a str,
     /// The port, from 1 to 65,535.
     pub port: u16,
-    /// The path with the slash at its front: at most 1,000 bytes of printable ASCII, and no `%`.
+    /// The path with its leading slash: at most 1,000 bytes of printable ASCII, without `%`.
     pub path: &'a str,
 }
 
 impl<'a> GitUrl<'a> {
-    /// Reads a URL. The path is kept as it is, with a `~user` at its beginning.
+    /// Parses a URL. The path is kept unchanged, including a `~user` at its beginning.
     ///
-    /// It fails if the text is no such URL. The fault has the text and the cause.
+    /// Fails if the text is not such a URL. The fault has the text and the cause.
     pub fn parse(text: &'a str) -> Result<GitUrl<'a>, UrlFault<'a>>
         ensures url { MatchResult result
             (λ url. IsGitUrl text.now url.host.now url.port url.path.now)
@@ -54,7 +54,7 @@ impl<'a> GitUrl<'a> {
         }
     }
 
-    /// The text `HOST:PORT`. It fails only when out of memory.
+    /// Returns the text `HOST:PORT`. Fails only if out of memory.
     pub fn address<A: Allocator + Copy>(&self, alloc: A) -> Result<String<A>, AllocError>
         ensures { IfOk result (λ text. string_bytes text
             ≡ self.now.host.now ++ codes ":" ++ decimal self.now.port) }
@@ -63,8 +63,8 @@ impl<'a> GitUrl<'a> {
     }
 }
 
-/// Whether a text is the address of a listening socket, HOST:PORT. The port is from 0 to 65,535, and
-/// the system picks one if it is 0.
+/// Whether a text is the address of a listening socket, HOST:PORT. The port is from 0 to 65,535,
+/// and the system picks one if it is 0.
 pub(crate) fn is_listen_address(text: &str) -> bool
     ensures { MatchBool result (IsListenAddress text.now) (¬ (IsListenAddress text.now)) }
 {
@@ -74,7 +74,7 @@ pub(crate) fn is_listen_address(text: &str) -> bool
     }
 }
 
-// Whether decimal digits say a number up to 65,535.
+// Whether decimal digits make a number up to 65,535.
 fn is_port_or_zero(digits: &str) -> bool
     ensures { MatchBool result ((port : ℕ) × IsNumber 10 digits.now port × (port ≤ 65_535))
         ((port : ℕ) → port ≤ 65_535 → ¬ (IsNumber 10 digits.now port)) }
@@ -107,7 +107,7 @@ fn read_url(text: &str) -> Result<GitUrl<'_>, Cause>
     }
 }
 
-// The text before its first slash, and the rest of it; `None` if there is no slash.
+// Returns the text before the first slash, and the rest, or `None` if there is no slash.
 fn split_path(text: &str) -> Option<(&str, &str)>
     ensures { MatchOption result (All (λ b. b ≢ 47) text.now)
         (λ parts. (text.now ≡ parts.0.now ++ parts.1.now) × All (λ b. b ≢ 47) parts.0.now
@@ -137,7 +137,7 @@ fn is_path_byte(byte: u8) -> bool
     (b' '..=b'~').contains(&byte) && byte != b'%'
 }
 
-// The host and the port of HOST[:PORT].
+// Returns the host and the port of HOST[:PORT].
 fn read_authority(text: &str) -> Result<(&str, u16), Cause>
     ensures { MatchResult result (λ parts. IsAuthority text.now parts.0.now parts.1)
         (IsAuthorityCause text.now) }
@@ -157,7 +157,7 @@ fn read_authority(text: &str) -> Result<(&str, u16), Cause>
     }
 }
 
-// The texts before and after the last colon; `None` if there is no colon.
+// Returns the texts before and after the last colon, or `None` if there is no colon.
 fn split_port(text: &str) -> Option<(&str, &str)>
     ensures { MatchOption result (All (λ b. b ≢ 58) text.now)
         (λ parts. (text.now ≡ parts.0.now ++ 58 ∷ parts.1.now)
@@ -166,7 +166,7 @@ fn split_port(text: &str) -> Option<(&str, &str)>
     text.rsplit_once(':')
 }
 
-// The number that decimal digits say, from 1 to 65,535.
+// Returns the number with these decimal digits, from 1 to 65,535.
 fn port_of(digits: &str) -> Option<u16>
     ensures { MatchOption result ((port : ℕ) → ¬ (IsPort digits.now port)) (IsPort digits.now) }
 {
@@ -209,7 +209,7 @@ fn is_bracketed(text: &str) -> bool
     }
 }
 
-// The text between two brackets; `None` if it is not between two.
+// Returns the text between two brackets, or `None` if there are no brackets around it.
 fn in_brackets(text: &str) -> Option<&str>
     ensures { MatchOption result ((inner : List ℕ) → ¬ (text.now ≡ 91 ∷ (inner ++ 93 ∷ [])))
         (λ inner. text.now ≡ 91 ∷ (inner.now ++ 93 ∷ [])) }

@@ -1,10 +1,10 @@
-//! The table of commands, and `clap`'s form of it.
+//! The commands, and their `clap` definitions.
 
 use clap::{Arg, ArgAction, Command};
 use std::alloc::{AllocError, Global};
 
-/// A command: its name, the first line of its help, its usage line, the words that it takes, and the
-/// end of its help.
+/// A command: its name, the first line of its help, its usage line, its arguments, and the end of
+/// its help.
 pub(crate) struct Row {
     name: &'static str,
     about: &'static str,
@@ -13,21 +13,20 @@ pub(crate) struct Row {
     notes: &'static str,
 }
 
-// A word of a command, or several of them. The first text is the name by which it is looked up, the
-// last one its help.
+// One or more arguments of a command. The first text is the look-up name, the last one is the help.
 #[derive(Clone, Copy)]
 enum Word {
     // `--NAME`
     Flag(&'static str, &'static str),
-    // `--NAME VALUE`, which must be there.
+    // `--NAME VALUE`, which is required.
     Valued(&'static str, &'static str, &'static str),
-    // `--NAME VALUE`, which may be missing.
+    // `--NAME VALUE`, which is optional.
     Optional(&'static str, &'static str, &'static str),
-    // A word that must be there.
+    // A required argument.
     One(&'static str, &'static str),
-    // At least one word.
+    // At least one argument.
     Many(&'static str, &'static str),
-    // Any number of words.
+    // Any number of arguments.
     Any(&'static str, &'static str),
 }
 
@@ -173,7 +172,7 @@ It needs GIT_PROTOCOL=version=2 in its environment, which sshd has to accept.",
     },
 ];
 
-/// The program, with all of its commands.
+/// Returns the program with all its commands.
 pub(crate) fn program<'a>(alloc: Global) -> Result<Command<'a>, AllocError> {
     let mut program = Command::new(alloc, PROGRAM)
         .about("Clone, fetch and serve Git repositories over git://")
@@ -188,7 +187,7 @@ pub(crate) fn program<'a>(alloc: Global) -> Result<Command<'a>, AllocError> {
     Ok(program)
 }
 
-/// The usage line of a command.
+/// Returns the usage line of a command.
 pub(crate) fn usage_of(name: &str) -> &'static str {
     match COMMANDS.iter().find(|row| row.name == name) {
         Some(row) => row.usage,

@@ -1,4 +1,4 @@
-//! A file in memory: for tests, as it fails or stops at a chosen call.
+//! A file in memory for tests, which fails or stops at a chosen call.
 
 ghost use Rattle.std.specs.Prelude.{◌≡◌, ◌∷◌, [], IfOk, Some, map};
 ghost use Rattle.glockfile.specs.declared.storage.Lockfile.TheVariants.{Absent};
@@ -8,9 +8,9 @@ use std::alloc::{Allocator, Global};
 use std::marker::Model;
 use std::mem;
 
-/// A file in memory. It keeps each text that it has had.
+/// A file in memory. It stores each text that it has had.
 ///
-/// Which call fails is only tested: a clause sees the texts, and how far this run is with its lockfile.
+/// The failing call is only tested: a clause sees the texts, and the state of this run's lockfile.
 #[derive(Drop)]
 pub struct MemoryFile<A: Allocator + Copy = Global> {
     alloc: A,
@@ -22,19 +22,19 @@ pub struct MemoryFile<A: Allocator + Copy = Global> {
     calls: usize,
 }
 
-// Which calls fail. The first call is 1.
+// The calls that fail. The first call is 1.
 #[derive(Clone, Copy)]
 enum Trouble {
     None,
-    // This one.
+    // This call.
     At(usize),
-    // This one and all later ones.
+    // This call and all later ones.
     From(usize),
-    // All later ones; and this one does its work, but fails.
+    // All later calls. This call does its work, but also fails.
     After(usize),
 }
 
-// How a call comes out.
+// The outcome of a call.
 #[derive(Clone, Copy, PartialEq, Eq)]
 enum Effect {
     // It does its work.
@@ -58,7 +58,7 @@ impl<A: Allocator + Copy> Model for MemoryFile<A> {
 }
 
 impl<A: Allocator + Copy> MemoryFile<A> {
-    /// A file with this text, whose calls work. It fails out of memory.
+    /// Returns a file with this text, whose calls work. Fails only if out of memory.
     pub fn new(alloc: A, text: &[u8]) -> Result<MemoryFile<A>, StorageFault>
         ensures states { IfOk result (λ file. file.texts.states ≡ text.now ∷ []) }
         ensures lockfile { IfOk result (λ file. file.lockfile ≡ Absent) }
@@ -76,7 +76,7 @@ impl<A: Allocator + Copy> MemoryFile<A> {
         })
     }
 
-    /// The file with a lockfile that another run made.
+    /// Returns the file with a lockfile of another run.
     pub fn locked_by_another(mut self) -> MemoryFile<A>
         ensures { result ≡ self }
     {
@@ -84,24 +84,25 @@ impl<A: Allocator + Copy> MemoryFile<A> {
         self
     }
 
-    /// The call with this number fails, and changes nothing. The first is 1.
-    pub fn failing(mut self, call: usize) -> MemoryFile<A>
+    /// Makes the call with this number fail and change nothing. The first call is 1.
+    pub fn fail_call(mut self, call: usize) -> MemoryFile<A>
         ensures { result ≡ self }
     {
         self.trouble = Trouble::At(call);
         self
     }
 
-    /// The call with this number and all later ones fail, and change nothing, as in a run that was killed before it.
-    pub fn stopping(mut self, call: usize) -> MemoryFile<A>
+    /// Makes the call with this number and all later ones fail and change nothing, as in a run that
+    /// was killed before it.
+    pub fn stop_from(mut self, call: usize) -> MemoryFile<A>
         ensures { result ≡ self }
     {
         self.trouble = Trouble::From(call);
         self
     }
 
-    /// The call with this number does its work and fails, and all later ones fail and change nothing, as in a run that
-    /// was killed right after it.
+    /// Makes the call with this number do its work and fail. All later ones fail and change
+    /// nothing, as in a run that was killed right after it.
     pub fn stopping_after(mut self, call: usize) -> MemoryFile<A>
         ensures { result ≡ self }
     {
@@ -109,7 +110,7 @@ impl<A: Allocator + Copy> MemoryFile<A> {
         self
     }
 
-    /// Each text that the file has had, the last being there now.
+    /// Returns each text that the file has had. The last one is the current text.
     pub fn states(&self) -> &[Vec<u8, A>]
         ensures { map (λ v. v.items) result.now ≡ self.now.texts.states }
     {
@@ -121,12 +122,12 @@ impl<A: Allocator + Copy> MemoryFile<A> {
         self.is_locked
     }
 
-    /// How many calls there were.
+    /// Returns the number of calls.
     pub fn calls(&self) -> usize {
         self.calls
     }
 
-    // Counts a call, and answers how it comes out.
+    // Counts a call, and returns its outcome.
     fn call(&mut self) -> Effect
         ensures { self.new ≡ self.old }
     {

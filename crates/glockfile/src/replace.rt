@@ -1,4 +1,4 @@
-//! A file is locked and read, and then replaced whole, or not at all.
+//! Locking and reading a file, and then replacing it whole, or not at all.
 
 ghost use Rattle.std.specs.Prelude.{◌≡◌, IfOk, MatchResult, OnOk};
 ghost use Rattle.glockfile.specs.Storing.{Adds, Holds, MayAdd, Replaces, WhereKnown};
@@ -9,8 +9,8 @@ use std::alloc::Allocator;
 
 /// Locks the file, and then reads it.
 ///
-/// It fails with `Failed` where the lockfile is there already or a call fails, and with `Memory`. This run holds no
-/// lockfile then.
+/// Fails with `Failed` if the lockfile already exists or a call fails, and with `Memory` if out of
+/// memory. After a failure this run holds no lockfile.
 pub fn open_file<A: Allocator + Copy, T: Storage>(
     alloc: A,
     file: &mut T,
@@ -31,10 +31,11 @@ pub fn open_file<A: Allocator + Copy, T: Storage>(
     }
 }
 
-/// Replaces the text of a locked file, `old`, by `new`, and unlocks it. Nothing is written where both are equal.
+/// Replaces the text of a locked file, `old`, by `new`, and unlocks it. Writes nothing if both are
+/// equal.
 ///
-/// It fails with `Failed` or `Memory`; the file has the old text then, or the whole new one. This run holds no lockfile
-/// at the end.
+/// Fails with `Failed` or `Memory`, and the file then has the old text, or the whole new one. This
+/// run holds no lockfile at the end.
 pub fn replace_file<T: Storage>(file: &mut T, old: &[u8], new: &[u8]) -> Result<(), StorageFault>
     requires { T.lockfile file.old ≡ Empty }
     ensures replaced { WhereKnown (T.texts file.old) (T.texts file.new)

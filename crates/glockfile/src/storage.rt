@@ -1,4 +1,4 @@
-//! One file, and the lockfile beside it.
+//! One file and its lockfile.
 
 ghost use Rattle.std.specs.Prelude.{◌≡◌, ◌≢◌, ◌≤◌, List, ℕ, Option, IfOk, MatchResult, OnOk, Some};
 ghost use Rattle.glockfile.specs.Faults.{storage_fault_text};
@@ -16,7 +16,7 @@ use std::{fmt, io};
 pub enum StorageFault {
     /// Out of memory.
     Memory,
-    /// The lockfile is there already, the file is no regular file, or the system refused a call.
+    /// The lockfile already exists, the file is not a regular file, or the system refused a call.
     Failed,
 }
 
@@ -59,12 +59,12 @@ impl From<io::Error> for StorageFault {
     }
 }
 
-/// How far this run is with its lockfile.
+/// The state of this run's lockfile.
 #[derive(Clone, Copy, Debug, PartialEq, Eq)]
 pub enum Lockfile {
     /// This run holds none.
     Absent,
-    /// It was made, and nothing is in it.
+    /// It was created, and is empty.
     Empty,
     /// It has the new text.
     Written,
@@ -74,24 +74,24 @@ pub enum Lockfile {
     Unusable,
 }
 
-/// One file, and the lockfile beside it (git's `lockfile.h`).
+/// One file and its lockfile (git's `lockfile.h`).
 ///
-/// Only a text that is synced is renamed. So after a crash at any moment the name has one of the states.
+/// Only a synced text is renamed. So after a crash at any moment the file has one of the states.
 pub trait Storage {
-    // Each text that has been under the name, and what was written to the lockfile, where they are known.
+    // Each text that the file has had, and the text written to the lockfile, if they are known.
     ghost texts: { Self → Option Texts };
 
-    // How far this run is with its lockfile.
+    // The state of this run's lockfile.
     ghost lockfile: { Self → Lockfile };
 
-    /// Makes the lockfile. It fails where there is one already, and changes nothing then.
+    /// Creates the lockfile. Fails if there is one already, and then changes nothing.
     fn lock(&mut self) -> Result<(), StorageFault>
         requires { lockfile self.old ≡ Absent }
         ensures lockfile { MatchResult result (λ _. lockfile self.new ≡ Empty)
             (λ _. lockfile self.new ≡ Absent) }
         ensures texts { texts self.new ≡ texts self.old };
 
-    /// The text that is under the name.
+    /// Returns the text of the file.
     fn read<A: Allocator + Copy>(&mut self, alloc: A) -> Result<Vec<u8, A>, StorageFault>
         requires { lockfile self.old ≡ Empty }
         ensures text { IfOk result (λ text. Holds (texts self.old) text.items) }
@@ -106,14 +106,15 @@ pub trait Storage {
             (λ _. lockfile self.new ≡ Unusable) }
         ensures states { KeepsStates (texts self.old) (texts self.new) };
 
-    /// Brings the text of the lockfile to the disk.
+    /// Syncs the text of the lockfile to disk.
     fn sync(&mut self) -> Result<(), StorageFault>
         requires { lockfile self.old ≡ Written }
         ensures lockfile { MatchResult result (λ _. lockfile self.new ≡ Synced)
             (λ _. lockfile self.new ≡ Unusable) }
         ensures texts { texts self.new ≡ texts self.old };
 
-    /// Renames the lockfile over the file. At `Err` the file has the old text, or the whole new one.
+    /// Renames the lockfile over the file. After `Err` the file has the old text, or the whole new
+    /// one.
     fn rename(&mut self) -> Result<(), StorageFault>
         requires { lockfile self.old ≡ Synced }
         ensures lockfile { MatchResult result (λ _. lockfile self.new ≡ Absent)
@@ -121,8 +122,8 @@ pub trait Storage {
         ensures states { WhereKnown (texts self.old) (texts self.new)
             (λ before after. Renames before after result) };
 
-    /// Removes the lockfile that this run made. It stays where the system refuses that, and then nobody can lock the
-    /// file until it is removed.
+    /// Removes the lockfile of this run. If the system refuses that, it stays, and nobody can lock
+    /// the file until it is removed.
     fn unlock(&mut self)
         requires { lockfile self.old ≢ Absent }
         ensures lockfile { lockfile self.new ≡ Absent }

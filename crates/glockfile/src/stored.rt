@@ -12,10 +12,11 @@ use std::marker::Model;
 use std::os::unix::fs::OpenOptionsExt;
 use std::path::{Path, PathBuf};
 
-/// A file of the system, and the lockfile beside it, whose name is that of the file and `.lock`.
+/// A file of the system and its lockfile, whose name is the file's name and `.lock`.
 ///
-/// The name of a symbolic link stands for the file that it leads to: that file is locked and replaced, and it must be a
-/// regular one. The new file has the permissions of the old one. A process that is killed can leave its lockfile.
+/// If the name is that of a symbolic link, its target is locked and replaced, and must be a regular
+/// file. The new file has the permissions of the old one. A process that is killed can leave its
+/// lockfile.
 #[derive(Drop)]
 pub struct StoredFile<'r, R: Files, A: Allocator + Copy = Global> {
     files: &'r R,
@@ -25,10 +26,10 @@ pub struct StoredFile<'r, R: Files, A: Allocator + Copy = Global> {
     lock: Option<Lock<R, A>>,
 }
 
-// The lockfile that this run made.
+// The lockfile of this run.
 #[derive(Drop)]
 struct Lock<R: Files, A: Allocator + Copy> {
-    // The file that is locked. It is no symbolic link.
+    // The locked file. It is not a symbolic link.
     target: PathBuf<A>,
     path: PathBuf<A>,
     file: R::File,
@@ -43,7 +44,7 @@ impl<'r, R: Files, A: Allocator + Copy> Model for StoredFile<'r, R, A> {
 }
 
 impl<'r, R: Files, A: Allocator + Copy> StoredFile<'r, R, A> {
-    /// The file with this name. Nothing is opened yet.
+    /// Returns the file with this name. Nothing is opened yet.
     pub fn new(alloc: A, files: &'r R, name: &'r str) -> StoredFile<'r, R, A>
         ensures { result ≡ Absent }
     {
@@ -57,10 +58,10 @@ impl<'r, R: Files, A: Allocator + Copy> StoredFile<'r, R, A> {
     }
 }
 
-// The permissions of a lockfile until it has those of the file: nobody but its owner can open it.
+// The permissions of a lockfile until it has those of the file: only its owner can open it.
 const OWNER_ALONE: u32 = 0o600;
 
-// Makes the lockfile, with the permissions of the file.
+// Creates the lockfile, with the permissions of the file.
 fn make_lock<R: Files, A: Allocator + Copy>(
     files: &R,
     alloc: A,
@@ -85,7 +86,7 @@ fn make_lock<R: Files, A: Allocator + Copy>(
     }
 }
 
-// The path of the file that is locked: where the name is that of a symbolic link, that of the file that it leads to.
+// Returns the path of the file to lock: the target if the name is that of a symbolic link.
 fn target_of<R: Files, A: Allocator + Copy>(
     files: &R,
     alloc: A,
@@ -107,7 +108,7 @@ fn check_is_regular<R: Files>(files: &R, path: &str) -> Result<Metadata, Storage
     }
 }
 
-// Gives the lockfile the permissions that the file has once it is locked.
+// Gives the lockfile the permissions of the file, once it is locked.
 fn share_permissions<R: Files, A: Allocator + Copy>(
     files: &R,
     lock: &Lock<R, A>,
@@ -116,7 +117,7 @@ fn share_permissions<R: Files, A: Allocator + Copy>(
     Ok(lock.file.set_permissions(metadata.permissions())?)
 }
 
-// Brings a new name to the disk, in the directory that it is in.
+// Syncs the directory of a new name to disk.
 fn sync_directory<R: Files>(files: &R, target: Path<'_>) -> Result<(), StorageFault> {
     let directory = match target.parent() {
         Some(parent) if !parent.as_str().is_empty() => parent.as_str(),
@@ -171,7 +172,7 @@ impl<R: Files, A: Allocator + Copy> Storage for StoredFile<'_, R, A> {
             return Err(StorageFault::Failed);
         };
         fs::rename(self.files, lock.path.as_str(), lock.target.as_str())?;
-        // The file is replaced, whether or not its directory can be synced.
+        // The file is replaced, even if its directory can't be synced.
         let _ = sync_directory(self.files, lock.target.as_path());
         self.lock = None;
         self.lockfile = Lockfile::Absent;

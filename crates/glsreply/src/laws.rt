@@ -1,5 +1,5 @@
-//! Laws of the reply to ls-refs. Each function does nothing, and its contract is the law: a caller that calls
-//! it may rely on the law from there on.
+//! Laws of the reply to ls-refs. Each function does nothing, and its contract is the law. A caller
+//! may rely on the law after the call.
 
 ghost use Rattle.std.specs.Prelude.{◌≡◌, ◌+◌, List, length};
 ghost use Rattle.gname.specs.declared.formats.Format.{Format};
@@ -13,14 +13,14 @@ ghost use Rattle.glsreply.specs.LsReplies.{IsCanonicalReply, LsReply, Says, brin
 ghost use Rattle.glsreply.specs.WellFormed.{IsLsReplyIn, last_frame};
 
 use crate::MAX_LINES;
-use ggrammar::Kind;
+use ggrammar::MessageKind;
 use ggrammar::laws::{grammars_are_exact, kinds_are_read, messages_are_read, texts_are_read};
 use gname::laws::{
     id_texts_are_digits, ids_have_one_format, ids_have_texts, names_are_clean,
     texts_have_one_reading,
 };
 
-/// The constant is the limit that the definitions name.
+/// The constant is the limit that the definitions use.
 pub fn limits_are_the_constants()
     ensures lines { MAX_LINES ≡ max_lines }
 {}
@@ -30,13 +30,13 @@ pub fn one_meaning()
     ensures { (format : Format) (ends : Ends) → OneMeaning (Says format ends) }
 {}
 
-/// What says a reply is complete, and what is complete says one.
+/// A list of packets is complete exactly if it says a reply.
 pub fn says_whole()
     ensures { (format : Format) (ends : Ends) → SaysWhole (judge format ends) (Says format ends) }
 {}
 
-/// No reply begins another, in the same format and with the same ending, and no bytes of one begin those of
-/// another.
+/// No reply is a prefix of another in the same format and with the same ending, as packets or as
+/// bytes.
 pub fn prefix_free()
     ensures packets { (format : Format) (ends : Ends) → IsPrefixFree (judge format ends) }
     ensures spellings { (format : Format) (ends : Ends) → SpellingsPrefixFree (judge format ends) }
@@ -45,8 +45,8 @@ pub fn prefix_free()
     messages_are_read();
 }
 
-/// Each list of packets that the table leaves open begins a reply, and the packet that it refuses is the first
-/// that does not fit.
+/// Each list of packets that the table leaves open is a prefix of a reply, and a refused packet is
+/// the first that does not fit.
 pub fn endings()
     ensures endings { (format : Format) (ends : Ends) → HasEndings (judge format ends) }
     ensures first { (format : Format) (ends : Ends) → RefusesFirstMisfits (judge format ends) }
@@ -54,7 +54,8 @@ pub fn endings()
     grammars_are_exact();
 }
 
-/// A packet is refused for its own sake alone. All bytes begin with a reply, or are refused for a reason in them.
+/// A packet is refused only for a reason in the packet. All bytes begin with a reply, or are
+/// refused for a reason in the bytes.
 pub fn every_input()
     ensures packets { (format : Format) (ends : Ends) → RefusesPackets (judge format ends) }
     ensures bytes { (format : Format) (ends : Ends)
@@ -64,7 +65,7 @@ pub fn every_input()
     messages_are_read();
 }
 
-/// The lists of packets that are read as a reply are those that the manual has, and they say the same.
+/// The lists of packets that are read as a reply are those of the manual, and they say the same.
 pub fn manual()
     ensures { (format : Format) (ends : Ends)
         → AsInManual (Says format ends) (IsLsReply format ends) }
@@ -76,7 +77,7 @@ pub fn manual()
     texts_have_one_reading();
 }
 
-/// What is written of a reply says it, and each payload fits a packet.
+/// A reply is written as packets that say it, and each payload fits a packet.
 pub fn canonical_says()
     ensures { (format : Format) (ends : Ends)
         → CanonicalSays (Says format ends) (IsLsReplyIn format) (IsCanonicalReply ends) }
@@ -90,8 +91,8 @@ pub fn canonical_says()
     texts_have_one_reading();
 }
 
-/// The last packet of a reply is at the position that
-/// [`LsReply::last_frame`](crate::LsReply::last_frame) answers.
+/// The position of the last packet of a reply is
+/// [`LsReply::last_frame`](crate::LsReply::last_frame).
 pub fn last_frame()
     ensures { (format : Format) (ends : Ends) (packets : List Packet) (reply : LsReply)
         → Says format ends packets reply → length packets ≡ last_frame ends reply + 1 }
@@ -99,10 +100,10 @@ pub fn last_frame()
     manual();
 }
 
-// Replies of repositories with ids of a format, with an ending, as a kind of message.
+// Replies with a format of ids and an ending, as a kind of message.
 struct Replies;
 
-impl Kind for Replies {
+impl MessageKind for Replies {
     ghost use Rattle.gname.specs.declared.formats.Format.{Format};
     ghost use Rattle.ggrammar.specs.declared.ends.Ends.{Ends};
     ghost use Rattle.glsreply.specs.LsReplies.{IsCanonicalReply, LsReply, Says, brings, judge};
@@ -123,7 +124,7 @@ impl Kind for Replies {
     ghost is_canonical = { λ given. IsCanonicalReply given.1 };
 }
 
-/// A reply is read exactly where the bytes begin with one.
+/// A reply is read exactly when the bytes begin with one.
 pub fn reads_exactly()
     ensures { (format : Format) (ends : Ends)
         → ReadsExactly (judge format ends) brings (Says format ends) }
@@ -133,7 +134,7 @@ pub fn reads_exactly()
     kinds_are_read::<Replies>();
 }
 
-/// What is written of a reply reads back as that reply, whatever follows.
+/// A written reply reads back as the same reply, whatever follows.
 pub fn reads_back()
     ensures { (format : Format) (ends : Ends)
         → ReadsBack (judge format ends) brings (Says format ends) (IsLsReplyIn format)

@@ -1,4 +1,4 @@
-//! The line of a ref whose names are lent, and its text.
+//! The line of a ref with borrowed names, and its text.
 
 ghost use Rattle.std.specs.Prelude.{◌≡◌, ◌+◌, ◌≤◌, ◌++◌, [], length};
 ghost use Rattle.std.specs.Option.{option_copied};
@@ -14,24 +14,24 @@ use gname::{Oid, RefName};
 use std::alloc::Allocator;
 use std::marker::Model;
 
-// The most bytes of a line's text: two ids, two names, and the words between them.
+// The maximum length of a line's text in bytes: two ids, two names, and the words between them.
 const MAX_REF_TEXT: usize = 2_152;
 
-/// The line of a ref (gitprotocol-v2(5), "ls-refs"), with names that another value keeps.
+/// The line of a ref (gitprotocol-v2(5), "ls-refs"), with borrowed names.
 #[derive(Clone, Copy, Debug)]
 pub struct LentLine<'a, A: Allocator + Copy> {
-    /// The object at which the ref stands.
+    /// The id of the ref.
     pub id: Oid,
     /// The name of the ref.
     pub name: &'a RefName<A>,
-    /// The name that a symbolic ref points at.
+    /// The target of a symbolic ref.
     pub symref: Option<&'a RefName<A>>,
-    /// The object to which a tag leads.
+    /// The peeled object of a tag.
     pub peeled: Option<Oid>,
 }
 
 impl<'a, A: Allocator + Copy> LentLine<'a, A> {
-    /// The line of these parts, whose names may be lent by different values.
+    /// Returns the line of these parts. The names may be borrowed from different values.
     pub fn new(
         id: Oid,
         name: &'a RefName<A>,
@@ -55,7 +55,7 @@ impl<'a, A: Allocator + Copy> LentLine<'a, A> {
         }
     }
 
-    /// A law: what is true of each line.
+    /// A law: the properties of each line.
     pub(crate) fn laws(&self)
         ensures { IsLine (lent_view self.now) }
     {
@@ -70,8 +70,8 @@ impl<'a, A: Allocator + Copy> LentLine<'a, A> {
     }
 }
 
-/// The text of the line of a ref. There is room in it for each such text, so it takes no memory; and it can be
-/// set again and again.
+/// The text of a ref's line. It has room for any such text, so it does not allocate, and it can be
+/// reused.
 #[derive(Drop)]
 pub struct RefText {
     text: ArrayVec<u8, MAX_REF_TEXT>,
@@ -86,7 +86,7 @@ impl Model for RefText {
 }
 
 impl RefText {
-    /// No text yet.
+    /// Returns an empty text.
     pub fn new() -> RefText
         ensures { result ≡ [] }
     {
@@ -95,9 +95,9 @@ impl RefText {
         }
     }
 
-    /// Replaces what was there by the text of a line: the id, a space, the name, and each attribute
-    /// after a space, first ` symref-target:` and then ` peeled:`. There is no line feed in it. Ids are in
-    /// lower case.
+    /// Replaces the text by that of a line: the id, a space, the name, and each attribute after a
+    /// space, first ` symref-target:` and then ` peeled:`. It has no line feed. Ids are in lower
+    /// case.
     pub fn set<A: Allocator + Copy>(&mut self, line: &LentLine<'_, A>)
         ensures text { self.new ≡ ref_text (lent_view line.now) }
         ensures long { length self.new ≤ max_ref_text }
@@ -105,7 +105,7 @@ impl RefText {
         compose(line, &mut self.text);
     }
 
-    /// The bytes of the text.
+    /// Returns the bytes of the text.
     pub fn as_bytes(&self) -> &[u8]
         ensures { result.now ≡ self.now }
     {

@@ -9,7 +9,7 @@ ghost use Rattle.glsreply.specs.steps.LineViews.{line_parts, line_read, attribut
 use ggrammar::{Why, after_word, id_of_text};
 use gname::{Format, HEAD, Oid, RefName};
 
-/// The parts of the line of a ref, lent from its text.
+/// The parts of a ref's line, borrowed from its text.
 #[derive(Clone, Copy)]
 pub(crate) struct LineParts<'a> {
     pub(crate) id: Oid,
@@ -18,7 +18,7 @@ pub(crate) struct LineParts<'a> {
     pub(crate) peeled: Option<Oid>,
 }
 
-// A part after the name; what follows its word is not looked at yet.
+// A part after the name. The text after its word is not checked yet.
 #[derive(Clone, Copy)]
 enum Attribute<'a> {
     Symref(&'a [u8]),
@@ -26,15 +26,15 @@ enum Attribute<'a> {
     Unknown,
 }
 
-/// What the first text of a reply is.
+/// The kinds of a reply's first text.
 pub(crate) enum FirstText<'a> {
-    /// An unborn `HEAD`, and its target, or why the text is refused.
+    /// An unborn `HEAD` with its target, or the reason why the text is refused.
     Unborn(Result<&'a [u8], Why>),
     /// The line of a ref.
     Ref,
 }
 
-// What stands before the first space, and after it if there is one.
+// Returns the text before the first space, and the text after it if there is one.
 fn cut(text: &[u8]) -> (&[u8], Option<&[u8]>)
     ensures parts { parts_of text.now ≡ result.0.now ∷ parts_left result.1 }
     ensures shorter { IfSome result.1 (λ rest. length rest.now < length text.now) }
@@ -45,7 +45,7 @@ fn cut(text: &[u8]) -> (&[u8], Option<&[u8]>)
     }
 }
 
-// The position of the first space.
+// Returns the position of the first space.
 fn first_space(text: &[u8]) -> Option<usize>
     ensures place { result ≡ position is_space text.now }
     ensures within { IfSome result (λ at. at < length text.now) }
@@ -60,7 +60,8 @@ fn is_name(text: &[u8]) -> bool
     RefName::check(text).is_ok()
 }
 
-/// What a text says as the line of a ref, or why it is none. It takes no memory.
+/// Returns the parts of a text as a ref's line, or the reason why it is not one. It does not
+/// allocate.
 #[tactic(auto, unfolding(crate::specs::RefTexts::line_of))]
 pub(crate) fn line_of(format: Format, text: &[u8]) -> Result<LineParts<'_>, Why>
     ensures { line_read result ≡ line_of format text.now }
@@ -85,7 +86,7 @@ fn line_with_name(format: Format, id: Oid, rest: &[u8]) -> Result<LineParts<'_>,
     with_attributes(format, id, name, attributes)
 }
 
-// The line with its attributes, of which each comes once.
+// Returns the line with its attributes, each at most once.
 fn with_attributes<'a>(
     format: Format,
     id: Oid,
@@ -145,7 +146,7 @@ fn attribute_of(part: &[u8]) -> Attribute<'_>
     }
 }
 
-/// What the first text of a reply is, by its first part. It takes no memory.
+/// Returns the kind of a reply's first text, by its first part. It does not allocate.
 #[tactic(auto, unfolding(crate::specs::RefTexts::first_form))]
 pub(crate) fn first_form(text: &[u8]) -> FirstText<'_>
     ensures { form_view result ≡ first_form text.now }

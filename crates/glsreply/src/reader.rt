@@ -19,12 +19,12 @@ use ggrammar::laws::grammars_are_exact;
 use ggrammar::{Ends, Message, MessageFault, PeerText, Step, Why, peer_error, read_message};
 use gname::laws::texts_have_one_reading;
 use gname::{Format, RefName};
-use gpkt::{Line, LineReader, Source, text_of};
+use gpkt::{Packet, PacketReader, Source, text_of};
 use std::alloc::{AllocError, Allocator};
 
 /// Reads the reply to ls-refs of a repository whose ids are SHA-1, as [`read_ls_reply_in`] does.
 pub fn read_ls_reply<S: Source, A: Allocator + Copy, B: Allocator + Copy>(
-    reader: &mut LineReader<S, A>,
+    reader: &mut PacketReader<S, A>,
     ends: Ends,
     alloc: B,
 ) -> Result<LsReply<B>, MessageFault>
@@ -37,16 +37,17 @@ pub fn read_ls_reply<S: Source, A: Allocator + Copy, B: Allocator + Copy>(
     read_ls_reply_in(reader, Format::Sha1, ends, alloc)
 }
 
-/// Reads one reply to ls-refs to its end, and nothing after it (gitprotocol-v2(5), "ls-refs"). Its ids are of
-/// the format.
+/// Reads one reply to ls-refs to its end, and nothing after it (gitprotocol-v2(5), "ls-refs"). Its
+/// ids have the format.
 ///
-/// The fault has the position of the first packet that does not fit, and why. What the reader refuses comes
-/// first ([`Why::Line`]), then the end of the input ([`Why::Ended`]), then an error that the peer reports
-/// ([`Why::RemoteErr`]), then what the grammar refuses, its text read from left to right. One line more than
-/// 65,537 is refused with [`Why::Limit`] where its form is right. [`Why::Memory`] comes only at a line that is
-/// accepted. After a refusal the reader has failed exactly where it refused the packet itself.
+/// The fault has the reason, and the position of the first packet that does not fit. A fault of the
+/// packet reader ([`Why::Packet`]) takes precedence, then the end of the input ([`Why::Ended`]).
+/// Next is an error that the peer reports ([`Why::RemoteErr`]), and then a refusal by the grammar,
+/// which reads a text from left to right. Line 65,538 is refused with [`Why::Limit`] if its form is
+/// right. [`Why::Memory`] is reported only at an accepted line. After a refusal the reader has
+/// failed exactly if it refused the packet itself.
 pub fn read_ls_reply_in<S: Source, A: Allocator + Copy, B: Allocator + Copy>(
-    reader: &mut LineReader<S, A>,
+    reader: &mut PacketReader<S, A>,
     format: Format,
     ends: Ends,
     alloc: B,
@@ -72,16 +73,16 @@ pub(crate) struct LsReplyReader<A: Allocator + Copy> {
     alloc: A,
     format: Format,
     ends: Ends,
-    // The flush has come, and a response-end is due.
+    // Whether the flush was read, and a response-end is expected.
     is_over: bool,
-    // How many texts there were.
+    // The number of texts.
     count: usize,
     unborn: Option<RefName<A>>,
     lines: Vec<RefLine<A>, A>,
 }
 
 impl<A: Allocator + Copy> LsReplyReader<A> {
-    /// A reply without packets.
+    /// Returns a reply without packets.
     pub(crate) fn new(alloc: A, format: Format, ends: Ends) -> LsReplyReader<A>
         ensures format { result.format ≡ format }
         ensures ends { result.ends ≡ ends }
@@ -98,7 +99,7 @@ impl<A: Allocator + Copy> LsReplyReader<A> {
         }
     }
 
-    /// What the packets say.
+    /// Returns what the packets say.
     fn finish(self) -> LsReply<A>
         requires { IsReplyValue (state_in self).reply }
         ensures { result ≡ (state_in self).reply }
@@ -108,7 +109,7 @@ impl<A: Allocator + Copy> LsReplyReader<A> {
     }
 
     #[tactic(auto, unfolding(crate::specs::LsReplies::judge_at))]
-    fn take_packet(&mut self, line: Line<'_>) -> Result<Step, Why>
+    fn take_packet(&mut self, line: Packet<'_>) -> Result<Step, Why>
         ensures kept { KeepsKind self.old self.new }
         ensures takes { TakesAs (judge_at self.old.format self.old.ends self.old.is_over
             self.old.count (packet_of line.entry)) (brings [] (packet_of line.entry))
@@ -116,10 +117,10 @@ impl<A: Allocator + Copy> LsReplyReader<A> {
             (packet_of line.entry)) result }
     {
         match line {
-            Line::Data(payload) => self.take_data(payload),
-            Line::Flush => self.take_flush(),
-            Line::Delim => Err(Why::UnexpectedFrame),
-            Line::ResponseEnd => self.take_response_end(),
+            Packet::Data(payload) => self.take_data(payload),
+            Packet::Flush => self.take_flush(),
+            Packet::Delim => Err(Why::UnexpectedFrame),
+            Packet::ResponseEnd => self.take_response_end(),
         }
     }
 
@@ -222,12 +223,12 @@ impl<A: Allocator + Copy> LsReplyReader<A> {
             return Err(Why::Limit);
         }
         match keep_line(self.alloc, line) {
-            Ok(line) => self.add_line(line),
+            Ok(line) => self.keep_ref_line(line),
             Err(_) => Err(Why::Memory),
         }
     }
 
-    fn add_line(&mut self, line: RefLine<A>) -> Result<Step, Why>
+    fn keep_ref_line(&mut self, line: RefLine<A>) -> Result<Step, Why>
         requires { self.old.count < max_lines }
         ensures kept { KeepsKind self.old self.new }
         ensures takes { TakesAs Open true
@@ -243,7 +244,7 @@ impl<A: Allocator + Copy> LsReplyReader<A> {
     }
 }
 
-// The line as a value.
+// Returns the line as a value.
 fn keep_line<A: Allocator + Copy>(alloc: A, line: &LineParts<'_>) -> Result<RefLine<A>, AllocError>
     ensures { IfOk result (λ kept. kept ≡ parts_view line.now) }
 {
@@ -260,7 +261,7 @@ fn keep_line<A: Allocator + Copy>(alloc: A, line: &LineParts<'_>) -> Result<RefL
     })
 }
 
-// A name that has been judged.
+// Stores a name that was checked.
 fn keep_name<A: Allocator + Copy>(alloc: A, text: &[u8]) -> Result<RefName<A>, AllocError>
     ensures { IfOk result (λ kept. kept ≡ text.now) }
 {
@@ -279,7 +280,7 @@ impl<A: Allocator + Copy> Message for LsReplyReader<A> {
 
     ghost left = { λ _ _. Unit {0} };
 
-    fn take(&mut self, line: Line<'_>) -> Result<Step, Why> {
+    fn accept_packet(&mut self, line: Packet<'_>) -> Result<Step, Why> {
         self.take_packet(line)
     }
 

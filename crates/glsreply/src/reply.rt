@@ -15,19 +15,19 @@ use gname::{Oid, RefName};
 use std::alloc::Allocator;
 use std::marker::Model;
 
-/// The most lines of a reply: `HEAD` and 65,536 refs, or an unborn `HEAD` and these.
+/// The maximum number of lines of a reply: `HEAD` and 65,536 refs, or an unborn `HEAD` and these.
 pub const MAX_LINES: usize = 65_537;
 
 /// A ref of the reply (gitprotocol-v2(5), "ls-refs").
 #[derive(Debug, Drop)]
 pub struct RefLine<A: Allocator + Copy> {
-    /// The object at which the ref stands.
+    /// The id of the ref.
     pub id: Oid,
     /// The name of the ref.
     pub name: RefName<A>,
-    /// The name that a symbolic ref points at.
+    /// The target of a symbolic ref.
     pub symref: Option<RefName<A>>,
-    /// The object to which a tag leads.
+    /// The peeled object of a tag.
     pub peeled: Option<Oid>,
 }
 
@@ -40,7 +40,7 @@ impl<A: Allocator + Copy> Model for RefLine<A> {
 }
 
 impl<A: Allocator + Copy> RefLine<A> {
-    /// The line, with its names lent.
+    /// Returns the line with borrowed names.
     pub fn lend(&self) -> LentLine<'_, A>
         ensures { lent_view result ≡ self.now }
     {
@@ -53,7 +53,7 @@ impl<A: Allocator + Copy> RefLine<A> {
     }
 }
 
-/// The reply to ls-refs: the ref that an unborn `HEAD` points at, and the refs, in order. All ids have one
+/// The reply to ls-refs: the target of an unborn `HEAD`, and the refs, in order. All ids have one
 /// format.
 #[derive(Debug, Drop)]
 pub struct LsReply<A: Allocator + Copy> {
@@ -73,7 +73,7 @@ impl<A: Allocator + Copy> Model for LsReply<A> {
 }
 
 impl<A: Allocator + Copy> LsReply<A> {
-    /// A reply without lines. It takes no memory yet.
+    /// Returns a reply without lines. It does not allocate yet.
     pub fn new(alloc: A) -> LsReply<A>
         ensures { result ≡ record { unborn = None; lines = [] } }
     {
@@ -83,7 +83,7 @@ impl<A: Allocator + Copy> LsReply<A> {
         }
     }
 
-    // The reply of these parts.
+    // Returns the reply of these parts.
     pub(crate) fn of_parts(unborn: Option<RefName<A>>, lines: Vec<RefLine<A>, A>) -> LsReply<A>
         requires { IsReplyValue (record { unborn = unborn; lines = lines.items }) }
         ensures { result ≡ record { unborn = unborn; lines = lines.items } }
@@ -91,8 +91,8 @@ impl<A: Allocator + Copy> LsReply<A> {
         LsReply { unborn, lines }
     }
 
-    /// Says that `HEAD` points at a ref that is not there. It fails with `Limit` where the reply has no room
-    /// for a line more, and nothing changes then. It takes no memory.
+    /// Sets the target of an unborn `HEAD`. Fails with `Limit` if the reply has no room for another
+    /// line, and then nothing changes. It does not allocate.
     pub fn set_unborn(&mut self, target: RefName<A>) -> Result<(), MessageFault>
         ensures sets { SetsUnborn self.old target self.new result }
         ensures full { IfErr result (λ fault. fault.why ≡ Limit) }
@@ -106,9 +106,9 @@ impl<A: Allocator + Copy> LsReply<A> {
         Ok(())
     }
 
-    /// Adds a line. It fails with `BadText` where its ids are not of one format with each other and with those
-    /// of the lines before it, else with `Limit` where the reply has no room for a line more, else with
-    /// `Memory`; and nothing changes then.
+    /// Adds a line. Fails with `BadText` if its ids do not have one format, with each other and
+    /// with the lines before it. Otherwise fails with `Limit` if the reply has no room for another
+    /// line, or with `Memory`. After a failure nothing has changed.
     pub fn push(&mut self, line: RefLine<A>) -> Result<(), MessageFault>
         ensures { Pushes self.old line self.new result }
     {
@@ -121,10 +121,10 @@ impl<A: Allocator + Copy> LsReply<A> {
         if !self.has_room() {
             return Err(MessageFault::of_value(Why::Limit));
         }
-        add_line(&mut self.lines, line)
+        push_ref_line(&mut self.lines, line)
     }
 
-    // Whether there is room for a line more.
+    // Whether there is room for another line.
     fn has_room(&self) -> bool
         ensures room { result ≡ has_room self.now }
         ensures formed { IsReplyValue self.now }
@@ -132,7 +132,7 @@ impl<A: Allocator + Copy> LsReply<A> {
         self.line_count() < MAX_LINES
     }
 
-    // The number of lines, that of an unborn HEAD too.
+    // Returns the number of lines, including that of an unborn HEAD.
     fn line_count(&self) -> usize
         ensures count { result ≡ line_count self.now }
         ensures formed { IsReplyValue self.now }
@@ -143,7 +143,7 @@ impl<A: Allocator + Copy> LsReply<A> {
         }
     }
 
-    /// The number of refs.
+    /// Returns the number of refs.
     pub fn len(&self) -> usize
         ensures len { result ≡ length self.now.lines }
         ensures formed { IsReplyValue self.now }
@@ -151,7 +151,8 @@ impl<A: Allocator + Copy> LsReply<A> {
         self.lines.len()
     }
 
-    /// The position of the last packet where replies end so: of the flush, or of the response-end after it.
+    /// Returns the position of the last packet: of the flush, or of the response-end if `ends` has
+    /// one.
     pub fn last_frame(&self, ends: Ends) -> u64
         ensures { result ≡ last_frame ends self.now }
     {
@@ -162,14 +163,14 @@ impl<A: Allocator + Copy> LsReply<A> {
         }
     }
 
-    /// The ref at this position. `None` where there are not so many.
+    /// Returns the ref at this position, or `None` after the last one.
     pub fn at(&self, place: usize) -> Option<&RefLine<A>>
         ensures { option_copied result ≡ slice_get self.now.lines place }
     {
         self.lines.get(place)
     }
 
-    /// The refs, in order.
+    /// Returns the refs, in order.
     pub(crate) fn lines(&self) -> &[RefLine<A>]
         ensures lines { result.now ≡ self.now.lines }
         ensures formed { IsReplyValue self.now }
@@ -177,7 +178,7 @@ impl<A: Allocator + Copy> LsReply<A> {
         self.lines.as_slice()
     }
 
-    /// The ref that an unborn `HEAD` points at.
+    /// Returns the target of an unborn `HEAD`.
     pub fn unborn(&self) -> Option<&RefName<A>>
         ensures { option_copied result ≡ self.now.unborn }
     {
@@ -185,7 +186,7 @@ impl<A: Allocator + Copy> LsReply<A> {
     }
 }
 
-// Whether the ids of a line are of one format with each other and with those of these lines.
+// Whether the ids of a line have one format, with each other and with these lines.
 fn goes_with<A: Allocator + Copy>(lines: &[RefLine<A>], line: &RefLine<A>) -> bool
     ensures { result ≡ has_one_format lines.now line.now }
 {
@@ -201,8 +202,8 @@ fn goes_with<A: Allocator + Copy>(lines: &[RefLine<A>], line: &RefLine<A>) -> bo
     is_first && is_peeled
 }
 
-// Adds a line where there is memory for it.
-fn add_line<A: Allocator + Copy>(
+// Adds a line if there is memory for it.
+fn push_ref_line<A: Allocator + Copy>(
     lines: &mut Vec<RefLine<A>, A>,
     line: RefLine<A>,
 ) -> Result<(), MessageFault>

@@ -1,9 +1,9 @@
 pub mod Laws
 pub use Rattle.gpkt.specs.Packets
 pub use Rattle.gpkt.specs.Change
-pub use Rattle.gpkt.specs.LineReading
-pub use Rattle.gpkt.specs.LineWriting
-pub use Rattle.gpkt.specs.Laws as LineLaws
+pub use Rattle.gpkt.specs.PacketReading
+pub use Rattle.gpkt.specs.PacketWriting
+pub use Rattle.gpkt.specs.Laws as PacketLaws
 pub use Rattle.gname.specs.Formats
 pub use Rattle.gname.specs.Ids as ObjectIds
 pub use Rattle.gname.specs.Names

@@ -1,11 +1,11 @@
-//! The laws of all five messages: functions without effect, whose contracts they are. The kinds are a hello, an
-//! advertisement, a request, a reply to ls-refs and a reply to fetch, each for all that its grammar is given.
+//! The laws of all five messages: functions without effect whose contracts are the laws. The kinds
+//! are a hello, an advertisement, a request, a reply to ls-refs and a reply to fetch. Each law
+//! holds for all parameters of a kind's grammar.
 
 ghost use Rattle.std.specs.Prelude.{◌≤◌};
 ghost use Rattle.gname.specs.Limits.{max_pack};
 ghost use Rattle.gname.specs.declared.formats.Format.{Format};
-ghost use Rattle.ggrammar.specs.Kinds.{AsInManual, CanonicalSays, OneMeaning, ReadsBack, ReadsBackIfAny, ReadsExactly, ReadsExactlyIfAny, SaysWhole};
-ghost use Rattle.ggrammar.specs.MessageBytes.{BeginsOrIsRefused};
+ghost use Rattle.ggrammar.specs.Kinds.{AsInManual, CanonicalSays, OneMeaning, SaysWhole};
 ghost use Rattle.ggrammar.specs.declared.ends.Ends.{Ends};
 ghost use Rattle.ghello.specs.Hello as hello;
 ghost use Rattle.ghello.specs.Adverts as advert;
@@ -35,8 +35,8 @@ pub fn one_meaning()
     gfetchreply::laws::one_meaning();
 }
 
-/// No message begins another of its kind: neither its packets nor the bytes that spell them. So the end of a message
-/// is known without what follows it.
+/// No message is a prefix of another of its kind, as packets or as bytes. So the end of a message
+/// is known without the rest.
 pub fn prefix_free()
     ensures hello { NoneBeginsAnother hello.judge }
     ensures advert { NoneBeginsAnother advert.judge }
@@ -52,8 +52,8 @@ pub fn prefix_free()
     gfetchreply::laws::prefix_free();
 }
 
-/// No bytes begin with a reply to ls-refs and with a reply to fetch, however each is read. So what is delivered as the
-/// reply to a request of the other kind is refused, all of it or a beginning of it.
+/// No bytes begin with both a reply to ls-refs and a reply to fetch, however each is read. So a
+/// reply, or a prefix of one, is refused if it is delivered for a request of the other kind.
 pub fn replies_differ()
     ensures { (format : Format) (ends : Ends) (reading : fetch_reply.Reading)
         → NoneBeginsAsBoth (ls_reply.judge format ends) (fetch_reply.judge reading) }
@@ -62,9 +62,9 @@ pub fn replies_differ()
     gpkt::laws::one_begins();
 }
 
-/// What a kind's table reads as a message is what the manual has, and says the same (gitprotocol-v2(5), "Capability
-/// Advertisement", "Command Request", "ls-refs" and "fetch"). A hello is all of its one line (gitprotocol-pack(5),
-/// "Git Transport").
+/// The table of a kind reads exactly the messages of the manual, and they say the same
+/// (gitprotocol-v2(5), "Capability Advertisement", "Command Request", "ls-refs" and "fetch"). A
+/// hello is all of its one line (gitprotocol-pack(5), "Git Transport").
 pub fn manual()
     ensures hello { SaysWhole hello.judge hello.Says }
     ensures advert { AsInManual advert.Says advert.IsAdvert }
@@ -81,8 +81,8 @@ pub fn manual()
     gfetchreply::laws::manual();
 }
 
-/// What is written of a value says it, and each payload fits a packet. A reply to fetch is read within a limit
-/// that a [`PackLimit`](crate::PackLimit) can have.
+/// A message is written as packets that say it, and each payload fits a packet. The limit for
+/// reading a reply to fetch is one that a [`PackLimit`](crate::PackLimit) can have.
 pub fn canonical_says()
     ensures hello { CanonicalSays hello.Says hello.IsHello hello.IsCanonical }
     ensures advert { CanonicalSays advert.Says advert.AreCapabilities advert.IsCanonical }
@@ -101,64 +101,5 @@ pub fn canonical_says()
     gfetchreply::laws::canonical_says();
 }
 
-/// [`canonical_says`] by a shorter name.
+/// A shorter name for [`canonical_says`].
 pub use self::canonical_says as canon_says;
-
-/// A message is read exactly where the bytes begin with it: that front is taken, and nothing after it. A request may
-/// be missing.
-pub fn reads_exactly()
-    ensures hello { ReadsExactly hello.judge hello.brings hello.Says }
-    ensures advert { ReadsExactly advert.judge advert.brings advert.Says }
-    ensures request { (format : Format)
-        → ReadsExactlyIfAny (request.judge format) request.brings (request.Says format) }
-    ensures ls_reply { (format : Format) (ends : Ends)
-        → ReadsExactly (ls_reply.judge format ends) ls_reply.brings (ls_reply.Says format ends) }
-    ensures fetch_reply { (reading : fetch_reply.Reading)
-        → ReadsExactly (fetch_reply.judge reading) (fetch_reply.brings reading)
-        (fetch_reply.Says reading) }
-{
-    ghello::laws::reads_exactly();
-    grequest::laws::reads_exactly();
-    glsreply::laws::reads_exactly();
-    gfetchreply::laws::reads_exactly();
-}
-
-/// All bytes begin with a message of the kind, or are refused for a reason in them.
-pub fn every_input()
-    ensures hello { BeginsOrIsRefused hello.judge hello.brings }
-    ensures advert { BeginsOrIsRefused advert.judge advert.brings }
-    ensures request { (format : Format) → BeginsOrIsRefused (request.judge format) request.brings }
-    ensures ls_reply { (format : Format) (ends : Ends)
-        → BeginsOrIsRefused (ls_reply.judge format ends) ls_reply.brings }
-    ensures fetch_reply { (reading : fetch_reply.Reading)
-        → BeginsOrIsRefused (fetch_reply.judge reading) (fetch_reply.brings reading) }
-{
-    ghello::laws::every_input();
-    grequest::laws::every_input();
-    glsreply::laws::every_input();
-    gfetchreply::laws::every_input();
-}
-
-/// What is written of a value is read back as it, whatever follows; a reply to fetch within any limit that a
-/// [`PackLimit`](crate::PackLimit) can have and its pack keeps.
-pub fn reads_back()
-    ensures hello { ReadsBack hello.judge hello.brings hello.Says hello.IsHello hello.IsCanonical }
-    ensures advert { ReadsBack advert.judge advert.brings advert.Says advert.AreCapabilities
-        advert.IsCanonical }
-    ensures request { (format : Format)
-        → ReadsBackIfAny (request.judge format) request.brings (request.Says format)
-        (request_form.IsAsked format) (request_writing.IsCanonicalRequest format) }
-    ensures ls_reply { (format : Format) (ends : Ends)
-        → ReadsBack (ls_reply.judge format ends) ls_reply.brings
-        (ls_reply.Says format ends) (ls_reply_form.IsLsReplyIn format)
-        (ls_reply.IsCanonicalReply ends) }
-    ensures fetch_reply { (reading : fetch_reply.Reading) → reading.limit ≤ max_pack
-        → ReadsBack (fetch_reply.judge reading) (fetch_reply.brings reading)
-        (fetch_reply.Says reading)
-        (fetch_reply_form.IsReplyIn reading) (fetch_reply.IsCanonical reading.ends) }
-{
-    ghello::laws::reads_back();
-    grequest::laws::reads_back();
-    glsreply::laws::reads_back();
-    gfetchreply::laws::reads_back();
-}

@@ -1,34 +1,36 @@
-//! The messages of Git's protocol, version 2, under one name: the first line of a connection, the advertisement of
-//! capabilities, the request, the reply to ls-refs and the reply to fetch. Each is a value, a reader and a writer.
+//! The messages of Git's protocol, version 2, under one name. They are the first line of a
+//! connection, the advertisement of capabilities, the request, and the replies to ls-refs and
+//! fetch. Each has a value, a reader and a writer.
 //!
 //! # Proved
 //!
-//! - [`laws`], of every kind of message: packets say at most one message; no message begins another, neither its
-//!   packets nor the bytes that spell them; what is read is what the manual has; what is written of a value
-//!   says it, and each payload fits a packet; a message is read exactly where the bytes begin with it, and
-//!   all bytes begin with one or are refused for a reason in them; and what is written of a value is read back,
-//!   whatever follows. No bytes begin with a reply to ls-refs and with a reply to fetch.
+//! - [`laws`] hold for every kind of message. Packets say at most one message. No message is a
+//!   prefix of another, as packets or as bytes. The messages that are read are those of the manual.
+//!   A message is written as packets that say it, and each payload fits a packet. No bytes begin
+//!   with both a reply to ls-refs and a reply to fetch. The `laws` of each library say that
+//!   messages are read exactly and read back.
 //!
-//! All else is proved where it stands, and the page of each library says what:
+//! All other facts are proved in the libraries below, and listed on their pages:
 //!
 //! - `ghello`: [`Hello`] and [`Advert`], [`read_hello`] and [`read_advert`], [`write_hello`] and
-//!   [`write_advert`], and what a client looks for in an advertisement.
-//! - `grequest`: [`Request`], [`LsRefsRequest`] and [`FetchRequest`] with their flags, [`read_request`] and
-//!   [`write_request`].
+//!   [`write_advert`], and a client's look-ups in an advertisement.
+//! - `grequest`: [`Request`], [`LsRefsRequest`] and [`FetchRequest`] with their flags,
+//!   [`read_request`] and [`write_request`].
 //! - `glsreply`: [`LsReply`], [`read_ls_reply`] and [`write_ls_reply`].
-//! - `gfetchreply`: [`FetchReply`], [`read_fetch_reply`], [`read_fetch_reply_into`] for a pack that goes to a
-//!   [`PackSink`], and [`write_fetch_reply`].
-//! - `ggrammar`: the faults of all messages, [`MessageFault`] and [`Why`], and how any message is read.
+//! - `gfetchreply`: [`FetchReply`], [`read_fetch_reply`], [`read_fetch_reply_into`] for a pack that
+//!   goes to a [`PackSink`], and [`write_fetch_reply`].
+//! - `ggrammar`: the faults of all messages, [`MessageFault`] and [`Why`], and reading any message.
 //!
 //! [`MsgFault`] and [`laws::canon_says`] are second, shorter names.
 //!
 //! # What the contracts do not rule out
 //!
-//! What the libraries below say of their readers and writers; there is no other body here.
+//! There is no other body here. The libraries below have such lists for their readers and writers.
 //!
 //! # Stands on
 //!
-//! `ghello`, `grequest`, `glsreply`, `gfetchreply` and `ggrammar`; `gpkt` for packets and `gname` for ids and names.
+//! `ghello`, `grequest`, `glsreply`, `gfetchreply` and `ggrammar`, `gpkt` for packets and `gname`
+//! for ids and names.
 #![tactic(auto)]
 
 pub mod laws;
@@ -38,9 +40,10 @@ pub use gfetchreply::{
     read_fetch_reply, read_fetch_reply_in, read_fetch_reply_into, read_fetch_reply_into_in,
     write_fetch_reply,
 };
+pub use ggrammar::compat::MsgFault;
 pub use ggrammar::{
-    Capability, Ends, MAX_CAPABILITY, MAX_PEER_TEXT, MessageFault, MsgFault, PeerText, Why, is_key,
-    is_value, is_word_value,
+    Capability, Ends, MAX_CAPABILITY, MAX_PEER_TEXT, MessageFault, PeerText, Why, is_key, is_value,
+    is_word_value,
 };
 pub use ghello::{
     Advert, Hello, MAX_ADVERTISED, MAX_HOST, MAX_PATH, is_host, is_path, read_advert, read_hello,

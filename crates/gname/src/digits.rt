@@ -5,8 +5,8 @@ ghost use Rattle.hex.specs.Hex.{decode_sized, encode_lower, hex_digit_value, low
 
 use hex::{FromHex, FromHexError};
 
-// The two digits of each byte, from `00` to `ff`. Writing both at once is what makes the texts of
-// ids cheap: a list of refs is mostly such texts.
+// The two digits of each byte, from `00` to `ff`. A list of refs is mostly texts of ids, and
+// writing both digits at once makes these texts cheap.
 const DIGIT_PAIRS: &[u8; 512] = b"\
     000102030405060708090a0b0c0d0e0f101112131415161718191a1b1c1d1e1f\
     202122232425262728292a2b2c2d2e2f303132333435363738393a3b3c3d3e3f\
@@ -17,7 +17,7 @@ const DIGIT_PAIRS: &[u8; 512] = b"\
     c0c1c2c3c4c5c6c7c8c9cacbcccdcecfd0d1d2d3d4d5d6d7d8d9dadbdcdddedf\
     e0e1e2e3e4e5e6e7e8e9eaebecedeeeff0f1f2f3f4f5f6f7f8f9fafbfcfdfeff";
 
-// The two digits of a byte, in lower case.
+// Returns the two digits of a byte, in lower case.
 fn digit_pair(byte: u8) -> (u8, u8)
     ensures high { result.0 ≡ slice_index lower_digits (byte / 16) }
     ensures low { result.1 ≡ slice_index lower_digits (byte % 16) }
@@ -38,8 +38,9 @@ pub(crate) fn write_digits(bytes: &[u8], out: &mut [u8])
     }
 }
 
-// The value of each byte as a digit, in either case, and 255 of one that is none. Ids are read by a look-up for each
-// digit: a branch on what kind of digit it is would be guessed wrong at each third one.
+// The value of each byte as a digit, in either case, or 255 if it is not a digit. Ids are read by
+// one look-up per digit, since a branch on the kind of digit would be mispredicted at every third
+// digit.
 static DIGIT_VALUES: [u8; 256] = [
     255, 255, 255, 255, 255, 255, 255, 255, 255, 255, 255, 255, 255, 255, 255, 255, 255, 255, 255,
     255, 255, 255, 255, 255, 255, 255, 255, 255, 255, 255, 255, 255, 255, 255, 255, 255, 255, 255,
@@ -57,14 +58,14 @@ static DIGIT_VALUES: [u8; 256] = [
     255, 255, 255,
 ];
 
-// The value of a digit, in either case, and 255 of a byte that is none.
+// Returns the value of a digit, in either case, or 255 if the byte is not a digit.
 fn digit_value(byte: u8) -> u8
     ensures { result < 16 → hex_digit_value byte ≡ Some result }
 {
     DIGIT_VALUES[byte as usize]
 }
 
-// Reads two digits for each byte, in either case, and answers whether all are digits.
+// Reads two digits for each byte, in either case, and returns whether all are digits.
 fn read_digits(text: &[u8], out: &mut [u8]) -> bool
     requires { length text.now ≡ 2 * length out.old }
     ensures { IsTrue result → decode_sized text.now (length out.old) ≡ Ok out.new }
@@ -80,7 +81,7 @@ fn read_digits(text: &[u8], out: &mut [u8]) -> bool
     true
 }
 
-/// The bytes of a text of two digits for each, in either case, as `hex` reads it.
+/// Returns the bytes that a text spells with two digits each, in either case, as `hex` reads it.
 pub(crate) fn from_digits<const N: usize>(text: &[u8]) -> Result<[u8; N], FromHexError>
     ensures { result ≡ decode_sized text.now N }
 {

@@ -1,65 +1,66 @@
-//! The faults of ref names and prefixes, and what faults of several crates above have in common.
+//! The faults of ref names and prefixes, and what the faults of several other crates have in
+//! common.
 
 ghost use Rattle.std.specs.Prelude.{◌≡◌, Some};
 ghost use Rattle.gname.specs.Faults.{name_fault_row, name_fault_text};
 ghost use Rattle.gname.specs.declared.faults.NameFault.TheVariants.{Memory};
 
-use std::alloc::AllocError;
+use std::alloc::{AllocError, AllocFailed};
 use std::error::Error;
 use std::fmt;
 
-/// The number and the name of the faults of several crates that mean out of memory for a repository, an answer
-/// or a buffer.
+/// The number and the name of the faults of several crates that mean out of memory for a
+/// repository, a response or a buffer.
 pub const OUT_OF_MEMORY: (u32, &str) = (64, "Memory");
 
-/// The text of each fault that means out of memory, whatever its number.
+/// The text of each fault that means out of memory, with any number.
 pub const OUT_OF_MEMORY_TEXT: &str = "out of memory";
 
-/// The number and the name of the faults of several crates that mean that the parent of an object, which is to be
-/// added, is not held.
+/// The number and the name of the faults of several crates that mean that an object to be added has
+/// a missing parent.
 pub const MISSING_PARENT: (u32, &str) = (72, "MissingParent");
 
-/// Why a text is no ref name, or no prefix. A text may have several faults: the first in this order
-/// is reported, with its first position in the text.
+/// Why a text is not a ref name or not a prefix. If a text has several faults, the first in this
+/// order is reported, with its first position in the text.
 #[derive(Clone, Copy, Debug, PartialEq, Eq, Drop)]
 pub enum NameFault {
-    /// It has no byte.
+    /// It is empty.
     Empty,
     /// It has more than 1,000 bytes.
     TooLong,
-    /// It is neither `HEAD` nor begins with `refs/`.
+    /// It is not `HEAD` and does not begin with `refs/`.
     NotRef,
     /// This byte is a control character, DEL, a space or one of `~ ^ : ? * [ \`.
     BadByte { at: usize },
     /// The component that begins here is empty, begins with `.` or ends with `.lock`.
     Component { at: usize },
-    /// Two dots stand here.
+    /// There are two dots here.
     DoubleDot { at: usize },
-    /// `@{` stands here.
+    /// There is `@{` here.
     AtBrace { at: usize },
     /// The last byte is a dot.
     End,
-    /// The text is well-formed, and there is no memory to keep it.
+    /// The text is well-formed, but there is no memory to store it.
     Memory,
 }
 
 impl NameFault {
-    /// The number of the fault.
+    /// Returns the number of the fault.
     pub fn code(&self) -> u32
         ensures { result ≡ (name_fault_row self.now).0 }
     {
-        self.row().0
+        self.fault_row().0
     }
 
-    /// The name of the fault.
+    /// Returns the name of the fault.
     pub fn name(&self) -> &'static str
         ensures { result.now ≡ (name_fault_row self.now).1 }
     {
-        self.row().1
+        self.fault_row().1
     }
 
-    /// The table: the number and the name of each fault.
-    pub fn row(&self) -> (u32, &'static str)
+    /// Returns the row of the fault in the table: its number and its name.
+    pub fn fault_row(&self) -> (u32, &'static str)
         ensures { (result.0, result.1.now) ≡ name_fault_row self.now }
     {
         match self {
@@ -103,6 +104,14 @@ impl From<AllocError> for NameFault {
     ghost from_gives = { λ _ fault. fault ≡ Memory };
 
     fn from(_e: AllocError) -> NameFault {
+        Self::Memory
+    }
+}
+
+impl<T: Drop> From<AllocFailed<T>> for NameFault {
+    ghost from_gives = { λ _ fault. fault ≡ Memory };
+
+    fn from(_e: AllocFailed<T>) -> NameFault {
         Self::Memory
     }
 }

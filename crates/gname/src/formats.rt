@@ -4,7 +4,7 @@ ghost use Rattle.std.specs.Prelude.{◌≡◌};
 ghost use Rattle.gname.specs.Formats.{format_name, id_length, id_text_length};
 
 /// The object format of a repository: the hash that names its objects (gitprotocol-v2(5),
-/// "object-format"). `Sha1` comes before `Sha256`.
+/// "object-format"). `Sha1` is less than `Sha256`.
 #[derive(Clone, Copy, Debug, PartialEq, Eq, PartialOrd, Ord, Hash, Drop)]
 pub enum Format {
     /// Ids of 20 bytes.
@@ -14,7 +14,7 @@ pub enum Format {
 }
 
 impl Format {
-    /// The number of bytes of an id.
+    /// Returns the length of an id in bytes.
     pub fn id_length(self) -> usize
         ensures { result ≡ id_length self }
     {
@@ -24,14 +24,14 @@ impl Format {
         }
     }
 
-    /// The number of digits of an id's text.
+    /// Returns the number of digits of an id's text.
     pub fn id_text_length(self) -> usize
         ensures { result ≡ id_text_length self }
     {
         2 * self.id_length()
     }
 
-    /// The name of the format, as `object-format` gives it.
+    /// Returns the name of the format, as `object-format` gives it.
     pub fn name(self) -> &'static str
         ensures { result.now ≡ format_name self }
     {

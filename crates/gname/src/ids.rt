@@ -23,10 +23,10 @@ use std::fmt;
 use std::hash::{Hash, Hasher};
 use std::marker::Model;
 
-/// The most digits of an object id's text.
+/// The maximum number of digits of an object id's text.
 pub const MAX_ID_TEXT: usize = 64;
 
-/// An object id: the bytes of a SHA-1 or SHA-256 name of an object. Ids are ordered by their formats,
+/// An object id: the bytes of an object's SHA-1 or SHA-256 hash. Ids are ordered by their formats,
 /// and then by their bytes, the first byte first.
 #[derive(Clone, Copy, Debug, Drop)]
 pub struct Oid {
@@ -65,8 +65,8 @@ impl Oid {
 
     /// Reads the hexadecimal digits of an id of the format, in either case: forty, or sixty-four.
     ///
-    /// It fails with `Length` where the text has another length, and else with `Digit` at its first
-    /// byte that is no hexadecimal digit.
+    /// Fails with `Length` if the text has another length. Otherwise fails with `Digit` at the
+    /// first byte that is not a hexadecimal digit.
     #[tactic(auto, using(crate::proofs::IdLemmas::id_is_refused))]
     pub fn from_hex_in(format: Format, text: &[u8]) -> Result<Oid, OidFault>
         ensures { ReadsId format text.now result }
@@ -78,7 +78,8 @@ impl Oid {
         Ok(Oid { digest })
     }
 
-    /// Reads the bytes of an id: twenty of SHA-1, or thirty-two of SHA-256. It is `None` of any other number of bytes.
+    /// Reads the bytes of an id: twenty for SHA-1, or thirty-two for SHA-256. Returns `None` for
+    /// any other length.
     pub fn from_bytes(bytes: &[u8]) -> Option<Oid>
         ensures { MatchOption result ((format : Format) → length bytes.now ≢ id_length format)
             (λ id. (id ≡ bytes.now) × IsId id) }
@@ -92,7 +93,7 @@ impl Oid {
     }
 
     /// Writes the digits of the id, in lower case, into the first forty or sixty-four bytes, and
-    /// answers their number. The other bytes stay.
+    /// returns their number. The other bytes are unchanged.
     pub fn to_hex(&self, out: &mut [u8; MAX_ID_TEXT]) -> usize
         ensures number { result ≡ id_text_length (format_of self.now) }
         ensures text { take result out.new ≡ id_text self.now }
@@ -106,7 +107,7 @@ impl Oid {
         len
     }
 
-    /// Adds the digits of the id, in lower case, to a text. It fails only out of memory.
+    /// Appends the digits of the id, in lower case, to a text. Fails only if out of memory.
     pub fn push_hex<A: Allocator + Copy>(&self, text: &mut Vec<u8, A>) -> Result<(), AllocError>
         ensures { OnOk result (text.new.items ≡ text.old.items ++ id_text self.now) }
     {
@@ -115,7 +116,7 @@ impl Oid {
         text.extend_from_slice(&digits[..count])
     }
 
-    /// The format of the id.
+    /// Returns the format of the id.
     pub fn format(&self) -> Format
         ensures format { result ≡ format_of self.now }
         ensures id { IsIdOf result self.now }
@@ -126,7 +127,7 @@ impl Oid {
         }
     }
 
-    /// The bytes of the id: 20 or 32.
+    /// Returns the bytes of the id: 20 or 32.
     pub fn as_bytes(&self) -> &[u8]
         ensures bytes { result.now ≡ self.now }
         ensures id { IsId self.now }
@@ -137,7 +138,7 @@ impl Oid {
         }
     }
 
-    /// A law: what is true of each id.
+    /// A law: the properties of each id.
     pub fn laws(&self)
         ensures { IsId self.now }
     {
@@ -194,32 +195,41 @@ impl Hash for Oid {
     }
 }
 
-/// Why a text is no object id.
+/// Prints the digits of the id, in lower case.
+impl fmt::Display for Oid {
+    fn fmt<W: fmt::Write>(&self, f: &mut fmt::Formatter<W>) -> fmt::Result {
+        let mut digits = [0; MAX_ID_TEXT];
+        let count = self.to_hex(&mut digits);
+        f.write_str(str::from_utf8(&digits[..count]).unwrap_or(""))
+    }
+}
+
+/// Why a text is not an object id.
 #[derive(Clone, Copy, Debug, PartialEq, Eq, Drop)]
 pub enum OidFault {
-    /// The text does not have forty bytes, or sixty-four in SHA-256.
+    /// The text does not have forty bytes, or sixty-four for SHA-256.
     Length,
-    /// The byte at this position is the first that is no hexadecimal digit.
+    /// The byte at this position is the first that is not a hexadecimal digit.
     Digit { at: usize },
 }
 
 impl OidFault {
-    /// The number of the fault.
+    /// Returns the number of the fault.
     pub fn code(&self) -> u32
         ensures { result ≡ (id_fault_row self.now).0 }
     {
-        self.row().0
+        self.fault_row().0
     }
 
-    /// The name of the fault.
+    /// Returns the name of the fault.
     pub fn name(&self) -> &'static str
         ensures { result.now ≡ (id_fault_row self.now).1 }
     {
-        self.row().1
+        self.fault_row().1
     }
 
-    // The table: the number and the name of each fault.
-    fn row(&self) -> (u32, &'static str)
+    // Returns the row of the fault in the table: its number and its name.
+    fn fault_row(&self) -> (u32, &'static str)
         ensures { (result.0, result.1.now) ≡ id_fault_row self.now }
     {
         match self {

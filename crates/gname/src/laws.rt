@@ -1,5 +1,5 @@
-//! Laws of ids, names and prefixes. Each function does nothing, and its contract is the law: a caller
-//! that calls it may rely on the law from there on.
+//! Laws of ids, names and prefixes. Each function does nothing, and its contract is the law. A
+//! caller may rely on the law after the call.
 
 ghost use Rattle.std.specs.Prelude.{◌≡◌};
 ghost use Rattle.gname.specs.Formats.{id_text_length};
@@ -11,25 +11,25 @@ ghost use Rattle.gname.specs.Laws.{FirstPlacesAreFirst, IdsHaveOneFormat, IdsHav
 
 use crate::{MAX_ID_TEXT, MAX_NAME, MAX_PACK};
 
-/// Each id has a text in lower case and one in upper case, which read back as the id.
+/// Each id has a text in lower case and one in upper case. Both read back as the id.
 pub fn ids_have_texts()
     ensures { IdsHaveTexts }
 {}
 
-/// The text of an id has hexadecimal digits alone, so no control character or space. What a text
-/// spells is an id.
+/// The text of an id has only hexadecimal digits, so it has no control character and no space. Any
+/// value that a text spells is an id.
 #[tactic(auto, using(crate::proofs::IdLemmas::id_texts_are_digits))]
 pub fn id_texts_are_digits()
     ensures { IdTextsAreDigits }
 {}
 
-/// A text spells one id.
+/// A text spells at most one id.
 #[tactic(auto, using(crate::proofs::IdLemmas::texts_spell_one_id))]
 pub fn texts_spell_one_id()
     ensures { TextsSpellOneId }
 {}
 
-/// An id of a format is an id, and has that format alone: its length tells.
+/// An id of a format is an id, and has only that format, which its length shows.
 #[tactic(auto, using(crate::proofs::IdLemmas::ids_have_one_format))]
 pub fn ids_have_one_format()
     ensures { IdsHaveOneFormat }
@@ -40,8 +40,8 @@ pub fn texts_have_one_reading()
     ensures { TextsHaveOneReading }
 {}
 
-/// A ref name has at least one byte and at most 1,000, and none of those that no name has: a control
-/// character, DEL, a space or one of `~ ^ : ? * [ \`. It is `HEAD` or begins with `refs/`. Each name is a prefix.
+/// A ref name has from 1 to 1,000 bytes. It has no control character, DEL or space, and none of
+/// `~ ^ : ? * [ \`. It is `HEAD` or begins with `refs/`. Each name is a prefix.
 pub fn names_are_clean()
     ensures { NamesAreClean }
 {}
@@ -52,13 +52,13 @@ pub fn head_is_a_name()
     ensures { IsRefName head_name }
 {}
 
-/// A prefix has at most 1,000 bytes, and none of those that no name has.
+/// A prefix has at most 1,000 bytes, and no byte that is forbidden in names.
 #[tactic(auto, using(crate::proofs::NameLemmas::prefixes_are_clean))]
 pub fn prefixes_are_clean()
     ensures { PrefixesAreClean }
 {}
 
-/// The constants are the limits that the definitions name.
+/// The constants are the limits that the definitions use.
 pub fn limits_are_the_constants()
     ensures id_text { MAX_ID_TEXT ≡ id_text_length Sha256 }
     ensures name { MAX_NAME ≡ max_name }
@@ -70,15 +70,16 @@ pub fn rules_never_report_memory()
     ensures { RulesNeverReportMemory }
 {}
 
-/// A fault's position is the first that has the fault.
+/// The position of a fault is the first position that has the fault.
 #[tactic(auto, using(crate::proofs::PlaceLemmas::first_places_are_first))]
 pub fn first_places_are_first()
     ensures { FirstPlacesAreFirst }
 {}
 
-/// The components of a text are its parts between slashes, and every text has one at least. A ref name has no
-/// component that is empty, begins with a dot or ends with `.lock`. The fault `Component` is that of a text exactly where
-/// it has such a component and no earlier rule finds a fault; its position is where the first such component begins.
+/// The components of a text are its parts between slashes, and every text has at least one. A ref
+/// name has no component that is empty, begins with a dot or ends with `.lock`. The fault
+/// `Component` is reported exactly when the text has such a component and no earlier rule finds a
+/// fault. Its position is the start of the first such component.
 pub fn components_are_parts()
     ensures { ComponentsAreParts }
 {}

@@ -20,10 +20,10 @@ use std::fmt;
 use std::hash::{Hash, Hasher};
 use std::marker::Model;
 
-/// The name that says where a repository stands (gitglossary(7), "HEAD").
+/// The name of the ref that says what is checked out (gitglossary(7), "HEAD").
 pub const HEAD: &[u8; 4] = b"HEAD";
 
-/// A ref name: `HEAD`, or a name below `refs/`. Names are equal and ordered by their bytes.
+/// A ref name: `HEAD`, or a name below `refs/`. Names are compared by their bytes.
 #[derive(Drop)]
 pub struct RefName<A: Allocator + Copy = Global> {
     text: Vec<u8, A>,
@@ -38,8 +38,8 @@ impl<A: Allocator + Copy> Model for RefName<A> {
 }
 
 impl RefName {
-    /// Whether a text is a ref name, by the rules that `new` keeps: fails with its first fault in the order of
-    /// `NameFault`, and never with `Memory`. It takes no memory.
+    /// Checks a text by the rules of `new`. Fails with its first fault in the order of `NameFault`,
+    /// but never with `Memory`. It does not allocate.
     #[tactic(auto, using(crate::proofs::NameLemmas::rules_never_report_memory))]
     pub fn check(text: &[u8]) -> Result<(), NameFault>
         ensures judged { Finds name_fault text.now result }
@@ -50,13 +50,13 @@ impl RefName {
 }
 
 impl<A: Allocator + Copy> RefName<A> {
-    /// Makes a ref name of a text, by the rules of git-check-ref-format(1): it has at most 1,000
-    /// bytes; it is `HEAD` or begins with `refs/`; it has no control character, DEL, space or one of
-    /// `~ ^ : ? * [ \`, no `..`, no `@{` and no dot at its end; and no part between slashes is empty,
-    /// begins with a dot or ends with `.lock`. Bytes from 128 on are allowed.
+    /// Makes a ref name of a text, by the rules of git-check-ref-format(1). It has at most 1,000
+    /// bytes, and is `HEAD` or begins with `refs/`. It has no control character, DEL, space or one
+    /// of `~ ^ : ? * [ \`, no `..`, no `@{` and no dot at its end. No part between slashes is
+    /// empty, begins with a dot or ends with `.lock`. Bytes from 128 up are allowed.
     ///
-    /// It fails with the text's first fault in the order of `NameFault`, and with `Memory` only
-    /// where a well-formed name could not be kept.
+    /// Fails with the text's first fault in the order of `NameFault`. Fails with `Memory` only if a
+    /// well-formed name could not be stored.
     pub fn new(alloc: A, text: &[u8]) -> Result<RefName<A>, NameFault>
         ensures { Owns name_fault text.now result }
     {
@@ -65,7 +65,7 @@ impl<A: Allocator + Copy> RefName<A> {
         Ok(RefName { text })
     }
 
-    /// The name `HEAD`. It fails only when out of memory.
+    /// Returns the name `HEAD`. Fails only if out of memory.
     #[tactic(auto, using(crate::proofs::NameLemmas::head_is_a_name))]
     pub fn head(alloc: A) -> Result<RefName<A>, AllocError>
         ensures { IfOk result (λ name. name ≡ head_name) }
@@ -74,7 +74,7 @@ impl<A: Allocator + Copy> RefName<A> {
         Ok(RefName { text })
     }
 
-    /// The same name, kept by another allocator. It fails only when out of memory.
+    /// Returns the same name in another allocator. Fails only if out of memory.
     pub fn copy_in<B: Allocator + Copy>(&self, alloc: B) -> Result<RefName<B>, AllocError>
         ensures { IfOk result (λ copy. copy ≡ self.now) }
     {
@@ -89,14 +89,15 @@ impl<A: Allocator + Copy> RefName<A> {
         self.as_bytes() == HEAD.as_slice()
     }
 
-    /// Whether the name begins with the bytes of the prefix. Each name begins with the empty one.
+    /// Whether the name begins with the bytes of the prefix. Each name begins with the empty
+    /// prefix.
     pub fn starts_with<B: Allocator + Copy>(&self, prefix: &Prefix<B>) -> bool
         ensures { result ≡ starts_with nat_eq self.now prefix.now }
     {
         self.as_bytes().starts_with(prefix.as_bytes())
     }
 
-    /// The bytes of the name: at most 1,000, and no control character or space.
+    /// Returns the bytes of the name: at most 1,000, and no control character or space.
     #[tactic(auto, using(crate::proofs::NameLemmas::name_within, crate::proofs::NameLemmas::name_clean))]
     pub fn as_bytes(&self) -> &[u8]
         ensures bytes { result.now ≡ self.now }
@@ -107,7 +108,7 @@ impl<A: Allocator + Copy> RefName<A> {
         self.text.as_slice()
     }
 
-    /// A law: what is true of each name.
+    /// A law: the properties of each name.
     pub fn laws(&self)
         ensures name { IsRefName self.now }
         ensures within { length self.now ≤ max_name }
@@ -171,6 +172,13 @@ impl<A: Allocator + Copy> Hash for RefName<A> {
     fn hash<H: Hasher>(&self, state: &mut H) {
         state.write_usize(self.as_bytes().len());
         state.write(self.as_bytes());
+    }
+}
+
+/// Prints the bytes of the name, or a single `?` if they are not UTF-8.
+impl<A: Allocator + Copy> fmt::Display for RefName<A> {
+    fn fmt<W: fmt::Write>(&self, f: &mut fmt::Formatter<W>) -> fmt::Result {
+        f.write_str(str::from_utf8(self.as_bytes()).unwrap_or("?"))
     }
 }
 

@@ -12,7 +12,7 @@ use std::alloc::{AllocError, Allocator, Global};
 use std::fmt;
 use std::marker::Model;
 
-/// A prefix of ref names: what a name may begin with. The empty prefix begins every name.
+/// A prefix of ref names. The empty prefix is a prefix of every name.
 #[derive(Drop)]
 pub struct Prefix<A: Allocator + Copy = Global> {
     text: Vec<u8, A>,
@@ -29,8 +29,8 @@ impl<A: Allocator + Copy> Model for Prefix<A> {
 impl<A: Allocator + Copy> Prefix<A> {
     /// Makes a prefix of a text. It may be empty, and need not be a name.
     ///
-    /// It fails with `TooLong` or `BadByte`, in this order, and with `Memory` only where a
-    /// well-formed prefix could not be kept.
+    /// Fails with `TooLong` or `BadByte`, in this order. Fails with `Memory` only if a well-formed
+    /// prefix could not be stored.
     pub fn new(alloc: A, text: &[u8]) -> Result<Prefix<A>, NameFault>
         ensures { Owns prefix_fault text.now result }
     {
@@ -39,7 +39,7 @@ impl<A: Allocator + Copy> Prefix<A> {
         Ok(Prefix { text })
     }
 
-    /// The bytes of the prefix: at most 1,000, and no control character or space.
+    /// Returns the bytes of the prefix: at most 1,000, and no control character or space.
     #[tactic(auto, using(crate::proofs::NameLemmas::prefixes_are_clean))]
     pub fn as_bytes(&self) -> &[u8]
         ensures bytes { result.now ≡ self.now }

@@ -6,7 +6,7 @@ ghost use Rattle.gname.specs.Names.{Finds, name_fault, prefix_fault, empty, too_
 use crate::faults::NameFault;
 use memchr::{memchr, memmem};
 
-/// The most bytes of a ref name, and of a prefix.
+/// The maximum length of a ref name or a prefix in bytes.
 pub const MAX_NAME: usize = 1_000;
 
 /// Finds the first fault of a text as a ref name.

@@ -26,8 +26,8 @@ abbrev pub node_at : {A : Type 0} → List (Entry A) → Id → Option (Node A)
 node_at g a = option_map (λ entry. entry.node) (find (has_id a) g)
 
 -- the position of that entry
-abbrev pub place_of : {A : Type 0} → List (Entry A) → Id → Option ℕ
-place_of g a = position (has_id a) g
+abbrev pub position_of : {A : Type 0} → List (Entry A) → Id → Option ℕ
+position_of g a = position (has_id a) g
 
 -- the id of an entry and those of its parents are object ids
 pub record HasIds {A : Type 0} (entry : Entry A) : Type 0 where

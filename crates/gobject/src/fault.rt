@@ -1,4 +1,4 @@
-//! Why entries were not packed, and why bytes were not read as a pack.
+//! The faults of packing entries, and of reading bytes as a pack.
 
 ghost use Rattle.std.specs.Prelude.{◌≡◌, Some};
 ghost use Rattle.gobject.specs.Faults.{index_fault_row, index_fault_text, pack_fault_row, pack_fault_text};
@@ -17,27 +17,27 @@ pub enum PackFault {
     Memory,
     /// The pack would have more than `gname::MAX_PACK` bytes.
     TooLarge,
-    /// Another cause, of the packer's own.
+    /// Another cause, specific to the packer.
     Other,
 }
 
 impl PackFault {
-    /// The number of the fault.
+    /// Returns the number of the fault.
     pub fn code(&self) -> u32
         ensures { result ≡ (pack_fault_row self.now).0 }
     {
-        self.row().0
+        self.fault_row().0
     }
 
-    /// The name of the fault.
+    /// Returns the name of the fault.
     pub fn name(&self) -> &'static str
         ensures { result.now ≡ (pack_fault_row self.now).1 }
     {
-        self.row().1
+        self.fault_row().1
     }
 
-    // The number and the name, which are one for all causes.
-    fn row(&self) -> (u32, &'static str)
+    // Returns the number and the name of the fault. They are the same for all causes.
+    fn fault_row(&self) -> (u32, &'static str)
         ensures { (result.0, result.1.now) ≡ pack_fault_row self.now }
     {
         (65, "Pack")
@@ -63,29 +63,29 @@ impl Error for PackFault {}
 pub enum IndexFault {
     /// Out of memory.
     Memory,
-    /// The first line, counted from 1, that is not as the format says.
+    /// The first line, counted from 1, that does not have the right form.
     Bad { line: usize },
-    /// Another cause, of the indexer's own.
+    /// Another cause, specific to the indexer.
     Other,
 }
 
 impl IndexFault {
-    /// The number of the fault.
+    /// Returns the number of the fault.
     pub fn code(&self) -> u32
         ensures { result ≡ (index_fault_row self.now).0 }
     {
-        self.row().0
+        self.fault_row().0
     }
 
-    /// The name of the fault.
+    /// Returns the name of the fault.
     pub fn name(&self) -> &'static str
         ensures { result.now ≡ (index_fault_row self.now).1 }
     {
-        self.row().1
+        self.fault_row().1
     }
 
-    /// The number and the name, which are one for all causes.
-    pub fn row(&self) -> (u32, &'static str)
+    /// Returns the number and the name of the fault. They are the same for all causes.
+    pub fn fault_row(&self) -> (u32, &'static str)
         ensures { (result.0, result.1.now) ≡ index_fault_row self.now }
     {
         (66, "Index")
@@ -110,6 +110,14 @@ impl From<AllocError> for PackFault {
     ghost from_gives = { λ _ fault. fault ≡ pack_faults.Memory };
 
     fn from(_refused: AllocError) -> PackFault {
+        PackFault::Memory
+    }
+}
+
+impl<T: Drop> From<AllocFailed<T>> for PackFault {
+    ghost from_gives = { λ _ fault. fault ≡ pack_faults.Memory };
+
+    fn from(_refused: AllocFailed<T>) -> PackFault {
         PackFault::Memory
     }
 }

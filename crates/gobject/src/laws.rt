@@ -1,4 +1,4 @@
-//! The laws of plain packs: functions without effect, whose contracts they are.
+//! The laws of plain packs: functions without effect whose contracts are the laws.
 
 ghost use Rattle.std.specs.Prelude.{◌≡◌};
 ghost use Rattle.gobject.specs.Laws.{BadLinesHaveOnePlace, PacksHaveNoBadLine, PacksHaveOneReading};
@@ -8,12 +8,12 @@ use crate::MAX_PARENTS;
 use gname::laws::{id_texts_are_digits, texts_spell_one_id};
 use std::alloc::Allocator;
 
-/// The constant is the limit that the definitions name.
+/// The constant is the limit that the definitions use.
 pub fn limits_are_the_constants()
     ensures { MAX_PARENTS ≡ max_parents }
 {}
 
-/// Bytes are the plain pack of one list.
+/// Bytes are the plain pack of at most one list.
 pub fn packs_have_one_reading<A: Allocator + Copy>()
     ensures { PacksHaveOneReading A }
 {
@@ -29,7 +29,8 @@ pub fn packs_have_no_bad_line<A: Allocator + Copy>()
     texts_spell_one_id();
 }
 
-/// Bytes have one bad line at most: the same is reported in whichever pieces they are fed.
+/// Bytes have at most one bad line. The same line is reported however the bytes are split into
+/// pieces.
 pub fn bad_lines_have_one_place<A: Allocator + Copy>()
     ensures { BadLinesHaveOnePlace A }
 {

@@ -1,41 +1,41 @@
-//! The objects of a repository that a fetch is about: commits and tags under their ids, and packs,
-//! which carry lists of them from one end to the other.
+//! The objects that a fetch transfers: commits and tags under their ids, and packs, which carry
+//! lists of them from one end to the other.
 //!
 //! # Proved
 //!
-//! - A copy of a node or an entry equals it. [`Node::is_same`] compares kind and
-//!   parents, in order; [`Node::is_shaped`] holds exactly of nodes with at most [`MAX_PARENTS`]
-//!   parents, and exactly one where it is a tag.
-//! - [`Node::push_line`] adds the one line of an object to a text.
-//! - [`PlainPack`] writes the one text of a list, of at most `gname::MAX_PACK` bytes, and refuses as
-//!   too large exactly the lists whose text is longer. It reads exactly such texts, with ids in either
-//!   case, and reports of any other bytes the first line that is wrong; in pieces, cut anywhere, as whole.
-//!   Out of memory comes of no list whose text is too long, and of bytes only after right lines and an id
-//!   of one more entry.
-//! - What an indexer owes of a pack that comes in pieces is in the clauses of [`Indexer`]; `index` of a
+//! - A copy of a node or an entry is equal to it. [`Node::is_same`] compares kind and parents, in
+//!   order. [`Node::is_shaped`] holds exactly for nodes with at most [`MAX_PARENTS`] parents, and
+//!   exactly one if it is a tag.
+//! - [`Node::push_line`] appends the line of an object to a text.
+//! - [`PlainPack`] writes the text of a list, of at most `gname::MAX_PACK` bytes, and refuses as
+//!   too large exactly the lists whose text is longer. It reads exactly such texts, with ids in
+//!   either case. For any other bytes it reports the first line that is wrong. Bytes in pieces, cut
+//!   anywhere, are read like whole ones. Out of memory is reported for no list whose text is too
+//!   long. For bytes it is reported only after right lines and the id of one more entry.
+//! - The clauses of [`Indexer`] say what an indexer must do with a pack in pieces. `index` of a
 //!   whole pack follows from them.
-//! - Bytes have one bad line at most, and a pack has none: [`laws`].
-//! - What a packer and an indexer that lose nothing must do is [`Faithful`]; a plain pack of a list
-//!   with distinct ids reads back as that list.
+//! - Bytes have at most one bad line, and a pack has none: [`laws`].
+//! - [`Faithful`] says what a packer and an indexer that lose nothing must do. A plain pack of a
+//!   list with distinct ids reads back as that list.
 //! - Each fault has the number, the name and the text of its row.
 //! - No call panics, overflows or reads out of bounds, and each returns.
 //!
 //! # What the contracts do not rule out
 //!
-//! It may report out of memory of any list whose text is not too long, of any bytes in which an entry is
-//! there to keep, and of any copy, as often as it likes: so where a line is bad and an entry stands before
-//! it, it may report out of memory in place of the bad line. A copy may take its memory from another
-//! allocator of the same type than the one that is given. It may take as long as it likes, and more memory
-//! than it needs. Formatting a fault may answer an error (`fmt::Error`) where the text would be
-//! right, and with options, such as a width, write another text.
+//! As often as it likes, it may report out of memory for any list whose text is not too long. It
+//! may also do so for any bytes with an entry to store, and for any copy. It may thus report out of
+//! memory instead of a bad line if there is an entry before that line. A copy may take its memory
+//! from another allocator of the same type. It may take as long as it likes, and more memory than
+//! it needs. Formatting a fault may return an error (`fmt::Error`) although the text would be
+//! right. With options, such as a width, it may write another text.
 //!
-//! There are no tests here. The program `conformance` reads and writes packs, whole and in pieces, with each
-//! allocation refused in turn.
+//! There are no tests here. The program `conformance` reads and writes packs, whole and in pieces,
+//! with each allocation refused in turn.
 //!
 //! # Stands on
 //!
-//! `gname` for ids, `memchr` for the ends of parts, `arrayvec` for a part that is cut, `itoa` for the
-//! count in a pack; the proofs cite `hex`.
+//! `gname` for ids, `memchr` for the ends of parts, `arrayvec` for a part that is cut, `itoa` for
+//! the count in a pack. The proofs use `hex`.
 #![tactic(auto)]
 
 mod fault;

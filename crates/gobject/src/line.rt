@@ -1,4 +1,4 @@
-//! The line of an object, in plain packs and in the text that keeps a repository.
+//! The line of an object, in plain packs and in the text file of a repository.
 
 ghost use Rattle.std.specs.Prelude.{◌≡◌, ◌++◌, ◌∷◌, [], OnOk};
 ghost use Rattle.gobject.specs.PlainPackText.{ids_text, letter, line, node_text};
@@ -8,8 +8,9 @@ use gname::Oid;
 use std::alloc::{AllocError, Allocator};
 
 impl<A: Allocator + Copy> Node<A> {
-    /// Adds the line of this object, under an id, to a text: `c` for a commit or `t` for a tag, the id and those of its
-    /// parents, a space before each, and a line feed. It fails only out of memory.
+    /// Appends the line of this object, under an id, to a text. It has `c` for a commit or `t` for
+    /// a tag, the id and the ids of the parents, each after a space, and a line feed. Fails only if
+    /// out of memory.
     pub fn push_line<B: Allocator + Copy>(
         &self,
         id: &Oid,
@@ -26,7 +27,7 @@ impl<A: Allocator + Copy> Node<A> {
     }
 }
 
-// The letter of a kind.
+// Returns the letter of a kind.
 fn letter_of(kind: Kind) -> u8
     ensures { result ≡ letter kind }
 {
@@ -36,7 +37,7 @@ fn letter_of(kind: Kind) -> u8
     }
 }
 
-// An id after a space.
+// Appends an id after a space.
 fn push_id<A: Allocator + Copy>(text: &mut Vec<u8, A>, id: &Oid) -> Result<(), AllocError>
     ensures { OnOk result (text.new.items ≡ text.old.items ++ ids_text (id.now ∷ [])) }
 {
@@ -44,7 +45,7 @@ fn push_id<A: Allocator + Copy>(text: &mut Vec<u8, A>, id: &Oid) -> Result<(), A
     id.push_hex(text)
 }
 
-// Ids, each after a space.
+// Appends ids, each after a space.
 #[tactic(auto, using(crate::proofs::PlainPackWriting::pieces_more))]
 fn push_ids<A: Allocator + Copy>(text: &mut Vec<u8, A>, ids: &[Oid]) -> Result<(), AllocError>
     ensures { OnOk result (text.new.items ≡ text.old.items ++ ids_text ids.now) }

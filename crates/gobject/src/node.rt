@@ -6,18 +6,18 @@ use gname::Oid;
 use std::alloc::{AllocError, Allocator, Global};
 use std::marker::Model;
 
-/// The most parents that a node of a graph has.
+/// The maximum number of parents of a node.
 pub const MAX_PARENTS: usize = 64;
 
-/// What an object is (gitglossary(7), "object type"): a commit, or a tag, whose one parent is the
-/// object that it names.
+/// The type of an object (gitglossary(7), "object type"): a commit, or a tag, whose one parent is
+/// the object that it names.
 #[derive(Clone, Copy, Debug, PartialEq, Eq)]
 pub enum Kind {
     Commit,
     Tag,
 }
 
-/// The ids of a node's parents, in order. The same id may come more than once.
+/// The ids of a node's parents, in order. The same id may occur more than once.
 #[derive(Debug, Drop)]
 pub struct Parents<A: Allocator + Copy = Global> {
     ids: Vec<Oid, A>,
@@ -32,7 +32,7 @@ impl<A: Allocator + Copy> Model for Parents<A> {
 }
 
 impl<A: Allocator + Copy> Parents<A> {
-    /// No parent. It takes no memory.
+    /// Returns an empty list of parents. It does not allocate.
     pub fn new(alloc: A) -> Parents<A>
         ensures { result ≡ [] }
     {
@@ -41,7 +41,7 @@ impl<A: Allocator + Copy> Parents<A> {
         }
     }
 
-    /// These parents, in this order, in memory of `alloc`. It fails where there is no memory.
+    /// Returns these parents, in this order, in memory of `alloc`. Fails only if out of memory.
     pub fn from_slice(alloc: A, ids: &[Oid]) -> Result<Parents<A>, AllocError>
         ensures { IfOk result (λ parents. parents ≡ ids.now) }
     {
@@ -49,7 +49,7 @@ impl<A: Allocator + Copy> Parents<A> {
         Ok(Parents { ids })
     }
 
-    /// Adds a parent at the end. Where there is no memory the list stays as it was.
+    /// Appends a parent. If out of memory, the list is unchanged.
     pub fn push(&mut self, id: Oid) -> Result<(), AllocError>
         ensures ok { OnOk result (self.new ≡ self.old ++ id ∷ []) }
         ensures err { OnErr result (self.new ≡ self.old) }
@@ -58,7 +58,7 @@ impl<A: Allocator + Copy> Parents<A> {
         Ok(())
     }
 
-    /// The parents in order.
+    /// Returns the parents in order.
     pub fn as_slice(&self) -> &[Oid]
         ensures { result.now ≡ self.now }
     {
@@ -66,19 +66,19 @@ impl<A: Allocator + Copy> Parents<A> {
     }
 }
 
-/// An object: what it is, and its parents.
+/// An object: its kind and its parents.
 #[derive(Debug, Drop)]
 pub struct Node<A: Allocator + Copy = Global> {
-    /// What it is.
+    /// Its kind.
     pub kind: Kind,
-    /// Its parents; of a tag, the object that it names.
+    /// Its parents. For a tag, the object that it names.
     pub parents: Parents<A>,
 }
 
 impl<A: Allocator + Copy> Node<A> {
     ghost use Rattle.gobject.specs.Objects.{IsShaped};
 
-    /// A node like this one. It fails where there is no memory.
+    /// Returns a copy of the node. Fails only if out of memory.
     pub fn copy_in(&self, alloc: A) -> Result<Node<A>, AllocError>
         ensures { IfOk result (λ node. node ≡ self.now) }
     {
@@ -89,7 +89,7 @@ impl<A: Allocator + Copy> Node<A> {
         })
     }
 
-    /// Whether the node has at most `MAX_PARENTS` parents, and exactly one where it is a tag.
+    /// Whether the node has at most `MAX_PARENTS` parents, and exactly one if it is a tag.
     pub fn is_shaped(&self) -> bool
         ensures { IsTrue result ↔ IsShaped self.now }
     {
@@ -100,7 +100,7 @@ impl<A: Allocator + Copy> Node<A> {
         }
     }
 
-    /// Whether two nodes are of one kind and have the same parents in the same order.
+    /// Whether two nodes have the same kind and the same parents in the same order.
     pub fn is_same(&self, other: &Node<A>) -> bool
         ensures { IsTrue result ↔ (self.now ≡ other.now) }
     {
@@ -108,17 +108,17 @@ impl<A: Allocator + Copy> Node<A> {
     }
 }
 
-/// An object under its id, as a graph holds it.
+/// An object under its id, as a graph stores it.
 #[derive(Debug, Drop)]
 pub struct Entry<A: Allocator + Copy = Global> {
-    /// The id that the object is found by.
+    /// The id of the object.
     pub id: Oid,
     /// The object.
     pub node: Node<A>,
 }
 
 impl<A: Allocator + Copy> Entry<A> {
-    /// An entry like this one. It fails where there is no memory.
+    /// Returns a copy of the entry. Fails only if out of memory.
     pub fn copy_in(&self, alloc: A) -> Result<Entry<A>, AllocError>
         ensures { IfOk result (λ entry. entry ≡ self.now) }
     {

@@ -10,27 +10,27 @@ use crate::fault::{IndexFault, PackFault};
 use crate::node::Entry;
 use std::alloc::Allocator;
 
-/// What writes entries as a pack.
+/// A packer writes entries as a pack.
 ///
-/// `packs` says which bytes it may answer for a list, and `pack_fails` which faults.
+/// `packs` says which bytes it may return for a list, and `pack_fails` which faults.
 pub trait Packer<A: Allocator + Copy> {
     ghost packs: { Self → List (Entry A) → List ℕ → Type 0 };
 
     ghost pack_fails: { Self → List (Entry A) → PackFault → Type 0 };
 
-    /// The pack of the entries, of at most `gname::MAX_PACK` bytes, in memory of `alloc`.
+    /// Returns the pack of the entries, of at most `gname::MAX_PACK` bytes, in memory of `alloc`.
     fn pack(&self, alloc: A, entries: &[Entry<A>]) -> Result<Vec<u8, A>, PackFault>
         ensures { MatchResult result
             (λ pack. MayPack (packs self.now) entries.now pack.items)
             (λ fault. pack_fails self.now entries.now fault) };
 }
 
-/// What reads entries from a pack, which it is given in pieces.
+/// An indexer reads entries from a pack, which it takes in pieces.
 ///
-/// `indexes` says which entries it may answer for the bytes of a whole pack, `index_fails` which
-/// faults, and `fed` which bytes a feed was fed.
+/// `indexes` says which entries it may return for the bytes of a whole pack, and `index_fails`
+/// which faults. `fed` says which bytes were fed to a feed.
 pub trait Indexer<A: Allocator + Copy> {
-    /// What the indexer keeps of a pack that it was given a part of.
+    /// The state of the indexer after a part of a pack.
     type Feed: Drop;
 
     ghost indexes: { Self → List ℕ → List (Entry A) → Type 0 };
@@ -39,14 +39,14 @@ pub trait Indexer<A: Allocator + Copy> {
 
     ghost fed: { Self → Self.Feed → List ℕ → Type 0 };
 
-    /// A feed that was fed nothing. A fault here may be answered for any pack.
+    /// Returns a feed to which nothing was fed. A fault here may be returned for any pack.
     fn start(&self, alloc: A) -> Result<Self::Feed, IndexFault>
         ensures { MatchResult result
             (λ feed. fed self.now feed [])
             (λ fault. ((bytes : List ℕ) → index_fails self.now bytes fault)) };
 
-    /// Feeds the next piece of a pack. A fault here may be answered for any pack that begins with
-    /// the pieces fed, this one included. The feed is of no use after a fault: drop it.
+    /// Feeds the next piece of a pack. A fault here may be returned for any pack that begins with
+    /// the pieces fed, including this one. After a fault the feed can't be used further: drop it.
     fn feed(&self, feed: &mut Self::Feed, piece: &[u8]) -> Result<(), IndexFault>
         ensures { MatchResult result
             (λ _. ((given : List ℕ) → fed self.now feed.old given
@@ -54,7 +54,8 @@ pub trait Indexer<A: Allocator + Copy> {
             (λ fault. ((given more : List ℕ) → fed self.now feed.old given
             → index_fails self.now ((given ++ piece.now) ++ more) fault)) };
 
-    /// The entries of the pack whose pieces were fed, in order. A fault here is of these pieces.
+    /// Returns the entries of the pack whose pieces were fed, in order. A fault here is for
+    /// exactly these pieces.
     fn finish(&self, feed: Self::Feed) -> Result<Vec<Entry<A>, A>, IndexFault>
         ensures { MatchResult result
             (λ entries. ((given : List ℕ) → fed self.now feed given
@@ -62,7 +63,7 @@ pub trait Indexer<A: Allocator + Copy> {
             (λ fault. ((given : List ℕ) → fed self.now feed given
             → index_fails self.now given fault)) };
 
-    /// The entries of a pack that is given whole, in its order. It fails as the calls on a feed do.
+    /// Returns the entries of a whole pack, in its order. Fails as the calls on a feed do.
     fn index(&self, alloc: A, bytes: &[u8]) -> Result<Vec<Entry<A>, A>, IndexFault>
         ensures { MatchResult result (λ entries. indexes self.now bytes.now entries.items)
             (λ fault. index_fails self.now bytes.now fault) }
@@ -73,11 +74,11 @@ pub trait Indexer<A: Allocator + Copy> {
     }
 }
 
-/// A packer that is an indexer too, and reads back what it writes.
+/// A packer that is also an indexer, and reads back what it writes.
 ///
-/// Each list has an `image`. Of a list with distinct ids `pack` answers the image, or `TooLarge`
-/// where the image has more than `gname::MAX_PACK` bytes, and `index` reads the image as the list.
-/// Both may answer `Memory`.
+/// Each list has an `image`. For a list with distinct ids, `pack` returns the image, or `TooLarge`
+/// if the image has more than `gname::MAX_PACK` bytes. `index` reads the image as the list. Both
+/// may fail with `Memory`.
 pub trait Faithful<A: Allocator + Copy>: Packer<A> + Indexer<A> {
     ghost image: { Self → List (Entry A) → List ℕ };
 

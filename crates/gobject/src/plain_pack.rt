@@ -17,21 +17,21 @@ use std::alloc::Allocator;
 
 /// Packs as plain text.
 ///
-/// The lines are `GPK1`; for each entry `c` (a commit) or `t` (a tag), its id and the ids of its
-/// parents; and `end` and the count of entries, in decimal without leading zeros. Parts are
-/// separated by one space, and each line is ended by a line feed.
+/// The first line is `GPK1`. Each entry has a line: `c` (a commit) or `t` (a tag), its id and the
+/// ids of its parents. The last line is `end` and the number of entries, in decimal without leading
+/// zeros. One space separates parts, and a line feed ends each line.
 ///
-/// `pack` writes the entries in the order given, ids in lower case. It fails with `TooLarge` where
+/// `pack` writes the entries in the given order, ids in lower case. It fails with `TooLarge` if
 /// the text has more than `gname::MAX_PACK` bytes.
 ///
-/// `index` reads exactly such texts, with ids in either case, and answers the entries in order. How
-/// many parents an entry has, and whether an id comes again, it does not judge. It fails with `Bad`
-/// at the first line that has not this form: a line that is none of an entry and not the right end,
-/// the line after the end where bytes follow, and where the input ends early the line that it ends
-/// in, which is one more than there are line feeds.
+/// `index` reads exactly such texts, with ids in either case, and returns the entries in order. It
+/// does not check the number of parents, or whether an id is repeated. It fails with `Bad` at the
+/// first line without this form. This is a line that is neither an entry nor the right end, or the
+/// line after the end if bytes follow. If the input ends early, it is the line in which it ends:
+/// the number of line feeds plus one.
 ///
-/// Both fail with `Memory` when out of memory: `pack` for no list whose pack is too large, and
-/// `index` only after right lines and an id of one more entry.
+/// Both fail with `Memory` if out of memory. `pack` never does so for a list whose pack is too
+/// large, and `index` only after right lines and the id of one more entry.
 #[derive(Clone, Copy, Debug, PartialEq, Eq, Drop)]
 pub struct PlainPack;
 

@@ -1,4 +1,4 @@
-//! A packer whose pack is made at once, and given in parts.
+//! A packer whose pack is made at once, and returned in parts.
 
 ghost use Rattle.std.specs.Prelude.{◌<◌, ◌≡◌, None, length};
 ghost use Rattle.gparts.specs.steps.Whole.{TakesSome};
@@ -8,14 +8,14 @@ use gobject::{Entry, PackFault, Packer};
 use std::alloc::Allocator;
 use std::marker::Model;
 
-/// A packer that makes its pack whole, before the first part is given.
+/// A packer that makes the whole pack before it returns the first part.
 #[derive(Drop)]
 pub struct WholePack<'a, K> {
     packer: &'a K,
 }
 
 impl<'a, K> WholePack<'a, K> {
-    /// The packer, as one that gives parts.
+    /// Returns the packer as a [`PartPacker`](crate::PartPacker).
     pub fn new(packer: &'a K) -> WholePack<'a, K>
         ensures { result.packer.now ≡ packer.now }
     {
@@ -23,11 +23,11 @@ impl<'a, K> WholePack<'a, K> {
     }
 }
 
-/// The rest of a pack that was made whole.
+/// The rest of a pack that was made at once.
 #[derive(Drop)]
 pub struct WholeParts<A: Allocator + Copy> {
     pack: Vec<u8, A>,
-    // How many of its bytes were given.
+    // The number of bytes that were returned.
     given: usize,
 }
 
@@ -48,7 +48,7 @@ impl<A: Allocator + Copy> WholeParts<A> {
         WholeParts { pack, given: 0 }
     }
 
-    // Puts the next bytes into the front of `out`, and answers how many.
+    // Copies the next bytes into the front of `out`, and returns their number.
     fn give(&mut self, out: &mut [u8]) -> usize
         requires { 0 < length out.old }
         ensures { TakesSome self.old self.new result out.new }

@@ -1,10 +1,10 @@
 -- What is read of bytes, and that each front has a packet or a reason.
 use Rattle.std.proofs.Common.{◌≡◌, ℕ, zero, suc, ◌+◌, ◌<◌, ◌≤◌, ◌⊎◌, List, [], ◌∷◌, ◌++◌, length, take, drop, Option, Some, None, Result, Ok, Err, refl, sym, ap, ◌∙◌, inl, inr, arith, length-append, length-take-le, take-append-drop, append_assoc}
 use Rattle.gpkt.specs.Laws.{IsOfBytes, OneFault, OneOutcome, SpellsAtFront, EveryFront}
-use Rattle.gpkt.specs.LineReading.{NoLine, Gives}
+use Rattle.gpkt.specs.PacketReading.{NoPacket, Gives}
 use Rattle.gpkt.specs.Packets.{Packet, Data, Flush, Delim, ResponseEnd, number_of, max_packet}
-use Rattle.gpkt.specs.declared.fault.LineFault.{LineFault}
-use Rattle.gpkt.specs.declared.fault.LineFault.TheVariants.{BadDigits, Reserved, TooLong, Truncated, Io, Failed, Memory}
+use Rattle.gpkt.specs.declared.fault.PacketFault.{PacketFault}
+use Rattle.gpkt.specs.declared.fault.PacketFault.TheVariants.{BadDigits, Reserved, TooLong, Truncated, Io, Failed, Memory}
 use Rattle.gpkt.proofs.Readings.{one_reading_lem, refused_lem, has_four_bytes_lem, some_value}
 
 -- ---- one outcome
@@ -17,18 +17,18 @@ no_number : {X : Type 0} (digits : List ℕ) (n : ℕ) → number_of digits ≡ 
 no_number digits n p q = cc (p, q)
 
 -- what is left after a fault that comes of the bytes
-abbrev rest_after : LineFault → List ℕ → List ℕ
+abbrev rest_after : PacketFault → List ℕ → List ℕ
 rest_after Truncated old = []
 rest_after _ old = drop 4 old
 
-fault_of_bytes : (fault : LineFault) (old new : List ℕ) → Gives old new (Err fault) → IsOfBytes (Err fault)
-    → NoLine fault old × (new ≡ rest_after fault old)
+fault_of_bytes : (fault : PacketFault) (old new : List ℕ) → Gives old new (Err fault) → IsOfBytes (Err fault)
+    → NoPacket fault old × (new ≡ rest_after fault old)
 fault_of_bytes Io old new h fits = absurd (fits.0 refl)
 fault_of_bytes Failed old new h fits = absurd (fits.1 refl)
 fault_of_bytes Memory old new h fits = absurd h
 fault_of_bytes _ old new h fits = h
 
-some_bytes : (fault : LineFault) (bytes : List ℕ) → NoLine fault bytes → 0 < length bytes
+some_bytes : (fault : PacketFault) (bytes : List ℕ) → NoPacket fault bytes → 0 < length bytes
 some_bytes BadDigits bytes h = omega (arith, h.0)
 some_bytes Reserved bytes h = omega (arith, h.0)
 some_bytes TooLong bytes h = omega (arith, h.1.0)
@@ -43,7 +43,7 @@ line_has_bytes line old front new split four =
     let all : length old ≡ length front + length new = ap length split ∙ length-append front new in omega arith
 
 -- digits that announce more bytes than are left
-cut_number : (bytes : List ℕ) (n : ℕ) → NoLine Truncated bytes → 4 ≤ length bytes → number_of (take 4 bytes) ≡ Some n
+cut_number : (bytes : List ℕ) (n : ℕ) → NoPacket Truncated bytes → 4 ≤ length bytes → number_of (take 4 bytes) ≡ Some n
     → (n ≤ max_packet) × (length bytes < n)
 cut_number bytes n h four number =
     elim h.1 as (λ _. (n ≤ max_packet) × (length bytes < n)) [
@@ -54,20 +54,20 @@ cut_number bytes n h four number =
           let short = cut.3 in (omega arith, omega arith)
     ]
 
-cut_digits : {X : Type 0} (bytes : List ℕ) → NoLine Truncated bytes → 4 ≤ length bytes → number_of (take 4 bytes) ≡ None → X
+cut_digits : {X : Type 0} (bytes : List ℕ) → NoPacket Truncated bytes → 4 ≤ length bytes → number_of (take 4 bytes) ≡ None → X
 cut_digits {X} bytes h four none =
     elim h.1 as (λ _. X) [
       | inl few ↦ absurd (omega arith)
       | inr cut ↦ no_number (take 4 bytes) cut.0 none cut.1.1
     ]
 
-cut_reserved : {X : Type 0} (bytes : List ℕ) → NoLine Truncated bytes → NoLine Reserved bytes → X
+cut_reserved : {X : Type 0} (bytes : List ℕ) → NoPacket Truncated bytes → NoPacket Reserved bytes → X
 cut_reserved bytes h k = let p = cut_number bytes 3 h k.0 k.1 in let short = p.1 in let four = k.0 in absurd (omega arith)
 
-cut_too_long : {X : Type 0} (bytes : List ℕ) → NoLine Truncated bytes → NoLine TooLong bytes → X
+cut_too_long : {X : Type 0} (bytes : List ℕ) → NoPacket Truncated bytes → NoPacket TooLong bytes → X
 cut_too_long bytes h k = let p = cut_number bytes k.0 h k.1.0 k.1.1 in let fits = p.0 in let over = k.2 in absurd (omega arith)
 
-reserved_too_long : {X : Type 0} (bytes : List ℕ) → NoLine Reserved bytes → NoLine TooLong bytes → X
+reserved_too_long : {X : Type 0} (bytes : List ℕ) → NoPacket Reserved bytes → NoPacket TooLong bytes → X
 reserved_too_long bytes h k =
     let same : 3 ≡ k.0 = same_number (take 4 bytes) 3 k.0 h.1 k.1.1 in
     let over = k.2 in absurd (omega arith)
@@ -94,10 +94,10 @@ one_fault_lem Truncated TooLong bytes h k = cut_too_long bytes h k
 one_fault_lem Truncated Truncated bytes h k = refl
 one_fault_lem _ _ bytes h k = absurd k
 
-abbrev refused : LineFault → Result (Option Packet) LineFault
+abbrev refused : PacketFault → Result (Option Packet) PacketFault
 refused fault = Err fault
 
-same_fault : (old new after : List ℕ) (fault other : LineFault) → fault ≡ other → new ≡ rest_after fault old → after ≡ rest_after other old
+same_fault : (old new after : List ℕ) (fault other : PacketFault) → fault ≡ other → new ≡ rest_after fault old → after ≡ rest_after other old
     → (refused fault ≡ refused other) × (new ≡ after)
 same_fault old new after fault other same left right = (ap refused same, left ∙ ap (λ f. rest_after f old) same ∙ sym right)
 
@@ -131,12 +131,12 @@ below_or_not zero (suc b) = inl (omega arith)
 below_or_not (suc a) (suc b) = elim (below_or_not a b) [ inl p ↦ inl (omega arith) | inr p ↦ inr (omega arith) ]
 
 abbrev Front : List ℕ → Type 0
-Front bytes = SpellsAtFront bytes ⊎ ((fault : LineFault) × NoLine fault bytes)
+Front bytes = SpellsAtFront bytes ⊎ ((fault : PacketFault) × NoPacket fault bytes)
 
 -- as many bytes as the digits announce
-data_line : (bytes : List ℕ) (len : ℕ) → number_of (take 4 bytes) ≡ Some (len + 4) → len + 4 ≤ max_packet → len + 4 ≤ length bytes
+data_packet : (bytes : List ℕ) (len : ℕ) → number_of (take 4 bytes) ≡ Some (len + 4) → len + 4 ≤ max_packet → len + 4 ≤ length bytes
     → SpellsAtFront bytes
-data_line bytes len number fits all =
+data_packet bytes len number fits all =
     let digits = take 4 bytes in
     let after = drop 4 bytes in
     let payload = take len after in
@@ -164,7 +164,7 @@ announced_front bytes (suc (suc (suc (suc len)))) four h =
       | inl over ↦ inr (TooLong, (len + 4, (four, number), over))
       | inr fits ↦ elim (below_or_not (length bytes) (len + 4)) [
         | inl short ↦ inr (Truncated, (omega arith, inr (len + 4, (four, number), fits, short)))
-        | inr all ↦ inl (data_line bytes len number fits all)
+        | inr all ↦ inl (data_packet bytes len number fits all)
       ]
     ]
 

@@ -4,7 +4,7 @@ use Rattle.std.proofs.KnownBytes.{Appends-trans}
 use Rattle.std.proofs.lemmas.List.{take_rest}
 use Rattle.std.proofs.lemmas.Slice.{take-put_mid_below}
 use Rattle.std.specs.Io.KnownBytes.{Appends}
-use Rattle.gpkt.specs.LineWriting.{AppendsFront}
+use Rattle.gpkt.specs.PacketWriting.{AppendsFront}
 use borrow.Rule.Slice.PartMut.{put_mid, post_of}
 use Rattle.gpkt.proofs.Steps.{change}
 use lib.Seq.{take-add, take-append-le}

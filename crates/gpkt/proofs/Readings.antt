@@ -8,10 +8,10 @@ use Rattle.hex.specs.declared.error.FromHexError.{FromHexError}
 use Rattle.hex.proofs.HexLemmas.{decode_of-ok, decode_of-encode_lower}
 use Rattle.hex.proofs.OnLiterals.{hex_on_literals}
 use Rattle.gpkt.specs.Packets.{Packet, Data, Flush, Delim, ResponseEnd, Spells, SpellsAll, number_in, number_of, digits_of, canonical, canonical_all, payload_of, max_payload}
-use Rattle.gpkt.specs.Laws.{OneReading, RefusedIsNoLine, HasFourBytes, Fits, CanonicalSpells, CanonicalSpellsAll, CanonicalJoins, SpellingsJoin, SpellingsSplit, BeginsWith, OneBegins}
-use Rattle.gpkt.specs.LineReading.{NoLine}
-use Rattle.gpkt.specs.declared.fault.LineFault.{LineFault}
-use Rattle.gpkt.specs.declared.fault.LineFault.TheVariants.{BadDigits, Reserved, TooLong, Truncated}
+use Rattle.gpkt.specs.Laws.{OneReading, RefusedIsNoPacket, HasFourBytes, Fits, CanonicalSpells, CanonicalSpellsAll, CanonicalJoins, SpellingsJoin, SpellingsSplit, BeginsWith, OneBegins}
+use Rattle.gpkt.specs.PacketReading.{NoPacket}
+use Rattle.gpkt.specs.declared.fault.PacketFault.{PacketFault}
+use Rattle.gpkt.specs.declared.fault.PacketFault.TheVariants.{BadDigits, Reserved, TooLong, Truncated}
 
 -- ---- lists
 
@@ -54,17 +54,17 @@ announced Delim = 1
 announced ResponseEnd = 2
 
 -- the packet of a number and a payload
-abbrev line_from : ℕ → List ℕ → Packet
-line_from zero payload = Flush
-line_from (suc zero) payload = Delim
-line_from (suc (suc zero)) payload = ResponseEnd
-line_from (suc (suc (suc n))) payload = Data payload
+abbrev packet_from : ℕ → List ℕ → Packet
+packet_from zero payload = Flush
+packet_from (suc zero) payload = Delim
+packet_from (suc (suc zero)) payload = ResponseEnd
+packet_from (suc (suc (suc n))) payload = Data payload
 
-line_from-announced : (line : Packet) → line_from (announced line) (payload_of line) ≡ line
-line_from-announced (Data payload) =
+packet_from-announced : (line : Packet) → packet_from (announced line) (payload_of line) ≡ line
+packet_from-announced (Data payload) =
     let split : length payload + 4 ≡ suc (suc (suc (suc (length payload)))) = omega arith in
-    ap (λ n. line_from n payload) split
-line_from-announced _ = refl
+    ap (λ n. packet_from n payload) split
+packet_from-announced _ = refl
 
 announced-less_four : (line : Packet) → announced line - 4 ≡ length (payload_of line)
 announced-less_four (Data payload) = omega arith
@@ -106,7 +106,7 @@ parts_same line other front next rest after p q same =
     let number : announced line ≡ announced other = some_value _ _ (sym p.number ∙ ap number_of outer.0 ∙ q.number) in
     let len : length (payload_of line) ≡ length (payload_of other) = sym (announced-less_four line) ∙ ap (λ n. n - 4) number ∙ announced-less_four other in
     let inner = same_fronts (payload_of line) (payload_of other) rest after len outer.1 in (
-      sym (line_from-announced line) ∙ ap (λ n. line_from n (payload_of line)) number ∙ ap (line_from (announced other)) inner.0 ∙ line_from-announced other,
+      sym (packet_from-announced line) ∙ ap (λ n. packet_from n (payload_of line)) number ∙ ap (packet_from (announced other)) inner.0 ∙ packet_from-announced other,
       p.split ∙ ap (λ l. l ++ payload_of line) outer.0 ∙ ap (λ l. q.digits ++ l) inner.0 ∙ sym q.split,
       inner.1,
     )
@@ -133,7 +133,7 @@ front_length line bytes front rest p same =
     let len : length front ≡ length p.digits + length (payload_of line) = ap length p.split ∙ length-append p.digits (payload_of line) in
     let four = p.four in omega arith
 
-refused_parts : (fault : LineFault) (line : Packet) (bytes front rest : List ℕ) → NoLine fault bytes → front ++ rest ≡ bytes → Parts line front → ⊥
+refused_parts : (fault : PacketFault) (line : Packet) (bytes front rest : List ℕ) → NoPacket fault bytes → front ++ rest ≡ bytes → Parts line front → ⊥
 refused_parts BadDigits line bytes front rest h same p = let n = front_number line bytes front rest p same in cc (h.1, n)
 refused_parts Reserved line bytes front rest h same p =
     announced-not_three line (some_value _ _ (sym (front_number line bytes front rest p same) ∙ h.1))
@@ -153,7 +153,7 @@ refused_parts Truncated line bytes front rest h same p =
     ]
 refused_parts _ line bytes front rest h same p = absurd h
 
-pub refused_lem : RefusedIsNoLine
+pub refused_lem : RefusedIsNoPacket
 refused_lem fault line bytes front rest h same s = refused_parts fault line bytes front rest h same (parts_of line front s)
 
 -- ---- the canonical spelling

@@ -2,10 +2,10 @@
 use Rattle.std.proofs.Common.{◌≡◌, ℕ, ◌+◌, ◌<◌, ◌≤◌, List, ◌++◌, length, take, drop, Option, Some, None, Ok, Err, refl, sym, ap, ◌∙◌, inl, inr, append_assoc, append-nil, arith, subst, length-append}
 use lib.Seq.{drop_at, take_at}
 use Rattle.gpkt.specs.Change.{Change}
-use Rattle.gpkt.specs.LineReading.{Gives, Reads, IsPartialLine}
+use Rattle.gpkt.specs.PacketReading.{Gives, Reads, IsPartialPacket}
 use Rattle.gpkt.specs.Packets.{Data, Spells, max_packet, max_payload, number_of}
-use Rattle.gpkt.specs.declared.fault.LineFault.{LineFault}
-use Rattle.gpkt.specs.declared.fault.LineFault.TheVariants.{BadDigits, Reserved, TooLong, Truncated, Io, Failed, Memory}
+use Rattle.gpkt.specs.declared.fault.PacketFault.{PacketFault}
+use Rattle.gpkt.specs.declared.fault.PacketFault.TheVariants.{BadDigits, Reserved, TooLong, Truncated, Io, Failed, Memory}
 use Rattle.gpkt.specs.steps.Heads.{ReadsHead, ReadsPayload}
 use Rattle.gpkt.specs.declared.head.Head.TheVariants as head
 
@@ -27,7 +27,7 @@ digits_known P old new (digits, front, len, holds) =
 
 -- ---- a reading that ends in the digits
 
-refused_known : (old new : List ℕ) (fault : LineFault) → ReadsHead (change (Some old) (Some new)) (Err fault) → Gives old new (Err fault)
+refused_known : (old new : List ℕ) (fault : PacketFault) → ReadsHead (change (Some old) (Some new)) (Err fault) → Gives old new (Err fault)
 refused_known old new BadDigits h = let r = digits_known (λ n. n ≡ None) old new h in ((r.0, r.1), r.2)
 refused_known old new Reserved h = let r = digits_known (λ n. n ≡ Some 3) old new h in ((r.0, r.1), r.2)
 refused_known old new TooLong h =
@@ -41,12 +41,12 @@ refused_known old new Io (front, same, few) = (front, same, inl few)
 refused_known old new Failed h = absurd h.3
 refused_known old new Memory h = absurd h.3
 
-refused_lost : (old : List ℕ) (fault : LineFault) → ReadsHead (change (Some old) None) (Err fault) → ⊥
+refused_lost : (old : List ℕ) (fault : PacketFault) → ReadsHead (change (Some old) None) (Err fault) → ⊥
 refused_lost old Failed h = h.3
 refused_lost old Memory h = h.3
 refused_lost old _ h = h.1
 
-pub Reads-from_refused : (old new : Option (List ℕ)) (fault : LineFault) → ReadsHead (change old new) (Err fault) → Reads (change old new) (Err fault)
+pub Reads-from_refused : (old new : Option (List ℕ)) (fault : PacketFault) → ReadsHead (change old new) (Err fault) → Reads (change old new) (Err fault)
 Reads-from_refused None new fault h = tt
 Reads-from_refused (Some old) None fault h = refused_lost old fault h
 Reads-from_refused (Some old) (Some new) fault h = refused_known old new fault h
@@ -54,29 +54,29 @@ Reads-from_refused (Some old) (Some new) fault h = refused_known old new fault h
 -- ---- a reading that ends in the payload
 
 module _ (len : ℕ) (payload : List ℕ) (sized : length payload ≡ len) where
-  IsPartialLine-payload : (digits bytes : List ℕ) → length digits ≡ 4 → number_of digits ≡ Some (len + 4) → len ≤ max_payload → length bytes < len → IsPartialLine (digits ++ bytes)
-  IsPartialLine-payload digits bytes four announced fits few =
+  IsPartialPacket-payload : (digits bytes : List ℕ) → length digits ≡ 4 → number_of digits ≡ Some (len + 4) → len ≤ max_payload → length bytes < len → IsPartialPacket (digits ++ bytes)
+  IsPartialPacket-payload digits bytes four announced fits few =
       let all = length-append digits bytes in
       inr (len + 4, (omega arith, ap number_of (take_at digits bytes 4 four) ∙ announced), omega arith, omega arith)
 
-  payload_known : (old mid new : List ℕ) (fault : LineFault) → ReadsHead (change (Some old) (Some mid)) (Ok (Some (head.Data len)))
+  payload_known : (old mid new : List ℕ) (fault : PacketFault) → ReadsHead (change (Some old) (Some mid)) (Ok (Some (head.Data len)))
       → ReadsPayload (change (Some mid) (Some new)) (Err fault) payload → Gives old new (Err fault)
   payload_known old mid new Truncated (digits, front, four, (announced, fits)) (bytes, next, few, end) =
       let whole : old ≡ (digits ++ bytes) ++ new = front ∙ ap (λ l. digits ++ l) next ∙ sym (append_assoc digits bytes new) in
       let all : old ≡ digits ++ bytes = whole ∙ ap (λ l. (digits ++ bytes) ++ l) end ∙ append-nil (digits ++ bytes) in
       let long : length old ≡ length digits + length bytes = ap length all ∙ length-append digits bytes in
-      ((omega arith, subst IsPartialLine (sym all) (IsPartialLine-payload digits bytes four announced fits (omega arith))), end)
+      ((omega arith, subst IsPartialPacket (sym all) (IsPartialPacket-payload digits bytes four announced fits (omega arith))), end)
   payload_known old mid new Io (digits, front, four, (announced, fits)) (bytes, next, few) =
       let whole : old ≡ (digits ++ bytes) ++ new = front ∙ ap (λ l. digits ++ l) next ∙ sym (append_assoc digits bytes new) in
-      (digits ++ bytes, whole, IsPartialLine-payload digits bytes four announced fits (omega arith))
+      (digits ++ bytes, whole, IsPartialPacket-payload digits bytes four announced fits (omega arith))
   payload_known old mid new _ head h = absurd h
 
-  payload_lost : (mid : List ℕ) (fault : LineFault) → ReadsPayload (change (Some mid) None) (Err fault) payload → ⊥
+  payload_lost : (mid : List ℕ) (fault : PacketFault) → ReadsPayload (change (Some mid) None) (Err fault) payload → ⊥
   payload_lost mid Truncated h = h.1
   payload_lost mid Io h = h.1
   payload_lost mid _ h = h
 
-  pub Reads-from_cut : (old mid new : Option (List ℕ)) (fault : LineFault) → ReadsHead (change old mid) (Ok (Some (head.Data len)))
+  pub Reads-from_cut : (old mid new : Option (List ℕ)) (fault : PacketFault) → ReadsHead (change old mid) (Ok (Some (head.Data len)))
       → ReadsPayload (change mid new) (Err fault) payload → Reads (change old new) (Err fault)
   Reads-from_cut None mid new fault head h = tt
   Reads-from_cut (Some old) None new fault head h = absurd head.1

@@ -4,13 +4,13 @@ use Rattle.std.specs.Prelude.{◌≡◌, ◌≢◌, ℕ, ◌≤◌, ◌⊎◌, A
 use Rattle.std.specs.Prelude.{Err, OnOk}
 use Rattle.gpkt.specs.Change.{change_of}
 use Rattle.gpkt.specs.Devices.{PassesAll}
-use Rattle.gpkt.specs.LineReading.{NoLine, Gives, Reads, ReadsLines}
-use Rattle.gpkt.specs.LineWriting.{Writer, HasWritten, HasPushed}
+use Rattle.gpkt.specs.PacketReading.{NoPacket, Gives, Reads, ReadsPackets}
+use Rattle.gpkt.specs.PacketWriting.{Writer, HasWritten, HasPushed}
 use Rattle.gpkt.specs.Packets.{Bytes, Packet, Spells, SpellsAll, canonical, canonical_all, payload_of, text}
 use Rattle.gpkt.specs.Packets.{digit_count, line_feed, max_payload}
-use Rattle.gpkt.specs.declared.fault.LineFault.{LineFault}
+use Rattle.gpkt.specs.declared.fault.PacketFault.{PacketFault}
 use Rattle.gpkt.specs.declared.fault.WriteFault.{WriteFault}
-use Rattle.gpkt.specs.declared.fault.LineFault.TheVariants as line_fault
+use Rattle.gpkt.specs.declared.fault.PacketFault.TheVariants as packet_fault
 use Rattle.gpkt.specs.declared.fault.WriteFault.TheVariants as write_fault
 
 -- at most one packet is spelt at the front of the bytes, in one way
@@ -21,23 +21,23 @@ OneReading =
     → (line ≡ other) × (front ≡ next) × (rest ≡ after)
 
 -- where reading is refused, no packet is spelt at the front
-abbrev pub RefusedIsNoLine : Type 0
-RefusedIsNoLine =
-    (fault : LineFault) (line : Packet) (bytes front rest : Bytes) → NoLine fault bytes
+abbrev pub RefusedIsNoPacket : Type 0
+RefusedIsNoPacket =
+    (fault : PacketFault) (line : Packet) (bytes front rest : Bytes) → NoPacket fault bytes
     → front ++ rest ≡ bytes → ¬ Spells line front
 
 -- and it is refused for one reason
 abbrev pub OneFault : Type 0
-OneFault = (fault other : LineFault) (bytes : Bytes) → NoLine fault bytes → NoLine other bytes → fault ≡ other
+OneFault = (fault other : PacketFault) (bytes : Bytes) → NoPacket fault bytes → NoPacket other bytes → fault ≡ other
 
 -- no fault, or one that comes of the bytes
-abbrev pub IsOfBytes : Result (Option Packet) LineFault → Type 0
-IsOfBytes result = (result ≢ Err line_fault.Io) × (result ≢ Err line_fault.Failed)
+abbrev pub IsOfBytes : Result (Option Packet) PacketFault → Type 0
+IsOfBytes result = (result ≢ Err packet_fault.Io) × (result ≢ Err packet_fault.Failed)
 
 -- the bytes say what is read of them, and what is left
 abbrev pub OneOutcome : Type 0
 OneOutcome =
-    (old new after : Bytes) (result other : Result (Option Packet) LineFault) → Gives old new result
+    (old new after : Bytes) (result other : Result (Option Packet) PacketFault) → Gives old new result
     → Gives old after other → IsOfBytes result → IsOfBytes other
     → (result ≡ other) × (new ≡ after)
 
@@ -48,7 +48,7 @@ SpellsAtFront bytes = (line : Packet) × (front : Bytes) × (rest : Bytes) × (b
 -- bytes are empty, or spell a packet at their front, or there is a reason why they do not
 abbrev pub EveryFront : Type 0
 EveryFront =
-    (bytes : Bytes) → (bytes ≡ []) ⊎ (SpellsAtFront bytes ⊎ ((fault : LineFault) × NoLine fault bytes))
+    (bytes : Bytes) → (bytes ≡ []) ⊎ (SpellsAtFront bytes ⊎ ((fault : PacketFault) × NoPacket fault bytes))
 
 -- a spelling has at least four bytes
 abbrev pub HasFourBytes : Type 0
@@ -101,20 +101,20 @@ TextOrLine = (payload : Bytes) → (payload ≡ text payload) ⊎ (payload ≡ t
 
 -- before a packet is read no packet was read
 abbrev pub ReadsNone : Type 0
-ReadsNone = (bytes : Option Bytes) → ReadsLines (record { old = bytes; new = bytes }) []
+ReadsNone = (bytes : Option Bytes) → ReadsPackets (record { old = bytes; new = bytes }) []
 
 -- a packet that is read after some packets
 abbrev pub ReadsNext : Type 0
 ReadsNext =
     (old mid new : Option Bytes) (lines : List Packet) (line : Packet)
-    → ReadsLines (record { old = old; new = mid }) lines → Reads (record { old = mid; new = new }) (Ok (Some line))
-    → ReadsLines (record { old = old; new = new }) (lines ++ line ∷ [])
+    → ReadsPackets (record { old = old; new = mid }) lines → Reads (record { old = mid; new = new }) (Ok (Some line))
+    → ReadsPackets (record { old = old; new = new }) (lines ++ line ∷ [])
 
 -- packets that are read one after the other are a list of packets that is read
 abbrev pub ReadsJoin : Type 0
 ReadsJoin =
-    (old mid new : Option Bytes) (lines more : List Packet) → ReadsLines (record { old = old; new = mid }) lines
-    → ReadsLines (record { old = mid; new = new }) more → ReadsLines (record { old = old; new = new }) (lines ++ more)
+    (old mid new : Option Bytes) (lines more : List Packet) → ReadsPackets (record { old = old; new = mid }) lines
+    → ReadsPackets (record { old = mid; new = new }) more → ReadsPackets (record { old = old; new = new }) (lines ++ more)
 
 module _
     {W : Type 0} (contents_of passed_on_of : W → Option Bytes) (is_down : W → Bool)

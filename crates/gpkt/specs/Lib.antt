@@ -3,9 +3,9 @@ pub mod Change
 pub mod Devices
 pub mod Faults
 pub mod Bands
-pub mod LineReading
+pub mod PacketReading
 pub mod Lending
-pub mod LineWriting
+pub mod PacketWriting
 pub mod Sending
 pub mod Laws
 pub mod steps

@@ -5,8 +5,8 @@ use Rattle.std.specs.Prelude.{◌≡◌, ℕ, ◌+◌, ◌-◌, ◌*◌, ◌≤�
 use Rattle.std.specs.Prelude.{Result, Ok, Err}
 use Rattle.hex.specs.Hex.{decode_of, encode_lower}
 use Rattle.hex.specs.declared.error.FromHexError.{FromHexError}
-use Rattle.gpkt.specs.declared.line.Line.{Line}
-use Rattle.gpkt.specs.declared.line.Line.TheVariants as lent
+use Rattle.gpkt.specs.declared.packet.Packet.{Packet as LentPacket}
+use Rattle.gpkt.specs.declared.packet.Packet.TheVariants as lent
 
 -- bytes of any kind: a payload, a text, a pack
 abbrev pub Bytes : Type 0
@@ -95,7 +95,7 @@ canonical_all [] = []
 canonical_all (line ∷ lines) = canonical line ++ canonical_all lines
 
 -- a packet without where its payload lies in memory
-abbrev pub packet_of : Line → Packet
+abbrev pub packet_of : LentPacket → Packet
 packet_of (lent.Data payload) = Data payload.now
 packet_of lent.Flush = Flush
 packet_of lent.Delim = Delim

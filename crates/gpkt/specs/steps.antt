@@ -1,5 +1,5 @@
 -- The steps: what only private functions and proofs speak of.
 pub mod Devices
 pub mod Heads
-pub mod LineReading
-pub mod LineWriting
+pub mod PacketReading
+pub mod PacketWriting

@@ -1,10 +1,10 @@
-//! Side bands: the first byte of a payload says what the others are.
+//! Side bands: the first byte of a payload names the band of the other bytes.
 
 ghost use Rattle.std.specs.Prelude.{◌≡◌, ◌∷◌};
 ghost use Rattle.gpkt.specs.Bands.{band_at, band_form, band_packet, band_payload, band_read};
 
 use crate::fault::BandFault;
-use crate::line::MAX_PAYLOAD;
+use crate::packet::MAX_PAYLOAD;
 
 // The byte of each band (gitprotocol-v2(5), "fetch", "packfile").
 const DATA: u8 = 1;
@@ -13,18 +13,18 @@ const PROGRESS: u8 = 2;
 
 const FATAL: u8 = 3;
 
-/// The most bytes that a packet carries on a side band.
+/// The maximum number of bytes that a packet carries on a side band.
 pub const MAX_BAND: usize = MAX_PAYLOAD - 1;
 
-/// The payload of a packet on a side band, lent without its first byte (gitprotocol-pack(5), "Packfile
-/// Data"; gitprotocol-v2(5), "fetch", "packfile").
+/// The borrowed payload of a side-band packet without its first byte (gitprotocol-pack(5),
+/// "Packfile Data"; gitprotocol-v2(5), "fetch", "packfile").
 #[derive(Clone, Copy, Debug, PartialEq, Eq)]
 pub enum Band<'a> {
     /// Band 1: the next bytes of the pack.
     Data(&'a [u8]),
-    /// Band 2: progress, to be shown to the user.
+    /// Band 2: progress to show to the user.
     Progress(&'a [u8]),
-    /// Band 3: why the sender gives up. Nothing follows.
+    /// Band 3: the reason why the sender gives up. Nothing follows.
     Fatal(&'a [u8]),
 }
 
@@ -41,10 +41,10 @@ impl<'a> Band<'a> {
     }
 }
 
-/// Reads the band off the first byte of a payload.
+/// Returns the band that the first byte of a payload names.
 ///
-/// It fails with [`NoBand`](BandFault::NoBand) where the payload is empty, and with
-/// [`BadBand`](BandFault::BadBand) where its first byte is none of 1, 2 and 3.
+/// Fails with [`NoBand`](BandFault::NoBand) if the payload is empty. Fails with
+/// [`BadBand`](BandFault::BadBand) if its first byte is not 1, 2 or 3.
 pub fn band_of(payload: &[u8]) -> Result<Band<'_>, BandFault>
     ensures { band_read result ≡ band_form payload.now }
 {
@@ -54,7 +54,7 @@ pub fn band_of(payload: &[u8]) -> Result<Band<'_>, BandFault>
     }
 }
 
-// What the bytes after this first byte are.
+// Returns the band of `bytes` that the byte `first` names.
 fn band_at(first: u8, bytes: &[u8]) -> Result<Band<'_>, BandFault>
     ensures { band_read result ≡ band_at first bytes.now }
 {

@@ -1,4 +1,4 @@
-//! Where bytes come from and go to.
+//! Devices that bytes are read from and written to.
 
 ghost use Rattle.std.specs.Prelude.{◌≡◌, ◌≢◌, ◌⊎◌, ◌↔◌, ℕ, ◌∷◌, [], List, Bool, Option, Some, IfOk, OnErr, OnOk, IsErr, is_err, true, false};
 ghost use Rattle.std.specs.Io.{ReadsAtMost, WritesAtMost};
@@ -11,7 +11,7 @@ use std::error::Error;
 use std::marker::Model;
 use std::{fmt, io};
 
-/// A device failed. It is down from this call on, and every later call answers the same.
+/// A device failed. It is down from this call on, and every later call fails the same way.
 #[derive(Clone, Copy, Debug, PartialEq, Eq)]
 pub struct Down;
 
@@ -27,19 +27,19 @@ impl Error for Down {}
 
 /// A device that bytes are read from.
 ///
-/// Nothing is tried again: whatever kind of error comes, the source is down from then on.
+/// No call is tried again: after any error, the source is down.
 pub trait Source {
-    // The bytes still to come, where they are known.
+    // The bytes still to be read, if they are known.
     ghost remaining: { Self → Option (List ℕ) };
 
     // Whether it has failed.
     ghost is_down: { Self → Bool };
 
-    // The names of the loans through which it is reached, the outermost first.
+    // The names of the borrows through which it is reached, the outermost first.
     ghost loans: { Self → List ℕ };
 
-    /// Reads bytes into the front of `buf`, and answers how many. It answers 0 only at the end of
-    /// the input, or where `buf` has no room.
+    /// Reads bytes into the front of `buf` and returns their number. Returns 0 only at the end of
+    /// the input, or if `buf` is empty.
     fn read(&mut self, buf: &mut [u8]) -> Result<usize, Down>
         ensures bound { ReadsAtMost result buf.new }
         ensures bytes { ReadConsumes (remaining self.old) (remaining self.new) result buf.new }
@@ -50,21 +50,22 @@ pub trait Source {
 
 /// A device that bytes are written to.
 ///
-/// Nothing is tried again: whatever kind of error comes, the sink is down from then on.
+/// No call is tried again: after any error, the sink is down.
 pub trait Sink {
-    // The bytes written so far, where they are known.
+    // The bytes written so far, if they are known.
     ghost contents: { Self → Option (List ℕ) };
 
-    // The bytes that were passed on and are no longer held back, where they are known.
+    // The bytes that were flushed, if they are known.
     ghost passed_on: { Self → Option (List ℕ) };
 
     // Whether it has failed.
     ghost is_down: { Self → Bool };
 
-    // The names of the loans through which it is reached, the outermost first.
+    // The names of the borrows through which it is reached, the outermost first.
     ghost loans: { Self → List ℕ };
 
-    /// Writes bytes from the front of `buf`, and answers how many: 0 only where `buf` has none.
+    /// Writes bytes from the front of `buf` and returns their number. Returns 0 only if `buf` is
+    /// empty.
     fn write(&mut self, buf: &[u8]) -> Result<usize, Down>
         ensures bound { WritesAtMost result buf.now }
         ensures some { TakesSome result buf.now }
@@ -74,7 +75,8 @@ pub trait Sink {
         ensures stays_down { AnswersDown (is_down self.old) result }
         ensures loans { loans self.new ≡ loans self.old };
 
-    /// Passes on what was written and is still held back. At an error perhaps some of it was passed on.
+    /// Flushes the bytes that are still buffered. After an error, some of them may have been
+    /// flushed.
     fn flush(&mut self) -> Result<(), Down>
         ensures bytes { Keeps (contents self.old) (contents self.new) }
         ensures passed_on { OnOk result
@@ -115,7 +117,7 @@ impl<W: Sink> Sink for &mut W {
     }
 }
 
-/// Whether a device has failed. One that has stays down.
+/// Whether a device has failed. A device that has failed stays down.
 #[derive(Drop)]
 pub(crate) struct Latch {
     down: bool,
@@ -143,7 +145,7 @@ impl Latch {
         self.down
     }
 
-    /// Notes what the inner call answered: the device fails exactly where that call failed.
+    /// Records the result of the inner call: the device fails exactly when that call failed.
     pub(crate) fn note<T>(&mut self, answer: io::Result<T>) -> Result<T, Down>
         ensures failed { IsErr result ↔ IsErr answer }
         ensures value { IfOk result (λ value. answer ≡ Ok value) }
@@ -156,8 +158,8 @@ impl Latch {
         }
     }
 
-    /// Notes what the inner write of `buf` answered: the device fails exactly where that write failed, or
-    /// took none of some bytes.
+    /// Records the result of the inner write of `buf`. The device fails exactly when that write
+    /// failed, or when it took no byte of a nonempty `buf`.
     pub(crate) fn note_write(
         &mut self,
         answer: io::Result<usize>,
@@ -175,7 +177,7 @@ impl Latch {
         }
     }
 
-    /// Notes that the device has failed, and reports so.
+    /// Records that the device has failed, and returns the error.
     pub(crate) fn fail<T>(&mut self) -> Result<T, Down>
         ensures down { self.new ≡ true }
         ensures err { IsErr result }

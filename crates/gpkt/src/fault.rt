@@ -1,17 +1,19 @@
-//! Why a packet was not read, or not written, and why a payload is of no band.
+//! The faults of reading a packet, writing a packet and reading a band.
 
 ghost use Rattle.std.specs.Prelude.{◌≡◌, Some};
-ghost use Rattle.gpkt.specs.Faults.{band_fault_row, band_fault_text, line_fault_row, line_fault_text, write_fault_row, write_fault_text};
+ghost use Rattle.gpkt.specs.Faults.{band_fault_row, band_fault_text, packet_fault_row, packet_fault_text, write_fault_row, write_fault_text};
+ghost use Rattle.gpkt.specs.declared.fault.PacketFault.TheVariants as packet_fault;
 
+use std::alloc::{AllocError, AllocFailed};
 use std::error::Error;
 use std::fmt;
 
 /// Why a packet was not read.
 #[derive(Clone, Copy, Debug, PartialEq, Eq)]
-pub enum LineFault {
-    /// All four digits came, and one is no hexadecimal digit. Nothing after them is read.
+pub enum PacketFault {
+    /// All four digits were read, and one is not a hexadecimal digit. Nothing after them is read.
     BadDigits,
-    /// The digits are `0003`, which no packet has. Nothing after them is read.
+    /// The digits are the reserved `0003`. Nothing after them is read.
     Reserved,
     /// The digits announce more than 65,520 bytes. Nothing after them is read.
     TooLong,
@@ -25,88 +27,104 @@ pub enum LineFault {
     Memory,
 }
 
-impl LineFault {
-    /// The number of the fault.
+impl PacketFault {
+    /// Returns the number of the fault.
     pub fn code(&self) -> u32
-        ensures { result ≡ (line_fault_row self.now).0 }
+        ensures { result ≡ (packet_fault_row self.now).0 }
     {
-        self.row().0
+        self.fault_row().0
     }
 
-    /// The name of the fault.
+    /// Returns the name of the fault.
     pub fn name(&self) -> &'static str
-        ensures { result.now ≡ (line_fault_row self.now).1 }
+        ensures { result.now ≡ (packet_fault_row self.now).1 }
     {
-        self.row().1
+        self.fault_row().1
     }
 
-    /// The table: the number and the name of each fault.
-    pub fn row(&self) -> (u32, &'static str)
-        ensures { (result.0, result.1.now) ≡ line_fault_row self.now }
+    /// Returns the row of the fault in the table: its number and its name.
+    pub fn fault_row(&self) -> (u32, &'static str)
+        ensures { (result.0, result.1.now) ≡ packet_fault_row self.now }
     {
         match self {
-            LineFault::BadDigits => (20, "BadDigits"),
-            LineFault::Reserved => (21, "Reserved"),
-            LineFault::TooLong => (22, "TooLong"),
-            LineFault::Truncated => (23, "Truncated"),
-            LineFault::Io => (24, "Io"),
-            LineFault::Failed => (25, "Failed"),
-            LineFault::Memory => (28, "Memory"),
+            PacketFault::BadDigits => (20, "BadDigits"),
+            PacketFault::Reserved => (21, "Reserved"),
+            PacketFault::TooLong => (22, "TooLong"),
+            PacketFault::Truncated => (23, "Truncated"),
+            PacketFault::Io => (24, "Io"),
+            PacketFault::Failed => (25, "Failed"),
+            PacketFault::Memory => (28, "Memory"),
         }
     }
 }
 
-impl fmt::Display for LineFault {
-    ghost output = { λ fault. Some (line_fault_text fault) };
+impl fmt::Display for PacketFault {
+    ghost output = { λ fault. Some (packet_fault_text fault) };
 
     fn fmt<W: fmt::Write>(&self, f: &mut fmt::Formatter<W>) -> fmt::Result {
         match self {
-            LineFault::BadDigits => f.write_str("bad packet length"),
-            LineFault::Reserved => f.write_str("reserved packet length"),
-            LineFault::TooLong => f.write_str("packet too long"),
-            LineFault::Truncated => f.write_str("unexpected end of input inside a packet"),
-            LineFault::Io => f.write_str("the source failed"),
-            LineFault::Failed => f.write_str("an earlier read had failed"),
-            LineFault::Memory => f.write_str("out of memory"),
+            PacketFault::BadDigits => f.write_str("bad packet length"),
+            PacketFault::Reserved => f.write_str("reserved packet length"),
+            PacketFault::TooLong => f.write_str("packet too long"),
+            PacketFault::Truncated => f.write_str("unexpected end of input inside a packet"),
+            PacketFault::Io => f.write_str("the source failed"),
+            PacketFault::Failed => f.write_str("an earlier read had failed"),
+            PacketFault::Memory => f.write_str("out of memory"),
         }
     }
 }
 
-impl Error for LineFault {}
+impl Error for PacketFault {}
+
+impl From<AllocError> for PacketFault {
+    ghost from_gives = { λ _ fault. fault ≡ packet_fault.Memory };
+
+    fn from(_refused: AllocError) -> PacketFault {
+        PacketFault::Memory
+    }
+}
+
+impl<T: Drop> From<AllocFailed<T>> for PacketFault {
+    ghost from_gives = { λ _ fault. fault ≡ packet_fault.Memory };
+
+    fn from(_refused: AllocFailed<T>) -> PacketFault {
+        PacketFault::Memory
+    }
+}
 
 /// Why a packet was not written.
 #[derive(Clone, Copy, Debug, PartialEq, Eq)]
 pub enum WriteFault {
     /// An earlier call had failed. Nothing is written.
     Failed,
-    /// The payload, with its line feed, has more than 65,516 bytes. Nothing is written, and the writer
-    /// goes on as before.
+    /// The payload, with its line feed, has more than 65,516 bytes. Nothing is written, and the
+    /// writer can be used further.
     Payload,
-    /// The sink failed in this call. A beginning of the packet stands written.
+    /// The sink failed in this call. Only a part of the packet was written.
     Io,
 }
 
 impl WriteFault {
-    /// The number of the fault.
+    /// Returns the number of the fault.
     pub fn code(&self) -> u32
         ensures { result ≡ (write_fault_row self.now).0 }
     {
-        self.row().0
+        self.fault_row().0
     }
 
-    /// The name of the fault.
+    /// Returns the name of the fault.
     pub fn name(&self) -> &'static str
         ensures { result.now ≡ (write_fault_row self.now).1 }
     {
-        self.row().1
+        self.fault_row().1
     }
 
-    /// The table: the number and the name of each fault.
-    pub fn row(&self) -> (u32, &'static str)
+    /// Returns the row of the fault in the table: its number and its name.
+    pub fn fault_row(&self) -> (u32, &'static str)
         ensures { (result.0, result.1.now) ≡ write_fault_row self.now }
     {
         match self {
-            WriteFault::Failed => LineFault::Failed.row(),
+            WriteFault::Failed => PacketFault::Failed.fault_row(),
             WriteFault::Payload => (26, "Payload"),
             WriteFault::Io => (27, "Io"),
         }
@@ -127,7 +145,7 @@ impl fmt::Display for WriteFault {
 
 impl Error for WriteFault {}
 
-/// Why a payload is of no band.
+/// Why a payload has no band.
 #[derive(Clone, Copy, Debug, PartialEq, Eq)]
 pub enum BandFault {
     /// The payload is empty, so no byte names a band.
@@ -137,22 +155,22 @@ pub enum BandFault {
 }
 
 impl BandFault {
-    /// The number of the fault.
+    /// Returns the number of the fault.
     pub fn code(&self) -> u32
         ensures { result ≡ (band_fault_row self.now).0 }
     {
-        self.row().0
+        self.fault_row().0
     }
 
-    /// The name of the fault.
+    /// Returns the name of the fault.
     pub fn name(&self) -> &'static str
         ensures { result.now ≡ (band_fault_row self.now).1 }
     {
-        self.row().1
+        self.fault_row().1
     }
 
-    // The table: the number and the name of each fault.
-    fn row(&self) -> (u32, &'static str)
+    // Returns the row of the fault in the table: its number and its name.
+    fn fault_row(&self) -> (u32, &'static str)
         ensures { (result.0, result.1.now) ≡ band_fault_row self.now }
     {
         match self {

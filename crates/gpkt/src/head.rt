@@ -1,27 +1,27 @@
-//! The bytes of one packet, read into a buffer.
+//! Reading the bytes of one packet into a buffer.
 
 ghost use Rattle.std.specs.Prelude.{◌≡◌, ◌<◌, ◌≤◌, false, length, take, is_err, IfErr, IfOk, IfSome, OnErr};
 ghost use Rattle.std.specs.Io.KnownBytes.{Consumes, IsAtEnd};
 ghost use Rattle.gpkt.specs.Change.{change_of};
 ghost use Rattle.gpkt.specs.Packets.{digit_count, max_payload, number_of, packet_of};
-ghost use Rattle.gpkt.specs.LineReading.{Reads};
+ghost use Rattle.gpkt.specs.PacketReading.{Reads};
 ghost use Rattle.gpkt.specs.steps.Heads.{Classifies, ConsumesBelow, IsNewFault, ReadsHead, ReadsPayload, is_io, packet_in, payload_len, read_in};
 
 use crate::device::{Down, Source};
-use crate::fault::LineFault;
-use crate::line::{DELIM, DIGITS, FLUSH, Line, MAX_PACKET, RESERVED, RESPONSE_END};
+use crate::fault::PacketFault;
+use crate::packet::{DELIM, DIGITS, FLUSH, MAX_PACKET, Packet, RESERVED, RESPONSE_END};
 
-/// What the four digits of a packet announce.
+/// The kind of packet that the four digits announce.
 #[derive(Clone, Copy)]
 pub(crate) enum Head {
-    /// A payload of so many bytes.
+    /// A payload of this many bytes.
     Data(usize),
     Flush,
     Delim,
     ResponseEnd,
 }
 
-// Reads until `buf` is full or the input ends, and answers how many bytes came.
+// Reads until `buf` is full or the input ends, and returns the number of bytes read.
 fn fill<S: Source>(source: &mut S, buf: &mut [u8]) -> Result<usize, Down>
     requires { 0 < length buf.old }
     ensures bound { IfOk result (λ n. n ≤ length buf.new) }
@@ -44,7 +44,7 @@ fn fill<S: Source>(source: &mut S, buf: &mut [u8]) -> Result<usize, Down>
     Ok(at)
 }
 
-// The number that four digits stand for.
+// Returns the number that four digits spell.
 fn number(digits: &[u8]) -> Option<u16>
     requires { length digits.now ≡ digit_count }
     ensures { result ≡ number_of digits.now }
@@ -56,21 +56,21 @@ fn number(digits: &[u8]) -> Option<u16>
     }
 }
 
-// What four digits announce.
-fn classify(digits: &[u8]) -> Result<Head, LineFault>
+// Returns the kind of packet that four digits announce.
+fn classify(digits: &[u8]) -> Result<Head, PacketFault>
     requires { length digits.now ≡ digit_count }
     ensures { Classifies digits.now result }
 {
     match number(digits) {
-        None => Err(LineFault::BadDigits),
+        None => Err(PacketFault::BadDigits),
         Some(FLUSH) => Ok(Head::Flush),
         Some(DELIM) => Ok(Head::Delim),
         Some(RESPONSE_END) => Ok(Head::ResponseEnd),
-        Some(RESERVED) => Err(LineFault::Reserved),
+        Some(RESERVED) => Err(PacketFault::Reserved),
         Some(announced) => {
             let announced = usize::from(announced);
             if announced > MAX_PACKET {
-                Err(LineFault::TooLong)
+                Err(PacketFault::TooLong)
             } else {
                 Ok(Head::Data(announced - DIGITS))
             }
@@ -78,8 +78,8 @@ fn classify(digits: &[u8]) -> Result<Head, LineFault>
     }
 }
 
-// Reads the four digits, or nothing where the input is at its end.
-fn read_head<S: Source>(source: &mut S) -> Result<Option<Head>, LineFault>
+// Reads the four digits. Returns `None` at the end of the input.
+fn read_head<S: Source>(source: &mut S) -> Result<Option<Head>, PacketFault>
     ensures bytes { ReadsHead (change_of S.remaining source.old source.new) result }
     ensures down { S.is_down source.new ≡ is_io result }
     ensures loans { S.loans source.new ≡ S.loans source.old }
@@ -87,17 +87,17 @@ fn read_head<S: Source>(source: &mut S) -> Result<Option<Head>, LineFault>
     let mut digits = [0u8; DIGITS];
     match fill(source, &mut digits) {
         Ok(0) => Ok(None),
-        Ok(count) if count < DIGITS => Err(LineFault::Truncated),
+        Ok(count) if count < DIGITS => Err(PacketFault::Truncated),
         Ok(_) => match classify(&digits) {
             Ok(head) => Ok(Some(head)),
             Err(fault) => Err(fault),
         },
-        Err(_) => Err(LineFault::Io),
+        Err(_) => Err(PacketFault::Io),
     }
 }
 
-// Fills the payload.
-fn read_payload<S: Source>(source: &mut S, payload: &mut [u8]) -> Result<(), LineFault>
+// Reads bytes until `payload` is full.
+fn read_payload<S: Source>(source: &mut S, payload: &mut [u8]) -> Result<(), PacketFault>
     requires { S.is_down source.old ≡ false }
     ensures bytes { ReadsPayload (change_of S.remaining source.old source.new)
         result payload.new }
@@ -108,17 +108,17 @@ fn read_payload<S: Source>(source: &mut S, payload: &mut [u8]) -> Result<(), Lin
         return Ok(());
     }
     match fill(source, payload) {
-        Ok(count) if count < payload.len() => Err(LineFault::Truncated),
+        Ok(count) if count < payload.len() => Err(PacketFault::Truncated),
         Ok(_) => Ok(()),
-        Err(_) => Err(LineFault::Io),
+        Err(_) => Err(PacketFault::Io),
     }
 }
 
-/// Reads one packet, its payload into the front of `buffer`, and nothing after it.
+/// Reads one packet and nothing after it. The payload is at the front of `buffer`.
 pub(crate) fn read_into<S: Source>(
     source: &mut S,
     buffer: &mut [u8],
-) -> Result<Option<Head>, LineFault>
+) -> Result<Option<Head>, PacketFault>
     requires { length buffer.old ≡ max_payload }
     ensures bytes { Reads (change_of S.remaining source.old source.new)
         (read_in buffer.new result) }
@@ -134,15 +134,15 @@ pub(crate) fn read_into<S: Source>(
     Ok(found)
 }
 
-/// The packet whose payload stands at the front of `buffer`.
-pub(crate) fn line_in(head: Head, buffer: &[u8]) -> Line<'_>
+/// Returns the packet whose payload is at the front of `buffer`.
+pub(crate) fn packet_within(head: Head, buffer: &[u8]) -> Packet<'_>
     requires { payload_len head ≤ length buffer.now }
     ensures { packet_of result ≡ packet_in buffer.now head }
 {
     match head {
-        Head::Data(len) => Line::Data(&buffer[..len]),
-        Head::Flush => Line::Flush,
-        Head::Delim => Line::Delim,
-        Head::ResponseEnd => Line::ResponseEnd,
+        Head::Data(len) => Packet::Data(&buffer[..len]),
+        Head::Flush => Packet::Flush,
+        Head::Delim => Packet::Delim,
+        Head::ResponseEnd => Packet::ResponseEnd,
     }
 }

@@ -1,5 +1,5 @@
-//! Devices in memory, and what makes a device harder to use: for tests, and for callers that have
-//! their bytes at hand.
+//! Devices in memory, and a wrapper that limits a device. They serve tests, and callers whose bytes
+//! are in memory.
 
 ghost use Rattle.std.specs.Prelude.{◌≡◌, ◌<◌, ◌≤◌, ◌⊎◌, ◌++◌, [], false, Some, length, take, drop};
 
@@ -7,7 +7,7 @@ use crate::device::{Down, Latch, Sink, Source};
 use std::alloc::{Allocator, Global};
 use std::marker::Model;
 
-/// A source that gives the bytes of a slice, and never fails.
+/// A source that reads from a slice and never fails.
 #[derive(Drop)]
 pub struct SliceSource<'a> {
     rest: &'a [u8],
@@ -22,14 +22,14 @@ impl<'a> Model for SliceSource<'a> {
 }
 
 impl<'a> SliceSource<'a> {
-    /// A source of these bytes.
+    /// Returns a source of these bytes.
     pub fn new(bytes: &'a [u8]) -> SliceSource<'a>
         ensures { result ≡ bytes.now }
     {
         SliceSource { rest: bytes }
     }
 
-    /// The bytes that are left.
+    /// Returns the bytes that are left.
     pub fn rest(&self) -> &'a [u8]
         ensures { result.now ≡ self.now }
     {
@@ -52,7 +52,7 @@ impl Source for SliceSource<'_> {
     }
 }
 
-// Copies as many bytes as both have, and answers how many.
+// Copies as many bytes as both slices allow, and returns their number.
 fn copy_front(from: &[u8], to: &mut [u8]) -> usize
     ensures bound { result ≤ length from.now }
     ensures room { result ≤ length to.old }
@@ -64,11 +64,11 @@ fn copy_front(from: &[u8], to: &mut [u8]) -> usize
     count
 }
 
-/// A sink that keeps what is written to it. It fails only where it is out of memory.
+/// A sink that stores what is written to it. Fails only if out of memory.
 #[derive(Drop)]
 pub struct VecSink<A: Allocator + Copy = Global> {
     written: Vec<u8, A>,
-    // How many of these bytes were passed on.
+    // The number of these bytes that were flushed.
     passed_on: usize,
     flushes: usize,
     down: Latch,
@@ -94,7 +94,7 @@ impl<A: Allocator + Copy> Model for VecSink<A> {
 }
 
 impl<A: Allocator + Copy> VecSink<A> {
-    /// A sink that holds nothing. It takes no memory yet.
+    /// Returns an empty sink. It does not allocate yet.
     pub fn new(alloc: A) -> VecSink<A>
         ensures { result ≡ record { bytes = []; passed_on = []; flushes = 0; down = false } }
     {
@@ -106,28 +106,28 @@ impl<A: Allocator + Copy> VecSink<A> {
         }
     }
 
-    /// What was written.
-    pub fn written(&self) -> &[u8]
+    /// Returns the bytes that were written.
+    pub fn written_bytes(&self) -> &[u8]
         ensures { result.now ≡ self.now.bytes }
     {
         self.written.as_slice()
     }
 
-    /// What was passed on: all that was written before the last flush.
+    /// Returns the flushed bytes: all that was written before the last flush.
     pub fn passed_on(&self) -> &[u8]
         ensures { result.now ≡ self.now.passed_on }
     {
         &self.written.as_slice()[..self.passed_on]
     }
 
-    /// How often it was flushed.
+    /// Returns the number of flushes.
     pub fn flushes(&self) -> usize
         ensures { result ≡ self.now.flushes }
     {
         self.flushes
     }
 
-    /// What was written, as a list.
+    /// Returns the bytes that were written, as a vector.
     pub fn into_written(self) -> Vec<u8, A>
         ensures { result.items ≡ self.bytes }
     {
@@ -170,10 +170,10 @@ impl<A: Allocator + Copy> Sink for VecSink<A> {
     }
 }
 
-/// A device that moves only some bytes a call, and fails at a chosen call.
+/// A device that moves only a limited number of bytes per call, and fails at a chosen call.
 ///
-/// How many bytes, and which call, is only tested: a clause sees the device inside and whether this
-/// one has failed.
+/// The limit and the failing call are only tested. A contract covers the inner device and whether
+/// this one has failed.
 #[derive(Drop)]
 pub struct Limited<D> {
     device: D,
@@ -194,7 +194,7 @@ impl<D> Model for Limited<D> {
 }
 
 impl<D> Limited<D> {
-    /// The device with no hindrance yet.
+    /// Returns the device without limits.
     pub fn new(device: D) -> Limited<D>
         ensures inner { result.inner ≡ device }
         ensures down { result.down ≡ false }
@@ -207,7 +207,7 @@ impl<D> Limited<D> {
         }
     }
 
-    /// Moves at most so many bytes a call; 0 counts as 1.
+    /// Moves at most `most` bytes per call; 0 counts as 1.
     pub fn with_most(mut self, most: usize) -> Limited<D>
         ensures { result ≡ self }
     {
@@ -215,7 +215,7 @@ impl<D> Limited<D> {
         self
     }
 
-    /// Fails at the first read or write after so many; a flush is not counted.
+    /// Fails at the first read or write after `calls` calls. Flushes are not counted.
     pub fn failing_after(mut self, calls: usize) -> Limited<D>
         ensures { result ≡ self }
     {
@@ -223,7 +223,7 @@ impl<D> Limited<D> {
         self
     }
 
-    /// The device inside, as the calls left it.
+    /// Returns the inner device, as the calls left it.
     pub fn into_inner(self) -> D
         ensures { result ≡ self.inner }
     {
@@ -237,7 +237,7 @@ impl<D> Limited<D> {
     }
 }
 
-// Counts a call, and answers whether it may go on.
+// Counts a call, and returns whether it may proceed.
 fn goes_on(calls_left: &mut Option<usize>) -> bool {
     match *calls_left {
         None => true,

@@ -1,18 +1,19 @@
-//! Bytes written whole.
+//! Writing all of some bytes.
 
 ghost use Rattle.std.specs.Prelude.{◌≡◌, ◌+◌, ◌<◌, ◌≤◌, ◌^◌, ◌++◌, false, true, length, is_err, MatchOption, OnErr, OnOk};
 ghost use Rattle.std.specs.Io.KnownBytes.{Appends, Keeps};
 ghost use Rattle.gpkt.specs.Change.{change_of};
 ghost use Rattle.gpkt.specs.Packets.{digit_count, digits_of, max_payload};
-ghost use Rattle.gpkt.specs.LineWriting.{AppendsFront};
+ghost use Rattle.gpkt.specs.PacketWriting.{AppendsFront};
 
 use crate::device::{Down, Sink};
-use crate::line::{DIGITS, MAX_PAYLOAD};
+use crate::packet::{DIGITS, MAX_PAYLOAD};
 
-/// Writes all of the bytes, in as many calls of the sink as it takes; none, where there are no bytes.
+/// Writes all of the bytes, in as many calls of the sink as needed. Makes no call if `bytes` is
+/// empty.
 ///
-/// At an error a beginning of the bytes stands written, and the sink is down. What was written may
-/// still be held back: [`Sink::flush`] passes it on. A sink that was down stays down.
+/// After an error, a prefix of the bytes was written, and the sink is down. Written bytes may still
+/// be buffered: [`Sink::flush`] flushes them. A sink that was down stays down.
 pub fn write_all<W: Sink>(sink: &mut W, bytes: &[u8]) -> Result<(), Down>
     ensures ok { OnOk result (Appends (W.contents sink.old) (W.contents sink.new) bytes.now) }
     ensures err { OnErr result
@@ -34,7 +35,7 @@ pub fn write_all<W: Sink>(sink: &mut W, bytes: &[u8]) -> Result<(), Down>
 }
 
 /// Writes the digits of a packet and then the pieces of its payload.
-pub(crate) fn put_line<W: Sink>(
+pub(crate) fn put_packet<W: Sink>(
     sink: &mut W,
     digits: &[u8],
     first: &[u8],
@@ -58,7 +59,7 @@ pub(crate) fn put_line<W: Sink>(
     write_all(sink, end)
 }
 
-/// How many bytes the three pieces of a payload have, where a packet can carry them.
+/// Returns the total length of the three pieces of a payload, if a packet can carry them.
 pub(crate) fn joined_len(first: &[u8], second: &[u8], end: &[u8]) -> Option<usize>
     ensures { MatchOption result
         (max_payload < length (first.now ++ second.now ++ end.now))
@@ -69,7 +70,7 @@ pub(crate) fn joined_len(first: &[u8], second: &[u8], end: &[u8]) -> Option<usiz
     if len > MAX_PAYLOAD { None } else { Some(len) }
 }
 
-/// Four digits, with lower-case letters.
+/// Returns the four digits of a number, in lower case.
 pub(crate) fn digits_of(announced: u16) -> [u8; DIGITS]
     ensures value { result ≡ digits_of announced }
     ensures len { length result ≡ digit_count }

@@ -5,9 +5,9 @@ ghost use Rattle.std.specs.Prelude.{◌≡◌, ◌∷◌, [], false, None};
 use crate::device::{Down, Latch, Sink, Source};
 use std::io::{Read, Write};
 
-/// A source that reads from one of std's readers, which is lent.
+/// A source that reads from one of std's readers, which it borrows.
 ///
-/// At any error of the reader, an interrupted call too, it is down.
+/// After any error of the reader, even an interrupted call, it is down.
 #[derive(Drop)]
 pub struct FromRead<'a, R> {
     reader: &'a mut R,
@@ -15,7 +15,7 @@ pub struct FromRead<'a, R> {
 }
 
 impl<'a, R> FromRead<'a, R> {
-    /// A source that is not down.
+    /// Returns a source that is not down.
     pub fn new(reader: &'a mut R) -> FromRead<'a, R>
         ensures same { result.reader.ghost_name ≡ reader.entry.ghost_name }
         ensures reader { result.reader.now ≡ reader.old }
@@ -27,7 +27,7 @@ impl<'a, R> FromRead<'a, R> {
         }
     }
 
-    /// The reader, as the calls left it.
+    /// Returns the reader, as the calls left it.
     pub fn into_inner(self) -> &'a mut R
         ensures same { result.ghost_name ≡ self.entry.reader.ghost_name }
         ensures reader { result.now ≡ self.entry.reader.now }
@@ -53,10 +53,11 @@ impl<R: Read> Source for FromRead<'_, R> {
     }
 }
 
-/// A sink that writes to one of std's writers, which is lent. What that passes on is not known.
+/// A sink that writes to one of std's writers, which it borrows. The bytes that the writer flushes
+/// are unknown.
 ///
-/// At any error of the writer, an interrupted call too, it is down, and so it is where a write takes
-/// none of some bytes.
+/// After any error of the writer, even an interrupted call, it is down. It also goes down if a
+/// write takes no byte of a nonempty slice.
 #[derive(Drop)]
 pub struct ToWrite<'a, W> {
     writer: &'a mut W,
@@ -64,7 +65,7 @@ pub struct ToWrite<'a, W> {
 }
 
 impl<'a, W> ToWrite<'a, W> {
-    /// A sink that is not down.
+    /// Returns a sink that is not down.
     pub fn new(writer: &'a mut W) -> ToWrite<'a, W>
         ensures same { result.writer.ghost_name ≡ writer.entry.ghost_name }
         ensures writer { result.writer.now ≡ writer.old }
@@ -76,7 +77,7 @@ impl<'a, W> ToWrite<'a, W> {
         }
     }
 
-    /// The writer, as the calls left it.
+    /// Returns the writer, as the calls left it.
     pub fn into_inner(self) -> &'a mut W
         ensures same { result.ghost_name ≡ self.entry.writer.ghost_name }
         ensures writer { result.now ≡ self.entry.writer.now }

@@ -4,30 +4,30 @@ ghost use Rattle.std.specs.Prelude.{◌≡◌, ◌≢◌, ◌<◌, ◌≤◌, �
 ghost use Rattle.gpkt.specs.Bands.{band_bytes, band_packet, band_payload, max_band};
 ghost use Rattle.gpkt.specs.Packets.{canonical, line_feed, max_payload, Packet};
 ghost use Rattle.gpkt.specs.Packets as packets;
-ghost use Rattle.gpkt.specs.LineWriting.{HasWritten, HasPushed};
+ghost use Rattle.gpkt.specs.PacketWriting.{HasWritten, HasPushed};
 
 use crate::band::Band;
 use crate::device::Sink;
 use crate::fault::WriteFault;
-use crate::line::DIGITS;
-use crate::put::{digits_of, joined_len, put_line};
+use crate::packet::DIGITS;
+use crate::put::{digits_of, joined_len, put_packet};
 use std::marker::Model;
 
-/// Writes packets to a sink, with lower-case digits. It takes no memory.
+/// Writes packets to a sink, with lower-case digits. It does not allocate.
 ///
-/// At [`Io`](WriteFault::Io) a beginning of the packet stands written, and every later call answers
-/// [`Failed`](WriteFault::Failed) and writes nothing. At [`Payload`](WriteFault::Payload), which comes
-/// where the payload with its line feed has more than 65,516 bytes, nothing is written and the writer
-/// goes on as before.
+/// After [`Io`](WriteFault::Io), a part of the packet was written, and every later call returns
+/// [`Failed`](WriteFault::Failed) and writes nothing. [`Payload`](WriteFault::Payload) means that
+/// the payload with its line feed has more than 65,516 bytes. In that case nothing is written, and
+/// the writer can be used further.
 #[derive(Drop)]
-pub struct LineWriter<W> {
+pub struct PacketWriter<W> {
     sink: W,
     failed: bool,
 }
 
-impl<W> Model for LineWriter<W> {
-    ghost use Rattle.gpkt.specs.LineWriting.{Writer};
-    ghost use Rattle.gpkt.specs.steps.LineWriting.{writer_code};
+impl<W> Model for PacketWriter<W> {
+    ghost use Rattle.gpkt.specs.PacketWriting.{Writer};
+    ghost use Rattle.gpkt.specs.steps.PacketWriting.{writer_code};
 
     ghost Value = { Writer W };
 
@@ -36,19 +36,19 @@ impl<W> Model for LineWriter<W> {
     ghost view = { λ w. record { sink = w.sink; failed = w.failed } };
 }
 
-impl<W: Sink> LineWriter<W> {
-    /// A writer to this sink. It has not failed.
-    pub fn new(sink: W) -> LineWriter<W>
+impl<W: Sink> PacketWriter<W> {
+    /// Returns a writer to this sink. It has not failed.
+    pub fn new(sink: W) -> PacketWriter<W>
         ensures sink { result.sink ≡ sink }
         ensures failed { result.failed ≡ false }
     {
-        LineWriter {
+        PacketWriter {
             sink,
             failed: false,
         }
     }
 
-    /// Writes one data packet. An empty payload is written as `0004`, which is no flush.
+    /// Writes one data packet. An empty payload is written as `0004`, which is not a flush.
     pub fn put(&mut self, payload: &[u8]) -> Result<(), WriteFault>
         ensures written { HasWritten W.contents W.passed_on W.is_down W.loans self.old self.new
             result (canonical (packets.Data payload.now)) }
@@ -58,7 +58,7 @@ impl<W: Sink> LineWriter<W> {
         self.put_parts(payload, b"", b"")
     }
 
-    /// Writes one data packet of both pieces.
+    /// Writes one data packet whose payload is both pieces.
     pub fn put2(&mut self, first: &[u8], second: &[u8]) -> Result<(), WriteFault>
         ensures written { HasWritten W.contents W.passed_on W.is_down W.loans self.old self.new
             result (canonical (packets.Data (first.now ++ second.now))) }
@@ -89,7 +89,7 @@ impl<W: Sink> LineWriter<W> {
         self.put_parts(first, second, b"\n")
     }
 
-    /// Writes one data packet of the band's byte and its bytes, which are at most
+    /// Writes one data packet: the band's byte and then its bytes, at most
     /// [`MAX_BAND`](crate::MAX_BAND).
     pub fn put_band(&mut self, band: &Band<'_>) -> Result<(), WriteFault>
         ensures written { HasWritten W.contents W.passed_on W.is_down W.loans self.old self.new
@@ -102,7 +102,8 @@ impl<W: Sink> LineWriter<W> {
         self.put_parts(&[first], bytes, b"")
     }
 
-    /// Writes a flush, `0000`, which ends a message. It is never [`Payload`](WriteFault::Payload).
+    /// Writes a flush packet, `0000`, which ends a message. Never fails with
+    /// [`Payload`](WriteFault::Payload).
     pub fn flush_pkt(&mut self) -> Result<(), WriteFault>
         ensures written { HasWritten W.contents W.passed_on W.is_down W.loans self.old self.new
             result (canonical packets.Flush) }
@@ -111,7 +112,7 @@ impl<W: Sink> LineWriter<W> {
         self.put_pieces(b"0000", b"", b"", b"")
     }
 
-    /// Writes a delimiter, `0001`, which separates the sections of a message.
+    /// Writes a delimiter packet, `0001`, which separates the sections of a message.
     pub fn delim(&mut self) -> Result<(), WriteFault>
         ensures written { HasWritten W.contents W.passed_on W.is_down W.loans self.old self.new
             result (canonical packets.Delim) }
@@ -120,7 +121,7 @@ impl<W: Sink> LineWriter<W> {
         self.put_pieces(b"0001", b"", b"", b"")
     }
 
-    /// Writes a response-end, `0002`, which ends a response on a stateless connection.
+    /// Writes a response-end packet, `0002`, which ends a response on a stateless connection.
     pub fn response_end(&mut self) -> Result<(), WriteFault>
         ensures written { HasWritten W.contents W.passed_on W.is_down W.loans self.old self.new
             result (canonical packets.ResponseEnd) }
@@ -129,8 +130,8 @@ impl<W: Sink> LineWriter<W> {
         self.put_pieces(b"0002", b"", b"", b"")
     }
 
-    /// Passes on what was written, by one flush of the sink. At [`Io`](WriteFault::Io) what was
-    /// passed on before stays so, and the writer has failed.
+    /// Flushes what was written, by one flush of the sink. After [`Io`](WriteFault::Io), bytes that
+    /// were flushed before stay flushed, and the writer has failed.
     pub fn push(&mut self) -> Result<(), WriteFault>
         ensures { HasPushed W.contents W.passed_on W.is_down W.loans self.old self.new result }
     {
@@ -146,11 +147,11 @@ impl<W: Sink> LineWriter<W> {
         }
     }
 
-    /// The sink, as the calls left it.
+    /// Returns the sink, as the calls left it.
     pub fn into_inner(self) -> W
         ensures { result ≡ self.sink }
     {
-        let LineWriter { sink, failed: _ } = self;
+        let PacketWriter { sink, failed: _ } = self;
         sink
     }
 
@@ -171,7 +172,7 @@ impl<W: Sink> LineWriter<W> {
         }
     }
 
-    // Writes digits, which are there, and the pieces after them.
+    // Writes the digits, which must not be empty, and the pieces after them.
     fn put_pieces(
         &mut self,
         digits: &[u8],
@@ -187,7 +188,7 @@ impl<W: Sink> LineWriter<W> {
         if self.failed {
             return Err(WriteFault::Failed);
         }
-        let written = put_line(&mut self.sink, digits, first, second, end);
+        let written = put_packet(&mut self.sink, digits, first, second, end);
         self.failed = written.is_err();
         match written {
             Ok(()) => Ok(()),

@@ -1,9 +1,9 @@
-//! Faults that come before any work.
+//! Faults before any work.
 
 use gcmd::{ProgramFault, cmd_failed};
 use gpkt::Sink;
 
-/// Prints the fault on one line, and answers the exit status, which is 1.
+/// Prints the fault on one line, and returns the exit status, which is 1.
 pub(crate) fn fail<E: Sink>(fault: ProgramFault, errors: &mut E) -> u8 {
     cmd_failed(fault, errors)
 }

@@ -1,4 +1,4 @@
-//! Fetches into the repository of a file, which is replaced whole, or not at all.
+//! Fetches into the repository of a file, which is replaced whole or not at all.
 
 use crate::faults::fail;
 use crate::streams::let_go;
@@ -6,7 +6,7 @@ use gargs::Fetch;
 use gcmd::{FetchOptions, ProgramFault, Spec, cmd_fetch_stored, read_specs};
 use glockfile::StoredFile;
 use gpkt::{FromRead, Sink, ToWrite};
-use gtcp::{Place, RemoteFetch, cmd_fetch_remote};
+use gtcp::{Location, RemoteFetch, cmd_fetch_remote};
 use std::io;
 use std::io::{BufReader, BufWriter};
 use std::net::Net;
@@ -36,7 +36,7 @@ where
 }
 
 // Fetches over TCP, and reports on standard output.
-fn fetch_remote<R, E>(rt: &R, asked: &Fetch, place: &Place, specs: &[Spec], errors: &mut E) -> u8
+fn fetch_remote<R, E>(rt: &R, asked: &Fetch, place: &Location, specs: &[Spec], errors: &mut E) -> u8
 where
     R: Files + Print + AllocGlobal + Clock + Net,
     E: Sink,

@@ -9,7 +9,7 @@ use std::io;
 use std::io::{BufReader, BufWriter};
 use std::rt::Files;
 
-// The bytes of a reply that go out in one write.
+// The maximum number of bytes of a reply in one write.
 const REPLY_BUFFER: usize = 65_536;
 
 /// `gitv2 check FILE`
@@ -61,15 +61,15 @@ where
 
 /// The service on standard input and standard output.
 #[derive(Clone, Copy)]
-pub(crate) enum Served {
-    /// One request, with no advertisement before it: `gitv2 ls --stdio-server FILE`.
+pub(crate) enum StdioService {
+    /// One request, without an advertisement before it: `gitv2 ls --stdio-server FILE`.
     Request,
     /// A connection: `gitv2 upload FILE`.
     Connection(Ends),
 }
 
 /// Serves the repository of a file.
-pub(crate) fn serve<R, E>(rt: &R, served: Served, file: &str, errors: &mut E) -> u8
+pub(crate) fn serve<R, E>(rt: &R, served: StdioService, file: &str, errors: &mut E) -> u8
 where
     R: Files + Input + Print + AllocGlobal,
     E: Sink,
@@ -81,7 +81,7 @@ where
 }
 
 // Serves the repository of a text.
-fn serve_text<R, E>(rt: &R, served: Served, text: &[u8], errors: &mut E) -> u8
+fn serve_text<R, E>(rt: &R, served: StdioService, text: &[u8], errors: &mut E) -> u8
 where
     R: Input + Print + AllocGlobal,
     E: Sink,
@@ -96,8 +96,8 @@ where
     let mut input = FromRead::new(&mut stdin);
     let mut output = ToWrite::new(&mut stdout);
     let status = match served {
-        Served::Request => cmd_ls(alloc, text, &mut input, &mut output, errors),
-        Served::Connection(ends) => {
+        StdioService::Request => cmd_ls(alloc, text, &mut input, &mut output, errors),
+        StdioService::Connection(ends) => {
             cmd_upload(alloc, text, ends, &mut input, &mut output, errors)
         }
     };

@@ -1,10 +1,10 @@
-//! The words of the command line, and the work that each command is.
+//! The arguments of the program, and the work of each command.
 
 use crate::fetching::fetch;
-use crate::local::{Served, check, serve, show_lines};
+use crate::local::{StdioService, check, serve, show_lines};
 use crate::remote::{Meeting, list, listen, pair};
 use crate::simulating::simulate;
-use gargs::{Command, read_command};
+use gargs::{Gitv2Command, read_command};
 use gpkt::{Sink, ToWrite};
 use std::env;
 use std::io::Write;
@@ -13,15 +13,15 @@ use std::rt::{Clock, Env, Files};
 
 const USAGE: &[u8] = b"gitv2: usage\n";
 
-// The exit status where the words are none of the usage.
+// The exit status if the arguments do not match the usage.
 const WRONG_USAGE: u8 = 2;
 
-/// Runs `gitv2` with the words of the runtime, over its files, standard streams and sockets. Faults and the usage line go to
-/// `stderr`.
+/// Runs `gitv2` with the arguments of the runtime, over its files, standard streams and sockets.
+/// Faults and the usage line go to `stderr`.
 ///
-/// It answers the exit status: 0; 1 where a fault was printed; 2 where the words are none of the usage, are no UTF-8, or there
-/// is no memory to read them.
-pub fn run<R, W>(rt: &R, stderr: &mut W) -> u8
+/// Returns the exit status: 0 on success, 1 if a fault was printed. Returns 2 if the arguments do
+/// not match the usage or are not UTF-8, or if there is no memory to read them.
+pub fn run_gitv2<R, W>(rt: &R, stderr: &mut W) -> u8
 where
     R: Env + Files + Input + Print + AllocGlobal + Clock + Net,
     W: Write,
@@ -38,27 +38,32 @@ where
     }
 }
 
-// The command that the words name.
-fn command_of<R: Env + AllocGlobal>(rt: &R) -> Option<Command> {
+// Returns the command of the arguments.
+fn command_of<R: Env + AllocGlobal>(rt: &R) -> Option<Gitv2Command> {
     let words: Vec<String> = env::args(rt).ok()?.collect(rt.alloc()).ok()?;
     read_command(rt.alloc(), words.as_slice())
 }
 
-fn run_command<R, E>(rt: &R, command: &Command, errors: &mut E) -> u8
+fn run_command<R, E>(rt: &R, command: &Gitv2Command, errors: &mut E) -> u8
 where
     R: Files + Input + Print + AllocGlobal + Clock + Net,
     E: Sink,
 {
     match command {
-        Command::Check { file } => check(rt, file.as_str(), errors),
-        Command::Fetch(asked) => fetch(rt, asked, errors),
-        Command::Lines => show_lines(rt, errors),
-        Command::LsStdioServer { file } => serve(rt, Served::Request, file.as_str(), errors),
-        Command::Upload { ends, file } => {
-            serve(rt, Served::Connection(*ends), file.as_str(), errors)
+        Gitv2Command::Check { file } => check(rt, file.as_str(), errors),
+        Gitv2Command::Fetch(asked) => fetch(rt, asked, errors),
+        Gitv2Command::Lines => show_lines(rt, errors),
+        Gitv2Command::LsStdioServer { file } => serve(
+            rt,
+            StdioService::Request,
+            file.as_str(),
+            errors,
+        ),
+        Gitv2Command::Upload { ends, file } => {
+            serve(rt, StdioService::Connection(*ends), file.as_str(), errors)
         }
-        Command::LsTcp { place, prefixes } => list(rt, place, prefixes.as_slice(), errors),
-        Command::Pair {
+        Gitv2Command::LsTcp { place, prefixes } => list(rt, place, prefixes.as_slice(), errors),
+        Gitv2Command::Pair {
             server,
             client,
             specs,
@@ -70,7 +75,7 @@ where
             };
             pair(rt, meeting, errors)
         }
-        Command::Serve(asked) => listen(rt, asked, errors),
-        Command::Simulate(asked) => simulate(rt, asked, errors),
+        Gitv2Command::Serve(asked) => listen(rt, asked, errors),
+        Gitv2Command::Simulate(asked) => simulate(rt, asked, errors),
     }
 }

@@ -5,7 +5,7 @@ use crate::files::read;
 use gargs::Serve;
 use gcmd::{ProgramFault, Spec, load_server, read_prefixes, read_specs};
 use gpkt::{Sink, ToWrite};
-use gtcp::{Listing, Pair, Place, Server, Service, cmd_ls_remote, cmd_pair, cmd_serve};
+use gtcp::{Listing, Location, Pair, Server, Service, cmd_ls_remote, cmd_pair, cmd_serve};
 use std::io;
 use std::net::Net;
 use std::rt::{Clock, Files};
@@ -40,7 +40,7 @@ where
 }
 
 /// `gitv2 ls --tcp ADDR --path PATH [PREFIX]...`
-pub(crate) fn list<R, E>(rt: &R, place: &Place, words: &[String], errors: &mut E) -> u8
+pub(crate) fn list<R, E>(rt: &R, place: &Location, words: &[String], errors: &mut E) -> u8
 where
     R: Print + AllocGlobal + Clock + Net,
     E: Sink,
@@ -58,7 +58,7 @@ where
     cmd_ls_remote(rt, rt.alloc(), &listing, &mut output, errors)
 }
 
-/// The names of both files of `pair`, and the refspecs as they were given.
+/// The names of both files of `pair`, and its refspecs, not yet parsed.
 #[derive(Clone, Copy)]
 pub(crate) struct Meeting<'a> {
     pub(crate) server: &'a str,
@@ -78,7 +78,7 @@ where
     }
 }
 
-// The server is loaded before the client's file is read.
+// Loads the server before the client's file is read.
 fn pair_by<R, E>(rt: &R, meeting: Meeting<'_>, specs: &[Spec], errors: &mut E) -> u8
 where
     R: Files + Print + AllocGlobal + Net,
@@ -90,7 +90,7 @@ where
     }
 }
 
-// The server of the repository of a file.
+// Returns the server of the repository of a file.
 fn open_server<R: Files + AllocGlobal>(rt: &R, file: &str) -> Result<Server, ProgramFault> {
     match read(rt, file) {
         Ok(text) => load_server(rt.alloc(), text.as_slice()),

@@ -45,7 +45,7 @@ where
     cmd_simulate(rt.alloc(), &files, &mut output, errors)
 }
 
-// Why nothing is simulated where a file can't be read: an earlier file that is refused, or else that.
+// Returns the fault of a file that can't be read, or the fault of an earlier file that is refused.
 fn unread(alloc: Global, server: &[u8], client: Option<&[u8]>) -> ProgramFault {
     if let Err(fault) = load_server(alloc, server) {
         return fault;

@@ -1,1 +1,2 @@
 pub mod RefLemmas
+pub mod SpecLemmas

@@ -1,4 +1,4 @@
-//! Why a call on refs is refused.
+//! Why a call on refs fails.
 
 ghost use Rattle.std.specs.Prelude.{◌≡◌, Some};
 ghost use Rattle.grefs.specs.Faults.{refs_fault_row, refs_fault_text};
@@ -19,22 +19,22 @@ pub enum RefsFault {
 }
 
 impl RefsFault {
-    /// The number of the fault.
+    /// Returns the number of the fault.
     pub fn code(&self) -> u32
         ensures { result ≡ (refs_fault_row self.now).0 }
     {
-        self.row().0
+        self.fault_row().0
     }
 
-    /// The name of the fault.
+    /// Returns the name of the fault.
     pub fn name(&self) -> &'static str
         ensures { result.now ≡ (refs_fault_row self.now).1 }
     {
-        self.row().1
+        self.fault_row().1
     }
 
-    /// The table: the number and the name of each fault.
-    pub fn row(&self) -> (u32, &'static str)
+    /// Returns the row of the fault in the table: its number and its name.
+    pub fn fault_row(&self) -> (u32, &'static str)
         ensures { (result.0, result.1.now) ≡ refs_fault_row self.now }
     {
         match self {

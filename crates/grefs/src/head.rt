@@ -1,4 +1,4 @@
-//! What HEAD stands at.
+//! HEAD and its target.
 
 ghost use Rattle.std.specs.Prelude.{◌≡◌, ◌≢◌, IfOk, MatchOption};
 ghost use Rattle.gname.specs.Names.{head_name};
@@ -10,7 +10,7 @@ use gname::{Oid, RefName};
 use std::alloc::{AllocError, Allocator, Global};
 use std::marker::Model;
 
-/// A name at which HEAD can point, a symref's target (gitglossary(7)): any below `refs/`.
+/// A name to which HEAD can point, a symref's target (gitglossary(7)): any name below `refs/`.
 #[derive(Debug, Drop)]
 pub struct Target<A: Allocator + Copy = Global> {
     name: RefName<A>,
@@ -28,7 +28,7 @@ impl<A: Allocator + Copy> Model for Target<A> {
 }
 
 impl<A: Allocator + Copy> Target<A> {
-    /// The name as a target, or `None` where it is HEAD itself.
+    /// Returns the name as a target, or `None` if it is HEAD itself.
     pub fn new(name: RefName<A>) -> Option<Target<A>>
         ensures { MatchOption result (name ≡ head_name)
             (λ target. (target ≡ name) × (name ≢ head_name)) }
@@ -41,7 +41,7 @@ impl<A: Allocator + Copy> Target<A> {
         Some(Target { name })
     }
 
-    /// A target like this one. It fails where out of memory.
+    /// Returns a copy of the target. Fails only if out of memory.
     pub fn copy_in(&self, alloc: A) -> Result<Target<A>, AllocError>
         ensures { IfOk result (λ target. target ≡ self.now) }
     {
@@ -49,7 +49,7 @@ impl<A: Allocator + Copy> Target<A> {
         Ok(Target { name })
     }
 
-    /// The name.
+    /// Returns the name.
     pub fn name(&self) -> &RefName<A>
         ensures name { result.now ≡ self.now }
         ensures below { IsBelowRefs self.now }
@@ -58,19 +58,19 @@ impl<A: Allocator + Copy> Target<A> {
     }
 }
 
-/// What HEAD stands at.
+/// The value of HEAD.
 #[derive(Debug, Drop)]
 pub enum Head<A: Allocator + Copy = Global> {
-    /// Nothing: there is no HEAD.
+    /// There is no HEAD.
     None,
-    /// An id: HEAD is detached.
+    /// HEAD is detached at an id.
     Id(Oid),
-    /// A ref's name. HEAD is unborn where there is no such ref.
+    /// HEAD points to a ref. It is unborn if there is no such ref.
     Symref(Target<A>),
 }
 
 impl<A: Allocator + Copy> Head<A> {
-    /// A head like this one. It fails where out of memory.
+    /// Returns a copy of the head. Fails only if out of memory.
     pub fn copy_in(&self, alloc: A) -> Result<Head<A>, AllocError>
         ensures { IfOk result (λ head. head ≡ self.now) }
     {
@@ -81,7 +81,7 @@ impl<A: Allocator + Copy> Head<A> {
         }
     }
 
-    /// A law: what is true of each head.
+    /// A law: the properties of each head.
     pub fn laws(&self)
         ensures { PointsBelowRefs self.now }
     {

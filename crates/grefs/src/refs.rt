@@ -1,4 +1,4 @@
-//! Refs: names below `refs/` with the ids at which they stand.
+//! Refs: names below `refs/` with their ids.
 
 ghost use Rattle.std.specs.Prelude.{◌≡◌, ◌≤◌, ◌↔◌, [], length, IsTrue, IsErrOf, OnOk, OnErr, IfOk, IfErr, IfSome, ◌⊎◌, ◌≢◌, None, is_ok, MatchOption, MatchResult, slice_get, ◌<◌, ◌++◌, ◌∷◌};
 ghost use Rattle.std.specs.Map.{values_of};
@@ -11,10 +11,10 @@ use gname::{Oid, RefName};
 use std::alloc::{AllocError, Allocator, Global};
 use std::marker::Model;
 
-/// The most refs that there can be, HEAD not counted.
+/// The maximum number of refs, without HEAD.
 pub const MAX_REFS: usize = 65_536;
 
-/// Names below `refs/` with the ids at which they stand, in the byte order of the names.
+/// Names below `refs/` with their ids, in the byte order of the names.
 #[derive(Debug, Drop)]
 pub struct Refs<A: Allocator + Copy = Global> {
     refs: Vec<(RefName<A>, Oid), A>,
@@ -31,7 +31,7 @@ impl<A: Allocator + Copy> Model for Refs<A> {
 }
 
 impl<A: Allocator + Copy> Refs<A> {
-    /// No refs. It takes no memory.
+    /// Returns an empty list of refs. It does not allocate.
     pub fn new(alloc: A) -> Refs<A>
         ensures { result ≡ [] }
     {
@@ -40,7 +40,7 @@ impl<A: Allocator + Copy> Refs<A> {
         }
     }
 
-    /// How many refs there are.
+    /// Returns the number of refs.
     pub fn len(&self) -> usize
         ensures count { result ≡ length self.now }
         ensures valid { IsRefs self.now }
@@ -48,7 +48,7 @@ impl<A: Allocator + Copy> Refs<A> {
         self.refs.len()
     }
 
-    /// A law: what is true of all refs together.
+    /// A law: the properties of all refs together.
     pub fn laws(&self)
         ensures { IsRefs self.now }
     {
@@ -62,16 +62,16 @@ impl<A: Allocator + Copy> Refs<A> {
         self.refs.is_empty()
     }
 
-    /// The ids at which the refs stand, in the order of their names.
+    /// Returns the ids of the refs, in the order of their names.
     ///
-    /// It fails where out of memory.
+    /// Fails only if out of memory.
     pub fn ids(&self, alloc: A) -> Result<Vec<Oid, A>, AllocError>
         ensures { IfOk result (λ ids. ids.items ≡ values_of self.now) }
     {
         self.refs.iter().map(|reference| reference.1).collect(alloc)
     }
 
-    /// The refs in the byte order of their names.
+    /// Returns the refs in the byte order of their names.
     pub fn as_slice(&self) -> &[(RefName<A>, Oid)]
         ensures refs { result.now ≡ self.now }
         ensures valid { IsRefs self.now }
@@ -79,7 +79,7 @@ impl<A: Allocator + Copy> Refs<A> {
         self.refs.as_slice()
     }
 
-    /// Refs like these. It fails where out of memory.
+    /// Returns a copy of the refs. Fails only if out of memory.
     pub fn copy_in(&self, alloc: A) -> Result<Refs<A>, AllocError>
         ensures { IfOk result (λ refs. refs ≡ self.now) }
     {
@@ -87,7 +87,7 @@ impl<A: Allocator + Copy> Refs<A> {
         Ok(Refs { refs })
     }
 
-    /// The id at which a name stands, or `None` where there is no such ref.
+    /// Returns the id of a name, or `None` if there is no such ref.
     pub fn get(&self, name: &RefName<A>) -> Option<Oid>
         ensures { result ≡ ref_at self.now name.now }
     {
@@ -97,7 +97,7 @@ impl<A: Allocator + Copy> Refs<A> {
         }
     }
 
-    /// The ref at a position in the order of the names, from 0, or `None` past the last.
+    /// Returns the ref at a position in the order of the names, from 0, or `None` after the last.
     pub fn at(&self, place: usize) -> Option<(&RefName<A>, Oid)>
         ensures pair { MatchOption result (length self.now ≤ place) (λ pair.
             slice_get self.now place ≡ Some (pair.0.now, pair.1)) }
@@ -107,8 +107,8 @@ impl<A: Allocator + Copy> Refs<A> {
         Some((&pair.0, pair.1))
     }
 
-    /// The name of the ref at a position in the order of the names, from 0. It takes no memory, and the refs are
-    /// given up.
+    /// Returns the name of the ref at a position in the order of the names, from 0. It does not
+    /// allocate, and it consumes the refs.
     pub fn into_name(self, place: usize) -> RefName<A>
         requires { place < length self }
         ensures { IfSome (slice_get self place) (λ ref. result ≡ ref.0) }
@@ -117,7 +117,7 @@ impl<A: Allocator + Copy> Refs<A> {
         refs.swap_remove(place).0
     }
 
-    /// Whether a name of these bytes is above every name of the refs.
+    /// Whether a name of these bytes is greater than every name of the refs.
     pub fn are_below(&self, name: &[u8]) -> bool
         ensures { IsTrue result ↔ AreBelow self.now name.now }
     {
@@ -127,7 +127,7 @@ impl<A: Allocator + Copy> Refs<A> {
         }
     }
 
-    /// Adds a ref after the others. Where out of memory the refs stay as they were.
+    /// Adds a ref after the others. If out of memory, the refs are unchanged.
     pub fn push(&mut self, name: RefName<A>, id: Oid) -> Result<(), AllocError>
         requires name { IsBelowRefs name }
         requires above { AreBelow self.old name }
@@ -140,11 +140,11 @@ impl<A: Allocator + Copy> Refs<A> {
         Ok(())
     }
 
-    /// Puts a name at an id.
+    /// Sets a name to an id.
     ///
-    /// It fails with `Refs` where the name is HEAD, or is new where there are `MAX_REFS` refs, and
-    /// with `Memory` where out of memory. The refs are then as before. A name that is there takes
-    /// no memory.
+    /// Fails with `Refs` if the name is HEAD, or if it is new and there are `MAX_REFS` refs. Fails
+    /// with `Memory` if out of memory. After a failure the refs are unchanged. A name that already
+    /// has a ref needs no memory.
     pub fn set(&mut self, name: RefName<A>, id: Oid) -> Result<(), RefsFault>
         ensures ok { OnOk result (SetsRef self.old self.new name id) }
         ensures held { ref_at self.old name ≢ None → IsTrue (is_ok result) }
@@ -176,14 +176,14 @@ impl<A: Allocator + Copy> Refs<A> {
     }
 }
 
-/// Whether a name is below `refs/`, as any but `HEAD` is.
+/// Whether a name is below `refs/`, as any name but `HEAD` is.
 pub fn is_below_refs<A: Allocator + Copy>(name: &RefName<A>) -> bool
     ensures { IsTrue result ↔ IsBelowRefs name.now }
 {
     name.as_bytes().starts_with(b"refs/")
 }
 
-// Refs like these.
+// Returns a copy of the refs.
 fn copy_refs<A: Allocator + Copy>(
     alloc: A,
     refs: &[(RefName<A>, Oid)],
@@ -198,7 +198,7 @@ fn copy_refs<A: Allocator + Copy>(
     Ok(copies)
 }
 
-// The position of the name, or the one at which it would go.
+// Returns the position of the name, or the position at which it would be inserted.
 fn place_of<A: Allocator + Copy>(
     refs: &[(RefName<A>, Oid)],
     name: &RefName<A>,

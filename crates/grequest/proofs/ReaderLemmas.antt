@@ -20,11 +20,11 @@ use Rattle.grequest.proofs.StateLemmas.{state_of-push}
 use Rattle.std.specs.Prelude.{IfErr}
 use Rattle.std.proofs.lemmas.List.{length-append}
 use Rattle.gpkt.specs.Laws.{HasFourBytes}
-use Rattle.gpkt.specs.LineReading.{Reads, ReadsLines}
-use Rattle.gpkt.specs.declared.fault.LineFault.{LineFault}
-use Rattle.gpkt.specs.declared.fault.LineFault.TheVariants as line_fault
+use Rattle.gpkt.specs.PacketReading.{Reads, ReadsPackets}
+use Rattle.gpkt.specs.declared.fault.PacketFault.{PacketFault}
+use Rattle.gpkt.specs.declared.fault.PacketFault.TheVariants as packet_fault
 use Rattle.ggrammar.specs.Kinds.{ReadsIfAny}
-use Rattle.ggrammar.specs.MessageBytes.{known, IsOfBytes, LawsOfBytes}
+use Rattle.ggrammar.specs.MessageBytes.{known_bytes, IsOfBytes, LawsOfBytes}
 use Rattle.ggrammar.specs.declared.fault.Why.TheVariants as why
 use Rattle.ggrammar.specs.declared.fault.MessageFault.{MessageFault}
 use Rattle.grequest.specs.Asked.{Asked}
@@ -98,7 +98,7 @@ lines_ask format reading lines held same = ap (λ (state : State). state.asked) 
 
 module _ (four : HasFourBytes) (format : Format) where
   -- no packet is read of nothing
-  no_packet : (bytes new : List ℕ) (packet : Packet) → bytes ≡ [] → Reads (known bytes new) (Ok (Some packet)) → ⊥
+  no_packet : (bytes new : List ℕ) (packet : Packet) → bytes ≡ [] → Reads (known_bytes bytes new) (Ok (Some packet)) → ⊥
   no_packet bytes new packet empty read =
       let long = ap length read.1 ∙ length-append read.0 new in
       let none : length bytes ≡ 0 = ap length empty in
@@ -106,16 +106,16 @@ module _ (four : HasFourBytes) (format : Format) where
       omega (arith, long, none, some)
 
   -- nor is a packet refused for what its bytes are
-  no_fault : (bytes new : List ℕ) (fault : LineFault) → bytes ≡ [] → IsOfBytes (why.Line fault) → Reads (known bytes new) (Err fault) → ⊥
-  no_fault bytes new line_fault.TooLong empty certain read = let none : length bytes ≡ 0 = ap length empty in omega (arith, none, read.0.1.0)
-  no_fault bytes new line_fault.Io empty certain read = certain
-  no_fault bytes new line_fault.Failed empty certain read = certain
-  no_fault bytes new line_fault.Memory empty certain read = read
+  no_fault : (bytes new : List ℕ) (fault : PacketFault) → bytes ≡ [] → IsOfBytes (why.Line fault) → Reads (known_bytes bytes new) (Err fault) → ⊥
+  no_fault bytes new packet_fault.TooLong empty certain read = let none : length bytes ≡ 0 = ap length empty in omega (arith, none, read.0.1.0)
+  no_fault bytes new packet_fault.Io empty certain read = certain
+  no_fault bytes new packet_fault.Failed empty certain read = certain
+  no_fault bytes new packet_fault.Memory empty certain read = read
   no_fault bytes new fault empty certain read = let none : length bytes ≡ 0 = ap length empty in omega (arith, none, read.0.0)
 
   -- so nothing but the end comes at once
   no_reason : (bytes new : List ℕ) (reason : Why) → bytes ≡ [] → IsOfBytes reason → (reason ≡ why.Ended → ⊥)
-      → IsReasonAfter (judge format) brings [] (known bytes new) reason → ⊥
+      → IsReasonAfter (judge format) brings [] (known_bytes bytes new) reason → ⊥
   no_reason bytes new (why.Line fault) empty certain later h = no_fault bytes new fault empty certain h
   no_reason bytes new why.Ended empty certain later h = later refl
   no_reason bytes new why.Memory empty certain later h = certain
@@ -139,17 +139,17 @@ module _ (four : HasFourBytes) (format : Format) where
 
   -- where the bytes between are known
   no_refusal : (front : List Packet) (bytes new : List ℕ) (between : Option (List ℕ)) (fault : MessageFault) → bytes ≡ [] → IsOfBytes fault.why
-      → (fault.why ≡ why.Ended → 0 < fault.frame) → fault.frame ≡ length front → ReadsLines (record { old = Some bytes; new = between }) front
+      → (fault.why ≡ why.Ended → 0 < fault.frame) → fault.frame ≡ length front → ReadsPackets (record { old = Some bytes; new = between }) front
       → IsReasonAfter (judge format) brings front (record { old = between; new = Some new }) fault.why → ⊥
   no_refusal front bytes new None fault empty certain later frame read h = read
   no_refusal front bytes new (Some mid) fault empty certain later frame read h =
       let left = left_of_nothing front bytes read.0 mid empty read.1 read.2 in
       let at : fault.frame ≡ 0 = frame ∙ ap length left.0 in
       no_reason mid new fault.why left.1 certain (λ ended. let some = later ended in omega (arith, at, some))
-      (subst (λ (lines : List Packet). IsReasonAfter (judge format) brings lines (known mid new) fault.why) left.0 h)
+      (subst (λ (lines : List Packet). IsReasonAfter (judge format) brings lines (known_bytes mid new) fault.why) left.0 h)
 
   empty_is_missing : LawsOfBytes (judge format) → (bytes new : List ℕ) (result : Result (Option Asked) MessageFault)
-      → ReadsIfAny (judge format) brings (Says format) (known bytes new) result → IfErr result IsNotMissing → bytes ≡ [] → result ≡ Ok None
+      → ReadsIfAny (judge format) brings (Says format) (known_bytes bytes new) result → IfErr result IsNotMissing → bytes ≡ [] → result ≡ Ok None
   empty_is_missing laws bytes new (Ok None) read certain empty = refl
   empty_is_missing laws bytes new (Ok (Some asked)) read certain empty =
       let lines = read.read.bytes in
@@ -159,6 +159,6 @@ module _ (four : HasFourBytes) (format : Format) where
 
   pub is_missing_where_empty : LawsOfBytes (judge format) → IsMissingWhereEmpty format
   is_missing_where_empty laws bytes new result read certain = (
-    λ missing. (subst (ReadsIfAny (judge format) brings (Says format) (known bytes new)) missing read).0,
+    λ missing. (subst (ReadsIfAny (judge format) brings (Says format) (known_bytes bytes new)) missing read).0,
     empty_is_missing laws bytes new result read certain,
   )

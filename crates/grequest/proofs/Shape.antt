@@ -4,13 +4,13 @@ use Rattle.std.proofs.lemmas.List.{length-append, length-map, map_push}
 use Rattle.gpkt.specs.Packets.{Packet, Data, Flush, Delim, ResponseEnd, text}
 use Rattle.gname.specs.declared.formats.Format.{Format}
 use Rattle.ggrammar.specs.Grammar.{Judge, Open, IsOpen, LawsOf}
-use Rattle.ggrammar.specs.Places.{place_after, collected}
+use Rattle.ggrammar.specs.Places.{place_after, collect}
 use Rattle.gname.proofs.ListLemmas.{All-parts}
 use Rattle.grequest.specs.declared.command.Command.{Command}
 use Rattle.grequest.specs.declared.command.CommandForm.TheVariants.{Known}
 use Rattle.grequest.specs.Arguments.{command_name, command_form, capability_form}
 use Rattle.grequest.specs.Asked.{max_arguments}
-use Rattle.grequest.specs.RequestLines.{Place, InCapabilities, InArguments, place_of_command, next_place, capability_there, argument_there, capability_texts, argument_texts}
+use Rattle.grequest.specs.RequestLines.{RequestPlace, InCapabilities, InArguments, place_of_command, next_place, capability_there, argument_there, capability_texts, argument_texts}
 use Rattle.grequest.specs.Requests.{state_of, judge_command, judge_at, judge}
 use Rattle.grequest.specs.Manual.{IsCapability, IsArgument, NamesFormat}
 use Rattle.grequest.proofs.StateLemmas.{state_at}
@@ -50,15 +50,15 @@ place-arguments : (command : Command) (arguments : List (List ℕ)) → place_af
 place-arguments command [] = refl
 place-arguments command (line ∷ arguments) = place-arguments command arguments
 
-arguments-there : (command : Command) (arguments : List (List ℕ)) → collected next_place argument_there (InArguments command) (map Data arguments) ≡ map text arguments
+arguments-there : (command : Command) (arguments : List (List ℕ)) → collect next_place argument_there (InArguments command) (map Data arguments) ≡ map text arguments
 arguments-there command [] = refl
 arguments-there command (line ∷ arguments) = ap (λ (xs : List (List ℕ)). text line ∷ xs) (arguments-there command arguments)
 
-no_capabilities-there : (command : Command) (arguments : List (List ℕ)) → collected next_place capability_there (InArguments command) (map Data arguments) ≡ []
+no_capabilities-there : (command : Command) (arguments : List (List ℕ)) → collect next_place capability_there (InArguments command) (map Data arguments) ≡ []
 no_capabilities-there command [] = refl
 no_capabilities-there command (line ∷ arguments) = no_capabilities-there command arguments
 
-same_at : (format : Format) {place place' : Place} {capabilities capabilities' arguments arguments' : List (List ℕ)} → place ≡ place' → capabilities ≡ capabilities' → arguments ≡ arguments'
+same_at : (format : Format) {place place' : RequestPlace} {capabilities capabilities' arguments arguments' : List (List ℕ)} → place ≡ place' → capabilities ≡ capabilities' → arguments ≡ arguments'
     → state_at format place capabilities arguments ≡ state_at format place' capabilities' arguments'
 same_at format place capabilities arguments = λ i. state_at format (place i) (capabilities i) (arguments i)
 
@@ -70,29 +70,29 @@ module _ (command : Command) (rest : List Packet) where
   place_over (line ∷ capabilities) = place_over capabilities
 
   texts_over : (capabilities : List (List ℕ))
-      → collected next_place capability_there (InCapabilities command) (map Data capabilities ++ rest)
-      ≡ map text capabilities ++ collected next_place capability_there (InCapabilities command) rest
+      → collect next_place capability_there (InCapabilities command) (map Data capabilities ++ rest)
+      ≡ map text capabilities ++ collect next_place capability_there (InCapabilities command) rest
   texts_over [] = refl
   texts_over (line ∷ capabilities) = ap (λ xs. text line ∷ xs) (texts_over capabilities)
 
   arguments_over : (capabilities : List (List ℕ))
-      → collected next_place argument_there (InCapabilities command) (map Data capabilities ++ rest)
-      ≡ collected next_place argument_there (InCapabilities command) rest
+      → collect next_place argument_there (InCapabilities command) (map Data capabilities ++ rest)
+      ≡ collect next_place argument_there (InCapabilities command) rest
   arguments_over [] = refl
   arguments_over (line ∷ capabilities) = arguments_over capabilities
 
   state_of-over : (format : Format) (first : List ℕ) (capabilities : List (List ℕ)) → command_form (text first) ≡ Known command
       → state_of format (Data first ∷ (map Data capabilities ++ rest))
       ≡ state_at format (place_after next_place (InCapabilities command) rest)
-      (map text capabilities ++ collected next_place capability_there (InCapabilities command) rest)
-      (collected next_place argument_there (InCapabilities command) rest)
+      (map text capabilities ++ collect next_place capability_there (InCapabilities command) rest)
+      (collect next_place argument_there (InCapabilities command) rest)
   unfolding capability_texts argument_texts
   state_of-over format first capabilities is =
       let packets = map Data capabilities ++ rest in
       let at = ap place_of_command is in
       same_at format (ap (λ place. place_after next_place place packets) at ∙ place_over capabilities)
-      (ap (λ place. collected next_place capability_there place packets) at ∙ texts_over capabilities)
-      (ap (λ place. collected next_place argument_there place packets) at ∙ arguments_over capabilities)
+      (ap (λ place. collect next_place capability_there place packets) at ∙ texts_over capabilities)
+      (ap (λ place. collect next_place argument_there place packets) at ∙ arguments_over capabilities)
 
 pub state_of-listing : (format : Format) (command : Command) (first : List ℕ) (capabilities : List (List ℕ)) → command_form (text first) ≡ Known command
     → state_of format (listing first capabilities) ≡ state_at format (InCapabilities command) (map text capabilities) []

@@ -8,8 +8,8 @@ use Rattle.gname.specs.declared.formats.Format.{Format}
 use Rattle.ggrammar.specs.Grammar.{Verdict, Open, Whole}
 use Rattle.ggrammar.specs.MessageReading.{IsAccepted}
 use Rattle.ggrammar.specs.PeerErrors.{peer_error}
-use Rattle.ggrammar.specs.Places.{place_after, collected}
-use Rattle.ggrammar.proofs.PlaceLemmas.{place_after-push, collected-push, filter_map-push}
+use Rattle.ggrammar.specs.Places.{place_after, collect}
+use Rattle.ggrammar.proofs.PlaceLemmas.{place_after-push, collect-push, filter_map-push}
 use Rattle.ggrammar.proofs.VerdictLemmas.{accepted_unless}
 use Rattle.grequest.specs.declared.command.Command.{Command}
 use Rattle.grequest.specs.declared.command.Command.TheVariants.{LsRefs, Fetch}
@@ -17,7 +17,7 @@ use Rattle.grequest.specs.declared.command.CommandForm.{CommandForm}
 use Rattle.grequest.specs.declared.command.CommandForm.TheVariants.{Known}
 use Rattle.grequest.specs.Arguments.{command_form, CapabilityForm, Agent, ObjectFormat, capability_form, ls_argument, fetch_argument}
 use Rattle.grequest.specs.Asked.{Asked, Ls, Fetches}
-use Rattle.grequest.specs.RequestLines.{Place, First, InCapabilities, InArguments, place_of_command, next_place, place_of, capability_there, argument_there, capability_texts, argument_texts, agent_value, format_value, agents, formats, first_of, ls_refs_asked, fetch_asked, asked_by_command, asked_by_texts}
+use Rattle.grequest.specs.RequestLines.{RequestPlace, First, InCapabilities, InArguments, place_of_command, next_place, place_of, capability_there, argument_there, capability_texts, argument_texts, agent_value, format_value, agents, formats, first_of, ls_refs_asked, fetch_asked, asked_by_command, asked_by_texts}
 use Rattle.grequest.specs.Requests.{State, state_of, agent_of, once, judge_capability, judge_text, judge_at, judge}
 use Rattle.grequest.specs.steps.RequestState.{with_command, with_agent, with_capability, with_argument, with_text}
 use Rattle.grequest.specs.steps.RequestState.{with_packet}
@@ -32,16 +32,16 @@ place_of-push front packet = place_after-push next_place First front packet
 capability_texts-push : (front : List Packet) (packet : Packet)
     → capability_texts (front ++ packet ∷ []) ≡ capability_texts front ++ capability_there (place_of front) packet
 unfolding capability_texts
-capability_texts-push front packet = collected-push next_place capability_there First front packet
+capability_texts-push front packet = collect-push next_place capability_there First front packet
 
 argument_texts-push : (front : List Packet) (packet : Packet)
     → argument_texts (front ++ packet ∷ []) ≡ argument_texts front ++ argument_there (place_of front) packet
 unfolding argument_texts
-argument_texts-push front packet = collected-push next_place argument_there First front packet
+argument_texts-push front packet = collect-push next_place argument_there First front packet
 
 -- ---- the state of a place and of the texts so far
 
-abbrev pub state_at : Format → Place → List (List ℕ) → List (List ℕ) → State
+abbrev pub state_at : Format → RequestPlace → List (List ℕ) → List (List ℕ) → State
 state_at format place capabilities arguments = record {
   place = place;
   format_lines = length (formats capabilities);
@@ -53,7 +53,7 @@ same_state : {a b : State} → a.place ≡ b.place → a.format_lines ≡ b.form
 same_state place formats arguments asked = λ i. record { place = place i; format_lines = formats i; argument_lines = arguments i; asked = asked i }
 
 -- no packet leads back to the first place
-never_first : (place : Place) (lines : List Packet) → place_after next_place place lines ≡ First → place ≡ First
+never_first : (place : RequestPlace) (lines : List Packet) → place_after next_place place lines ≡ First → place ≡ First
 never_first First lines e = refl
 never_first (InCapabilities command) (Delim ∷ lines) e = let no : InArguments command ≡ First = never_first (InArguments command) lines e in cc
 never_first (InCapabilities command) [] e = e
@@ -61,12 +61,12 @@ never_first (InCapabilities command) (packet ∷ lines) e = never_first (InCapab
 never_first (InArguments command) [] e = e
 never_first (InArguments command) (packet ∷ lines) e = never_first (InArguments command) lines e
 
-none_first : (give : Place → Packet → List (List ℕ)) → ((packet : Packet) → give First packet ≡ []) → (place : Place) (lines : List Packet)
-    → place_after next_place place lines ≡ First → collected next_place give place lines ≡ []
+none_first : (give : RequestPlace → Packet → List (List ℕ)) → ((packet : Packet) → give First packet ≡ []) → (place : RequestPlace) (lines : List Packet)
+    → place_after next_place place lines ≡ First → collect next_place give place lines ≡ []
 none_first give none place [] e = refl
 none_first give none place (packet ∷ lines) e =
-    let here : give place packet ≡ [] = ap (λ (p : Place). give p packet) (never_first place (packet ∷ lines) e) ∙ none packet in
-    ap (λ (xs : List (List ℕ)). xs ++ collected next_place give (next_place place packet) lines) here ∙ none_first give none (next_place place packet) lines e
+    let here : give place packet ≡ [] = ap (λ (p : RequestPlace). give p packet) (never_first place (packet ∷ lines) e) ∙ none packet in
+    ap (λ (xs : List (List ℕ)). xs ++ collect next_place give (next_place place packet) lines) here ∙ none_first give none (next_place place packet) lines e
 
 no_capability_first : (packet : Packet) → capability_there First packet ≡ []
 no_capability_first (Data payload) = refl
@@ -171,16 +171,16 @@ argument_adds format Fetch capabilities arguments line =
 -- ---- a packet
 
 -- the state with the texts that a packet gives
-state_more : Format → Place → List (List ℕ) → List (List ℕ) → Packet → State
+state_more : Format → RequestPlace → List (List ℕ) → List (List ℕ) → Packet → State
 state_more format place capabilities arguments packet =
     state_at format (next_place place packet) (capabilities ++ capability_there place packet) (arguments ++ argument_there place packet)
 
-no_text : (format : Format) (place : Place) (capabilities arguments : List (List ℕ)) → state_at format place (capabilities ++ []) (arguments ++ []) ≡ state_at format place capabilities arguments
+no_text : (format : Format) (place : RequestPlace) (capabilities arguments : List (List ℕ)) → state_at format place (capabilities ++ []) (arguments ++ []) ≡ state_at format place capabilities arguments
 no_text format place capabilities arguments =
     ap (λ (xs : List (List ℕ)). state_at format place xs (arguments ++ [])) (append-nil capabilities)
     ∙ ap (λ (xs : List (List ℕ)). state_at format place capabilities xs) (append-nil arguments)
 
-text_adds : (format : Format) (place : Place) (capabilities arguments : List (List ℕ)) (payload : List ℕ)
+text_adds : (format : Format) (place : RequestPlace) (capabilities arguments : List (List ℕ)) (payload : List ℕ)
     → (place ≡ First → capabilities ≡ []) → (place ≡ First → arguments ≡ [])
     → IsAccepted (judge_text format place (state_at format place capabilities arguments) (text payload))
     → state_more format place capabilities arguments (Data payload) ≡ with_text format place (state_at format place capabilities arguments) (text payload)
@@ -196,7 +196,7 @@ text_adds format (InArguments command) capabilities arguments payload no_capabil
     ap (λ (xs : List (List ℕ)). state_at format (InArguments command) xs (arguments ++ text payload ∷ [])) (append-nil capabilities)
     ∙ argument_adds format command capabilities arguments (text payload)
 
-packet_adds : (format : Format) (place : Place) (capabilities arguments : List (List ℕ)) (packet : Packet)
+packet_adds : (format : Format) (place : RequestPlace) (capabilities arguments : List (List ℕ)) (packet : Packet)
     → (place ≡ First → capabilities ≡ []) → (place ≡ First → arguments ≡ [])
     → IsAccepted (judge_at format (state_at format place capabilities arguments) packet)
     → state_more format place capabilities arguments packet ≡ with_packet format (state_at format place capabilities arguments) packet
@@ -212,7 +212,7 @@ state_of-more : (format : Format) (front : List Packet) (packet : Packet)
     → state_of format (front ++ packet ∷ []) ≡ state_more format (place_of front) (capability_texts front) (argument_texts front) packet
 unfolding state_more
 state_of-more format front packet =
-    ap (λ (place : Place). state_at format place (capability_texts (front ++ packet ∷ [])) (argument_texts (front ++ packet ∷ []))) (place_of-push front packet)
+    ap (λ (place : RequestPlace). state_at format place (capability_texts (front ++ packet ∷ [])) (argument_texts (front ++ packet ∷ []))) (place_of-push front packet)
     ∙ ap (λ (xs : List (List ℕ)). state_at format (next_place (place_of front) packet) xs (argument_texts (front ++ packet ∷ []))) (capability_texts-push front packet)
     ∙ ap (λ (xs : List (List ℕ)). state_at format (next_place (place_of front) packet) (capability_texts front ++ capability_there (place_of front) packet) xs) (argument_texts-push front packet)
 

@@ -20,7 +20,7 @@ use Rattle.grequest.specs.Arguments.{is_word, command_form, CapabilityForm, Agen
 use Rattle.grequest.specs.Arguments.{LsArgument, KnownLsFlag, RefPrefix, UnknownLsArgument, ls_argument, FetchArgument}
 use Rattle.grequest.specs.Arguments.{KnownFetchFlag, Want, Have, UnknownFetchArgument, fetch_argument}
 use Rattle.grequest.specs.Asked.{max_prefixes, max_wants, max_haves}
-use Rattle.grequest.specs.RequestLines.{Place, First, InCapabilities, InArguments, formats}
+use Rattle.grequest.specs.RequestLines.{RequestPlace, First, InCapabilities, InArguments, formats}
 use Rattle.grequest.specs.Requests.{State, agent_of, has_room, of_few, prefixes_of, wants_of, haves_of, judge}
 use Rattle.grequest.specs.Requests.{judge_command, judge_capability, judge_ls_argument, judge_fetch_argument}
 use Rattle.grequest.specs.Requests.{judge_text, judge_delim, judge_flush, judge_at, state_of, unless_unnamed}
@@ -83,7 +83,7 @@ of_fetch_argument format arguments wants haves (Have id) =
     of_few_fits (is_some (id_of_text format id)) arguments haves max_haves (Refused BadId) tt
 of_fetch_argument format arguments wants haves UnknownFetchArgument = tt
 
-pub of_text : (format : Format) (place : Place) (state : State) (line : List ℕ) → IsForText (judge_text format place state line)
+pub of_text : (format : Format) (place : RequestPlace) (state : State) (line : List ℕ) → IsForText (judge_text format place state line)
 of_text format First state line = of_command (command_form line)
 of_text format (InCapabilities command) state line = of_capability format state (capability_form line)
 of_text format (InArguments LsRefs) state line =
@@ -93,12 +93,12 @@ of_text format (InArguments Fetch) state line =
 
 -- ---- packets
 
-of_flush : (format : Format) (place : Place) (state : State) → IsForPacket (judge_flush format place state)
+of_flush : (format : Format) (place : RequestPlace) (state : State) → IsForPacket (judge_flush format place state)
 of_flush Sha256 (InCapabilities command) state = of_test (state.format_lines == 0) (Refused WrongFormat) Whole tt tt
 of_flush Sha1 (InCapabilities command) state = tt
 of_flush format _ state = tt
 
-pub of_delim : (format : Format) (place : Place) (state : State) → IsForText (judge_delim format place state)
+pub of_delim : (format : Format) (place : RequestPlace) (state : State) → IsForText (judge_delim format place state)
 of_delim Sha256 (InCapabilities command) state = by_test (state.format_lines == 0) (Refused WrongFormat) Open tt tt
 of_delim Sha1 (InCapabilities command) state = tt
 of_delim format _ state = tt
@@ -149,7 +149,7 @@ unnamed_never : (b : Bool) (why : Why) → cond b (Refused why) Whole ≡ Open �
 unnamed_never true why e = cc
 unnamed_never false why e = cc
 
-flush_at : (format : Format) (place : Place) (state : State) → judge_flush format place state ≡ Open → ⊥
+flush_at : (format : Format) (place : RequestPlace) (state : State) → judge_flush format place state ≡ Open → ⊥
 flush_at Sha256 (InCapabilities command) state e = unnamed_never (state.format_lines == 0) WrongFormat e
 flush_at Sha1 (InCapabilities command) state e = cc
 flush_at format _ state e = cc

@@ -6,7 +6,7 @@ use Rattle.gname.specs.Ids.{Id}
 use Rattle.gpkt.specs.Packets.{Bytes, Packet, Data, Delim, text}
 use Rattle.gname.specs.declared.formats.Format.{Format}
 use Rattle.ggrammar.specs.Ids.{id_of_text}
-use Rattle.ggrammar.specs.Places.{place_after, collected}
+use Rattle.ggrammar.specs.Places.{place_after, collect}
 use Rattle.grequest.specs.declared.command.Command.{Command}
 use Rattle.grequest.specs.declared.command.Command.TheVariants.{LsRefs, Fetch}
 use Rattle.grequest.specs.declared.command.CommandForm.{CommandForm}
@@ -21,18 +21,18 @@ use Rattle.grequest.specs.Asked.{LsRefsAsked, FetchAsked, Asked, Empty, Ls, Fetc
 
 -- ---- where a packet stands
 
-pub data Place : Type 0 where
-  First : Place
-  InCapabilities : (command : Command) → Place
-  InArguments : (command : Command) → Place
+pub data RequestPlace : Type 0 where
+  First : RequestPlace
+  InCapabilities : (command : Command) → RequestPlace
+  InArguments : (command : Command) → RequestPlace
 
 -- the place after the first text
-abbrev pub place_of_command : CommandForm → Place
+abbrev pub place_of_command : CommandForm → RequestPlace
 place_of_command (Known command) = InCapabilities command
 place_of_command _ = First
 
 -- the first text is the command, and a delimiter separates the capabilities from the arguments
-abbrev pub next_place : Place → Packet → Place
+abbrev pub next_place : RequestPlace → Packet → RequestPlace
 next_place First (Data payload) = place_of_command (command_form (text payload))
 next_place First _ = First
 next_place (InCapabilities command) Delim = InArguments command
@@ -40,24 +40,24 @@ next_place (InCapabilities command) _ = InCapabilities command
 next_place (InArguments command) packet = InArguments command
 
 -- the place after these packets
-abbrev pub place_of : List Packet → Place
+abbrev pub place_of : List Packet → RequestPlace
 place_of lines = place_after next_place First lines
 
 -- ---- the texts of the capability list, and of the arguments
 
-abbrev pub capability_there : Place → Packet → List Bytes
+abbrev pub capability_there : RequestPlace → Packet → List Bytes
 capability_there (InCapabilities command) (Data payload) = text payload ∷ []
 capability_there place packet = []
 
 unfoldable pub capability_texts : List Packet → List Bytes
-capability_texts lines = collected next_place capability_there First lines
+capability_texts lines = collect next_place capability_there First lines
 
-abbrev pub argument_there : Place → Packet → List Bytes
+abbrev pub argument_there : RequestPlace → Packet → List Bytes
 argument_there (InArguments command) (Data payload) = text payload ∷ []
 argument_there place packet = []
 
 unfoldable pub argument_texts : List Packet → List Bytes
-argument_texts lines = collected next_place argument_there First lines
+argument_texts lines = collect next_place argument_there First lines
 
 -- ---- what the texts say, each kind in order
 
@@ -146,7 +146,7 @@ asked_by_command format LsRefs capabilities arguments = Ls (ls_refs_asked capabi
 asked_by_command format Fetch capabilities arguments = Fetches (fetch_asked format capabilities arguments)
 
 -- a request without a command is empty
-abbrev pub asked_by_texts : Format → Place → List Bytes → List Bytes → Asked
+abbrev pub asked_by_texts : Format → RequestPlace → List Bytes → List Bytes → Asked
 asked_by_texts format First capabilities arguments = Empty
 asked_by_texts format (InCapabilities command) capabilities arguments =
     asked_by_command format command capabilities arguments

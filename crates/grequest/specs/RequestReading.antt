@@ -3,7 +3,7 @@ use Rattle.std.specs.Prelude.{◌≡◌, ◌↔◌, ◌<◌, [], Option, None, R
 use Rattle.gname.specs.declared.formats.Format.{Format}
 use Rattle.gpkt.specs.Packets.{Bytes}
 use Rattle.ggrammar.specs.Kinds.{ReadsIfAny}
-use Rattle.ggrammar.specs.MessageBytes.{known, IsOfBytes}
+use Rattle.ggrammar.specs.MessageBytes.{known_bytes, IsOfBytes}
 use Rattle.ggrammar.specs.declared.fault.Why.TheVariants.{Ended}
 use Rattle.ggrammar.specs.declared.fault.MessageFault.{MessageFault}
 use Rattle.grequest.specs.Asked.{Asked}
@@ -17,5 +17,5 @@ IsNotMissing fault = IsOfBytes fault.why × (fault.why ≡ Ended → 0 < fault.f
 abbrev pub IsMissingWhereEmpty : Format → Type 0
 IsMissingWhereEmpty format =
     (bytes new : Bytes) (result : Result (Option Asked) MessageFault)
-    → ReadsIfAny (judge format) brings (Says format) (known bytes new) result → IfErr result IsNotMissing
+    → ReadsIfAny (judge format) brings (Says format) (known_bytes bytes new) result → IfErr result IsNotMissing
     → (result ≡ Ok None) ↔ (bytes ≡ [])

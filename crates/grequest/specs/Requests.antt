@@ -20,12 +20,12 @@ use Rattle.grequest.specs.Arguments.{command_form, CapabilityForm, Agent, Object
 use Rattle.grequest.specs.Arguments.{BadCapability, capability_form, LsArgument, RefPrefix, UnknownLsArgument}
 use Rattle.grequest.specs.Arguments.{ls_argument, FetchArgument, Want, Have, UnknownFetchArgument, fetch_argument}
 use Rattle.grequest.specs.Asked.{Asked, Empty, Ls, Fetches, max_prefixes, max_wants, max_haves, max_arguments}
-use Rattle.grequest.specs.RequestLines.{Place, First, InCapabilities, InArguments, place_of, capability_texts}
+use Rattle.grequest.specs.RequestLines.{RequestPlace, First, InCapabilities, InArguments, place_of, capability_texts}
 use Rattle.grequest.specs.RequestLines.{argument_texts, formats, asked_by_lines}
 
 -- what the packets so far come to
 pub record State : Type 0 where
-  pub place : Place
+  pub place : RequestPlace
   pub format_lines : ℕ
   pub argument_lines : ℕ
   pub asked : Asked
@@ -103,7 +103,7 @@ judge_argument format LsRefs state line =
 judge_argument format Fetch state line =
     judge_fetch_argument format state.argument_lines (wants_of state.asked) (haves_of state.asked) (fetch_argument line)
 
-abbrev pub judge_text : Format → Place → State → Bytes → Verdict
+abbrev pub judge_text : Format → RequestPlace → State → Bytes → Verdict
 judge_text format First state line = judge_command (command_form line)
 judge_text format (InCapabilities command) state line = judge_capability format state (capability_form line)
 judge_text format (InArguments command) state line = judge_argument format command state line
@@ -114,11 +114,11 @@ unless_unnamed Sha1 state verdict = verdict
 unless_unnamed Sha256 state verdict = if state.format_lines == 0 then Refused why.Format else verdict
 
 -- a flush ends the request; a lone one is the empty request
-abbrev pub judge_flush : Format → Place → State → Verdict
+abbrev pub judge_flush : Format → RequestPlace → State → Verdict
 judge_flush format (InCapabilities command) state = unless_unnamed format state Whole
 judge_flush format _ state = Whole
 
-abbrev pub judge_delim : Format → Place → State → Verdict
+abbrev pub judge_delim : Format → RequestPlace → State → Verdict
 judge_delim format (InCapabilities command) state = unless_unnamed format state Open
 judge_delim format _ state = Refused why.UnexpectedFrame
 
@@ -147,7 +147,7 @@ fetch_argument_brings (Want id) = true
 fetch_argument_brings (Have id) = true
 fetch_argument_brings _ = false
 
-abbrev pub text_brings : Place → Bytes → Bool
+abbrev pub text_brings : RequestPlace → Bytes → Bool
 text_brings First line = false
 text_brings (InCapabilities command) line = capability_brings (capability_form line)
 text_brings (InArguments LsRefs) line = ls_argument_brings (ls_argument line)

@@ -14,7 +14,7 @@ pub(crate) enum Command {
 }
 
 impl Command {
-    /// The word for the command.
+    /// Returns the name of the command.
     pub(crate) fn name(self) -> &'static str
         ensures { result.now ≡ command_name self }
     {
@@ -25,7 +25,7 @@ impl Command {
     }
 }
 
-/// The first text of a request.
+/// The kinds of a request's first text.
 #[derive(Clone, Copy, Debug, PartialEq, Eq)]
 pub(crate) enum CommandForm {
     Known(Command),
@@ -34,7 +34,7 @@ pub(crate) enum CommandForm {
     Bad,
 }
 
-/// What the first text of a request says.
+/// Returns the kind of a request's first text.
 #[tactic(auto, unfolding(crate::specs::Arguments::command_form))]
 pub(crate) fn command_form(text: &[u8]) -> CommandForm
     ensures { result ≡ command_form text.now }

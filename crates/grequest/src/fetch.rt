@@ -1,4 +1,4 @@
-//! What a request for fetch asks (gitprotocol-v2(5), "fetch").
+//! Requests for fetch (gitprotocol-v2(5), "fetch").
 
 ghost use Rattle.std.specs.Prelude.{ℕ, All, ◌≡◌, ◌↔◌, ◌≤◌, ◌<◌, ◌++◌, ◌∷◌, [], true, false, length, nat_lt, IfOk, IfSome, IsTrue, OnOk, OnErr, Some};
 ghost use Rattle.std.specs.Option.{option_copied};
@@ -7,7 +7,7 @@ ghost use Rattle.ggrammar.specs.Building.{Builds};
 ghost use Rattle.ggrammar.specs.Capabilities.{is_word_value};
 ghost use Rattle.ggrammar.specs.Ids.{id_of_text};
 ghost use Rattle.ggrammar.specs.MessageReading.{AddsAs};
-ghost use Rattle.grequest.specs.declared.flag.FetchFlag.TheVariants.{ThinPack, NoProgress, IncludeTag, OfsDelta, Done};
+ghost use Rattle.grequest.specs.declared.flag.FetchFlag.TheVariants.{Done};
 ghost use Rattle.grequest.specs.Flags.{flags_at};
 ghost use Rattle.grequest.specs.Arguments.{Have, Want, fetch_argument, fetch_flags};
 ghost use Rattle.grequest.specs.Asked.{fetch_has, fetch_number, fetch_with, is_direct, max_wants, max_haves, max_arguments};
@@ -28,10 +28,10 @@ use gname::{Format, Oid};
 use std::alloc::{AllocError, Allocator, Global};
 use std::marker::Model;
 
-/// The most wants of a request.
+/// The maximum number of wants of a request.
 pub const MAX_WANTS: usize = 1_024;
 
-/// The most haves of a request.
+/// The maximum number of haves of a request.
 pub const MAX_HAVES: usize = 4_096;
 
 /// A request for fetch (gitprotocol-v2(5), "fetch"), whose ids have one format.
@@ -73,7 +73,7 @@ impl<A: Allocator + Copy> Model for FetchRequest<A> {
 }
 
 impl<A: Allocator + Copy> FetchRequest<A> {
-    /// A request for ids of this format that wants nothing yet. It takes no memory yet.
+    /// Returns a request for ids of this format without wants. It does not allocate yet.
     pub fn new(alloc: A, format: Format) -> FetchRequest<A>
         ensures { result ≡ record { format = format; asked = no_fetch } }
     {
@@ -86,21 +86,21 @@ impl<A: Allocator + Copy> FetchRequest<A> {
         }
     }
 
-    /// The format of the ids.
+    /// Returns the format of the ids.
     pub fn format(&self) -> Format
         ensures { result ≡ self.now.format }
     {
         self.format
     }
 
-    /// A law: what is true of each request for fetch.
+    /// A law: the properties of each request for fetch.
     pub fn laws(&self)
         ensures { IsFetchAsked self.now.format self.now.asked }
     {
         let _ = &self.flags;
     }
 
-    /// The client's name for itself, 1 to 1,000 bytes from `!` to `~`, where it gave one.
+    /// Returns the client's name for itself, if it gave one: 1 to 1,000 bytes from `!` to `~`.
     pub fn agent(&self) -> Option<&[u8]>
         ensures agent { option_copied result ≡ self.now.asked.agent }
         ensures well_formed { IsFetchAsked self.now.format self.now.asked }
@@ -108,7 +108,7 @@ impl<A: Allocator + Copy> FetchRequest<A> {
         self.agent.as_ref().map(|value| value.as_slice())
     }
 
-    /// The wants, the ids that the client asks for, in their order: at most 1,024.
+    /// Returns the wants, the ids that the client asks for, in their order: at most 1,024.
     pub fn wants(&self) -> &[Oid]
         ensures wants { result.now ≡ self.now.asked.wants }
         ensures well_formed { IsFetchAsked self.now.format self.now.asked }
@@ -116,7 +116,7 @@ impl<A: Allocator + Copy> FetchRequest<A> {
         self.wants.as_slice()
     }
 
-    /// The haves, the ids that the client offers, in their order: at most 4,096.
+    /// Returns the haves, the ids that the client offers, in their order: at most 4,096.
     pub fn haves(&self) -> &[Oid]
         ensures haves { result.now ≡ self.now.asked.haves }
         ensures well_formed { IsFetchAsked self.now.format self.now.asked }
@@ -131,7 +131,7 @@ impl<A: Allocator + Copy> FetchRequest<A> {
         self.flags[flag.number()]
     }
 
-    /// The flags that are written before the ids, each at its number.
+    /// Returns the flags that are written before the ids, each at its number.
     pub(crate) fn early_flags(&self) -> [bool; MAX_FLAGS]
         ensures { flags_at fetch_number fetch_flags result
             ≡ (fetch_with self.now.asked Done false).flags }
@@ -141,50 +141,15 @@ impl<A: Allocator + Copy> FetchRequest<A> {
         flags
     }
 
-    /// Whether the negotiation is over, so that the reply has a pack at once.
-    pub fn done(&self) -> bool
-        ensures { result ≡ fetch_has self.now.asked Done }
-    {
-        self.has(FetchFlag::Done)
-    }
-
-    /// Whether the pack may leave out objects on which others are based.
-    pub fn thin_pack(&self) -> bool
-        ensures { result ≡ fetch_has self.now.asked ThinPack }
-    {
-        self.has(FetchFlag::ThinPack)
-    }
-
-    /// Whether the reply is to report no progress.
-    pub fn no_progress(&self) -> bool
-        ensures { result ≡ fetch_has self.now.asked NoProgress }
-    {
-        self.has(FetchFlag::NoProgress)
-    }
-
-    /// Whether the tags are asked for that lead to objects which are sent.
-    pub fn include_tag(&self) -> bool
-        ensures { result ≡ fetch_has self.now.asked IncludeTag }
-    {
-        self.has(FetchFlag::IncludeTag)
-    }
-
-    /// Whether the client reads bases that are given by their offset in the pack.
-    pub fn ofs_delta(&self) -> bool
-        ensures { result ≡ fetch_has self.now.asked OfsDelta }
-    {
-        self.has(FetchFlag::OfsDelta)
-    }
-
-    /// Whether the reply has the pack at once, without acknowledgments: the client says that it is done, or
-    /// names no have (gitprotocol-v2(5), "fetch": `done`).
+    /// Whether the reply starts with the pack, without acknowledgments: the client is done, or has
+    /// no haves (gitprotocol-v2(5), "fetch": `done`).
     pub fn is_direct(&self) -> bool
         ensures { result ≡ is_direct self.now.asked }
     {
-        self.done() || self.haves.is_empty()
+        self.has(FetchFlag::Done) || self.haves.is_empty()
     }
 
-    /// The same request, kept by another allocator. It fails only out of memory.
+    /// Returns the same request in another allocator. Fails only if out of memory.
     pub fn copy_in<B: Allocator + Copy>(&self, alloc: B) -> Result<FetchRequest<B>, AllocError>
         ensures { IfOk result (λ copy. copy ≡ self.now) }
     {
@@ -200,8 +165,8 @@ impl<A: Allocator + Copy> FetchRequest<A> {
         })
     }
 
-    /// Whether the other request asks the same: the same client name, the same wants and haves in the same
-    /// order, and the same flags. A request without ids may ask the same as one of another format.
+    /// Whether both requests ask the same: the same client name, the same wants and haves in the
+    /// same order, and the same flags. Requests without ids may ask the same in different formats.
     #[tactic(auto, using(crate::proofs::AskedLemmas::same_asked, crate::proofs::AskedLemmas::same_parts))]
     pub fn asks_as<B: Allocator + Copy>(&self, other: &FetchRequest<B>) -> bool
         ensures { IsTrue result ↔ (self.now.asked ≡ other.now.asked) }
@@ -225,64 +190,17 @@ impl<A: Allocator + Copy> FetchRequest<A> {
         are_same_flags(FETCH_FLAGS, &self.flags, &other.flags)
     }
 
-    /// Gives the request a flag, or takes it away.
+    /// Sets or clears a flag.
     pub fn set(&mut self, flag: FetchFlag, is_set: bool)
         ensures { self.new ≡ record self.old { asked = fetch_with self.old.asked flag is_set } }
     {
         self.flags[flag.number()] = is_set;
     }
 
-    /// Ends the negotiation, so that the reply has a pack at once, or not.
-    pub fn set_done(&mut self, done: bool)
-        ensures { self.new ≡ record self.old { asked = fetch_with self.old.asked Done done } }
-    {
-        self.set(FetchFlag::Done, done);
-    }
-
-    /// Allows the pack to leave out objects on which others are based, or not.
-    pub fn set_thin_pack(&mut self, thin_pack: bool)
-        ensures { self.new ≡ record self.old {
-          asked = fetch_with self.old.asked ThinPack
-              thin_pack;
-        } }
-    {
-        self.set(FetchFlag::ThinPack, thin_pack);
-    }
-
-    /// Asks for no progress, or not.
-    pub fn set_no_progress(&mut self, no_progress: bool)
-        ensures { self.new ≡ record self.old {
-          asked = fetch_with self.old.asked NoProgress
-              no_progress;
-        } }
-    {
-        self.set(FetchFlag::NoProgress, no_progress);
-    }
-
-    /// Asks for the tags that lead to objects which are sent, or not.
-    pub fn set_include_tag(&mut self, include_tag: bool)
-        ensures { self.new ≡ record self.old {
-          asked = fetch_with self.old.asked IncludeTag
-              include_tag;
-        } }
-    {
-        self.set(FetchFlag::IncludeTag, include_tag);
-    }
-
-    /// Allows bases that are given by their offset in the pack, or not.
-    pub fn set_ofs_delta(&mut self, ofs_delta: bool)
-        ensures { self.new ≡ record self.old {
-          asked = fetch_with self.old.asked OfsDelta
-              ofs_delta;
-        } }
-    {
-        self.set(FetchFlag::OfsDelta, ofs_delta);
-    }
-
-    /// Sets the client's name for itself, instead of the one before.
+    /// Sets the client's name for itself, and replaces the previous one.
     ///
-    /// It fails with `BadText` where the name does not have 1 to 1,000 bytes from `!` to `~`, and with
-    /// `Memory`, both at packet 0. Nothing changes then.
+    /// Fails with `BadText` if the name does not have 1 to 1,000 bytes from `!` to `~`, and with
+    /// `Memory` if out of memory. Both are at packet 0, and the request is unchanged.
     pub fn set_agent(&mut self, agent: &[u8]) -> Result<(), MessageFault>
         ensures { Builds (is_word_value agent.now) true self.old self.new
             (record self.old { asked = record self.old.asked { agent = Some agent.now } }) result }
@@ -298,8 +216,8 @@ impl<A: Allocator + Copy> FetchRequest<A> {
 
     /// Adds a want after the others.
     ///
-    /// It fails with `BadText` where the id has another format than the request, with `Limit` where there
-    /// are 1,024 wants, and with `Memory`, all at packet 0. Nothing changes then.
+    /// Fails with `BadText` if the id has another format than the request, with `Limit` if there
+    /// are 1,024 wants, and with `Memory`. All are at packet 0, and the request is unchanged.
     pub fn push_want(&mut self, id: Oid) -> Result<(), MessageFault>
         ensures { Builds (has_format self.old.format id)
             (nat_lt (length self.old.asked.wants) max_wants)
@@ -315,8 +233,8 @@ impl<A: Allocator + Copy> FetchRequest<A> {
 
     /// Adds a have after the others.
     ///
-    /// It fails with `BadText` where the id has another format than the request, with `Limit` where there
-    /// are 4,096 haves, and with `Memory`, all at packet 0. Nothing changes then.
+    /// Fails with `BadText` if the id has another format than the request, with `Limit` if there
+    /// are 4,096 haves, and with `Memory`. All are at packet 0, and the request is unchanged.
     pub fn push_have(&mut self, id: Oid) -> Result<(), MessageFault>
         ensures { Builds (has_format self.old.format id)
             (nat_lt (length self.old.asked.haves) max_haves)
@@ -330,7 +248,7 @@ impl<A: Allocator + Copy> FetchRequest<A> {
         Ok(())
     }
 
-    // Keeps the client's name for itself.
+    // Stores the client's name for itself.
     pub(crate) fn keep_agent(&mut self, agent: &[u8]) -> Result<(), AllocError>
         requires { is_word_value agent.now ≡ true }
         ensures ok { OnOk result (self.new
@@ -342,7 +260,7 @@ impl<A: Allocator + Copy> FetchRequest<A> {
         Ok(())
     }
 
-    // Takes an argument after so many others.
+    // Takes an argument that follows `arguments` others.
     pub(crate) fn take_argument(&mut self, arguments: u32, text: &[u8]) -> Result<(), Why>
         ensures adds { AddsAs (judge_fetch_argument self.old.format arguments self.old.asked.wants
             self.old.asked.haves (fetch_argument text.now))
@@ -401,7 +319,7 @@ impl<A: Allocator + Copy> FetchRequest<A> {
     }
 }
 
-// Keeps an id after the others where there is room for it.
+// Adds an id after the others if there is room for it.
 fn keep_id<A: Allocator + Copy>(
     format: Format,
     ids: &mut Vec<Oid, A>,
@@ -434,7 +352,7 @@ fn is_of(format: Format, id: &Oid) -> bool
     id.as_bytes().len() == format.id_length()
 }
 
-// The id of the format that a text spells.
+// Returns the id of the format that a text spells.
 fn id_in(format: Format, text: &[u8]) -> Option<Oid>
     ensures id { result ≡ id_of_text format text.now }
     ensures same { IfSome result (λ id. has_format format id ≡ true) }

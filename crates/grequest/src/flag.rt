@@ -4,7 +4,7 @@ ghost use Rattle.std.specs.Prelude.{◌≡◌, ◌<◌, ◌↔◌, ℕ, IsTrue};
 ghost use Rattle.grequest.specs.Flags.{flag_in, flags_at};
 ghost use Rattle.grequest.specs.steps.Flags.{table_in};
 
-/// A flag of ls-refs, by Git's word for it (gitprotocol-v2(5), "ls-refs").
+/// A flag of ls-refs, with Git's name for it (gitprotocol-v2(5), "ls-refs").
 #[derive(Clone, Copy, Debug, PartialEq, Eq)]
 pub enum LsRefsFlag {
     Peel,
@@ -12,7 +12,7 @@ pub enum LsRefsFlag {
     Unborn,
 }
 
-/// A flag of fetch, by Git's word for it (gitprotocol-v2(5), "fetch").
+/// A flag of fetch, with Git's name for it (gitprotocol-v2(5), "fetch").
 #[derive(Clone, Copy, Debug, PartialEq, Eq)]
 pub enum FetchFlag {
     ThinPack,
@@ -38,14 +38,14 @@ pub(crate) const FETCH_FLAGS: &[(FetchFlag, &str)] = &[
     (FetchFlag::Done, "done"),
 ];
 
-/// The most flags of a command.
+/// The maximum number of flags of a command.
 pub(crate) const MAX_FLAGS: usize = 32;
 
 /// A flag of a command.
 pub(crate) trait Flag: Copy {
     ghost number: { Self → ℕ };
 
-    /// Its number among the flags of its command.
+    /// Returns its number among the flags of its command.
     fn number(self) -> usize
         ensures number { result ≡ number self }
         ensures few { result < MAX_FLAGS };
@@ -71,7 +71,7 @@ impl Flag for FetchFlag {
     }
 }
 
-/// The flag of a table with a text.
+/// Returns the flag of a table with a text.
 pub(crate) fn flag_in<F: Copy>(table: &[(F, &str)], text: &[u8]) -> Option<F>
     ensures { result ≡ flag_in (table_in table.now) text.now }
 {

@@ -1,4 +1,4 @@
-//! What is not added to a request, and why.
+//! Reasons why something is not added to a request.
 
 ghost use Rattle.std.specs.Prelude.{◌≡◌};
 ghost use Rattle.grequest.specs.steps.Building.{build_fault, why_not_kept};
@@ -14,7 +14,8 @@ pub(crate) enum NotKept {
 }
 
 impl NotKept {
-    /// The reason as the grammar has it, which has its own for each wrong form.
+    /// Returns the reason in the grammar's terms. The grammar has a separate reason for each wrong
+    /// form.
     pub(crate) fn why(self, wrong_form: Why) -> Why
         ensures { result ≡ why_not_kept wrong_form self }
     {
@@ -29,7 +30,7 @@ impl NotKept {
 impl From<NotKept> for MessageFault {
     ghost from_gives = { λ reason fault. fault ≡ build_fault reason };
 
-    /// The fault of a call that builds a request.
+    /// Returns the fault of a call that builds a request.
     fn from(reason: NotKept) -> MessageFault {
         MessageFault::of_value(reason.why(Why::BadText))
     }

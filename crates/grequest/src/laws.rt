@@ -1,4 +1,4 @@
-//! The laws of the grammar of requests: functions without effect, whose contracts they are.
+//! The laws of the grammar of requests: functions without effect whose contracts are the laws.
 
 ghost use Rattle.std.specs.Prelude.{◌≡◌};
 ghost use Rattle.gname.specs.declared.formats.Format.{Format};
@@ -13,19 +13,19 @@ ghost use Rattle.grequest.specs.RequestWriting.{IsCanonicalRequest};
 ghost use Rattle.grequest.specs.WellFormed.{IsAsked};
 
 use crate::{MAX_HAVES, MAX_PREFIXES, MAX_WANTS};
-use ggrammar::Kind;
+use ggrammar::MessageKind;
 use ggrammar::laws::{grammars_are_exact, kinds_are_read, messages_are_read};
 use gname::laws::{ids_have_one_format, ids_have_texts, prefixes_are_clean};
 use gpkt::laws::has_four_bytes;
 
-/// The constants are the limits that the definitions name.
+/// The constants are the limits that the definitions use.
 pub fn limits_are_the_constants()
     ensures prefixes { MAX_PREFIXES ≡ max_prefixes }
     ensures wants { MAX_WANTS ≡ max_wants }
     ensures haves { MAX_HAVES ≡ max_haves }
 {}
 
-/// The lists of packets that are read as a request are those that the manual has, and they ask the same
+/// The lists of packets that are read as a request are those of the manual, and they ask the same
 /// (gitprotocol-v2(5), "Command Request", "ls-refs" and "fetch").
 pub fn manual()
     ensures { (format : Format) → AsInManual (Says format) (IsRequest format) }
@@ -39,7 +39,7 @@ pub fn one_meaning()
     ensures whole { (format : Format) → SaysWhole (judge format) (Says format) }
 {}
 
-/// No request begins another, neither its packets nor its bytes, so its end is known without what follows it.
+/// No request is a prefix of another, as packets or as bytes, so its end is known without the rest.
 pub fn prefix_free()
     ensures packets { (format : Format) → IsPrefixFree (judge format) }
     ensures spellings { (format : Format) → SpellingsPrefixFree (judge format) }
@@ -48,7 +48,7 @@ pub fn prefix_free()
     messages_are_read();
 }
 
-/// Each beginning of a request can be ended, and a packet that is refused is the first that does not fit.
+/// Each prefix of a request has an ending, and a refused packet is the first that does not fit.
 pub fn endings()
     ensures each { (format : Format) → HasEndings (judge format) }
     ensures first { (format : Format) → RefusesFirstMisfits (judge format) }
@@ -56,7 +56,8 @@ pub fn endings()
     grammars_are_exact();
 }
 
-/// A packet is refused for its own sake alone. All bytes begin with a request, or are refused for a reason in them.
+/// A packet is refused only for a reason in the packet. All bytes begin with a request, or are
+/// refused for a reason in the bytes.
 pub fn every_input()
     ensures packets { (format : Format) → RefusesPackets (judge format) }
     ensures bytes { (format : Format) → BeginsOrIsRefused (judge format) brings }
@@ -65,7 +66,7 @@ pub fn every_input()
     messages_are_read();
 }
 
-/// What is written of a request asks it, and each payload fits a packet.
+/// A request is written as packets that ask it, and each payload fits a packet.
 pub fn canonical_says()
     ensures { (format : Format)
         → CanonicalSays (Says format) (IsAsked format) (IsCanonicalRequest format) }
@@ -76,8 +77,8 @@ pub fn canonical_says()
     prefixes_are_clean();
 }
 
-/// A request is read exactly where the bytes begin with packets that ask it: these are taken, and nothing after
-/// them. It is missing exactly where there are no bytes.
+/// A request is read exactly when the bytes begin with packets that ask it. These are read, and
+/// nothing after them. It is missing exactly when there are no bytes.
 pub fn reads_exactly()
     ensures request { (format : Format) → ReadsExactlyIfAny (judge format) brings (Says format) }
     ensures missing { (format : Format) → IsMissingWhereEmpty format }
@@ -88,7 +89,7 @@ pub fn reads_exactly()
     kinds_are_read::<Requests>();
 }
 
-/// What is written of a request reads back, whatever follows.
+/// A written request reads back, whatever follows.
 pub fn reads_back()
     ensures { (format : Format)
         → ReadsBackIfAny (judge format) brings (Says format) (IsAsked format)
@@ -102,7 +103,7 @@ pub fn reads_back()
 // Requests, as a kind of message.
 struct Requests;
 
-impl Kind for Requests {
+impl MessageKind for Requests {
     ghost use Rattle.gname.specs.declared.formats.Format.{Format};
     ghost use Rattle.grequest.specs.Asked.{Asked};
     ghost use Rattle.grequest.specs.Requests.{Says, brings, judge};

@@ -1,4 +1,4 @@
-//! What a text of a request says, with the value that it carries.
+//! The kinds of a request's texts, with their values.
 
 ghost use Rattle.std.specs.Prelude.{◌≡◌, codes};
 ghost use Rattle.ggrammar.specs.PeerErrors.{after_word};
@@ -38,7 +38,7 @@ pub(crate) enum FetchArgument<'a> {
     Unknown,
 }
 
-/// What a text of the capability list says.
+/// Returns the kind of a text of the capability list.
 #[tactic(auto, unfolding(crate::specs::Arguments::capability_form))]
 pub(crate) fn capability_form(text: &[u8]) -> CapabilityForm<'_>
     ensures form { capability_in result ≡ capability_form text.now }
@@ -83,7 +83,7 @@ fn format_with(value: Option<&[u8]>) -> CapabilityForm<'_>
     }
 }
 
-/// What a text among the arguments of ls-refs says.
+/// Returns the kind of a text among the arguments of ls-refs.
 #[tactic(auto, unfolding(crate::specs::Arguments::ls_argument))]
 pub(crate) fn ls_argument(text: &[u8]) -> LsArgument<'_>
     ensures { ls_argument_in result ≡ ls_argument text.now }
@@ -104,7 +104,7 @@ fn ref_prefix(text: &[u8]) -> LsArgument<'_>
     }
 }
 
-/// What a text among the arguments of fetch says.
+/// Returns the kind of a text among the arguments of fetch.
 #[tactic(auto, unfolding(crate::specs::Arguments::fetch_argument))]
 pub(crate) fn fetch_argument(text: &[u8]) -> FetchArgument<'_>
     ensures { fetch_argument_in result ≡ fetch_argument text.now }

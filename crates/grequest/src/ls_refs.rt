@@ -1,12 +1,11 @@
-//! What a request for ls-refs asks (gitprotocol-v2(5), "ls-refs").
+//! Requests for ls-refs (gitprotocol-v2(5), "ls-refs").
 
-ghost use Rattle.std.specs.Prelude.{◌≡◌, ◌↔◌, ◌≤◌, ◌<◌, ◌++◌, ◌∷◌, [], true, length, nat_lt, is_none, IfOk, IfErr, IsTrue, OnOk, OnErr, Some};
+ghost use Rattle.std.specs.Prelude.{◌≡◌, ◌↔◌, ◌≤◌, ◌<◌, ◌++◌, ◌∷◌, [], true, length, nat_lt, is_none, IfOk, IsTrue, OnOk, OnErr, Some};
 ghost use Rattle.std.specs.Option.{option_copied};
 ghost use Rattle.gname.specs.Names.{prefix_fault};
 ghost use Rattle.ggrammar.specs.Building.{Builds};
 ghost use Rattle.ggrammar.specs.Capabilities.{is_word_value};
 ghost use Rattle.ggrammar.specs.MessageReading.{AddsAs};
-ghost use Rattle.grequest.specs.declared.flag.LsRefsFlag.TheVariants.{Peel, Symrefs, Unborn};
 ghost use Rattle.grequest.specs.Flags.{flags_at};
 ghost use Rattle.grequest.specs.Arguments.{RefPrefix, ls_argument, ls_flags};
 ghost use Rattle.grequest.specs.Asked.{ls_has, ls_number, ls_with, max_prefixes, max_arguments};
@@ -27,7 +26,7 @@ use gname::{NameFault, Prefix};
 use std::alloc::{AllocError, Allocator, Global};
 use std::marker::Model;
 
-/// The most prefixes of a request.
+/// The maximum number of prefixes of a request.
 pub const MAX_PREFIXES: usize = 64;
 
 /// A request for ls-refs (gitprotocol-v2(5), "ls-refs").
@@ -61,7 +60,7 @@ impl<A: Allocator + Copy> Model for LsRefsRequest<A> {
 }
 
 impl<A: Allocator + Copy> LsRefsRequest<A> {
-    /// A request that asks for every ref, and for nothing more. It takes no memory yet.
+    /// Returns a request that asks only for every ref. It does not allocate yet.
     pub fn new(alloc: A) -> LsRefsRequest<A>
         ensures { result ≡ no_ls_refs }
     {
@@ -72,14 +71,14 @@ impl<A: Allocator + Copy> LsRefsRequest<A> {
         }
     }
 
-    /// A law: what is true of each request for ls-refs.
+    /// A law: the properties of each request for ls-refs.
     pub fn laws(&self)
         ensures { IsLsRefsAsked self.now }
     {
         let _ = &self.flags;
     }
 
-    /// The client's name for itself, 1 to 1,000 bytes from `!` to `~`, where it gave one.
+    /// Returns the client's name for itself, if it gave one: 1 to 1,000 bytes from `!` to `~`.
     pub fn agent(&self) -> Option<&[u8]>
         ensures agent { option_copied result ≡ self.now.agent }
         ensures well_formed { IsLsRefsAsked self.now }
@@ -94,36 +93,15 @@ impl<A: Allocator + Copy> LsRefsRequest<A> {
         self.flags[flag.number()]
     }
 
-    /// The flags that are set, each at its number.
+    /// Returns the flags that are set, each at its number.
     pub(crate) fn flags(&self) -> &[bool; MAX_FLAGS]
         ensures { flags_at ls_number ls_flags result.now ≡ self.now.flags }
     {
         &self.flags
     }
 
-    /// Whether the targets of symbolic refs are asked for.
-    pub fn symrefs(&self) -> bool
-        ensures { result ≡ ls_has self.now Symrefs }
-    {
-        self.has(LsRefsFlag::Symrefs)
-    }
-
-    /// Whether the objects that tags lead to are asked for.
-    pub fn peel(&self) -> bool
-        ensures { result ≡ ls_has self.now Peel }
-    {
-        self.has(LsRefsFlag::Peel)
-    }
-
-    /// Whether the target of an unborn `HEAD` is asked for.
-    pub fn unborn(&self) -> bool
-        ensures { result ≡ ls_has self.now Unborn }
-    {
-        self.has(LsRefsFlag::Unborn)
-    }
-
-    /// What the names may begin with, at most 64 prefixes in their order. Without a prefix every name is
-    /// asked for.
+    /// Returns the prefixes that the names may have, at most 64 in their order. Without a prefix,
+    /// the request asks for every name.
     pub fn prefixes(&self) -> &[Prefix<A>]
         ensures prefixes { result.now ≡ self.now.prefixes }
         ensures well_formed { IsLsRefsAsked self.now }
@@ -131,7 +109,7 @@ impl<A: Allocator + Copy> LsRefsRequest<A> {
         self.prefixes.as_slice()
     }
 
-    /// The same request, kept by another allocator. It fails only out of memory.
+    /// Returns the same request in another allocator. Fails only if out of memory.
     pub fn copy_in<B: Allocator + Copy>(&self, alloc: B) -> Result<LsRefsRequest<B>, AllocError>
         ensures { IfOk result (λ copy. copy ≡ self.now) }
     {
@@ -144,8 +122,8 @@ impl<A: Allocator + Copy> LsRefsRequest<A> {
         })
     }
 
-    /// Whether the other request asks the same: the same client name, the same flags, and the same prefixes
-    /// in the same order.
+    /// Whether both requests ask the same: the same client name, the same flags, and the same
+    /// prefixes in the same order.
     pub fn asks_as<B: Allocator + Copy>(&self, other: &LsRefsRequest<B>) -> bool
         ensures { IsTrue result ↔ (self.now ≡ other.now) }
     {
@@ -161,38 +139,17 @@ impl<A: Allocator + Copy> LsRefsRequest<A> {
         are_same_flags(LS_REFS_FLAGS, &self.flags, &other.flags)
     }
 
-    /// Gives the request a flag, or takes it away.
+    /// Sets or clears a flag.
     pub fn set(&mut self, flag: LsRefsFlag, is_set: bool)
         ensures { self.new ≡ ls_with self.old flag is_set }
     {
         self.flags[flag.number()] = is_set;
     }
 
-    /// Asks for the targets of symbolic refs, or not.
-    pub fn set_symrefs(&mut self, symrefs: bool)
-        ensures { self.new ≡ ls_with self.old Symrefs symrefs }
-    {
-        self.set(LsRefsFlag::Symrefs, symrefs);
-    }
-
-    /// Asks for the objects that tags lead to, or not.
-    pub fn set_peel(&mut self, peel: bool)
-        ensures { self.new ≡ ls_with self.old Peel peel }
-    {
-        self.set(LsRefsFlag::Peel, peel);
-    }
-
-    /// Asks for the target of an unborn `HEAD`, or not.
-    pub fn set_unborn(&mut self, unborn: bool)
-        ensures { self.new ≡ ls_with self.old Unborn unborn }
-    {
-        self.set(LsRefsFlag::Unborn, unborn);
-    }
-
-    /// Sets the client's name for itself, instead of the one before.
+    /// Sets the client's name for itself, and replaces the previous one.
     ///
-    /// It fails with `BadText` where the name does not have 1 to 1,000 bytes from `!` to `~`, and with
-    /// `Memory`, both at packet 0. Nothing changes then.
+    /// Fails with `BadText` if the name does not have 1 to 1,000 bytes from `!` to `~`, and with
+    /// `Memory` if out of memory. Both are at packet 0, and the request is unchanged.
     pub fn set_agent(&mut self, agent: &[u8]) -> Result<(), MessageFault>
         ensures { Builds (is_word_value agent.now) true self.old self.new
             (record self.old { agent = Some agent.now }) result }
@@ -206,10 +163,10 @@ impl<A: Allocator + Copy> LsRefsRequest<A> {
         }
     }
 
-    /// Asks for the names that begin with a prefix, too: it comes after the other prefixes.
+    /// Also asks for the names that begin with a prefix. It is added after the other prefixes.
     ///
-    /// It fails with `BadText` where the text is no prefix of names, with `Limit` where there are 64
-    /// prefixes, and with `Memory`, all at packet 0. Nothing changes then.
+    /// Fails with `BadText` if the text is not a prefix of names, with `Limit` if there are 64
+    /// prefixes, and with `Memory`. All are at packet 0, and the request is unchanged.
     pub fn push_prefix(&mut self, prefix: &[u8]) -> Result<(), MessageFault>
         ensures { Builds (is_none (prefix_fault prefix.now))
             (nat_lt (length self.old.prefixes) max_prefixes)
@@ -221,7 +178,7 @@ impl<A: Allocator + Copy> LsRefsRequest<A> {
         Ok(())
     }
 
-    // Keeps the client's name for itself.
+    // Stores the client's name for itself.
     pub(crate) fn keep_agent(&mut self, agent: &[u8]) -> Result<(), AllocError>
         requires { is_word_value agent.now ≡ true }
         ensures ok { OnOk result (self.new ≡ record self.old { agent = Some agent.now }) }
@@ -232,7 +189,7 @@ impl<A: Allocator + Copy> LsRefsRequest<A> {
         Ok(())
     }
 
-    // Keeps a prefix where there is room for it.
+    // Adds a prefix if there is room for it.
     fn keep_prefix(&mut self, has_room: bool, prefix: &[u8]) -> Result<(), NotKept>
         requires { has_room ≡ true → length self.old.prefixes < max_prefixes }
         ensures { KeepsAs (is_none (prefix_fault prefix.now)) has_room
@@ -252,7 +209,7 @@ impl<A: Allocator + Copy> LsRefsRequest<A> {
         }
     }
 
-    // Takes an argument after so many others.
+    // Takes an argument that follows `arguments` others.
     pub(crate) fn take_argument(&mut self, arguments: u32, text: &[u8]) -> Result<(), Why>
         ensures adds { AddsAs (judge_ls_argument arguments self.old.prefixes
             (ls_argument text.now)) (ls_argument_brings (ls_argument text.now))

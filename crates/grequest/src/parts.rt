@@ -1,4 +1,4 @@
-//! The parts of requests that lie in memory: copied, and compared.
+//! Copying and comparing the parts of requests.
 
 ghost use Rattle.std.specs.Prelude.{◌≡◌, ◌↔◌, IfOk, IsTrue};
 ghost use Rattle.std.specs.Option.{option_copied, option_map};
@@ -6,7 +6,7 @@ ghost use Rattle.std.specs.Option.{option_copied, option_map};
 use gname::{Oid, Prefix};
 use std::alloc::{AllocError, Allocator};
 
-/// The same name of a client, kept by another allocator. It fails only out of memory.
+/// Returns the same client name in another allocator. Fails only if out of memory.
 pub(crate) fn copy_agent<A: Allocator + Copy>(
     alloc: A,
     agent: Option<&[u8]>,
@@ -23,7 +23,7 @@ pub(crate) fn copy_agent<A: Allocator + Copy>(
     }
 }
 
-/// The same prefixes, kept by another allocator. It fails only out of memory.
+/// Returns the same prefixes in another allocator. Fails only if out of memory.
 pub(crate) fn copy_prefixes<A: Allocator + Copy, B: Allocator + Copy>(
     alloc: B,
     prefixes: &[Prefix<A>],
@@ -37,7 +37,7 @@ pub(crate) fn copy_prefixes<A: Allocator + Copy, B: Allocator + Copy>(
     Ok(copies)
 }
 
-// A prefix has no fault, so a copy fails only out of memory.
+// Returns a copy of a prefix. A prefix has no fault, so a copy fails only if out of memory.
 fn copy_prefix<A: Allocator + Copy, B: Allocator + Copy>(
     alloc: B,
     prefix: &Prefix<A>,
@@ -50,7 +50,7 @@ fn copy_prefix<A: Allocator + Copy, B: Allocator + Copy>(
     }
 }
 
-/// Whether two clients have the same name, or none has one.
+/// Whether two clients have the same name, or both have none.
 pub(crate) fn is_same_agent(one: Option<&[u8]>, other: Option<&[u8]>) -> bool
     ensures { IsTrue result ↔ (option_copied one.entry ≡ option_copied other.entry) }
 {

@@ -12,12 +12,12 @@ use crate::reading::RequestReader;
 use crate::request::Request;
 use ggrammar::{MessageFault, Why, read_message};
 use gname::Format;
-use gpkt::{LineReader, Source};
+use gpkt::{PacketReader, Source};
 use std::alloc::Allocator;
 
 /// Reads a request to a SHA-1 repository, as [`read_request_in`] does.
 pub fn read_request<S: Source, A: Allocator + Copy, B: Allocator + Copy>(
-    reader: &mut LineReader<S, A>,
+    reader: &mut PacketReader<S, A>,
     alloc: B,
 ) -> Result<Option<Request<B>>, MessageFault>
     ensures read { ReadsIfAny (judge Sha1) brings (Says Sha1)
@@ -30,17 +30,19 @@ pub fn read_request<S: Source, A: Allocator + Copy, B: Allocator + Copy>(
     read_request_in(reader, Format::Sha1, alloc)
 }
 
-/// Reads a request to its end, and nothing after it (gitprotocol-v2(5), "Command Request"). The format is
-/// that of the repository's objects. It answers `None` where the input ends before the first packet. After
-/// a request the reader has not failed, and the next one can be read.
+/// Reads a request to its end, and nothing after it (gitprotocol-v2(5), "Command Request"). The
+/// format is that of the repository's objects. Returns `None` if the input ends before the first
+/// packet. After a request the reader has not failed, and the next one can be read.
 ///
-/// The fault has the position of the first packet that does not fit, counted from 0, and why. What the line
-/// reader refuses comes first ([`Why::Line`]), then the end of the input ([`Why::Ended`], after the first
-/// packet alone), then what the grammar refuses. [`Why::Memory`] comes only at an agent, a prefix, a want or
-/// a have. What was read, a refused packet too, is taken from the source. The line reader has then failed
-/// exactly where it refused the packet itself; one that had failed before is refused at once, at packet 0.
+/// The fault has the reason, and the position of the first packet that does not fit, counted from
+/// 0. A fault of the packet reader ([`Why::Line`]) takes precedence. Next is the end of the input
+/// ([`Why::Ended`], only after the first packet), and then a refusal by the grammar.
+/// [`Why::Memory`] is reported only at an agent, a prefix, a want or a have. All packets that were
+/// read, even a refused one, are consumed from the source. The packet reader has then failed
+/// exactly if it refused the packet itself. A reader that had failed before is refused at once, at
+/// packet 0.
 pub fn read_request_in<S: Source, A: Allocator + Copy, B: Allocator + Copy>(
-    reader: &mut LineReader<S, A>,
+    reader: &mut PacketReader<S, A>,
     format: Format,
     alloc: B,
 ) -> Result<Option<Request<B>>, MessageFault>

@@ -1,4 +1,4 @@
-//! What reading a request keeps of the packets so far.
+//! The state of reading a request.
 
 ghost use Rattle.std.specs.Prelude.{◌≡◌, [], true, false, if◌then◌else◌};
 ghost use Rattle.gpkt.specs.Packets.{packet_of, text};
@@ -20,11 +20,11 @@ use crate::section::Section;
 use ggrammar::laws::grammars_are_exact;
 use ggrammar::{Message, PeerText, Step, Why, peer_error};
 use gname::Format;
-use gpkt::{Line, text_of};
+use gpkt::{Packet, text_of};
 use std::alloc::Allocator;
 use std::marker::Model;
 
-/// The most arguments of a request.
+/// The maximum number of arguments of a request.
 pub(crate) const MAX_ARGUMENTS: u32 = 4_294_967_295;
 
 /// A request that is being read.
@@ -60,7 +60,7 @@ impl<A: Allocator + Copy> Model for RequestReader<A> {
 impl<A: Allocator + Copy> RequestReader<A> {
     ghost use Rattle.grequest.specs.RequestValues.{asked_by_request, IsOfFormat};
 
-    /// A request without packets.
+    /// Returns a request without packets.
     #[tactic(auto, unfolding(crate::specs::RequestLines::capability_texts, crate::specs::RequestLines::argument_texts))]
     pub fn new(alloc: A, format: Format) -> RequestReader<A>
         ensures { result ≡ record { format = format; state = state_of format [] } }
@@ -75,7 +75,7 @@ impl<A: Allocator + Copy> RequestReader<A> {
         }
     }
 
-    /// What the packets asked, once the last is taken.
+    /// Returns what the packets asked, after the last one was taken.
     pub fn finish(self) -> Request<A>
         ensures asked { asked_by_request result ≡ self.state.asked }
         ensures format { IsOfFormat self.format result }
@@ -85,7 +85,7 @@ impl<A: Allocator + Copy> RequestReader<A> {
     }
 
     #[tactic(auto, unfolding(crate::specs::Requests::judge_at, crate::specs::steps::RequestState::with_packet))]
-    fn take_packet(&mut self, line: Line<'_>) -> Result<Step, Why>
+    fn take_packet(&mut self, line: Packet<'_>) -> Result<Step, Why>
         ensures takes { TakesAs (judge_at self.old.format self.old.state (packet_of line.entry))
             (packet_brings self.old.state.place (packet_of line.entry))
             (self.new.state ≡ with_packet self.old.format self.old.state (packet_of line.entry))
@@ -93,10 +93,10 @@ impl<A: Allocator + Copy> RequestReader<A> {
         ensures format { self.new.format ≡ self.old.format }
     {
         match line {
-            Line::Data(payload) => self.take_data(payload),
-            Line::Flush => self.take_flush(),
-            Line::Delim => self.take_delim(),
-            Line::ResponseEnd => Err(Why::UnexpectedFrame),
+            Packet::Data(payload) => self.take_data(payload),
+            Packet::Flush => self.take_flush(),
+            Packet::Delim => self.take_delim(),
+            Packet::ResponseEnd => Err(Why::UnexpectedFrame),
         }
     }
 
@@ -267,7 +267,7 @@ impl<A: Allocator + Copy> Message for RequestReader<A> {
 
     ghost left = { LeavesNothing };
 
-    fn take(&mut self, line: Line<'_>) -> Result<Step, Why> {
+    fn accept_packet(&mut self, line: Packet<'_>) -> Result<Step, Why> {
         self.take_packet(line)
     }
 

@@ -11,7 +11,7 @@ use std::alloc::{AllocError, Allocator, Global};
 /// A request (gitprotocol-v2(5), "Command Request").
 #[derive(Debug, Drop)]
 pub enum Request<A: Allocator + Copy = Global> {
-    /// No command: a lone flush, which ends the conversation.
+    /// No command: only a flush, which ends the conversation.
     Empty,
     /// Asks for refs.
     Ls(LsRefsRequest<A>),
@@ -27,7 +27,7 @@ impl<A: Allocator + Copy> Request<A> {
     ghost use Rattle.grequest.specs.RequestValues.{IsOfFormat, asked_by_request, ids_format};
     ghost use Rattle.grequest.specs.WellFormed.{IsAsked};
 
-    /// A law: what is true of each request whose ids have one format.
+    /// A law: the properties of each request whose ids have one format.
     pub fn laws(&self)
         ensures { (format : Format) → IsOfFormat format self.now
             → IsAsked format (asked_by_request self.now) }
@@ -39,7 +39,7 @@ impl<A: Allocator + Copy> Request<A> {
         }
     }
 
-    /// The client's name for itself, where it gave one.
+    /// Returns the client's name for itself, if it gave one.
     pub(crate) fn agent(&self) -> Option<&[u8]>
         ensures { option_copied result ≡ agent_of (asked_by_request self.now) }
     {
@@ -50,7 +50,7 @@ impl<A: Allocator + Copy> Request<A> {
         }
     }
 
-    /// The same request, kept by another allocator. It fails only out of memory.
+    /// Returns the same request in another allocator. Fails only if out of memory.
     pub fn copy_in<B: Allocator + Copy>(&self, alloc: B) -> Result<Request<B>, AllocError>
         ensures asked { IfOk result (λ copy. asked_by_request copy ≡ asked_by_request self.now) }
         ensures format { IfOk result (λ copy. ids_format copy ≡ ids_format self.now) }
@@ -68,7 +68,7 @@ impl<A: Allocator + Copy> Request<A> {
         }
     }
 
-    /// Whether the other request asks the same. The format of a request for fetch without ids does not
+    /// Whether both requests ask the same. The format of a request for fetch without ids does not
     /// matter.
     pub fn asks_as<B: Allocator + Copy>(&self, other: &Request<B>) -> bool
         ensures { IsTrue result ↔ (asked_by_request self.now ≡ asked_by_request other.now) }
@@ -81,7 +81,7 @@ impl<A: Allocator + Copy> Request<A> {
         }
     }
 
-    // Keeps the client's name for itself.
+    // Stores the client's name for itself.
     pub(crate) fn keep_agent(&mut self, agent: &[u8]) -> Result<(), AllocError>
         requires { is_word_value agent.now ≡ true }
         ensures ok { OnOk result (asked_by_request self.new

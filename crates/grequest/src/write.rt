@@ -6,7 +6,7 @@ ghost use Rattle.gname.specs.declared.formats.Format.{Format};
 ghost use Rattle.gpkt.specs.Packets.{Delim};
 ghost use Rattle.ggrammar.specs.Capabilities.{max_capability};
 ghost use Rattle.ggrammar.specs.Texts.{text_packet};
-ghost use Rattle.ggrammar.specs.Writing.{WritesLines, WritesPart};
+ghost use Rattle.ggrammar.specs.Writing.{WritesPackets, WritesPart};
 ghost use Rattle.grequest.specs.Flags.{flags_at};
 ghost use Rattle.grequest.specs.steps.Flags.{table_in};
 ghost use Rattle.grequest.specs.Asked.{Ls, Fetches};
@@ -17,33 +17,33 @@ ghost use Rattle.grequest.specs.WellFormed.{IsAgent, IsAsked};
 
 use crate::command::Command;
 use crate::fetch::FetchRequest;
-use crate::flag::{FETCH_FLAGS, Flag, LS_REFS_FLAGS, MAX_FLAGS};
+use crate::flag::{FETCH_FLAGS, FetchFlag, Flag, LS_REFS_FLAGS, MAX_FLAGS};
 use crate::ls_refs::LsRefsRequest;
 use crate::request::Request;
-use ggrammar::laws::writes_lines;
+use ggrammar::laws::writes_packets;
 use gname::{Format, MAX_ID_TEXT, Oid, Prefix};
-use gpkt::{LineWriter, Sink, WriteFault};
+use gpkt::{PacketWriter, Sink, WriteFault};
 use std::alloc::Allocator;
 
-/// Writes a request in its one order of packets (gitprotocol-v2(5), "Command Request"): what is asked for, and
-/// nothing else. The format is that of the repository's objects, and the caller gives a request with ids the
+/// Writes exactly a request, in its one order of packets (gitprotocol-v2(5), "Command Request").
+/// The format is that of the repository's objects. For a request with ids the caller passes the
 /// format of these ids.
 ///
-/// It takes no memory. It fails with `Io` where the sink fails, and then a beginning of the request stands
-/// written; with `Failed` where the writer had failed before. A request is what
-/// [`reads_back`](crate::laws::reads_back) asks of one, so what is written of it reads back.
+/// It does not allocate. Fails with `Io` if the sink fails, and a prefix of the request was then
+/// written. Fails with `Failed` if the writer had failed before. A request meets the conditions of
+/// [`reads_back`](crate::laws::reads_back), so a written request reads back.
 pub fn write_request<A: Allocator + Copy, W: Sink>(
     request: &Request<A>,
     format: Format,
-    writer: &mut LineWriter<W>,
+    writer: &mut PacketWriter<W>,
 ) -> Result<(), WriteFault>
     requires { IsOfFormat format request.now }
-    ensures lines { WritesLines W.contents W.passed_on W.is_down W.loans writer.old writer.new
+    ensures lines { WritesPackets W.contents W.passed_on W.is_down W.loans writer.old writer.new
         result (canonical_request format (asked_by_request request.now)) }
     ensures form { IsAsked format (asked_by_request request.now) }
 {
     // Laws.
-    writes_lines::<W>();
+    writes_packets::<W>();
     request.laws();
     match request {
         Request::Empty => writer.flush_pkt(),
@@ -55,13 +55,13 @@ pub fn write_request<A: Allocator + Copy, W: Sink>(
 fn write_ls_refs<A: Allocator + Copy, W: Sink>(
     asked: &LsRefsRequest<A>,
     format: Format,
-    writer: &mut LineWriter<W>,
+    writer: &mut PacketWriter<W>,
 ) -> Result<(), WriteFault>
-    ensures { WritesLines W.contents W.passed_on W.is_down W.loans writer.old writer.new result
+    ensures { WritesPackets W.contents W.passed_on W.is_down W.loans writer.old writer.new result
         (canonical_request format (Ls asked.now)) }
 {
     // Laws.
-    writes_lines::<W>();
+    writes_packets::<W>();
     write_head(Command::LsRefs, asked.agent(), format, writer)?;
     write_flags(LS_REFS_FLAGS, asked.flags(), writer)?;
     write_prefixes(asked.prefixes(), writer)?;
@@ -71,18 +71,18 @@ fn write_ls_refs<A: Allocator + Copy, W: Sink>(
 fn write_fetch<A: Allocator + Copy, W: Sink>(
     asked: &FetchRequest<A>,
     format: Format,
-    writer: &mut LineWriter<W>,
+    writer: &mut PacketWriter<W>,
 ) -> Result<(), WriteFault>
-    ensures { WritesLines W.contents W.passed_on W.is_down W.loans writer.old writer.new result
+    ensures { WritesPackets W.contents W.passed_on W.is_down W.loans writer.old writer.new result
         (canonical_request format (Fetches asked.now.asked)) }
 {
     // Laws.
-    writes_lines::<W>();
+    writes_packets::<W>();
     write_head(Command::Fetch, asked.agent(), format, writer)?;
     write_flags(FETCH_FLAGS, &asked.early_flags(), writer)?;
     write_ids(b"want ", asked.wants(), writer)?;
     write_ids(b"have ", asked.haves(), writer)?;
-    write_flag(b"done", asked.done(), writer)?;
+    write_flag(b"done", asked.has(FetchFlag::Done), writer)?;
     writer.flush_pkt()
 }
 
@@ -91,40 +91,43 @@ fn write_head<W: Sink>(
     command: Command,
     agent: Option<&[u8]>,
     format: Format,
-    writer: &mut LineWriter<W>,
+    writer: &mut PacketWriter<W>,
 ) -> Result<(), WriteFault>
     requires { IsAgent (option_copied agent) }
-    ensures { WritesLines W.contents W.passed_on W.is_down W.loans writer.old writer.new result
+    ensures { WritesPackets W.contents W.passed_on W.is_down W.loans writer.old writer.new result
         (command_packet command
         ∷ (agent_packets (option_copied agent.entry) ++ format_packets format ++ Delim ∷ [])) }
 {
     // Laws.
-    writes_lines::<W>();
+    writes_packets::<W>();
     write_text(b"command=", command.name().as_bytes(), writer)?;
     write_agent(agent, writer)?;
     write_format(format, writer)?;
     writer.delim()
 }
 
-fn write_agent<W: Sink>(agent: Option<&[u8]>, writer: &mut LineWriter<W>) -> Result<(), WriteFault>
+fn write_agent<W: Sink>(
+    agent: Option<&[u8]>,
+    writer: &mut PacketWriter<W>,
+) -> Result<(), WriteFault>
     requires { IsAgent (option_copied agent) }
     ensures { WritesPart W.contents W.passed_on W.is_down W.loans writer.old writer.new result
         (agent_packets (option_copied agent.entry)) }
 {
     // Laws.
-    writes_lines::<W>();
+    writes_packets::<W>();
     match agent {
         Some(agent) => write_text(b"agent=", agent, writer),
         None => Ok(()),
     }
 }
 
-fn write_format<W: Sink>(format: Format, writer: &mut LineWriter<W>) -> Result<(), WriteFault>
+fn write_format<W: Sink>(format: Format, writer: &mut PacketWriter<W>) -> Result<(), WriteFault>
     ensures { WritesPart W.contents W.passed_on W.is_down W.loans writer.old writer.new result
         (format_packets format) }
 {
     // Laws.
-    writes_lines::<W>();
+    writes_packets::<W>();
     match format {
         Format::Sha1 => Ok(()),
         Format::Sha256 => write_text(b"object-format=", format.name().as_bytes(), writer),
@@ -135,14 +138,14 @@ fn write_format<W: Sink>(format: Format, writer: &mut LineWriter<W>) -> Result<(
 fn write_flags<F: Flag, W: Sink>(
     table: &[(F, &str)],
     flags: &[bool; MAX_FLAGS],
-    writer: &mut LineWriter<W>,
+    writer: &mut PacketWriter<W>,
 ) -> Result<(), WriteFault>
     requires { AreShort table.now }
     ensures { WritesPart W.contents W.passed_on W.is_down W.loans writer.old writer.new result
         (flags_packets (table_in table.now) (flags_at F.number (table_in table.now) flags.now)) }
 {
     // Laws.
-    writes_lines::<W>();
+    writes_packets::<W>();
     for (flag, word) in table {
         write_flag(word.as_bytes(), flags[flag.number()], writer)?;
     }
@@ -152,14 +155,14 @@ fn write_flags<F: Flag, W: Sink>(
 fn write_flag<W: Sink>(
     word: &[u8],
     is_set: bool,
-    writer: &mut LineWriter<W>,
+    writer: &mut PacketWriter<W>,
 ) -> Result<(), WriteFault>
     requires { length word.now ≤ max_capability }
     ensures { WritesPart W.contents W.passed_on W.is_down W.loans writer.old writer.new result
         (flag_packets word.now is_set) }
 {
     // Laws.
-    writes_lines::<W>();
+    writes_packets::<W>();
     if is_set {
         write_text(b"", word, writer)
     } else {
@@ -169,13 +172,13 @@ fn write_flag<W: Sink>(
 
 fn write_prefixes<A: Allocator + Copy, W: Sink>(
     prefixes: &[Prefix<A>],
-    writer: &mut LineWriter<W>,
+    writer: &mut PacketWriter<W>,
 ) -> Result<(), WriteFault>
     ensures { WritesPart W.contents W.passed_on W.is_down W.loans writer.old writer.new result
         (map prefix_packet prefixes.now) }
 {
     // Laws.
-    writes_lines::<W>();
+    writes_packets::<W>();
     for prefix in prefixes {
         write_text(b"ref-prefix ", prefix.as_bytes(), writer)?;
     }
@@ -186,23 +189,23 @@ fn write_prefixes<A: Allocator + Copy, W: Sink>(
 fn write_ids<W: Sink>(
     word: &[u8],
     ids: &[Oid],
-    writer: &mut LineWriter<W>,
+    writer: &mut PacketWriter<W>,
 ) -> Result<(), WriteFault>
     requires { length word.now ≤ max_word }
     ensures { WritesPart W.contents W.passed_on W.is_down W.loans writer.old writer.new result
         (map (id_packet word.now) ids.now) }
 {
     // Laws.
-    writes_lines::<W>();
+    writes_packets::<W>();
     for id in ids {
         write_id(word, id, writer)?;
     }
     Ok(())
 }
 
-fn write_id<W: Sink>(word: &[u8], id: &Oid, writer: &mut LineWriter<W>) -> Result<(), WriteFault>
+fn write_id<W: Sink>(word: &[u8], id: &Oid, writer: &mut PacketWriter<W>) -> Result<(), WriteFault>
     requires { length word.now ≤ max_word }
-    ensures { WritesLines W.contents W.passed_on W.is_down W.loans writer.old writer.new result
+    ensures { WritesPackets W.contents W.passed_on W.is_down W.loans writer.old writer.new result
         (id_packet word.now id.now ∷ []) }
 {
     let mut text = [0u8; MAX_ID_TEXT];
@@ -210,18 +213,18 @@ fn write_id<W: Sink>(word: &[u8], id: &Oid, writer: &mut LineWriter<W>) -> Resul
     write_text(word, &text[..len], writer)
 }
 
-// Writes a text packet of a word and what follows it.
+// Writes a text packet of a word and the text after it.
 fn write_text<W: Sink>(
     word: &[u8],
     rest: &[u8],
-    writer: &mut LineWriter<W>,
+    writer: &mut PacketWriter<W>,
 ) -> Result<(), WriteFault>
     requires word { length word.now ≤ max_word }
     requires rest { length rest.now ≤ max_capability }
-    ensures { WritesLines W.contents W.passed_on W.is_down W.loans writer.old writer.new result
+    ensures { WritesPackets W.contents W.passed_on W.is_down W.loans writer.old writer.new result
         (text_packet (word.now ++ rest.now) ∷ []) }
 {
     // Laws.
-    writes_lines::<W>();
+    writes_packets::<W>();
     writer.text2(word, rest)
 }

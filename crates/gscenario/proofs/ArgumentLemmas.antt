@@ -4,13 +4,13 @@ use Rattle.std.proofs.Common.{MatchResult, sym, ap, subst, append_assoc}
 use Rattle.std.specs.List.{AllZip}
 use Rattle.std.specs.Prelude.{⊤, Vec}
 use Rattle.gobject.specs.declared.node.Entry.{Entry}
-use Rattle.grefspec.specs.Refspecs.{IsSpec, Reads, Refspec}
-use Rattle.grefspec.specs.declared.fault.SpecFault.{SpecFault}
-use Rattle.grefspec.specs.declared.fault.SpecFault.TheVariants.{BadSpec}
+use Rattle.grefs.specs.Refspecs.{IsSpec, Reads, Refspec}
+use Rattle.grefs.specs.declared.refspec.fault.SpecFault.{SpecFault}
+use Rattle.grefs.specs.declared.refspec.fault.SpecFault.TheVariants.{BadSpec}
 use Rattle.gscenario.specs.ScenarioText.{AreBytes, AreNumberAndCount, AreOneBytes, IsCount, IsEntry, IsOneNumber, IsRef}
 use Rattle.gscenario.specs.steps.Reading.{NoArguments}
 use Rattle.gscenario.specs.declared.event.Event.TheVariants as event
-use Rattle.gscenario.specs.declared.command.Command.TheVariants as command
+use Rattle.gscenario.specs.declared.command.EventWord.TheVariants as command
 
 -- ---- no event of a command has these arguments
 

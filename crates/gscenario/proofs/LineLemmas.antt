@@ -7,16 +7,16 @@ use Rattle.gobject.specs.PlainPackText.{IsInLine, line}
 use Rattle.gobject.proofs.PlainPackLines.{line_parts}
 use Rattle.gscenario.specs.ScenarioText.{BeginsWithCommand, BeginsWrong, IsLineOf, IsNoLine, IsScenario, IsWrongLine}
 use Rattle.gscenario.specs.ScenarioText.{TakesMemory, command_text}
-use Rattle.gscenario.specs.declared.command.Command.{Command}
+use Rattle.gscenario.specs.declared.command.EventWord.{EventWord}
 use Rattle.gscenario.specs.declared.event.Event.{Event}
-use Rattle.gscenario.specs.declared.command.Command.TheVariants as command
+use Rattle.gscenario.specs.declared.command.EventWord.TheVariants as command
 use Rattle.std.specs.Prelude.{codes, if◌then◌else◌}
 use Rattle.std.specs.Str.{bytes_eq}
 
 -- ---- a line
 
 -- the command that a word spells
-abbrev named : List ℕ → Command
+abbrev named : List ℕ → EventWord
 named text =
     if bytes_eq text (codes "begin") then command.Begin
     else if bytes_eq text (codes "ask") then command.Ask
@@ -32,7 +32,7 @@ named text =
     else if bytes_eq text (codes "client-add") then command.ClientAdd
     else command.ClientRef
 
-named_back : (c : Command) → named (command_text c) ≡ c
+named_back : (c : EventWord) → named (command_text c) ≡ c
 named_back command.Begin = refl
 named_back command.Ask = refl
 named_back command.Serve = refl
@@ -47,7 +47,7 @@ named_back command.ServerRef = refl
 named_back command.ClientAdd = refl
 named_back command.ClientRef = refl
 
-pub same_command : (c d : Command) → command_text c ≡ command_text d → c ≡ d
+pub same_command : (c d : EventWord) → command_text c ≡ command_text d → c ≡ d
 same_command c d same = sym (named_back c) ∙ ap named same ∙ named_back d
 
 line_then : (here after : List ℕ) → line here ++ after ≡ here ++ 10 ∷ after

@@ -13,7 +13,7 @@ use Rattle.gobject.specs.PlainPackText.{ids_of, letter}
 use Rattle.gobject.specs.declared.node.Entry.{Entry}
 use Rattle.gobject.specs.declared.node.Kind.{Kind}
 use Rattle.gobject.specs.declared.node.Kind.TheVariants.{Commit, Tag}
-use Rattle.grefspec.specs.Refspecs.{IsSpec, OneReading}
+use Rattle.grefs.specs.Refspecs.{IsSpec, OneReading}
 use Rattle.gscenario.specs.Laws.{IsSame}
 use Rattle.gscenario.specs.ScenarioText.{AreArguments, AreBytes, AreNumberAndCount, AreOneBytes, IsCount, IsEntry}
 use Rattle.gscenario.specs.ScenarioText.{IsNumber, IsOneNumber, IsRef, IsLineOf, IsScenario, command_of, command_text}

@@ -8,13 +8,13 @@ use Rattle.gname.specs.Ids.{Id, IsIdText}
 use Rattle.gname.specs.Names.{Name, IsRefName}
 use Rattle.gobject.specs.PlainPackText.{IsInLine, ids_of, letter}
 use Rattle.gobject.specs.declared.node.Entry.{Entry}
-use Rattle.grefspec.specs.Refspecs.{IsSpec, Refspec}
-use Rattle.gscenario.specs.declared.command.Command.{Command}
+use Rattle.grefs.specs.Refspecs.{IsSpec, Refspec}
+use Rattle.gscenario.specs.declared.command.EventWord.{EventWord}
 use Rattle.gscenario.specs.declared.event.Event.{Event}
 use Rattle.gscenario.specs.declared.fault.ScenarioFault.{ScenarioFault}
 use Rattle.gscenario.specs.declared.fault.ScenarioFault.TheVariants as fault
 use Rattle.gscenario.specs.declared.event.Event.TheVariants as event
-use Rattle.gscenario.specs.declared.command.Command.TheVariants as command
+use Rattle.gscenario.specs.declared.command.EventWord.TheVariants as command
 
 -- ---- words
 
@@ -31,7 +31,7 @@ words_of (byte ∷ text) = if byte == 32 then [] ∷ words_of text else with_byt
 -- ---- the parts of a line
 
 -- the first word of an event's line
-abbrev pub command_text : Command → List ℕ
+abbrev pub command_text : EventWord → List ℕ
 command_text command.Begin = codes "begin"
 command_text command.Ask = codes "ask"
 command_text command.Serve = codes "serve"
@@ -46,7 +46,7 @@ command_text command.ServerRef = codes "server-ref"
 command_text command.ClientAdd = codes "client-add"
 command_text command.ClientRef = codes "client-ref"
 
-abbrev pub command_of : {A : Type 0} → Event A → Command
+abbrev pub command_of : {A : Type 0} → Event A → EventWord
 command_of (event.Begin specs) = command.Begin
 command_of event.Ask = command.Ask
 command_of (event.Serve request) = command.Serve
@@ -127,7 +127,7 @@ IsNoLine A line = (event : Event A) → ¬ (IsLineOf line event)
 -- a line whose first word is a command
 abbrev pub BeginsWithCommand : List ℕ → Type 0
 BeginsWithCommand line =
-    (command : Command) × (arguments : List (List ℕ)) × (words_of line ≡ command_text command ∷ arguments)
+    (command : EventWord) × (arguments : List (List ℕ)) × (words_of line ≡ command_text command ∷ arguments)
 
 -- the text of some events
 abbrev pub IsScenario : {A : Type 0} → List ℕ → List (Event A) → Type 0

@@ -1,51 +1,51 @@
-//! The words after the first of a line.
+//! The arguments of a line, which are the words after its first.
 
 ghost use Rattle.std.specs.Prelude.{◌≡◌, ◌≢◌, ◌∷◌, [], ℕ, List, MatchOption, MatchResult, ⊤};
 ghost use Rattle.gname.specs.Names.{Name};
 ghost use Rattle.gobject.specs.PlainPackText.{ids_of};
 ghost use Rattle.gobject.specs.declared.node.Entry.{Entry};
-ghost use Rattle.grefspec.specs.Refspecs.{Refspec};
+ghost use Rattle.grefs.specs.Refspecs.{Refspec};
 ghost use Rattle.gscenario.specs.ScenarioText.{AreNumberAndCount, AreOneBytes, AreSpecs, IsEntry, IsOneNumber, IsRef};
 ghost use Rattle.gname.specs.Ids.{Id, IsIdText};
 ghost use Rattle.std.specs.List.{AllZip};
 ghost use Rattle.gscenario.specs.steps.Reading.{HasArguments, NoArguments, ReadsArguments, words_after};
 
-use crate::command::Command;
+use crate::command::EventWord;
 use crate::event::Event;
 use crate::words::{
     bytes_of, count_of, id_of, kind_of, name_of, next_word, no_word, number_of, one_word, two_words,
 };
 use gname::{Oid, RefName};
 use gobject::{Entry, Kind, Node, Parents};
-use grefspec::{Spec, SpecFault};
+use grefs::{Spec, SpecFault};
 use std::alloc::{AllocError, Allocator};
 
-/// The event of a line with this command and these words after it.
+/// Returns the event of a line with this command and these arguments.
 pub(crate) fn event_of<A: Allocator + Copy>(
     alloc: A,
-    command: Command,
+    command: EventWord,
     tail: &[u8],
 ) -> Result<Option<Event<A>>, AllocError>
     ensures { ReadsArguments command (words_after tail.now) result }
 {
     match command {
-        Command::Begin => begin(alloc, tail),
-        Command::Ask => Ok(alone(tail, Event::Ask)),
-        Command::Serve => Ok(serve(tail)),
-        Command::Deliver => Ok(deliver(tail)),
-        Command::Forge => forge(alloc, tail),
-        Command::StrangeRequest => strange_request(alloc, tail),
-        Command::Settle => Ok(alone(tail, Event::Settle)),
-        Command::RestartClient => Ok(alone(tail, Event::RestartClient)),
-        Command::RestartServer => Ok(alone(tail, Event::RestartServer)),
-        Command::ServerAdd => server_add(alloc, tail),
-        Command::ServerRef => server_ref(alloc, tail),
-        Command::ClientAdd => client_add(alloc, tail),
-        Command::ClientRef => client_ref(alloc, tail),
+        EventWord::Begin => begin(alloc, tail),
+        EventWord::Ask => Ok(alone(tail, Event::Ask)),
+        EventWord::Serve => Ok(serve(tail)),
+        EventWord::Deliver => Ok(deliver(tail)),
+        EventWord::Forge => forge(alloc, tail),
+        EventWord::StrangeRequest => strange_request(alloc, tail),
+        EventWord::Settle => Ok(alone(tail, Event::Settle)),
+        EventWord::RestartClient => Ok(alone(tail, Event::RestartClient)),
+        EventWord::RestartServer => Ok(alone(tail, Event::RestartServer)),
+        EventWord::ServerAdd => server_add(alloc, tail),
+        EventWord::ServerRef => server_ref(alloc, tail),
+        EventWord::ClientAdd => client_add(alloc, tail),
+        EventWord::ClientRef => client_ref(alloc, tail),
     }
 }
 
-// The event whose command has no words after it.
+// Returns the event of a command without arguments.
 fn alone<A: Allocator + Copy>(tail: &[u8], event: Event<A>) -> Option<Event<A>>
     ensures { MatchOption result (words_after tail.now ≢ [])
         (λ found. (found ≡ event) × (words_after tail.now ≡ [])) }
@@ -56,7 +56,7 @@ fn alone<A: Allocator + Copy>(tail: &[u8], event: Event<A>) -> Option<Event<A>>
 // ---- one event each
 
 fn begin<A: Allocator + Copy>(alloc: A, tail: &[u8]) -> Result<Option<Event<A>>, AllocError>
-    ensures { ReadsArguments Command.Begin (words_after tail.now) result }
+    ensures { ReadsArguments EventWord.Begin (words_after tail.now) result }
 {
     match specs_of(alloc, tail)? {
         Some(specs) => Ok(Some(Event::Begin(specs))),
@@ -66,8 +66,8 @@ fn begin<A: Allocator + Copy>(alloc: A, tail: &[u8]) -> Result<Option<Event<A>>,
 
 #[tactic(auto, using(crate::proofs::ArgumentLemmas::no_serve))]
 fn serve<A: Allocator + Copy>(tail: &[u8]) -> Option<Event<A>>
-    ensures { MatchOption result (NoArguments A Command.Serve (words_after tail.now))
-        (HasArguments Command.Serve (words_after tail.now)) }
+    ensures { MatchOption result (NoArguments A EventWord.Serve (words_after tail.now))
+        (HasArguments EventWord.Serve (words_after tail.now)) }
 {
     match number_alone(tail) {
         Some(request) => Some(Event::Serve(request)),
@@ -77,8 +77,8 @@ fn serve<A: Allocator + Copy>(tail: &[u8]) -> Option<Event<A>>
 
 #[tactic(auto, using(crate::proofs::ArgumentLemmas::no_deliver))]
 fn deliver<A: Allocator + Copy>(tail: &[u8]) -> Option<Event<A>>
-    ensures { MatchOption result (NoArguments A Command.Deliver (words_after tail.now))
-        (HasArguments Command.Deliver (words_after tail.now)) }
+    ensures { MatchOption result (NoArguments A EventWord.Deliver (words_after tail.now))
+        (HasArguments EventWord.Deliver (words_after tail.now)) }
 {
     match number_and_count(tail) {
         Some((reply, count)) => Some(Event::Deliver { reply, count }),
@@ -88,7 +88,7 @@ fn deliver<A: Allocator + Copy>(tail: &[u8]) -> Option<Event<A>>
 
 #[tactic(auto, using(crate::proofs::ArgumentLemmas::no_forge))]
 fn forge<A: Allocator + Copy>(alloc: A, tail: &[u8]) -> Result<Option<Event<A>>, AllocError>
-    ensures { ReadsArguments Command.Forge (words_after tail.now) result }
+    ensures { ReadsArguments EventWord.Forge (words_after tail.now) result }
 {
     match bytes_alone(alloc, tail)? {
         Some(bytes) => Ok(Some(Event::Forge(bytes))),
@@ -101,7 +101,7 @@ fn strange_request<A: Allocator + Copy>(
     alloc: A,
     tail: &[u8],
 ) -> Result<Option<Event<A>>, AllocError>
-    ensures { ReadsArguments Command.StrangeRequest (words_after tail.now) result }
+    ensures { ReadsArguments EventWord.StrangeRequest (words_after tail.now) result }
 {
     match bytes_alone(alloc, tail)? {
         Some(bytes) => Ok(Some(Event::StrangeRequest(bytes))),
@@ -111,7 +111,7 @@ fn strange_request<A: Allocator + Copy>(
 
 #[tactic(auto, using(crate::proofs::ArgumentLemmas::no_server_add))]
 fn server_add<A: Allocator + Copy>(alloc: A, tail: &[u8]) -> Result<Option<Event<A>>, AllocError>
-    ensures { ReadsArguments Command.ServerAdd (words_after tail.now) result }
+    ensures { ReadsArguments EventWord.ServerAdd (words_after tail.now) result }
 {
     match entry_of(alloc, tail)? {
         Some(entry) => Ok(Some(Event::ServerAdd(entry))),
@@ -121,7 +121,7 @@ fn server_add<A: Allocator + Copy>(alloc: A, tail: &[u8]) -> Result<Option<Event
 
 #[tactic(auto, using(crate::proofs::ArgumentLemmas::no_client_add))]
 fn client_add<A: Allocator + Copy>(alloc: A, tail: &[u8]) -> Result<Option<Event<A>>, AllocError>
-    ensures { ReadsArguments Command.ClientAdd (words_after tail.now) result }
+    ensures { ReadsArguments EventWord.ClientAdd (words_after tail.now) result }
 {
     match entry_of(alloc, tail)? {
         Some(entry) => Ok(Some(Event::ClientAdd(entry))),
@@ -131,7 +131,7 @@ fn client_add<A: Allocator + Copy>(alloc: A, tail: &[u8]) -> Result<Option<Event
 
 #[tactic(auto, using(crate::proofs::ArgumentLemmas::no_server_ref))]
 fn server_ref<A: Allocator + Copy>(alloc: A, tail: &[u8]) -> Result<Option<Event<A>>, AllocError>
-    ensures { ReadsArguments Command.ServerRef (words_after tail.now) result }
+    ensures { ReadsArguments EventWord.ServerRef (words_after tail.now) result }
 {
     match ref_of(alloc, tail)? {
         Some((name, id)) => Ok(Some(Event::ServerRef(name, id))),
@@ -141,7 +141,7 @@ fn server_ref<A: Allocator + Copy>(alloc: A, tail: &[u8]) -> Result<Option<Event
 
 #[tactic(auto, using(crate::proofs::ArgumentLemmas::no_client_ref))]
 fn client_ref<A: Allocator + Copy>(alloc: A, tail: &[u8]) -> Result<Option<Event<A>>, AllocError>
-    ensures { ReadsArguments Command.ClientRef (words_after tail.now) result }
+    ensures { ReadsArguments EventWord.ClientRef (words_after tail.now) result }
 {
     match ref_of(alloc, tail)? {
         Some((name, id)) => Ok(Some(Event::ClientRef(name, id))),
@@ -149,9 +149,9 @@ fn client_ref<A: Allocator + Copy>(alloc: A, tail: &[u8]) -> Result<Option<Event
     }
 }
 
-// ---- what several events have
+// ---- parts of several events
 
-// The number that comes, alone.
+// Returns the number, if it is the only argument.
 fn number_alone(tail: &[u8]) -> Option<usize>
     ensures { MatchOption result (((number : ℕ) → IsOneNumber (words_after tail.now) number → ⊥))
         (IsOneNumber (words_after tail.now)) }
@@ -162,7 +162,7 @@ fn number_alone(tail: &[u8]) -> Option<usize>
     }
 }
 
-// The number, and how many bytes come.
+// Returns the number, and how many bytes to deliver.
 fn number_and_count(tail: &[u8]) -> Option<(usize, usize)>
     ensures { MatchOption result
         (((number count : ℕ) → AreNumberAndCount (words_after tail.now) number count → ⊥))
@@ -180,7 +180,7 @@ fn number_and_count(tail: &[u8]) -> Option<(usize, usize)>
     }
 }
 
-// The bytes that come, alone.
+// Returns the bytes, if they are the only argument.
 fn bytes_alone<A: Allocator + Copy>(alloc: A, tail: &[u8]) -> Result<Option<Vec<u8, A>>, AllocError>
     ensures { MatchResult result
         (λ found. MatchOption found (((bytes : List ℕ) → AreOneBytes (words_after tail.now) bytes
@@ -194,7 +194,7 @@ fn bytes_alone<A: Allocator + Copy>(alloc: A, tail: &[u8]) -> Result<Option<Vec<
     }
 }
 
-// The refspecs that come.
+// Returns the refspecs of the arguments.
 fn specs_of<A: Allocator + Copy>(
     alloc: A,
     tail: &[u8],
@@ -221,7 +221,7 @@ fn specs_of<A: Allocator + Copy>(
     Ok(Some(specs))
 }
 
-// The object that comes.
+// Returns the object of the arguments.
 fn entry_of<A: Allocator + Copy>(alloc: A, tail: &[u8]) -> Result<Option<Entry<A>>, AllocError>
     ensures { MatchResult result
         (λ found. MatchOption found (((entry : Entry A) → IsEntry (words_after tail.now) entry
@@ -238,7 +238,7 @@ fn entry_of<A: Allocator + Copy>(alloc: A, tail: &[u8]) -> Result<Option<Entry<A
     }
 }
 
-// The object of this kind, whose ids come.
+// Returns the object of this kind, whose ids are the arguments.
 fn entry_of_kind<A: Allocator + Copy>(
     alloc: A,
     kind: Kind,
@@ -266,7 +266,7 @@ fn entry_of_kind<A: Allocator + Copy>(
     }
 }
 
-// The ids that come.
+// Returns the ids of the arguments.
 fn parents_of<A: Allocator + Copy>(alloc: A, tail: &[u8]) -> Result<Option<Parents<A>>, AllocError>
     ensures { MatchResult result
         (λ found. MatchOption found (((ids : List Id) → AllZip IsIdText (words_after tail.now) ids
@@ -286,7 +286,7 @@ fn parents_of<A: Allocator + Copy>(alloc: A, tail: &[u8]) -> Result<Option<Paren
     Ok(Some(parents))
 }
 
-// The name of a ref, and the id at which it is to stand.
+// Returns the name of a ref, and its new id.
 fn ref_of<A: Allocator + Copy>(
     alloc: A,
     tail: &[u8],

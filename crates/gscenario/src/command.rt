@@ -3,9 +3,9 @@
 ghost use Rattle.std.specs.Prelude.{◌≡◌, ◌≢◌, MatchOption};
 ghost use Rattle.gscenario.specs.ScenarioText.{command_text};
 
-/// The first word of a line, which says what its event is.
+/// The first word of a line, which names the kind of its event.
 #[derive(Clone, Copy, Drop)]
-pub(crate) enum Command {
+pub(crate) enum EventWord {
     Begin,
     Ask,
     Serve,
@@ -21,38 +21,38 @@ pub(crate) enum Command {
     ClientRef,
 }
 
-impl Command {
-    /// The command that the word spells.
-    pub(crate) fn of(word: &[u8]) -> Option<Command>
-        ensures { MatchOption result (((c : Command) → word.now ≢ command_text c))
+impl EventWord {
+    /// Returns the command that the word spells.
+    pub(crate) fn of(word: &[u8]) -> Option<EventWord>
+        ensures { MatchOption result (((c : EventWord) → word.now ≢ command_text c))
             (λ c. word.now ≡ command_text c) }
     {
         if word == b"begin".as_slice() {
-            Some(Command::Begin)
+            Some(EventWord::Begin)
         } else if word == b"ask".as_slice() {
-            Some(Command::Ask)
+            Some(EventWord::Ask)
         } else if word == b"serve".as_slice() {
-            Some(Command::Serve)
+            Some(EventWord::Serve)
         } else if word == b"deliver".as_slice() {
-            Some(Command::Deliver)
+            Some(EventWord::Deliver)
         } else if word == b"forge".as_slice() {
-            Some(Command::Forge)
+            Some(EventWord::Forge)
         } else if word == b"stranger".as_slice() {
-            Some(Command::StrangeRequest)
+            Some(EventWord::StrangeRequest)
         } else if word == b"settle".as_slice() {
-            Some(Command::Settle)
+            Some(EventWord::Settle)
         } else if word == b"restart-client".as_slice() {
-            Some(Command::RestartClient)
+            Some(EventWord::RestartClient)
         } else if word == b"restart-server".as_slice() {
-            Some(Command::RestartServer)
+            Some(EventWord::RestartServer)
         } else if word == b"server-add".as_slice() {
-            Some(Command::ServerAdd)
+            Some(EventWord::ServerAdd)
         } else if word == b"server-ref".as_slice() {
-            Some(Command::ServerRef)
+            Some(EventWord::ServerRef)
         } else if word == b"client-add".as_slice() {
-            Some(Command::ClientAdd)
+            Some(EventWord::ClientAdd)
         } else if word == b"client-ref".as_slice() {
-            Some(Command::ClientRef)
+            Some(EventWord::ClientRef)
         } else {
             None
         }

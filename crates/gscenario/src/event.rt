@@ -1,42 +1,46 @@
-//! What may happen to a server and a client.
+//! The events of a server and a client.
 
 use gname::{Oid, RefName};
 use gobject::Entry;
-use grefspec::Spec;
+use grefs::Spec;
 use std::alloc::{Allocator, Global};
 
-/// What may happen to a server and a client that fetches from it.
+/// An event of a server and a client that fetches from it.
 ///
-/// A message that is lost is an event that never comes; one that comes again, late or cut short is a second, a late or
-/// a short delivery.
+/// A lost message is an event that never happens. A message that is repeated, late or cut short is
+/// a second, a late or a short delivery.
 #[derive(Debug, Drop)]
 pub enum Event<A: Allocator + Copy = Global> {
-    /// The client begins a session with these refspecs, 16 at most, instead of any other, and the session hears the
-    /// server's advertisement. It takes packs up to the default limit, and no response-end after a reply.
+    /// The client begins a session with these refspecs, at most 16, instead of any other, and the
+    /// session hears the server's advertisement. It takes packs up to the default limit, and no
+    /// response-end packet after a reply.
     Begin(Vec<Spec<A>, A>),
-    /// The client's session makes its next request, which is sent: it is the next in the list of sent requests.
+    /// The client's session makes its next request and sends it: it is the next in the list of sent
+    /// requests.
     Ask,
-    /// The server answers the request at this position in the list of sent requests, and its reply is kept: it is the
-    /// next in the list of kept replies.
+    /// The server replies to the request at this index in the list of sent requests. The reply is
+    /// kept as the next in the list of kept replies.
     Serve(usize),
-    /// The first `count` bytes of the reply at position `reply` in the list of kept replies come as the reply to the
-    /// request that waits: all of them, where there are fewer.
+    /// The client receives the first `count` bytes of the kept reply at index `reply`, or all if
+    /// there are fewer, as the reply to its open request.
     Deliver { reply: usize, count: usize },
-    /// These bytes come as the reply to the request that waits, though no server sent them.
+    /// The client receives these bytes as the reply to its open request, although no server sent
+    /// them.
     Forge(Vec<u8, A>),
-    /// A stranger sends these bytes to the server, on a connection of its own, without response-ends.
+    /// A stranger sends these bytes to the server, on another connection, without response-end
+    /// packets.
     StrangeRequest(Vec<u8, A>),
-    /// The client's session settles the refs that it asked for: those move that may.
+    /// The client's session settles the asked refs: it moves those that may move.
     Settle,
     /// The client starts again: it keeps its repository, and has no session.
     RestartClient,
     /// The server starts again, with the same repository.
     RestartServer,
-    /// An object comes to the server.
+    /// The server gains an object.
     ServerAdd(Entry<A>),
     /// The server's ref of this name is set to this id.
     ServerRef(RefName<A>, Oid),
-    /// An object comes to the client.
+    /// The client gains an object.
     ClientAdd(Entry<A>),
     /// The client's ref of this name is set to this id.
     ClientRef(RefName<A>, Oid),

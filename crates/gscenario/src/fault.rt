@@ -1,40 +1,40 @@
-//! Why a text is no scenario.
+//! Reasons why a text is not a scenario.
 
 ghost use Rattle.std.specs.Prelude.{◌≡◌, Some};
 ghost use Rattle.gscenario.specs.Faults.{scenario_fault_row, scenario_fault_text};
 ghost use Rattle.gscenario.specs.declared.fault.ScenarioFault.TheVariants as faults;
 
 use gname::OUT_OF_MEMORY_TEXT;
-use std::alloc::AllocError;
+use std::alloc::{AllocError, AllocFailed};
 use std::error::Error;
 use std::fmt;
 
-/// Why a text was not read as a scenario.
+/// The reason a text was not read as a scenario.
 #[derive(Clone, Copy, Debug, PartialEq, Eq, Drop)]
 pub enum ScenarioFault {
-    /// This line, counted from 1, is that of no event, or it does not end.
+    /// This line, counted from 1, is not the line of an event, or is not terminated.
     Scenario { line: usize },
     /// Out of memory for the events.
     Memory,
 }
 
 impl ScenarioFault {
-    /// The number of the fault.
+    /// Returns the number of the fault.
     pub fn code(&self) -> u32
         ensures { result ≡ (scenario_fault_row self.now).0 }
     {
-        self.row().0
+        self.fault_row().0
     }
 
-    /// The name of the fault.
+    /// Returns the name of the fault.
     pub fn name(&self) -> &'static str
         ensures { result.now ≡ (scenario_fault_row self.now).1 }
     {
-        self.row().1
+        self.fault_row().1
     }
 
-    /// The table: the number and the name of each fault.
-    pub fn row(&self) -> (u32, &'static str)
+    /// Returns the number and the name of the fault.
+    pub fn fault_row(&self) -> (u32, &'static str)
         ensures { (result.0, result.1.now) ≡ scenario_fault_row self.now }
     {
         match self {
@@ -64,6 +64,14 @@ impl From<AllocError> for ScenarioFault {
     ghost from_gives = { λ _ fault. fault ≡ faults.Memory };
 
     fn from(_refused: AllocError) -> ScenarioFault {
+        ScenarioFault::Memory
+    }
+}
+
+impl<T: Drop> From<AllocFailed<T>> for ScenarioFault {
+    ghost from_gives = { λ _ fault. fault ≡ faults.Memory };
+
+    fn from(_refused: AllocFailed<T>) -> ScenarioFault {
         ScenarioFault::Memory
     }
 }

@@ -1,12 +1,12 @@
-//! The laws of scenarios: functions without effect, whose contracts they are.
+//! The laws of scenarios: functions without effect, which exist for their contracts.
 
 ghost use Rattle.gscenario.specs.Laws.{TextsHaveOneReading, WrongIsNone, WrongLinesHaveOnePlace};
 
 use gname::laws::texts_spell_one_id;
-use grefspec::laws::one_reading;
+use grefs::refspec::laws::one_reading;
 use std::alloc::Allocator;
 
-/// A text is that of one list of events: what it names is settled.
+/// A text is that of one list of events.
 #[tactic(auto, using(crate::proofs::SameEvents::scenario_one))]
 pub fn texts_have_one_reading<A: Allocator + Copy>()
     ensures { TextsHaveOneReading A }
@@ -15,12 +15,12 @@ pub fn texts_have_one_reading<A: Allocator + Copy>()
     texts_spell_one_id();
 }
 
-/// A text with a wrong line is the text of no events: what is refused is no scenario.
+/// A text with a wrong line is the text of no events: a refused text is not a scenario.
 pub fn wrong_is_none<A: Allocator + Copy>()
     ensures { WrongIsNone A }
 {}
 
-/// A text has one wrong line at most: no other could have been reported.
+/// A text has at most one wrong line: no other line could have been reported.
 pub fn wrong_lines_have_one_place<A: Allocator + Copy>()
     ensures { WrongLinesHaveOnePlace A }
 {}

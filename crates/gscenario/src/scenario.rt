@@ -5,7 +5,7 @@ ghost use Rattle.gobject.specs.PlainPackText.{IsInLine, line};
 ghost use Rattle.gscenario.specs.ScenarioText.{BeginsWithCommand, IsLineOf, IsNoLine, IsScenario, Refuses};
 
 use crate::arguments::event_of;
-use crate::command::Command;
+use crate::command::EventWord;
 use crate::event::Event;
 use crate::fault::ScenarioFault;
 use crate::words::first_word;
@@ -14,9 +14,9 @@ use std::alloc::{AllocError, Allocator};
 
 /// The text of a list of events.
 ///
-/// Each event is a line, which is ended by a line feed, and whose words are separated by single spaces:
+/// Each event is a line, which ends with a line feed. Single spaces separate its words:
 ///
-/// - `begin SPEC SPEC ..`, with one refspec at least
+/// - `begin SPEC SPEC ..`, with at least one refspec
 /// - `ask`, `settle`, `restart-client`, `restart-server`
 /// - `serve K`
 /// - `deliver J N`, or `deliver J all`
@@ -24,16 +24,17 @@ use std::alloc::{AllocError, Allocator};
 /// - `server-add c ID PARENT ..` for a commit, with `t` for a tag, and `client-add` likewise
 /// - `server-ref ID NAME`, `client-ref ID NAME`
 ///
-/// Numbers are decimal without leading zeros, and below 2 to the 63rd. Bytes are hexadecimal digits, two for each, or
-/// `-` for none. Ids have 40 or 64 digits. Hexadecimal digits may be in either case.
+/// Numbers are decimal without leading zeros, and below 2 to the 63rd. Bytes are hexadecimal
+/// digits, two for each, or `-` for none. Ids have 40 or 64 digits. Hexadecimal digits may be in
+/// either case.
 pub struct Scenario;
 
 impl Scenario {
     /// Reads the text of some events.
     ///
-    /// It fails with `Scenario` at the first line that is that of no event, or does not end; with `Memory` where it is
-    /// out of memory for what a line says, which is reported only after lines of events, at one that begins with a
-    /// command.
+    /// Fails with `Scenario` at the first line that is not the line of an event, or is not
+    /// terminated. Fails with `Memory` if out of memory for the parts of a line. It reports this
+    /// only after lines of events, at one that begins with a command.
     pub fn read<A: Allocator + Copy>(
         alloc: A,
         text: &[u8],
@@ -60,7 +61,7 @@ impl Scenario {
     }
 }
 
-// Adds an event.
+// Appends an event.
 fn keep<A: Allocator + Copy>(
     events: &mut Vec<Event<A>, A>,
     event: Event<A>,
@@ -71,19 +72,19 @@ fn keep<A: Allocator + Copy>(
     Ok(())
 }
 
-// The event of a line.
+// Returns the event of a line.
 fn read_line<A: Allocator + Copy>(alloc: A, line: &[u8]) -> Result<Option<Event<A>>, AllocError>
     ensures { MatchResult result (λ found. MatchOption found (IsNoLine A line.now)
         (IsLineOf line.now)) (λ _. BeginsWithCommand line.now) }
 {
     let (word, tail) = first_word(line);
-    match Command::of(word) {
+    match EventWord::of(word) {
         Some(command) => event_of(alloc, command, tail),
         None => Ok(None),
     }
 }
 
-// The first line, without its line feed, and what follows that.
+// Returns the first line without its line feed, and the text after it.
 fn split_line(text: &[u8]) -> Option<(&[u8], &[u8])>
     ensures { MatchOption result (IsInLine text.now) (λ pair.
         (text.now ≡ line pair.0.now ++ pair.1.now) × IsInLine pair.0.now) }

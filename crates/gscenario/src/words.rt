@@ -1,4 +1,4 @@
-//! The words of a line, and what single words say.
+//! The words of a line, and their values.
 
 ghost use Rattle.std.specs.Prelude.{◌≡◌, ◌≢◌, ◌∷◌, ◌<◌, ◌^◌, [], ℕ, List, Some, decimal, codes, ⊤, MatchBool, MatchOption, MatchResult};
 ghost use Rattle.gname.specs.Ids.{IsIdText};
@@ -18,7 +18,7 @@ use memchr::memchr;
 use std::alloc::{AllocError, Allocator};
 use std::str;
 
-/// The first word of a line, and what follows it.
+/// Returns the first word of a line, and the text after it.
 pub(crate) fn first_word(text: &[u8]) -> (&[u8], &[u8])
     ensures { words_of text.now ≡ result.0.now ∷ words_after result.1.now }
 {
@@ -28,7 +28,7 @@ pub(crate) fn first_word(text: &[u8]) -> (&[u8], &[u8])
     }
 }
 
-/// The word that comes next, and what follows it.
+/// Returns the next word, and the text after it.
 pub(crate) fn next_word(tail: &[u8]) -> Option<(&[u8], &[u8])>
     ensures { MatchOption result (words_after tail.now ≡ [])
         (λ pair. words_after tail.now ≡ pair.0.now ∷ words_after pair.1.now) }
@@ -39,7 +39,7 @@ pub(crate) fn next_word(tail: &[u8]) -> Option<(&[u8], &[u8])>
     }
 }
 
-/// Whether no word comes.
+/// Whether there are no more words.
 pub(crate) fn no_word(tail: &[u8]) -> bool
     ensures { MatchBool result (words_after tail.now ≡ []) (words_after tail.now ≢ []) }
 {
@@ -49,7 +49,7 @@ pub(crate) fn no_word(tail: &[u8]) -> bool
     }
 }
 
-/// The word that comes, if it is one.
+/// Returns the next word, if it is the only one.
 pub(crate) fn one_word(tail: &[u8]) -> Option<&[u8]>
     ensures { MatchOption result (((word : List ℕ) → words_after tail.now ≡ word ∷ [] → ⊥))
         (λ word. words_after tail.now ≡ word.now ∷ []) }
@@ -60,7 +60,7 @@ pub(crate) fn one_word(tail: &[u8]) -> Option<&[u8]>
     }
 }
 
-/// The words that come, if they are two.
+/// Returns the next two words, if there are exactly two.
 pub(crate) fn two_words(tail: &[u8]) -> Option<(&[u8], &[u8])>
     ensures { MatchOption result (((first second : List ℕ)
         → words_after tail.now ≡ first ∷ second ∷ [] → ⊥))
@@ -75,7 +75,7 @@ pub(crate) fn two_words(tail: &[u8]) -> Option<(&[u8], &[u8])>
     }
 }
 
-/// The number of a word.
+/// Returns the number of a word.
 pub(crate) fn number_of(text: &[u8]) -> Option<usize>
     ensures { MatchOption result (((number : ℕ) → IsNumber text.now number → ⊥))
         (IsNumber text.now) }
@@ -93,7 +93,7 @@ pub(crate) fn number_of(text: &[u8]) -> Option<usize>
     }
 }
 
-// A number that the text may be the decimal digits of; no other is.
+// Returns the one number whose decimal digits the text may be.
 fn parse(text: &[u8]) -> Option<usize>
     ensures { MatchOption result (((number : ℕ) → number < 2 ^ 64 → text.now ≡ decimal number → ⊥))
         (λ found. ((number : ℕ) → number < 2 ^ 64 → text.now ≡ decimal number → number ≡ found)) }
@@ -107,7 +107,7 @@ fn parse(text: &[u8]) -> Option<usize>
     }
 }
 
-/// How many bytes come, by a word.
+/// Returns the count of bytes that a word gives.
 pub(crate) fn count_of(text: &[u8]) -> Option<usize>
     ensures { MatchOption result (((count : ℕ) → IsCount text.now count → ⊥)) (IsCount text.now) }
 {
@@ -118,7 +118,7 @@ pub(crate) fn count_of(text: &[u8]) -> Option<usize>
     }
 }
 
-/// The bytes that a word spells.
+/// Returns the bytes that a word spells.
 pub(crate) fn bytes_of<A: Allocator + Copy>(
     alloc: A,
     text: &[u8],
@@ -141,7 +141,7 @@ pub(crate) fn bytes_of<A: Allocator + Copy>(
     }
 }
 
-/// The id that a word spells.
+/// Returns the id that a word spells.
 pub(crate) fn id_of(text: &[u8]) -> Option<Oid>
     ensures { MatchOption result (NoId text.now) (IsIdText text.now) }
 {
@@ -159,7 +159,7 @@ pub(crate) fn id_of(text: &[u8]) -> Option<Oid>
     }
 }
 
-/// The ref name that a word is.
+/// Returns the ref name that a word is.
 pub(crate) fn name_of<A: Allocator + Copy>(
     alloc: A,
     text: &[u8],
@@ -177,7 +177,7 @@ pub(crate) fn name_of<A: Allocator + Copy>(
     }
 }
 
-/// The kind that a word is the letter of.
+/// Returns the kind whose letter the word is.
 pub(crate) fn kind_of(text: &[u8]) -> Option<Kind>
     ensures { MatchOption result (((kind : Kind) → text.now ≡ letter kind ∷ [] → ⊥))
         (λ kind. text.now ≡ letter kind ∷ []) }

@@ -8,16 +8,16 @@ use Rattle.std.specs.List.{flat_map}
 use Rattle.gname.specs.declared.formats.Format.{Format}
 use Rattle.gpkt.specs.Sending.{Input, Output, input_of, output_of, IsUnread, Passes}
 use Rattle.gpkt.specs.Packets.{Packet, canonical_all}
-use Rattle.gpkt.specs.declared.fault.LineFault.TheVariants.{Memory as NoBuffer}
+use Rattle.gpkt.specs.declared.fault.PacketFault.TheVariants.{Memory as NoBuffer}
 use Rattle.gpkt.specs.Laws.{CanonicalJoins, ReadsJoin, ReadsNone}
-use Rattle.gpkt.specs.declared.fault.LineFault.{LineFault}
+use Rattle.gpkt.specs.declared.fault.PacketFault.{PacketFault}
 use Rattle.gpkt.specs.Change.{Change}
-use Rattle.gpkt.specs.LineReading.{ReadsLines}
+use Rattle.gpkt.specs.PacketReading.{ReadsPackets}
 use Rattle.ggrammar.specs.Capabilities.{Capability}
 use Rattle.ggrammar.specs.declared.ends.Ends.{Ends}
 use Rattle.ghello.specs.Adverts.{canonical_advert}
 use Rattle.gobject.specs.Packs.{PackFails, Packs}
-use Rattle.ganswer.specs.Adverts.{advertised}
+use Rattle.ganswer.specs.Adverts.{advertisement}
 use Rattle.ganswer.specs.OnePack.{has_failed, packing_of_fault}
 use Rattle.ganswer.specs.declared.fault.ServeFault.{ServeFault}
 use Rattle.ganswer.specs.declared.one_pack.Packing.TheVariants.{Unasked}
@@ -58,7 +58,7 @@ talk_more joins format ends turns turn =
 
 -- what is sent of the advertisement
 pub sent_advert : {E : Type 0} (format : Format) (capabilities : List Capability) (output : Output) (result : Result (Unit {0}) E)
-    → capabilities ≡ advertised format → PassesPackets output result (canonical_advert capabilities)
+    → capabilities ≡ advertisement format → PassesPackets output result (canonical_advert capabilities)
     → PassesPackets output result (advert_packets format)
 unfolding advert_packets
 sent_advert format capabilities output result is sent =
@@ -71,14 +71,14 @@ module _ {A : Type 0} (server : Server A) (packs : Packs A) where
   turns_none none bytes = record { lines = none bytes; each = All-nil (IsTurn server packs) }
 
   turns_more : ReadsJoin → (old mid new : Option (List ℕ)) (turns : List Turn) (turn : Turn)
-      → ReadsTurns server packs (record { old = old; new = mid }) turns → ReadsLines (record { old = mid; new = new }) turn.request
+      → ReadsTurns server packs (record { old = old; new = mid }) turns → ReadsPackets (record { old = mid; new = new }) turn.request
       → IsTurn server packs turn → ReadsTurns server packs (record { old = old; new = new }) (turns ++ turn ∷ [])
   turns_more join old mid new turns turn before lines is =
       let requests : Turn → List Packet = λ t. t.request in
       let last : flat_map requests turns ++ turn.request ≡ flat_map requests (turns ++ turn ∷ []) =
       sym (flat_map-append requests turns (turn ∷ []) ∙ ap (λ (xs : List Packet). flat_map requests turns ++ xs) (append-nil turn.request)) in
       record {
-        lines = subst (λ (xs : List Packet). ReadsLines (record { old = old; new = new }) xs) last
+        lines = subst (λ (xs : List Packet). ReadsPackets (record { old = old; new = new }) xs) last
             (join old mid new (flat_map requests turns) turn.request before.lines lines);
         each = All-push (IsTurn server packs) turns turn before.each is;
       }
@@ -227,12 +227,12 @@ module _ {A S W : Type 0} (server : Server A) (packs : Packs A) (fails : PackFai
   not_advertised s a b last h = absurd h
 
   -- there is no buffer
-  pub no_buffer : (s : S) (a b : W) (cause : LineFault) (last : End) → cause ≡ NoBuffer
+  pub no_buffer : (s : S) (a b : W) (cause : PacketFault) (last : End) → cause ≡ NoBuffer
       → RefusesFirst (serve.Reader cause) (output_of contents passed_on sink_down a b) last
       → Serves server packs fails ends (input_of remaining source_down s s) (output_of contents passed_on sink_down a b) 0 last
   no_buffer s a b cause last is h =
       refused_first s a b (serve.Reader cause) last
-      (subst (λ (f : LineFault). CannotBegin (input_of remaining source_down s s) (serve.Reader f)) (sym is) (unread s)) h
+      (subst (λ (f : PacketFault). CannotBegin (input_of remaining source_down s s) (serve.Reader f)) (sym is) (unread s)) h
 
 -- ---- what the packer answered, by how an exchange or a connection ended
 

@@ -3,9 +3,9 @@ use Rattle.std.proofs.Common.{◌≡◌, ◌≢◌, ◌<◌, List, Bool, false, 
 use Rattle.std.specs.Prelude.{OnOk}
 use Rattle.gpkt.specs.Sending.{Input, Output, IsUp, IsUnread, Passes}
 use Rattle.gpkt.specs.Packets.{Packet, canonical_all}
-use Rattle.gpkt.specs.declared.fault.LineFault.TheVariants.{Memory as NoBuffer}
-use Rattle.gpkt.specs.LineReading.{ReadsLines}
-use Rattle.gpkt.specs.declared.fault.LineFault.{LineFault}
+use Rattle.gpkt.specs.declared.fault.PacketFault.TheVariants.{Memory as NoBuffer}
+use Rattle.gpkt.specs.PacketReading.{ReadsPackets}
+use Rattle.gpkt.specs.declared.fault.PacketFault.{PacketFault}
 use Rattle.ggrammar.specs.declared.ends.Ends.{Ends}
 use Rattle.ggrammar.specs.MessageReading.{IsReadFailure, ReadsRefused}
 use Rattle.ggrammar.specs.declared.fault.MessageFault.{MessageFault}
@@ -76,7 +76,7 @@ module _ {A : Type 0} (server : Server A) (packs : Packs A) (fails : PackFails A
   -- a request that asks this was read, and the source is well
   record Took (asked : Asked) : Type 0 where
     packets : List Packet
-    lines : ReadsLines input.read packets
+    lines : ReadsPackets input.read packets
     says : Says server.graph.format packets asked
     up : IsUp input
 
@@ -167,12 +167,12 @@ refused_to_read format own same input cause failed ready refused source begun = 
 
 -- ---- without a buffer
 
-pub refused_at_once : (input : Input) (output : Output) (cause : LineFault) (ended : ExchangeEnd) → cause ≡ NoBuffer → IsUnread input
+pub refused_at_once : (input : Input) (output : Output) (cause : PacketFault) (ended : ExchangeEnd) → cause ≡ NoBuffer → IsUnread input
     → ReportsRefusal (serve.Reader cause) output ended → RefusesAtOnce input output ended
 refused_at_once input output cause (end.Refused reported) is unread h =
     let P : ServeFault → Type 0 = λ f. LacksBuffer input f × Passes output (canonical_all (err_packets f)) in
-    let lacks : LacksBuffer input (serve.Reader cause) = subst (λ (f : LineFault). LacksBuffer input (serve.Reader f)) (sym is) unread in
+    let lacks : LacksBuffer input (serve.Reader cause) = subst (λ (f : PacketFault). LacksBuffer input (serve.Reader f)) (sym is) unread in
     subst P (sym h.0) (lacks, h.1)
 refused_at_once input output cause end.WriteFailed is unread h =
-    (serve.Reader cause, subst (λ (f : LineFault). LacksBuffer input (serve.Reader f)) (sym is) unread, h.0, h.1)
+    (serve.Reader cause, subst (λ (f : PacketFault). LacksBuffer input (serve.Reader f)) (sym is) unread, h.0, h.1)
 refused_at_once input output cause _ is unread h = absurd h

@@ -1,4 +1,5 @@
 mod ConnectionLemmas
+mod ErrorLemmas
 mod ExchangeLemmas
 mod SendingLemmas
 mod TalkLemmas

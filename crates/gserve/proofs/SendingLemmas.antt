@@ -3,12 +3,12 @@ use Rattle.std.proofs.Common.{◌≡◌, ℕ, ◌≤◌, Bool, false, List, [], 
 use Rattle.std.proofs.Common.{Ok, Err, ap, length-append, arith}
 use Rattle.std.specs.Prelude.{IsErrAnd}
 use Rattle.gpkt.specs.Sending.{output_of}
-use Rattle.gpkt.specs.LineWriting.{Writer, HasPushed}
+use Rattle.gpkt.specs.PacketWriting.{Writer, HasPushed}
 use Rattle.gpkt.specs.Packets.{Packet, Data, line_feed}
 use Rattle.gpkt.specs.declared.fault.WriteFault.{WriteFault}
-use Rattle.gpkt.specs.declared.fault.LineFault.{LineFault}
+use Rattle.gpkt.specs.declared.fault.PacketFault.{PacketFault}
 use Rattle.gpkt.specs.Laws.{Fits, PushesWritten}
-use Rattle.ggrammar.specs.Writing.{WritesLines}
+use Rattle.ggrammar.specs.Writing.{WritesPackets}
 use Rattle.ggrammar.specs.Faults.{line_phrase, why_row}
 use Rattle.ggrammar.specs.declared.fault.Why.{Why}
 use Rattle.ggrammar.specs.Texts.{text_packet}
@@ -17,7 +17,7 @@ use Rattle.ganswer.specs.Faults.{serve_fault_row}
 use Rattle.ggrammar.proofs.PassingLemmas.{push_fails, pushed_passes, write_fails}
 use Rattle.gserve.specs.Refusals.{err_packets, err_text, max_err_text}
 use Rattle.gserve.specs.steps.Connections.{PassesPackets, max_phrase}
-use Rattle.gpkt.specs.declared.fault.LineFault.TheVariants as line
+use Rattle.gpkt.specs.declared.fault.PacketFault.TheVariants as line
 use Rattle.ggrammar.specs.declared.fault.Why.TheVariants as why
 use Rattle.ganswer.specs.declared.fault.ServeFault.TheVariants as serve
 
@@ -36,7 +36,7 @@ module _ {W : Type 0} (contents passed_on : W → Option (List ℕ)) (is_down : 
 
   -- what was written by a writer that had not failed was passed on
   pub passed_pushed : PushesWritten contents passed_on is_down loans → (a b c : Writer W) (packets : List Packet)
-      (result : Result (Unit {0}) WriteFault) → WritesLines contents passed_on is_down loans a b (Ok tt) packets
+      (result : Result (Unit {0}) WriteFault) → WritesPackets contents passed_on is_down loans a b (Ok tt) packets
       → HasPushed contents passed_on is_down loans b c result
       → PassesPackets (output_of contents passed_on is_down a.sink c.sink) result packets
   passed_pushed pushes a b c packets (Ok done) wrote pushed =
@@ -46,7 +46,7 @@ module _ {W : Type 0} (contents passed_on : W → Option (List ℕ)) (is_down : 
 
   -- a write that failed, and whose fault is answered
   pub passed_failed : (a b : Writer W) (packets : List Packet) (fault : WriteFault) (result : Result (Unit {0}) WriteFault)
-      → a.failed ≡ false → WritesLines contents passed_on is_down loans a b (Err fault) packets
+      → a.failed ≡ false → WritesPackets contents passed_on is_down loans a b (Err fault) packets
       → IsErrAnd result (λ other. other ≡ fault) → PassesPackets (output_of contents passed_on is_down a.sink b.sink) result packets
   passed_failed a b packets fault (Ok done) ready wrote answered = absurd answered
   passed_failed a b packets fault (Err other) ready wrote answered =
@@ -54,7 +54,7 @@ module _ {W : Type 0} (contents passed_on : W → Option (List ℕ)) (is_down : 
 
 -- ---- what a client reads of a fault is short
 
-line_is_short : (fault : LineFault) → length (line_phrase fault) ≤ max_phrase
+line_is_short : (fault : PacketFault) → length (line_phrase fault) ≤ max_phrase
 line_is_short line.Memory = omega arith
 line_is_short fault = omega arith
 

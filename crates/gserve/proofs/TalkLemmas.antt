@@ -3,12 +3,12 @@ use Rattle.std.proofs.Common.{◌≡◌, ℕ, ◌<◌, ◌++◌, List, [], lengt
 use Rattle.std.proofs.Common.{subst, ◌∙◌, inl, inr, append-nil, ◌≤◌, ◌+◌, ◌∷◌, All, Err, ap, ap₂, append_assoc, arith}
 use Rattle.std.proofs.lemmas.Bool.{false≢true}
 use Rattle.std.specs.List.{flat_map}
-use Rattle.gpkt.specs.LineReading.{Reads, ReadsLines}
+use Rattle.gpkt.specs.PacketReading.{Reads, ReadsPackets}
 use Rattle.gpkt.specs.Packets.{Packet, canonical_all}
 use Rattle.gpkt.specs.Sending.{Input, IsUp}
 use Rattle.gpkt.specs.Laws.{SpellingsSplit}
-use Rattle.gpkt.specs.declared.fault.LineFault.TheVariants as line
-use Rattle.ggrammar.specs.MessageBytes.{known, IsFront, IsOfBytes, LawsOfBytes}
+use Rattle.gpkt.specs.declared.fault.PacketFault.TheVariants as line
+use Rattle.ggrammar.specs.MessageBytes.{known_bytes, IsFront, IsOfBytes, LawsOfBytes}
 use Rattle.ggrammar.specs.MessageReading.{IsReasonAfter, ReadsRefused, IsReadFailure}
 use Rattle.ggrammar.specs.declared.fault.MessageFault.{MessageFault}
 use Rattle.ggrammar.specs.declared.fault.Why.{Why}
@@ -30,7 +30,7 @@ use Rattle.gserve.specs.Conversations.{CannotBegin, Converses, HasEnded, max_req
 use Rattle.gpkt.specs.Sending.{rest_of}
 use Rattle.gserve.specs.Exchanges.{Turn, IsRefused, ReadsEmpty, ReadsTurns, Declines, IsTurn, RefusesToAnswer}
 use Rattle.gserve.specs.Exchanges.{RefusesToRead}
-use Rattle.gserve.specs.Talks.{Stops, Talks, giving, last_packets, EndsByOwnFault, HoldsNone, HoldsTurns, IsOwnFault}
+use Rattle.gserve.specs.Talks.{Stops, Talks, input_of_bytes, last_packets, EndsByOwnFault, HoldsNone, HoldsTurns, IsOwnFault}
 use Rattle.gserve.specs.Refusals.{err_packets}
 use Rattle.gserve.specs.Laws.{ServingIsTalking}
 use Rattle.gserve.specs.declared.connection.End.{End}
@@ -45,7 +45,7 @@ use Rattle.ganswer.proofs.LawLemmas.{none_absent}
 -- ---- what is left is known
 
 lines_left : (old : List ℕ) (new : Option (List ℕ)) (lines : List Packet)
-    → ReadsLines (record { old = Some old; new = new }) lines → (rest : List ℕ) × (new ≡ Some rest)
+    → ReadsPackets (record { old = Some old; new = new }) lines → (rest : List ℕ) × (new ≡ Some rest)
 lines_left old None lines h = absurd h
 lines_left old (Some rest) lines h = (rest, refl)
 
@@ -78,9 +78,9 @@ module _ {A : Type 0} (server : Server A) (fails : PackFails A) (old : List ℕ)
 
 -- an input of which both ends are known, and whose source is well
 settled : (Last : Input → Type 0) (input : Input) (left rest : List ℕ) → input.read.new ≡ Some rest → IsUp input
-    → Last (rest_of input (Some left)) → Last (record { read = known left rest; was_down = input.was_down; is_down = false })
+    → Last (rest_of input (Some left)) → Last (record { read = known_bytes left rest; was_down = input.was_down; is_down = false })
 settled Last input left rest is up h =
-    subst (λ (down : Bool). Last (record { read = known left rest; was_down = input.was_down; is_down = down })) up
+    subst (λ (down : Bool). Last (record { read = known_bytes left rest; was_down = input.was_down; is_down = down })) up
     (subst (λ (new : Option (List ℕ)). Last (record { read = record { old = Some left; new = new }; was_down = input.was_down; is_down = input.is_down })) is h)
 
 -- turns are held of known bytes, where what holds of the rest stops them
@@ -107,7 +107,7 @@ ended_at server fails requests turns input left (inl h) count =
     inl (subst (λ (n : ℕ). n < max_requests) count h.0, end_left left input.read.new h.1.ended)
 ended_at server fails requests turns input left (inr h) count = inr (sym count ∙ h.0)
 
-cannot : (input : Input) (bytes : List ℕ) (cause : ServeFault) → CannotBegin input cause → CannotBegin (giving bytes bytes) cause
+cannot : (input : Input) (bytes : List ℕ) (cause : ServeFault) → CannotBegin input cause → CannotBegin (input_of_bytes bytes bytes) cause
 cannot input bytes serve.Memory h = record { read = refl; down = refl }
 cannot input bytes (serve.Reader line.Memory) h = record { read = refl; down = refl }
 cannot input bytes cause h = absurd h
@@ -221,12 +221,12 @@ of_bytes cause h other = tt
 
 module _ {A : Type 0} (server : Server A) (fails : PackFails A) where
   data Refusal (bytes rest : List ℕ) : ServeFault → Type 0 where
-    reading : (cause : MessageFault) → IsOfBytes cause.why → RefusesToRead server.graph.format (giving bytes rest) cause
+    reading : (cause : MessageFault) → IsOfBytes cause.why → RefusesToRead server.graph.format (input_of_bytes bytes rest) cause
         → Refusal bytes rest (serve.Request cause)
-    answering : (cause : ServeFault) → ¬ IsOwnFault cause → RefusesToAnswer server fails (giving bytes rest) cause
+    answering : (cause : ServeFault) → ¬ IsOwnFault cause → RefusesToAnswer server fails (input_of_bytes bytes rest) cause
         → Refusal bytes rest cause
 
-  refusal_of : (bytes rest : List ℕ) (cause : ServeFault) → ¬ IsOwnFault cause → IsRefused server fails (giving bytes rest) cause
+  refusal_of : (bytes rest : List ℕ) (cause : ServeFault) → ¬ IsOwnFault cause → IsRefused server fails (input_of_bytes bytes rest) cause
       → Refusal bytes rest cause
   refusal_of bytes rest (serve.Request cause) own h = reading cause (of_bytes cause.why h.source own) h
   refusal_of bytes rest serve.NoWants own h = answering serve.NoWants own h
@@ -235,12 +235,12 @@ module _ {A : Type 0} (server : Server A) (fails : PackFails A) where
 
 -- ---- one request at the front of some bytes
 
-front_of : (bytes rest : List ℕ) (lines : List Packet) → ReadsLines (known bytes rest) lines → IsFront lines bytes rest
+front_of : (bytes rest : List ℕ) (lines : List Packet) → ReadsPackets (known_bytes bytes rest) lines → IsFront lines bytes rest
 front_of bytes rest lines h = record { front = h.0; parts = h.1; spelt = h.2 }
 
 module _ (format : Format) (laws : LawsOfBytes (judge format)) (meaning : OneMeaning (Says format)) (missing : IsMissingWhereEmpty format) where
   one_request : (bytes rest after : List ℕ) (lines others : List Packet) (one other : Asked)
-      → ReadsLines (known bytes rest) lines → Says format lines one → ReadsLines (known bytes after) others
+      → ReadsPackets (known_bytes bytes rest) lines → Says format lines one → ReadsPackets (known_bytes bytes after) others
       → Says format others other → (others ≡ lines) × (after ≡ rest) × (other ≡ one)
   one_request bytes rest after lines others one other read says next asks =
       let same = laws.no_other lines others bytes rest after says.whole (front_of bytes rest lines read) (record { whole = asks.whole; bytes = next }) in
@@ -248,20 +248,20 @@ module _ (format : Format) (laws : LawsOfBytes (judge format)) (meaning : OneMea
 
   -- a request is not refused as it is read
   not_unread : (bytes rest after : List ℕ) (lines : List Packet) (asked : Asked) (cause : MessageFault)
-      → ReadsLines (known bytes rest) lines → Says format lines asked → IsOfBytes cause.why
-      → RefusesToRead format (giving bytes after) cause → ⊥
+      → ReadsPackets (known_bytes bytes rest) lines → Says format lines asked → IsOfBytes cause.why
+      → RefusesToRead format (input_of_bytes bytes after) cause → ⊥
   not_unread bytes rest after lines asked cause read says certain h =
       laws.refused brings h.front lines bytes after rest cause h.refused certain (front_of bytes rest lines read) says.whole
 
   -- nor is it missing
-  not_missing : (bytes rest : List ℕ) (lines : List Packet) (asked : Asked) → ReadsLines (known bytes rest) lines
+  not_missing : (bytes rest : List ℕ) (lines : List Packet) (asked : Asked) → ReadsPackets (known_bytes bytes rest) lines
       → Says format lines asked → bytes ≡ [] → ⊥
   not_missing bytes rest lines asked read says none =
       laws.ended lines bytes [] rest (none, refl) (front_of bytes rest lines read) says.whole
 
   -- where there are no bytes, none is refused as it is read
   none_unread : (bytes after : List ℕ) (cause : MessageFault) → IsOfBytes cause.why
-      → RefusesToRead format (giving bytes after) cause → bytes ≡ [] → ⊥
+      → RefusesToRead format (input_of_bytes bytes after) cause → bytes ≡ [] → ⊥
   none_unread bytes after cause certain h none =
       let is = missing bytes after (Err cause) (h.front, h.refused) (certain, λ ended. let begun = h.begun ended in omega arith) in
       let read = is.1 none in
@@ -273,7 +273,7 @@ module _ {A : Type 0} (packs : Packs A) (fails : PackFails A) (server : Server A
     (meaning : OneMeaning (Says server.graph.format)) (missing : IsMissingWhereEmpty server.graph.format) where
   -- a request that is there is not refused but as it is answered, and then it asks the same
   refusal_asks : (bytes rest after : List ℕ) (lines : List Packet) (asked : Asked) (cause : ServeFault)
-      → ReadsLines (known bytes rest) lines → Says server.graph.format lines asked → Refusal server fails bytes after cause
+      → ReadsPackets (known_bytes bytes rest) lines → Says server.graph.format lines asked → Refusal server fails bytes after cause
       → Declines server fails asked cause × ¬ IsOwnFault cause
   refusal_asks bytes rest after lines asked fault read says (reading cause certain h) =
       absurd (not_unread server.graph.format laws meaning missing bytes rest after lines asked cause read says certain h)
@@ -341,7 +341,7 @@ module _ {A : Type 0} (packs : Packs A) (fails : PackFails A) (server : Server A
 
     -- a request that is answered does not stop it
     goes_on : (n : ℕ) (bytes rest : List ℕ) (turn : Turn) (ended : End) → n < max_requests
-        → ReadsLines (known bytes rest) turn.request → IsTurn server packs turn → Stops server fails n bytes ended
+        → ReadsPackets (known_bytes bytes rest) turn.request → IsTurn server packs turn → Stops server fails n bytes ended
         → ¬ EndsByOwnFault ended → ⊥
     goes_on n bytes rest turn end.Closed below read is (room, after, h) own =
         let same = one_request server.graph.format laws meaning missing bytes rest after turn.request h.packets turn.asked Empty read is.says h.lines h.says in
@@ -359,12 +359,12 @@ module _ {A : Type 0} (packs : Packs A) (fails : PackFails A) (server : Server A
     -- the first of some turns, and the others
     record Splits (bytes left : List ℕ) (turn : Turn) (turns : List Turn) : Type 0 where
       mid : List ℕ
-      read : ReadsLines (known bytes mid) turn.request
+      read : ReadsPackets (known_bytes bytes mid) turn.request
       is : IsTurn server packs turn
-      later : ReadsTurns server packs (known mid left) turns
+      later : ReadsTurns server packs (known_bytes mid left) turns
 
     split_first : SpellingsSplit → (bytes left : List ℕ) (turn : Turn) (turns : List Turn)
-        → ReadsTurns server packs (known bytes left) (turn ∷ turns) → Splits bytes left turn turns
+        → ReadsTurns server packs (known_bytes bytes left) (turn ∷ turns) → Splits bytes left turn turns
     split_first split bytes left turn turns h =
         let parts = split turn.request (flat_map (λ (t : Turn). t.request) turns) h.lines.0 h.lines.2 in record {
           mid = parts.1 ++ left;
@@ -382,22 +382,22 @@ module _ {A : Type 0} (packs : Packs A) (fails : PackFails A) (server : Server A
         ∙ ap₂ (λ (a : Asked) (r : Reply). turn_with u.request a r) (sym asked) (sym answer)
 
     -- the same turn is first
-    one_turn : HasOneAnswer server packs → (bytes rest after : List ℕ) (t u : Turn) → ReadsLines (known bytes rest) t.request
-        → IsTurn server packs t → ReadsLines (known bytes after) u.request → IsTurn server packs u → (t ≡ u) × (after ≡ rest)
+    one_turn : HasOneAnswer server packs → (bytes rest after : List ℕ) (t u : Turn) → ReadsPackets (known_bytes bytes rest) t.request
+        → IsTurn server packs t → ReadsPackets (known_bytes bytes after) u.request → IsTurn server packs u → (t ≡ u) × (after ≡ rest)
     one_turn answers bytes rest after t u read is next are =
         let same = one_request server.graph.format laws meaning missing bytes rest after t.request u.request t.asked u.asked read is.says next are.says in
         let answer : u.answer ≡ t.answer =
         answers t.asked u.answer t.answer (subst (λ (a : Asked). Answers server packs a u.answer) same.2 are.answers) is.answers in
         (same_turn t u same.0 same.2 answer, same.1)
 
-    nothing_left : (bytes left : List ℕ) → ReadsTurns server packs (known bytes left) [] → left ≡ bytes
+    nothing_left : (bytes left : List ℕ) → ReadsTurns server packs (known_bytes bytes left) [] → left ≡ bytes
     nothing_left bytes left h =
         let none : h.lines.0 ≡ [] = h.lines.2 in
         sym (h.lines.1 ∙ ap (λ (xs : List ℕ). xs ++ left) none)
 
     same_turns : HasOneAnswer server packs → SpellingsSplit → (before n m : ℕ) (turns others : List Turn) (bytes left rest : List ℕ)
         (ended last : End) → n ≡ before + length turns → m ≡ before + length others
-        → ReadsTurns server packs (known bytes left) turns → ReadsTurns server packs (known bytes rest) others
+        → ReadsTurns server packs (known_bytes bytes left) turns → ReadsTurns server packs (known_bytes bytes rest) others
         → Stops server fails n left ended → Stops server fails m rest last
         → ¬ EndsByOwnFault ended → ¬ EndsByOwnFault last → (turns ≡ others) × (ended ≡ last)
     same_turns answers split before n m [] [] bytes left rest ended last is are read next h k own other =
@@ -420,7 +420,7 @@ module _ {A : Type 0} (packs : Packs A) (fails : PackFails A) (server : Server A
         let first = split_first split bytes left t turns read in
         let second = split_first split bytes rest u others next in
         let same = one_turn answers bytes first.mid second.mid t u first.read first.is second.read second.is in
-        let later = subst (λ (xs : List ℕ). ReadsTurns server packs (known xs rest) others) same.1 second.later in
+        let later = subst (λ (xs : List ℕ). ReadsTurns server packs (known_bytes xs rest) others) same.1 second.later in
         let all = same_turns answers split (before + 1) n m turns others first.mid left rest ended last (omega arith) (omega arith)
         first.later later h k own other in
         (ap (λ (x : Turn). x ∷ turns) same.0 ∙ ap (λ (xs : List Turn). u ∷ xs) all.0, all.1)

@@ -8,7 +8,7 @@ use Rattle.gpkt.specs.Devices.{KeepsPassed}
 use Rattle.ggrammar.specs.declared.ends.Ends.{Ends}
 use Rattle.ghello.specs.Adverts.{canonical_advert}
 use Rattle.gobject.specs.Packs.{PackFails, Packs}
-use Rattle.ganswer.specs.Adverts.{advertised}
+use Rattle.ganswer.specs.Adverts.{advertisement}
 use Rattle.ganswer.specs.Servers.{Server}
 use Rattle.ganswer.specs.declared.fault.ServeFault.{ServeFault}
 use Rattle.ganswer.specs.declared.fault.ServeFault.TheVariants as serve
@@ -23,7 +23,7 @@ max_requests = 4294967295
 
 -- what a server of a format advertises
 unfoldable pub advert_packets : Format → List Packet
-advert_packets format = canonical_advert (advertised format)
+advert_packets format = canonical_advert (advertisement format)
 
 -- what is written for some turns: the advertisement, and the replies
 unfoldable pub talk : Format → Ends → List Turn → List Packet

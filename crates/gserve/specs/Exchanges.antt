@@ -3,9 +3,9 @@ use Rattle.std.specs.Prelude.{◌≡◌, ◌≢◌, ◌⊎◌, false, List, [], 
 use Rattle.gname.specs.declared.formats.Format.{Format}
 use Rattle.gpkt.specs.Sending.{Input, Output, IsUnread, IsUp, IsUnwritten, Passes, SendsSome}
 use Rattle.gpkt.specs.Packets.{Packet, canonical_all}
-use Rattle.gpkt.specs.declared.fault.LineFault.TheVariants.{Memory as NoBuffer}
+use Rattle.gpkt.specs.declared.fault.PacketFault.TheVariants.{Memory as NoBuffer}
 use Rattle.gpkt.specs.Change.{Change}
-use Rattle.gpkt.specs.LineReading.{Reads, ReadsLines}
+use Rattle.gpkt.specs.PacketReading.{Reads, ReadsPackets}
 use Rattle.gpkt.specs.Devices.{KeepsPassed}
 use Rattle.ggrammar.specs.MessageReading.{ReadsRefused, IsReadFailure}
 use Rattle.ggrammar.specs.declared.ends.Ends.{Ends}
@@ -47,12 +47,12 @@ module _ {A : Type 0} (server : Server A) (packs : Packs A) where
 
   -- the requests of these turns are read, one after the other
   pub record ReadsTurns (read : Change) (turns : List Turn) : Type 0 where
-    pub lines : ReadsLines read (flat_map (λ turn. turn.request) turns)
+    pub lines : ReadsPackets read (flat_map (λ turn. turn.request) turns)
     pub each : All IsTurn turns
 
   -- so is one, and the source is well
   pub record ReadsTurn (input : Input) (turn : Turn) : Type 0 where
-    pub lines : ReadsLines input.read turn.request
+    pub lines : ReadsPackets input.read turn.request
     pub is_turn : IsTurn turn
     pub up : IsUp input
 
@@ -61,7 +61,7 @@ module _ {A : Type 0} (server : Server A) (packs : Packs A) where
 -- the lone flush is read, with which a client ends the conversation
 pub record ReadsEmpty (format : Format) (input : Input) : Type 0 where
   pub packets : List Packet
-  pub lines : ReadsLines input.read packets
+  pub lines : ReadsPackets input.read packets
   pub says : Says format packets Empty
   pub up : IsUp input
 
@@ -91,7 +91,7 @@ module _ {A : Type 0} (server : Server A) (fails : PackFails A) where
   pub record RefusesToAnswer (input : Input) (fault : ServeFault) : Type 0 where
     pub packets : List Packet
     pub asked : Asked
-    pub lines : ReadsLines input.read packets
+    pub lines : ReadsPackets input.read packets
     pub says : Says server.graph.format packets asked
     pub declines : Declines server fails asked fault
     pub up : IsUp input

@@ -1,5 +1,6 @@
 pub mod Conversations
 pub mod Exchanges
+pub mod GitConnections
 pub mod Laws
 pub mod Packings
 pub mod Refusals

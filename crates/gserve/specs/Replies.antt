@@ -1,9 +1,9 @@
 -- Writing a reply of a server, apart from a connection (gitprotocol-v2(5), "Command Request").
 use Rattle.std.specs.Prelude.{◌≡◌, ℕ, Bool, List, Option, Result, Ok}
-use Rattle.gpkt.specs.LineWriting.{Writer}
+use Rattle.gpkt.specs.PacketWriting.{Writer}
 use Rattle.gpkt.specs.declared.fault.WriteFault.{WriteFault}
 use Rattle.gpkt.specs.Packets.{Bytes}
-use Rattle.ggrammar.specs.Writing.{WritesLines}
+use Rattle.ggrammar.specs.Writing.{WritesPackets}
 use Rattle.ggrammar.specs.declared.ends.Ends.{Ends}
 use Rattle.ganswer.specs.Answers.{Reply, Nothing}
 use Rattle.gserve.specs.Exchanges.{reply_packets}
@@ -17,4 +17,4 @@ module _
     abbrev pub WritesReply : Ends → Reply → Writer W → Writer W → Result (Unit {0}) WriteFault → Type 0
     WritesReply ends Nothing old new result = (result ≡ Ok tt) × (new ≡ old)
     WritesReply ends reply old new result =
-        WritesLines contents_of passed_on_of is_down loans_of old new result (reply_packets ends reply)
+        WritesPackets contents_of passed_on_of is_down loans_of old new result (reply_packets ends reply)

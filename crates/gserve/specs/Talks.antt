@@ -3,7 +3,7 @@
 use Rattle.std.specs.Prelude.{◌≡◌, ℕ, ◌<◌, ◌⊎◌, ⊤, false, List, [], ◌++◌, length}
 use Rattle.gpkt.specs.Packets.{Bytes, Packet, canonical_all}
 use Rattle.gpkt.specs.Sending.{Input}
-use Rattle.ggrammar.specs.MessageBytes.{known}
+use Rattle.ggrammar.specs.MessageBytes.{known_bytes}
 use Rattle.ggrammar.specs.declared.ends.Ends.{Ends}
 use Rattle.ggrammar.specs.declared.fault.Why.TheVariants as why
 use Rattle.gobject.specs.Packs.{PackFails, Packs}
@@ -17,8 +17,8 @@ use Rattle.gserve.specs.declared.connection.End.{End}
 use Rattle.gserve.specs.declared.connection.End.TheVariants as end
 
 -- a source that does not fail: it gives the front of these bytes, and the rest is still to come
-abbrev pub giving : Bytes → Bytes → Input
-giving bytes rest = record { read = known bytes rest; was_down = false; is_down = false }
+abbrev pub input_of_bytes : Bytes → Bytes → Input
+input_of_bytes bytes rest = record { read = known_bytes bytes rest; was_down = false; is_down = false }
 
 -- what is written last: the packet of a refusal
 abbrev pub last_packets : End → List Packet
@@ -30,16 +30,16 @@ module _ {A : Type 0} (server : Server A) (fails : PackFails A) where
   -- bytes, or there may be no more requests; or the next is refused.
   abbrev pub Stops : ℕ → Bytes → End → Type 0
   Stops requests left end.Closed =
-      (requests < max_requests) × (rest : Bytes) × ReadsEmpty server.graph.format (giving left rest)
+      (requests < max_requests) × (rest : Bytes) × ReadsEmpty server.graph.format (input_of_bytes left rest)
   Stops requests left end.Ended = ((requests < max_requests) × (left ≡ [])) ⊎ (requests ≡ max_requests)
   Stops requests left (end.Refused fault) =
-      (requests < max_requests) × (rest : Bytes) × IsRefused server fails (giving left rest) fault
+      (requests < max_requests) × (rest : Bytes) × IsRefused server fails (input_of_bytes left rest) fault
   Stops requests left end.WriteFailed = ⊥
 
 -- it is out of memory at the start, and the packet that reports so is all that is written
 abbrev pub HoldsNone : Bytes → Bytes → End → Type 0
 HoldsNone bytes written (end.Refused fault) =
-    CannotBegin (giving bytes bytes) fault × (written ≡ canonical_all (err_packets fault))
+    CannotBegin (input_of_bytes bytes bytes) fault × (written ≡ canonical_all (err_packets fault))
 HoldsNone bytes written _ = ⊥
 
 module _ {A : Type 0} (server : Server A) (packs : Packs A) (fails : PackFails A) (ends : Ends) where
@@ -48,7 +48,7 @@ module _ {A : Type 0} (server : Server A) (packs : Packs A) (fails : PackFails A
   pub record HoldsTurns (bytes written : Bytes) (ended : End) : Type 0 where
     pub turns : List Turn
     pub left : Bytes
-    pub read : ReadsTurns server packs (known bytes left) turns
+    pub read : ReadsTurns server packs (known_bytes bytes left) turns
     pub stops : Stops server fails (length turns) left ended
     pub all : written ≡ talk_bytes server.graph.format ends turns ++ canonical_all (last_packets ended)
 

@@ -14,44 +14,46 @@ use ganswer::{OnePack, ServeFault, Server};
 use ggrammar::Ends;
 use ggraph::Packer;
 use gpkt::laws::{canonical_spells, reads_join};
-use gpkt::{LineBuffer, LineReader, LineWriter, Sink, Source};
+use gpkt::{PacketBuffer, PacketReader, PacketWriter, Sink, Source};
 use std::alloc::Allocator;
 
-/// The most requests of a connection. Then nothing more is read, as at the end of the input.
+/// The maximum number of requests of a connection. After them nothing more is read, as at the end
+/// of the input.
 pub const MAX_REQUESTS: u32 = u32::MAX;
 
 /// How a connection ended.
 #[derive(Debug, Drop)]
 pub enum End {
-    /// The client ended it, with a lone flush.
+    /// The client ended it, with a lone flush packet.
     Closed,
-    /// The input ended before a request, or there were [`MAX_REQUESTS`] of them.
+    /// The input ended before a request, or there were [`MAX_REQUESTS`] requests.
     Ended,
-    /// The packet that reports the refusal is the last thing written, and is passed on.
+    /// A request was refused. The error packet for it was written last, and flushed.
     Refused(ServeFault),
-    /// 27: the sink failed. A beginning of what was to be written stands.
+    /// 27: the sink failed. A prefix of the next message was written.
     WriteFailed,
 }
 
 /// A connection that was served.
 #[derive(Debug, Drop)]
 pub struct Served {
-    /// How many replies were written and passed on.
+    /// The number of replies written and flushed.
     pub requests: u32,
     /// How it ended.
     pub end: End,
 }
 
-/// Serves one connection: writes the advertisement, and then reads and answers one request after the other
-/// (gitprotocol-v2(5), "Capability Advertisement", "Command Request"). What is written is passed on after the
-/// advertisement, after each reply and after the packet of a refusal. The server stays as it is.
+/// Serves one connection: writes the advertisement, and then reads requests one by one and replies
+/// to each (gitprotocol-v2(5), "Capability Advertisement", "Command Request"). It flushes after the
+/// advertisement, after each reply and after an error packet. The server is unchanged.
 ///
-/// It ends where the client ends it, where the input ends before a request, at the first refusal,
-/// whose packet is written last, or where the sink fails. Where it is out of memory at the start,
-/// the packet that reports so is all that is written, and nothing is read.
+/// The connection ends if the client ends it, if the input ends before a request, at the first
+/// refusal, whose packet is written last, or if the sink fails. If it is out of memory at the
+/// start, only the packet that reports this is written, and nothing is read.
 ///
-/// A fault of the packer is reported as the packer gave it, and it ends the connection. Each request asks the packer at
-/// most once, and any other fault, such as out of memory, is reported only where the last request did not ask it.
+/// A fault of the packer is reported as the packer returned it, and ends the connection. Each
+/// request asks the packer at most once. Any other fault, such as out of memory, is reported only
+/// if the last request did not ask the packer.
 pub fn serve<S: Source, W: Sink, A: Allocator + Copy, K: Packer<A>>(
     server: &Server<A>,
     packer: &mut OnePack<'_, K>,
@@ -68,7 +70,7 @@ pub fn serve<S: Source, W: Sink, A: Allocator + Copy, K: Packer<A>>(
     ensures source_loans { S.loans source.new ≡ S.loans source.old }
     ensures sink_loans { W.loans sink.new ≡ W.loans sink.old }
 {
-    let mut writer = LineWriter::new(sink);
+    let mut writer = PacketWriter::new(sink);
     let served = serve_to(server, packer, ends, source, &mut writer);
     let _sink = writer.into_inner();
     served
@@ -80,7 +82,7 @@ fn serve_to<S: Source, W: Sink, A: Allocator + Copy, K: Packer<A>>(
     packer: &mut OnePack<'_, K>,
     ends: Ends,
     source: &mut S,
-    writer: &mut LineWriter<W>,
+    writer: &mut PacketWriter<W>,
 ) -> Served
     requires writer { writer.old.failed ≡ false }
     requires unasked { packer.old.answered ≡ Unasked }
@@ -93,26 +95,26 @@ fn serve_to<S: Source, W: Sink, A: Allocator + Copy, K: Packer<A>>(
     ensures source_loans { S.loans source.new ≡ S.loans source.old }
     ensures sink_loans { W.loans writer.new.sink ≡ W.loans writer.old.sink }
 {
-    let buffer = match LineBuffer::new(server.graph().allocator()) {
+    let buffer = match PacketBuffer::new(server.graph().allocator()) {
         Ok(buffer) => buffer,
         Err(fault) => {
             let end = refuse_first(ServeFault::Reader(fault), writer);
             return Served { requests: 0, end };
         }
     };
-    let mut reader = LineReader::with_buffer(buffer, source);
+    let mut reader = PacketReader::with_buffer(buffer, source);
     let served = converse(server, packer, ends, &mut reader, writer);
     let _source = reader.into_inner();
     served
 }
 
-// Advertises, and answers all requests.
+// Advertises, and replies to all requests.
 fn converse<S: Source, W: Sink, A: Allocator + Copy, K: Packer<A>>(
     server: &Server<A>,
     packer: &mut OnePack<'_, K>,
     ends: Ends,
-    reader: &mut LineReader<S, A>,
-    writer: &mut LineWriter<W>,
+    reader: &mut PacketReader<S, A>,
+    writer: &mut PacketWriter<W>,
 ) -> Served
     requires reader { reader.old.failed ≡ false }
     requires writer { writer.old.failed ≡ false }
@@ -132,14 +134,14 @@ fn converse<S: Source, W: Sink, A: Allocator + Copy, K: Packer<A>>(
     }
 }
 
-// Answers one request after the other, of a connection that began at another state of the sink, from which the
-// advertisement was passed on.
+// Replies to one request after the other. The connection began at another state of the sink, and
+// flushed the advertisement from there.
 fn answer_each<S: Source, W: Sink, A: Allocator + Copy, K: Packer<A>>(
     server: &Server<A>,
     packer: &mut OnePack<'_, K>,
     ends: Ends,
-    reader: &mut LineReader<S, A>,
-    writer: &mut LineWriter<W>,
+    reader: &mut PacketReader<S, A>,
+    writer: &mut PacketWriter<W>,
 ) -> Served
     requires reader { reader.old.failed ≡ false }
     requires writer { writer.old.failed ≡ false }
@@ -171,7 +173,7 @@ fn answer_each<S: Source, W: Sink, A: Allocator + Copy, K: Packer<A>>(
     }
 }
 
-// How a connection ends with an exchange.
+// Returns how a connection ends after an exchange, or `None` if it goes on.
 fn end_after(exchange: ExchangeEnd) -> Option<End>
     ensures { result ≡ end_after exchange }
 {
@@ -184,10 +186,10 @@ fn end_after(exchange: ExchangeEnd) -> Option<End>
     }
 }
 
-// Makes and sends the advertisement, or the packet of a refusal in its place.
+// Makes and sends the advertisement, or the error packet in its place.
 fn advertise<W: Sink, A: Allocator + Copy>(
     server: &Server<A>,
-    writer: &mut LineWriter<W>,
+    writer: &mut PacketWriter<W>,
 ) -> Result<(), End>
     requires { writer.old.failed ≡ false }
     ensures advertises { Advertises server.now.graph.format
@@ -205,8 +207,8 @@ fn advertise<W: Sink, A: Allocator + Copy>(
     }
 }
 
-// Reports that it is out of memory at the start.
-fn refuse_first<W: Sink>(fault: ServeFault, writer: &mut LineWriter<W>) -> End
+// Reports out of memory at the start.
+fn refuse_first<W: Sink>(fault: ServeFault, writer: &mut PacketWriter<W>) -> End
     requires { writer.old.failed ≡ false }
     ensures refused { RefusesFirst fault (output_of W.contents W.passed_on W.is_down
         writer.old.sink writer.new.sink) result }

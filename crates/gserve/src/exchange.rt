@@ -1,4 +1,4 @@
-//! One request, read and answered.
+//! One request and its reply.
 
 ghost use Rattle.std.specs.Prelude.{◌≡◌, ◌≢◌, false};
 ghost use Rattle.gpkt.specs.Sending.{input_of, output_of};
@@ -12,32 +12,33 @@ use crate::send::{send_fetch_reply, send_ls_answer, send_refusal};
 use ganswer::{OnePack, ServeFault, Server};
 use ggrammar::Ends;
 use ggraph::Packer;
-use gpkt::{LineBuffer, LineReader, LineWriter, Sink, Source, WriteFault};
+use gpkt::{PacketBuffer, PacketReader, PacketWriter, Sink, Source, WriteFault};
 use grequest::{Request, read_request_in};
 use std::alloc::Allocator;
 
 /// How an exchange ended.
 #[derive(Debug, Drop)]
 pub enum ExchangeEnd {
-    /// The reply is written and passed on.
+    /// The reply was written and flushed.
     Answered,
-    /// The request was a lone flush; nothing is written.
+    /// The request was a lone flush packet; nothing was written.
     Closed,
-    /// The input ended before the request; nothing is written.
+    /// The input ended before the request; nothing was written.
     Ended,
-    /// The packet that reports the refusal is written and passed on.
+    /// The request was refused. The packet that reports this was written and flushed.
     Refused(ServeFault),
-    /// 27: the sink failed. A beginning of what was to be written stands.
+    /// 27: the sink failed. A prefix of the reply was written.
     WriteFailed,
 }
 
-/// Reads one request and writes what answers it, with no advertisement before it
-/// (gitprotocol-v2(5), "Command Request"). Nothing after the request's last packet is read. Where
-/// it is out of memory for the reader's buffer nothing is read, and that is reported. A request for
-/// refs takes no memory once it is read, and is answered. A fault of the packer is reported as the packer gave it, and
-/// any other fault, such as out of memory, only where the packer was not asked.
+/// Reads one request and writes the reply to it, without an advertisement before it
+/// (gitprotocol-v2(5), "Command Request"). Nothing after the request's last packet is read. If it
+/// is out of memory for the reader's buffer, nothing is read, and this is reported. The reply to a
+/// request for refs takes no memory once the request is read. A fault of the packer is reported as
+/// the packer returned it. Any other fault, such as out of memory, is reported only if the packer
+/// was not asked.
 ///
-/// The source is well where the request was answered, and where there was none.
+/// The source has not failed if the request got a reply, or if there was no request.
 pub fn serve_one<S: Source, W: Sink, A: Allocator + Copy, K: Packer<A>>(
     server: &Server<A>,
     packer: &mut OnePack<'_, K>,
@@ -55,19 +56,19 @@ pub fn serve_one<S: Source, W: Sink, A: Allocator + Copy, K: Packer<A>>(
     ensures source_loans { S.loans source.new ≡ S.loans source.old }
     ensures sink_loans { W.loans sink.new ≡ W.loans sink.old }
 {
-    let mut writer = LineWriter::new(sink);
+    let mut writer = PacketWriter::new(sink);
     let ended = serve_one_to(server, packer, ends, source, &mut writer);
     let _sink = writer.into_inner();
     ended
 }
 
-// Answers one request to a writer.
+// Replies to one request, to a writer.
 fn serve_one_to<S: Source, W: Sink, A: Allocator + Copy, K: Packer<A>>(
     server: &Server<A>,
     packer: &mut OnePack<'_, K>,
     ends: Ends,
     source: &mut S,
-    writer: &mut LineWriter<W>,
+    writer: &mut PacketWriter<W>,
 ) -> ExchangeEnd
     requires writer { writer.old.failed ≡ false }
     requires unasked { packer.old.answered ≡ Unasked }
@@ -80,23 +81,24 @@ fn serve_one_to<S: Source, W: Sink, A: Allocator + Copy, K: Packer<A>>(
     ensures source_loans { S.loans source.new ≡ S.loans source.old }
     ensures sink_loans { W.loans writer.new.sink ≡ W.loans writer.old.sink }
 {
-    let buffer = match LineBuffer::new(server.graph().allocator()) {
+    let buffer = match PacketBuffer::new(server.graph().allocator()) {
         Ok(buffer) => buffer,
         Err(fault) => return refuse(ServeFault::Reader(fault), writer),
     };
-    let mut reader = LineReader::with_buffer(buffer, source);
+    let mut reader = PacketReader::with_buffer(buffer, source);
     let ended = exchange(server, packer, ends, &mut reader, writer);
     let _source = reader.into_inner();
     ended
 }
 
-/// Reads one request and writes what answers it. After an answer both the reader and the writer go on.
+/// Reads one request and writes the reply to it. After a reply both the reader and the writer go
+/// on.
 pub(crate) fn exchange<S: Source, W: Sink, A: Allocator + Copy, K: Packer<A>>(
     server: &Server<A>,
     packer: &mut OnePack<'_, K>,
     ends: Ends,
-    reader: &mut LineReader<S, A>,
-    writer: &mut LineWriter<W>,
+    reader: &mut PacketReader<S, A>,
+    writer: &mut PacketWriter<W>,
 ) -> ExchangeEnd
     requires reader { reader.old.failed ≡ false }
     requires writer { writer.old.failed ≡ false }
@@ -120,13 +122,13 @@ pub(crate) fn exchange<S: Source, W: Sink, A: Allocator + Copy, K: Packer<A>>(
     }
 }
 
-// Answers a request that was read.
+// Replies to a request that was read.
 fn reply<W: Sink, A: Allocator + Copy, K: Packer<A>>(
     server: &Server<A>,
     packer: &mut OnePack<'_, K>,
     ends: Ends,
     request: &Request<A>,
-    writer: &mut LineWriter<W>,
+    writer: &mut PacketWriter<W>,
 ) -> ExchangeEnd
     requires writer { writer.old.failed ≡ false }
     requires unasked { packer.old.answered ≡ Unasked }
@@ -159,7 +161,7 @@ fn end_of(sent: Result<(), WriteFault>) -> ExchangeEnd
 }
 
 /// Reports a refusal.
-pub(crate) fn refuse<W: Sink>(fault: ServeFault, writer: &mut LineWriter<W>) -> ExchangeEnd
+pub(crate) fn refuse<W: Sink>(fault: ServeFault, writer: &mut PacketWriter<W>) -> ExchangeEnd
     requires { writer.old.failed ≡ false }
     ensures refused { ReportsRefusal fault (output_of W.contents W.passed_on W.is_down
         writer.old.sink writer.new.sink) result }

@@ -1,4 +1,4 @@
-//! The laws of conversations: functions without effect, whose contracts they are.
+//! The laws of conversations: functions without effect, which exist for their contracts.
 
 ghost use Rattle.std.specs.Prelude.{◌≡◌};
 ghost use Rattle.gserve.specs.Laws.{ServingIsTalking, TalksAreOne};
@@ -19,16 +19,15 @@ pub fn limits_are_the_constants()
     ensures text { MAX_ERR_TEXT ≡ max_err_text }
 {}
 
-/// A connection is a conversation over the bytes of its source, where these are known and neither the source nor the
-/// sink failed. All that is written in it is passed on.
+/// A connection is a conversation over the bytes of its source, if these are known and neither the
+/// source nor the sink failed. All of its output is flushed.
 pub fn serving_is_talking<A: Allocator + Copy, K: Packer<A>>()
     ensures { (packer : K) → ServingIsTalking A (K.packs packer) (K.pack_fails packer) }
 {}
 
-/// What a client sends to a server that packs by a faithful packer says what is written to it, and
-/// how the conversation ends, unless it is out of memory or the packer fails. (Another packer may
-/// have several packs for the same objects, and the bytes of a client do not say which of them is
-/// sent.)
+/// If a server's packer is faithful, the bytes of a client determine what is written to it and how
+/// the conversation ends, unless it is out of memory or the packer fails. (Another packer may have
+/// several packs for the same objects. Then the client's bytes do not say which of them is sent.)
 pub fn talks_are_one<A: Allocator + Copy, K: Faithful<A>>(packer: &K)
     ensures { TalksAreOne A (K.packs packer.now) (K.pack_fails packer.now) }
 {

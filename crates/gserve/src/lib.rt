@@ -1,64 +1,78 @@
-//! Served connections of Git's fetch service, protocol version 2 (gitprotocol-v2(5)): the advertisement, and then the
-//! answer to each request; or one request alone.
+//! Served connections of Git's fetch service, protocol version 2 (gitprotocol-v2(5)). A connection
+//! is the advertisement and then a reply to each request, or one request alone. A connection of the
+//! `git://` transport has a first line before all that (gitprotocol-pack(5), "Git Transport").
 //!
 //! # Proved
 //!
-//! - [`serve`] holds a conversation (`specs/Conversations.antt`). The requests that are read are those that the bytes
-//!   spell, in whatever pieces they come, and nothing after the last packet of a request is read. Each is answered as
-//!   `ganswer` says, for any packer; a request for refs always is, since its reply takes no memory. What is written is
-//!   the advertisement and these replies in their one spelling, and all of it is passed on.
-//!   [`Served::requests`](Served) counts the replies.
-//! - All that is due is passed on before anything more is read: where the sink fails, also as it passes a reply on,
-//!   nothing after the request of that reply was read, and before the first request nothing at all.
-//! - It ends with the client's lone flush; where the input ends before a request, or there were
-//!   [`MAX_REQUESTS`]; at the first request that is refused, whose packet is then the last thing
-//!   written, and is passed on; or where the sink fails. The fault is the one of the request's
-//!   grammar, of the server's answer, or the source's.
-//! - Where the packer fails its fault is the one that is reported, and out of memory never in its place
-//!   (`specs/Packings.antt`). [`serve`] and [`serve_one`] take the packer with a record of what it answered
-//!   ([`OnePack`]), and any other fault is reported only where the last request did not ask it.
-//! - Where it is out of memory for the buffer or for the advertisement, the packet that reports so
-//!   stands in the advertisement's place, and nothing is read.
-//! - Where the sink fails a beginning of what was due stands written: of the advertisement, of a
-//!   reply, or of the packet of a refusal that was due. Each reply that counts was passed on, and
-//!   stays so.
-//! - At each end it is known whether the source and the sink have failed.
-//! - [`serve_one`] does the same for one request, with no advertisement (`specs/Exchanges.antt`).
-//! - [`write_reply`] writes a reply in its one list of packets, or a beginning of it where the sink fails.
+//! - [`serve`] holds a conversation (`specs/Conversations.antt`). The bytes determine the requests,
+//!   in whatever pieces they arrive. Nothing after the last packet of a request is read. Each
+//!   request gets the reply of `ganswer`, for any packer. A request for refs always gets one, since
+//!   its reply takes no memory. It writes the advertisement and these replies in their one
+//!   spelling, and flushes all of it. [`Served::requests`](Served) counts the replies.
+//! - The advertisement and each reply are flushed before anything more is read. If the sink fails
+//!   at a reply, even while flushing it, nothing after the request of that reply was read. If it
+//!   fails at the advertisement, nothing at all was read.
+//! - A connection ends with the client's lone flush packet, if the input ends before a request,
+//!   after [`MAX_REQUESTS`] requests, or if the sink fails. It also ends at the first request that
+//!   is refused. The error packet for it is written last, and is flushed. The fault is that of the
+//!   request's grammar, of the server's answer, or of the source.
+//! - If the packer fails, its fault is the one reported, and never out of memory in its place
+//!   (`specs/Packings.antt`). [`serve`], [`serve_one`] and [`serve_git`] take the packer with a
+//!   record of its results ([`OnePack`]). Any other fault is reported only if the last request did
+//!   not ask the packer.
+//! - If it is out of memory for the buffer or for the advertisement, the packet that reports this
+//!   replaces the advertisement, and nothing is read.
+//! - If the sink fails, a prefix of the next message was written: the advertisement, a reply, or
+//!   the error packet. Each counted reply was flushed.
+//! - Each ending says whether the source and the sink have failed.
+//! - [`serve_one`] does the same for one request, without an advertisement
+//!   (`specs/Exchanges.antt`).
+//! - [`serve_git`] reads the first line of a `git://` connection, and nothing after it before the
+//!   advertisement is flushed (`specs/GitConnections.antt`). If the line asks for the served path,
+//!   byte for byte, the rest is a conversation as for [`serve`]. If the line asks for another path
+//!   or is refused, a packet that says so replaces the advertisement and is flushed. Nothing more
+//!   is read. If the sink fails, a prefix of that packet was written. [`GitEnd`] says which it was.
+//! - If it is out of memory before the first line, nothing is read. The packet that says so is
+//!   still written, as it takes no memory. [`hear`] reads a first line alone.
+//! - [`write_reply`] writes a reply in its one list of packets, or a prefix of it if the sink
+//!   fails.
 //! - [`err_text`] writes the text of a fault, at most 128 bytes, and nothing after it.
-//! - [`laws`]: where bytes are known, the source is well and the connection did not end by its
-//!   sink, it is a conversation over the bytes alone (`specs/Talks.antt`). Where the packer is
-//!   faithful, the bytes of a client say what is written to it and how the conversation ends,
+//! - [`laws`]: a connection is a conversation over the bytes alone (`specs/Talks.antt`), if the
+//!   bytes are known, the source has not failed and the sink did not end it. If the packer is
+//!   faithful, a client's bytes determine what is written to it and how the conversation ends,
 //!   unless it is out of memory or the packer fails.
-//! - No call panics, overflows or reads out of bounds, and each returns where each call of its devices does.
+//! - No call panics, overflows or reads out of bounds. Each returns if each call of its devices
+//!   does.
 //!
 //! # Only tested
 //!
-//! By the cases of `conformance`: that memory which is there is used.
+//! The cases of `conformance` test that available memory is used.
 //!
 //! # What the contracts do not rule out
 //!
-//! - Where the bytes of a source or of a sink are not known, nothing is said of those that were
-//!   read or written; how many requests were answered, how it ended, and whether a device has
-//!   failed is said all the same.
-//! - Where the sink fails, a shorter beginning may stand written, and more than the replies that
-//!   count may have been passed on.
-//! - It may report out of memory without need in place of the reply to a fetch whose wants are all
-//!   held, where the packer was not asked; while it reads a request, at a packet that brings
-//!   something to keep; and in place of the advertisement. At the start, faults 64 and 28 may stand
-//!   for each other: both say that nothing was read.
-//! - It may take as long as it likes, pass on more often, and write a part of a packet, such as the
+//! - If the bytes of a source or of a sink are not known, nothing is said about the bytes read or
+//!   written. The number of replies, the ending, and whether a device has failed are stated all the
+//!   same.
+//! - If the sink fails, a shorter prefix may have been written, and more than the counted replies
+//!   may have been flushed.
+//! - It may report out of memory without need: in place of the advertisement, and in place of the
+//!   reply to a fetch whose wants are all held, if the packer was not asked. It may also do so at a
+//!   packet of a first line or a request that brings something to keep. At the start, faults 64 and
+//!   28 may replace each other: both say that nothing was read.
+//! - It may take as long as it likes, flush more often, and write a part of a packet, such as the
 //!   digits of an id, in several calls.
 //!
 //! # Stands on
 //!
-//! `ganswer` for the server and its answers; `grequest`, `glsreply`, `gfetchreply` and `ghello` for the messages,
-//! `ggrammar` and `gpkt` for what these share, `ggraph` for packers, `gname` for the digits of an id, `arrayvec` for a
-//! text of bounded length.
+//! `ganswer` for the server and its answers; `grequest`, `glsreply`, `gfetchreply` and `ghello` for
+//! the messages, `ggrammar` and `gpkt` for what these share. `ggraph` for packers, `gname` for the
+//! digits of an id, `arrayvec` for a text of bounded length.
 #![tactic(auto)]
 
 mod connection;
+mod error_line;
 mod exchange;
+mod git_transport;
 pub mod laws;
 mod refusal;
 mod send;
@@ -66,6 +80,7 @@ mod write;
 
 pub use crate::connection::{End, MAX_REQUESTS, Served, serve};
 pub use crate::exchange::{ExchangeEnd, serve_one};
+pub use crate::git_transport::{Export, GitEnd, hear, serve_git};
 pub use crate::refusal::{MAX_ERR_TEXT, err_text};
 pub use crate::write::write_reply;
 pub use ganswer::{BuildFault, OnePack, Packing, Reply, ServeFault, Server};

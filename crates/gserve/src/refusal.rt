@@ -1,7 +1,7 @@
-//! What a client reads of a refusal (gitprotocol-pack(5), "error-line").
+//! The text of a refusal, as a client reads it (gitprotocol-pack(5), "error-line").
 
 ghost use Rattle.std.specs.Prelude.{◌≡◌, ◌≤◌, ◌+◌, ◌++◌, drop, length, take};
-ghost use Rattle.ggrammar.specs.Writing.{WritesLines};
+ghost use Rattle.ggrammar.specs.Writing.{WritesPackets};
 ghost use Rattle.ganswer.specs.Faults.{serve_fault_row};
 ghost use Rattle.gserve.specs.Refusals.{detail_of, err_packets, err_text, max_err_text};
 ghost use Rattle.gserve.specs.steps.Connections.{max_detail, max_phrase};
@@ -9,14 +9,14 @@ ghost use Rattle.gserve.specs.steps.Connections.{max_detail, max_phrase};
 use arrayvec::ArrayVec;
 use ganswer::ServeFault;
 use ggrammar::compose::{add, add_id};
-use ggrammar::laws::writes_lines;
-use gpkt::{LineWriter, Sink, WriteFault};
+use ggrammar::laws::writes_packets;
+use gpkt::{PacketWriter, Sink, WriteFault};
 
-/// The most bytes of a refusal's text.
+/// The maximum length in bytes of a refusal's text.
 pub const MAX_ERR_TEXT: usize = 128;
 
-/// Writes the text of a refusal into the front of the buffer, and answers how many bytes that are. The rest of the
-/// buffer stays as it is. It takes no memory.
+/// Writes the text of a refusal at the start of the buffer, and returns its length. The rest of the
+/// buffer is unchanged. Allocates nothing.
 pub fn err_text(fault: &ServeFault, out: &mut [u8; MAX_ERR_TEXT]) -> usize
     ensures few { result ≤ max_err_text }
     ensures text { take result out.new ≡ err_text fault.now }
@@ -28,7 +28,7 @@ pub fn err_text(fault: &ServeFault, out: &mut [u8; MAX_ERR_TEXT]) -> usize
     len
 }
 
-// The text of a refusal.
+// Returns the text of a refusal.
 #[tactic(auto, unfolding(crate::specs::Refusals::err_text))]
 fn text_of(fault: &ServeFault) -> ArrayVec<u8, MAX_ERR_TEXT>
     ensures text { result.items ≡ err_text fault.now }
@@ -41,7 +41,7 @@ fn text_of(fault: &ServeFault) -> ArrayVec<u8, MAX_ERR_TEXT>
     text
 }
 
-// Why the request is refused, in a client's words.
+// Appends the reason of the refusal, in words for the client.
 #[tactic(auto, using(crate::proofs::SendingLemmas::phrase_is_short))]
 fn add_phrase(fault: &ServeFault, text: &mut ArrayVec<u8, MAX_ERR_TEXT>)
     requires { length text.old.items + max_phrase ≤ max_err_text }
@@ -51,7 +51,7 @@ fn add_phrase(fault: &ServeFault, text: &mut ArrayVec<u8, MAX_ERR_TEXT>)
     add(fault.phrase().as_bytes(), text);
 }
 
-// A want that is not held is named by its id.
+// Appends the id of a want that is not held.
 fn add_detail(fault: &ServeFault, text: &mut ArrayVec<u8, MAX_ERR_TEXT>)
     requires { length text.old.items + max_detail ≤ max_err_text }
     ensures text { text.new.items ≡ text.old.items ++ detail_of fault.now }
@@ -63,16 +63,16 @@ fn add_detail(fault: &ServeFault, text: &mut ArrayVec<u8, MAX_ERR_TEXT>)
     }
 }
 
-/// Writes the packet of a refusal. It takes no memory.
+/// Writes the error packet. Allocates nothing.
 pub(crate) fn write_refusal<W: Sink>(
     fault: &ServeFault,
-    writer: &mut LineWriter<W>,
+    writer: &mut PacketWriter<W>,
 ) -> Result<(), WriteFault>
-    ensures { WritesLines W.contents W.passed_on W.is_down W.loans writer.old writer.new result
+    ensures { WritesPackets W.contents W.passed_on W.is_down W.loans writer.old writer.new result
         (err_packets fault.now) }
 {
     // Laws.
-    writes_lines::<W>();
+    writes_packets::<W>();
     let text = text_of(fault);
     writer.text2(b"ERR ", text.as_slice())
 }

@@ -1,5 +1,5 @@
-//! What is written and passed on: a reply, the advertisement, and the packet of a refusal. Each
-//! call leaves the writer well, or its sink is down.
+//! Writing and flushing a reply, the advertisement, and the error packet. After each call the
+//! writer has not failed, or its sink is down.
 
 ghost use Rattle.std.specs.Prelude.{◌≡◌, false, OnOk};
 ghost use Rattle.gpkt.specs.Sending.{output_of};
@@ -18,16 +18,16 @@ use gfetchreply::{FetchReply, write_fetch_reply};
 use ggrammar::Ends;
 use ghello::{Advert, write_advert};
 use gpkt::laws::writes_join;
-use gpkt::{LineWriter, Sink, WriteFault};
+use gpkt::{PacketWriter, Sink, WriteFault};
 use grequest::LsRefsRequest;
 use std::alloc::Allocator;
 
-/// Writes the answer to a request for refs, and passes it on. It takes no memory.
+/// Writes the reply to a request for refs, and flushes it. Allocates nothing.
 pub(crate) fn send_ls_answer<W: Sink, A: Allocator + Copy>(
     server: &Server<A>,
     asked: &LsRefsRequest<A>,
     ends: Ends,
-    writer: &mut LineWriter<W>,
+    writer: &mut PacketWriter<W>,
 ) -> Result<(), WriteFault>
     requires { writer.old.failed ≡ false }
     ensures sent { (reply : LsReply) × LsAnswer server.now asked.now reply
@@ -43,11 +43,11 @@ pub(crate) fn send_ls_answer<W: Sink, A: Allocator + Copy>(
     writer.push()
 }
 
-/// Writes a reply to fetch, and passes it on.
+/// Writes a reply to a fetch, and flushes it.
 pub(crate) fn send_fetch_reply<W: Sink, A: Allocator + Copy>(
     reply: &FetchReply<A>,
     ends: Ends,
-    writer: &mut LineWriter<W>,
+    writer: &mut PacketWriter<W>,
 ) -> Result<(), WriteFault>
     requires { writer.old.failed ≡ false }
     ensures sent { PassesPackets (output_of W.contents W.passed_on W.is_down writer.old.sink
@@ -61,10 +61,10 @@ pub(crate) fn send_fetch_reply<W: Sink, A: Allocator + Copy>(
     writer.push()
 }
 
-/// Writes an advertisement, and passes it on.
+/// Writes an advertisement, and flushes it.
 pub(crate) fn send_advert<W: Sink, A: Allocator + Copy>(
     advert: &Advert<A>,
-    writer: &mut LineWriter<W>,
+    writer: &mut PacketWriter<W>,
 ) -> Result<(), WriteFault>
     requires { writer.old.failed ≡ false }
     ensures sent { PassesPackets (output_of W.contents W.passed_on W.is_down writer.old.sink
@@ -78,10 +78,10 @@ pub(crate) fn send_advert<W: Sink, A: Allocator + Copy>(
     writer.push()
 }
 
-/// Writes the packet of a refusal, and passes it on.
+/// Writes the error packet, and flushes it.
 pub(crate) fn send_refusal<W: Sink>(
     fault: &ServeFault,
-    writer: &mut LineWriter<W>,
+    writer: &mut PacketWriter<W>,
 ) -> Result<(), WriteFault>
     requires { writer.old.failed ≡ false }
     ensures sent { PassesPackets (output_of W.contents W.passed_on W.is_down writer.old.sink

@@ -1,4 +1,4 @@
-//! Writing a reply apart from a connection, to be kept and delivered.
+//! Writing a reply apart from a connection, to keep it and deliver it later.
 
 ghost use Rattle.ganswer.specs.Answers.{reply_of};
 ghost use Rattle.gserve.specs.Replies.{WritesReply};
@@ -7,18 +7,18 @@ use ganswer::Reply;
 use gfetchreply::write_fetch_reply;
 use ggrammar::Ends;
 use glsreply::write_ls_reply;
-use gpkt::{LineWriter, Sink, WriteFault};
+use gpkt::{PacketWriter, Sink, WriteFault};
 use std::alloc::Allocator;
 
-/// Writes a reply in its one list of packets, and passes nothing on. It takes no memory. Of the reply to a lone flush
-/// nothing is written.
+/// Writes a reply in its one list of packets, without flushing it. Allocates nothing. For the reply
+/// to a lone flush packet it writes nothing.
 ///
-/// It fails with `Io` where the sink fails, and then a beginning of the reply stands written; with `Failed` where the
-/// writer had failed before. It is never `Payload`.
+/// Fails with `Io` if the sink fails, after a prefix of the reply was written. Fails with `Failed`
+/// if the writer had failed before. Never fails with `Payload`.
 pub fn write_reply<W: Sink, A: Allocator + Copy>(
     reply: &Reply<A>,
     ends: Ends,
-    writer: &mut LineWriter<W>,
+    writer: &mut PacketWriter<W>,
 ) -> Result<(), WriteFault>
     ensures { WritesReply W.contents W.passed_on W.is_down W.loans ends (reply_of reply.now)
         writer.old writer.new result }

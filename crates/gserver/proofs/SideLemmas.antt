@@ -28,7 +28,7 @@ use Rattle.gdialogue.specs.declared.side.Answer.TheVariants as answer
 use Rattle.gserver.specs.Fetching.{SaysFetch}
 use Rattle.gserver.specs.Listings.{SaysLsAnswer}
 use Rattle.gserver.specs.Replying.{may_of}
-use Rattle.gserver.specs.Serving.{AnswersAsked, AnswersBy, AnswersHello, CannotAnswer, Greets, Refuses, SendsFrom, counted, goes_on_after, side_judge, max_requests, messages_of}
+use Rattle.gserver.specs.Serving.{AnswersAsked, AnswersBy, AnswersHello, CannotAnswer, Greets, Refuses, SendsFrom, count_request, goes_on_after, side_judge, max_requests, messages_of}
 use Rattle.gserver.specs.declared.side.ServerSide.{ServerSide}
 use Rattle.gserver.specs.declared.reply.ServerReply.{ServerReply}
 use Rattle.gserver.specs.steps.Answering.{AnswersOf, IsRefusal}
@@ -180,7 +180,7 @@ module _ {A H R : Type 0} (server_of : R → Server A) (packs_of : R → Packs A
       (goes_on_after old.requests) new.repo said goes
       ⊎ Refuses (CannotAnswer server_of says old.host.now packs_of fails_of (opens old.host.now one) old.ends one asked
       new.repo new.fault) said goes)
-      → new.requests ≡ counted asked old.requests
+      → new.requests ≡ count_request asked old.requests
       → AnswersBy server_of packs_of fails_of finds opens says repo old new lines said goes
   request_answered None lines said goes format asked judged whole asks answers requests =
       absurd (first_is_no_request format (sym judged))

@@ -12,7 +12,7 @@ use Rattle.ghello.specs.Hello.{Hello}
 use Rattle.ghello.specs.Hello as hello
 use Rattle.grequest.specs.Asked.{Asked, Empty, Ls, Fetches, FetchAsked}
 use Rattle.grequest.specs.Requests as request
-use Rattle.ganswer.specs.Adverts.{advertised}
+use Rattle.ganswer.specs.Adverts.{advertisement}
 use Rattle.ganswer.specs.Answers.{FetchRefuses}
 use Rattle.ganswer.specs.Servers.{Server}
 use Rattle.ganswer.specs.declared.fault.ServeFault.{ServeFault}
@@ -44,10 +44,10 @@ pub record Refuses (Why : Bytes → Type 0) (said : List Packet) (goes : Bool) :
   pub ended : goes ≡ false
 
 -- how many requests were answered with this one
-abbrev pub counted : Asked → ℕ → ℕ
-counted Empty requests = requests
-counted (Ls asked) requests = min (requests + 1) max_requests
-counted (Fetches asked) requests = min (requests + 1) max_requests
+abbrev pub count_request : Asked → ℕ → ℕ
+count_request Empty requests = requests
+count_request (Ls asked) requests = min (requests + 1) max_requests
+count_request (Fetches asked) requests = min (requests + 1) max_requests
 
 -- the words of a host for a fault, which is kept
 module _ {H : Type 0} (says : H → ServeFault → Bytes → Type 0) (host : H) where
@@ -72,7 +72,7 @@ module _ {A R : Type 0} (server_of : R → Server A) where
     pub found : R
     pub finds : Finds (Ok found)
     pub served : new ≡ Some found
-    pub all : said ≡ canonical_advert (advertised (server_of found).graph.format)
+    pub all : said ≡ canonical_advert (advertisement (server_of found).graph.format)
     pub goes_on : goes ≡ true
 
   module _ {H : Type 0} (says : H → ServeFault → Bytes → Type 0) (host : H) where
@@ -159,7 +159,7 @@ module _ {A H R : Type 0} (server_of : R → Server A) (packs_of : R → Packs A
         repo asked (goes_on_after old.requests) new.repo said goes
         ⊎ Refuses (CannotAnswer server_of says old.host.now packs_of fails_of (opens old.host.now repo) old.ends
         repo asked new.repo new.fault) said goes
-    pub requests : new.requests ≡ counted asked old.requests
+    pub requests : new.requests ≡ count_request asked old.requests
 
   -- the packets of a message are answered
   abbrev pub AnswersBy : Option R → ServerSide A H R → ServerSide A H R → List Packet → List Packet → Bool → Type 0

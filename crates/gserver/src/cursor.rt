@@ -1,4 +1,4 @@
-//! Packets that are said step by step.
+//! Packets that are sent step by step.
 
 ghost use Rattle.std.specs.Prelude.{◌≡◌, ◌<◌, ◌≤◌, ◌+◌, [], Bool, List, length, ℕ};
 ghost use Rattle.gpkt.specs.Packets.{Packet, max_packet};
@@ -10,25 +10,25 @@ use gdialogue::Said;
 use gtalk::Outgoing;
 use std::alloc::Allocator;
 
-// The most steps of one call.
+// The maximum number of steps in one call.
 const MOST_STEPS: usize = 1024;
 
-/// Packets that are said step by step.
+/// Packets that are sent step by step.
 pub(crate) trait Cursor {
-    // From here it may say exactly these packets, and then the dialogue goes on, or not.
+    // The packets that it may still send, and whether the dialogue then goes on.
     ghost may: { Self → List Packet → Bool → Type 0 };
 
-    // How many steps are left, at most.
+    // The most steps that are left.
     ghost steps: { Self → ℕ };
 
-    /// Says what is next: one packet at most.
+    /// Sends at most one packet: the next.
     fn step<B: Allocator + Copy>(&mut self, out: &mut Outgoing<B>) -> Said
         requires { length out.old + max_packet ≤ queue_room }
         ensures { Advances (may self.old) (may self.new) (steps self.old) (steps self.new) out.old
             out.new result };
 }
 
-/// Says packets while there is room for one of any size, and then no more than 1,024.
+/// Sends packets while there is room for one of any size, in at most 1,024 steps.
 pub(crate) fn say_some<C: Cursor, B: Allocator + Copy>(
     cursor: &mut C,
     out: &mut Outgoing<B>,

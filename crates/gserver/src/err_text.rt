@@ -1,4 +1,4 @@
-//! The words of an error for a client (gitprotocol-pack(5), "error-line").
+//! The text of an error for a client (gitprotocol-pack(5), "error-line").
 
 ghost use Rattle.std.specs.Prelude.{◌≡◌, ◌≤◌, [], ◌++◌, length, take};
 ghost use Rattle.gserver.specs.ErrTexts.{max_text};
@@ -6,10 +6,10 @@ ghost use Rattle.gserver.specs.ErrTexts.{max_text};
 use arrayvec::ArrayVec;
 use std::marker::Model;
 
-// The most bytes of a text.
+// The maximum length in bytes of a text.
 const MAX_TEXT: usize = 512;
 
-/// The words of an error, at most 512 bytes.
+/// The text of an error, at most 512 bytes.
 #[derive(Drop)]
 pub struct ErrText {
     text: ArrayVec<u8, MAX_TEXT>,
@@ -27,7 +27,7 @@ impl Model for ErrText {
 }
 
 impl ErrText {
-    /// No words.
+    /// Returns an empty text.
     pub fn new() -> ErrText
         ensures { result ≡ [] }
     {
@@ -36,7 +36,7 @@ impl ErrText {
         }
     }
 
-    /// Adds words at the end, as many bytes as there is room for.
+    /// Appends bytes, as many as there is room for.
     pub fn add(&mut self, words: &[u8])
         ensures { self.new ≡ take max_text (self.old ++ words.now) }
     {
@@ -45,7 +45,7 @@ impl ErrText {
         self.text.try_extend_from_slice(&words[..count]).unwrap();
     }
 
-    /// The words.
+    /// Returns the bytes of the text.
     pub fn as_bytes(&self) -> &[u8]
         ensures bytes { result.now ≡ self.now }
         ensures few { length self.now ≤ max_text }

@@ -1,4 +1,4 @@
-//! The pieces of a pack, as its packer gives it in parts.
+//! The pieces of a pack, as its packer returns it in parts.
 
 ghost use Rattle.std.specs.Prelude.{◌≡◌, ◌<◌, ◌≤◌, ◌+◌, List, [], ℕ, length, MatchResult, Some};
 ghost use Rattle.gpkt.specs.Packets.{max_packet};
@@ -11,17 +11,18 @@ use gpkt::MAX_BAND;
 use gtalk::Outgoing;
 use std::alloc::Allocator;
 
-/// The part of a pack that was said.
+/// The part of a pack that was sent.
 pub(crate) enum Piece {
-    /// A piece, after which more may come.
+    /// A piece, after which more may follow.
     More,
     /// The last piece, or none if none was left.
     Whole,
-    /// Nothing, since the packer failed.
+    /// Nothing, because the packer failed.
     Failed(PackFault),
 }
 
-/// Says the next piece of a pack (gitprotocol-pack(5), "Packfile Data"), of the largest size unless it is the last.
+/// Sends the next piece of a pack (gitprotocol-pack(5), "Packfile Data"), of the largest size
+/// unless it is the last.
 pub(crate) fn say_piece<A: Allocator + Copy, B: Allocator + Copy, K: PartPacker<A>>(
     packer: &K,
     parts: &mut K::Parts,
@@ -46,7 +47,8 @@ pub(crate) fn say_piece<A: Allocator + Copy, B: Allocator + Copy, K: PartPacker<
     }
 }
 
-// Fills a buffer with the next bytes of a pack, and answers how many: fewer than it has room for only if no more are left.
+// Fills a buffer with the next bytes of a pack, and returns their length. It is less than the room
+// only if no more are left.
 fn fill<A: Allocator + Copy, K: PartPacker<A>>(
     packer: &K,
     parts: &mut K::Parts,
@@ -69,7 +71,7 @@ fn fill<A: Allocator + Copy, K: PartPacker<A>>(
     Ok(count)
 }
 
-// Puts the next part of a pack into a buffer, after so many bytes.
+// Puts the next part of a pack into a buffer, after the bytes already there.
 fn put_part<A: Allocator + Copy, K: PartPacker<A>>(
     packer: &K,
     parts: &mut K::Parts,

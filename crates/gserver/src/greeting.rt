@@ -14,19 +14,19 @@ use ghello::Advert;
 use gtalk::Outgoing;
 use std::alloc::Allocator;
 
-// The most bytes of a capability's text.
+// The maximum length in bytes of a capability's text.
 const MAX_TEXT: usize = 2 * MAX_CAPABILITY + 1;
 
-/// The packet of an advertisement that is said next.
+/// The next packet of an advertisement.
 #[derive(Clone, Copy)]
 pub(crate) enum NextPart {
     /// The version of the protocol.
     Version,
-    /// The capability at this position, or the flush after the last one.
+    /// The capability at this index, or the flush packet after the last one.
     Capability(usize),
 }
 
-/// An advertisement that is said packet by packet.
+/// An advertisement that is sent packet by packet.
 #[derive(Drop)]
 pub struct Greeting<A: Allocator + Copy> {
     pub(crate) advert: Advert<A>,
@@ -34,7 +34,7 @@ pub struct Greeting<A: Allocator + Copy> {
 }
 
 impl<A: Allocator + Copy> Greeting<A> {
-    /// All of an advertisement.
+    /// Returns all of an advertisement.
     pub fn new(advert: Advert<A>) -> Greeting<A>
         ensures advert { result.advert ≡ advert }
         ensures next { result.next ≡ NextPart.Version }
@@ -74,7 +74,7 @@ impl<A: Allocator + Copy> Cursor for Greeting<A> {
     }
 }
 
-// The text of a capability.
+// Returns the text of a capability.
 fn text_of(capability: Capability<'_>) -> ArrayVec<u8, MAX_TEXT>
     requires key { length capability.key.now ≤ max_capability }
     requires value { IfSome capability.value (λ value. length value.now ≤ max_capability) }

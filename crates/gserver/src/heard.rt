@@ -1,8 +1,8 @@
-//! A server hears the first line of a connection, or a request.
+//! The messages that a server reads: the first line of a connection, or a request.
 
 use ggrammar::{Message, Step, Why};
 use ghello::HelloReader;
-use gpkt::Line;
+use gpkt::Packet;
 use grequest::RequestReader;
 use std::alloc::Allocator;
 
@@ -27,10 +27,10 @@ impl<A: Allocator + Copy> Message for Heard<A> {
 
     ghost left = { λ _ _. ⊤ };
 
-    fn take(&mut self, line: Line<'_>) -> Result<Step, Why> {
+    fn accept_packet(&mut self, line: Packet<'_>) -> Result<Step, Why> {
         match self {
-            Heard::Hello(hello) => hello.take(line),
-            Heard::Request(request) => request.take(line),
+            Heard::Hello(hello) => hello.accept_packet(line),
+            Heard::Request(request) => request.accept_packet(line),
         }
     }
 

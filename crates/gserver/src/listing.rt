@@ -7,7 +7,7 @@ ghost use Rattle.gserver.specs.Listings.{SaysListing, said_at_end, steps_of_list
 ghost use Rattle.gserver.specs.steps.Stepping.{Advances};
 
 use crate::cursor::Cursor;
-use crate::host::Served;
+use crate::host::ServedRepository;
 use crate::ref_lines::{say_head, say_ref, say_unborn};
 use gdialogue::Said;
 use ggrammar::Ends;
@@ -15,32 +15,32 @@ use grequest::LsRefsRequest;
 use gtalk::Outgoing;
 use std::alloc::Allocator;
 
-/// The line of a reply that is said next.
+/// The next line of a reply.
 #[derive(Clone, Copy)]
 pub(crate) enum NextLine {
     /// The target of an unborn HEAD.
     Unborn,
     /// The line of HEAD.
     Head,
-    /// The line of the ref at this position, or the flush after the last one.
+    /// The line of the ref at this index, or the flush packet after the last one.
     Ref(usize),
     /// The packet that ends the response.
     ResponseEnd,
 }
 
-/// The refs that a request asks for, which are said line by line. The server lends the names.
+/// The refs that a request asks for, sent line by line. The server lends the names.
 #[derive(Drop)]
 pub struct Listing<A: Allocator + Copy, R> {
     pub(crate) repo: R,
     pub(crate) asked: LsRefsRequest<A>,
     pub(crate) ends: Ends,
-    // Whether the next request is heard after it.
+    // Whether the next request is heard after the reply.
     pub(crate) goes_on: bool,
     pub(crate) next: NextLine,
 }
 
 impl<A: Allocator + Copy, R> Listing<A, R> {
-    /// All of the reply to a request.
+    /// Returns all of the reply to a request.
     pub fn new(repo: R, asked: LsRefsRequest<A>, ends: Ends, goes_on: bool) -> Listing<A, R>
         ensures repo { result.repo ≡ repo }
         ensures asked { result.asked ≡ asked }
@@ -58,7 +58,7 @@ impl<A: Allocator + Copy, R> Listing<A, R> {
     }
 }
 
-impl<A: Allocator + Copy, R: Served<A>> Cursor for Listing<A, R> {
+impl<A: Allocator + Copy, R: ServedRepository<A>> Cursor for Listing<A, R> {
     ghost may = { λ l. SaysListing (R.server l.repo) l.asked l.ends l.goes_on l.next };
 
     ghost steps = { λ l. steps_of_listing (R.server l.repo) l.next };
@@ -84,8 +84,8 @@ impl<A: Allocator + Copy, R: Served<A>> Cursor for Listing<A, R> {
     }
 }
 
-impl<A: Allocator + Copy, R: Served<A>> Listing<A, R> {
-    // Says the line of the ref at a position, or the flush after the last.
+impl<A: Allocator + Copy, R: ServedRepository<A>> Listing<A, R> {
+    // Sends the line of the ref at an index, or the flush packet after the last.
     fn step_ref<B: Allocator + Copy>(&mut self, at: usize, out: &mut Outgoing<B>) -> Said
         requires room { length out.old + max_packet ≤ queue_room }
         requires next { self.old.next ≡ NextLine.Ref at }
@@ -115,7 +115,7 @@ impl<A: Allocator + Copy, R: Served<A>> Listing<A, R> {
     }
 }
 
-// How a reply ends.
+// Returns how a reply ends.
 fn said_at_end(goes_on: bool) -> Said
     ensures { result ≡ said_at_end goes_on }
 {

@@ -1,4 +1,5 @@
-//! The refs that a request asks for, line by line (gitprotocol-v2(5), "ls-refs"). The server lends the names.
+//! The refs that a request asks for, line by line (gitprotocol-v2(5), "ls-refs"). The server lends
+//! the names.
 
 ghost use Rattle.std.specs.Prelude.{◌≡◌, ◌≤◌, ◌+◌, ◌++◌, length, map};
 ghost use Rattle.std.specs.Option.{option_copied};
@@ -15,7 +16,7 @@ use grequest::LsRefsRequest;
 use gtalk::Outgoing;
 use std::alloc::Allocator;
 
-/// Says the target of an unborn HEAD, if the request asks for it and HEAD is unborn.
+/// Sends the target of an unborn HEAD, if the request asks for it and HEAD is unborn.
 pub(crate) fn say_unborn<A: Allocator + Copy, B: Allocator + Copy>(
     server: &Server<A>,
     asked: &LsRefsRequest<A>,
@@ -35,7 +36,7 @@ pub(crate) fn say_unborn<A: Allocator + Copy, B: Allocator + Copy>(
     }
 }
 
-/// Says the line of HEAD, if there is an id for it and it is asked for.
+/// Sends the line of HEAD, if HEAD has an id and the request asks for it.
 pub(crate) fn say_head<A: Allocator + Copy, B: Allocator + Copy>(
     server: &Server<A>,
     asked: &LsRefsRequest<A>,
@@ -54,7 +55,8 @@ pub(crate) fn say_head<A: Allocator + Copy, B: Allocator + Copy>(
     }
 }
 
-/// Says the line of the ref at a position, if it is asked for, and answers whether there is a ref.
+/// Sends the line of the ref at an index, if the request asks for it. Returns whether there is a
+/// ref.
 pub(crate) fn say_ref<A: Allocator + Copy, B: Allocator + Copy>(
     server: &Server<A>,
     asked: &LsRefsRequest<A>,
@@ -75,7 +77,7 @@ pub(crate) fn say_ref<A: Allocator + Copy, B: Allocator + Copy>(
     }
 }
 
-// Says a line, if there is one.
+// Sends a line, if there is one.
 fn say_line<A: Allocator + Copy, B: Allocator + Copy>(
     line: Option<&LentLine<'_, A>>,
     out: &mut Outgoing<B>,

@@ -1,10 +1,10 @@
-//! All that a server says.
+//! The replies of a server.
 
 ghost use Rattle.gserver.specs.Replying.{may_of, reply_steps};
 
 use crate::cursor::{Cursor, say_some};
 use crate::greeting::Greeting;
-use crate::host::Served;
+use crate::host::ServedRepository;
 use crate::listing::Listing;
 use crate::speech::Speech;
 use gdialogue::{Reply, Said};
@@ -12,18 +12,18 @@ use gparts::PartPacker;
 use gtalk::Outgoing;
 use std::alloc::Allocator;
 
-/// What a server says to a message, packet by packet. Packs are never there whole.
+/// The reply of a server to a message, packet by packet. Packs are never whole in memory.
 #[derive(Drop)]
 pub enum ServerReply<A: Allocator + Copy, R, P> {
     /// Its advertisement.
     Greeting(Greeting<A>),
     /// Its refs.
     Listing(Listing<A, R>),
-    /// A reply to a request for objects, the packet of an error, or nothing.
+    /// A reply to a request for objects, an error packet, or nothing.
     Speech(Speech<A, R, P>),
 }
 
-impl<A: Allocator + Copy, R: Served<A> + PartPacker<A> + Drop> Cursor
+impl<A: Allocator + Copy, R: ServedRepository<A> + PartPacker<A> + Drop> Cursor
     for ServerReply<A, R, R::Parts> {
     ghost may = { may_of R.server R.gives };
 
@@ -38,7 +38,7 @@ impl<A: Allocator + Copy, R: Served<A> + PartPacker<A> + Drop> Cursor
     }
 }
 
-impl<A: Allocator + Copy, R: Served<A> + PartPacker<A> + Drop> Reply
+impl<A: Allocator + Copy, R: ServedRepository<A> + PartPacker<A> + Drop> Reply
     for ServerReply<A, R, R::Parts> {
     ghost may = { may_of R.server R.gives };
 

@@ -1,4 +1,4 @@
-//! What a server says, packet by packet.
+//! The reply of a server, packet by packet.
 
 ghost use Rattle.std.specs.Prelude.{◌≡◌, ◌≤◌, ◌+◌, Bool, length};
 ghost use Rattle.gpkt.specs.Packets.{max_packet};
@@ -17,17 +17,17 @@ use gparts::PartPacker;
 use gtalk::Outgoing;
 use std::alloc::Allocator;
 
-/// The packets that are said next.
+/// The next packets of a reply.
 #[derive(Drop)]
 pub(crate) enum Rest<A: Allocator + Copy, R, P> {
     Nothing,
-    /// The packet of an error.
+    /// An error packet.
     Refusal(ErrText),
     AckHeading(Acks<A>, Option<(R, P)>),
-    /// The acknowledged id at this position, or what follows them.
+    /// The acknowledged id at this index, or what follows them.
     Ack(Acks<A>, usize, Option<(R, P)>),
     Nak,
-    /// The delimiter before the section of a pack.
+    /// The delimiter packet before the section of a pack.
     Delim(R, P),
     PackHeading(R, P),
     /// The next piece of a pack, or its end.
@@ -36,7 +36,7 @@ pub(crate) enum Rest<A: Allocator + Copy, R, P> {
     ResponseEnd,
 }
 
-/// The part that is to come after a step.
+/// The part that follows after a step.
 #[derive(Drop)]
 pub(crate) enum Stepped<A: Allocator + Copy, R, P> {
     /// More of the reply.
@@ -47,7 +47,7 @@ pub(crate) enum Stepped<A: Allocator + Copy, R, P> {
     Last,
 }
 
-/// Says what is next: one packet at most.
+/// Sends at most one packet: the next.
 pub(crate) fn step<A: Allocator + Copy, B: Allocator + Copy, R: PartPacker<A> + Drop>(
     rest: Rest<A, R, R::Parts>,
     ends: Ends,
@@ -89,7 +89,7 @@ pub(crate) fn step<A: Allocator + Copy, B: Allocator + Copy, R: PartPacker<A> + 
     }
 }
 
-// The place after the heading of the acknowledgments.
+// Returns the rest after the heading of the acknowledgments.
 fn after_heading<A: Allocator + Copy, R: Drop, P: Drop>(
     acks: Acks<A>,
     pack: Option<(R, P)>,
@@ -103,7 +103,7 @@ fn after_heading<A: Allocator + Copy, R: Drop, P: Drop>(
     }
 }
 
-// Says the acknowledged id at a position, if there is one, or that enough is common.
+// Sends the acknowledged id at an index, if there is one, or reports that enough is common.
 fn say_ack<A: Allocator + Copy, B: Allocator + Copy, R: PartPacker<A> + Drop>(
     acks: Acks<A>,
     at: usize,
@@ -129,7 +129,7 @@ fn say_ack<A: Allocator + Copy, B: Allocator + Copy, R: PartPacker<A> + Drop>(
     }
 }
 
-// Says the next piece of a pack. If the packer failed, it says why, and that is the last packet.
+// Sends the next piece of a pack. If the packer failed, its fault is sent as the last packet.
 fn say_pack<A: Allocator + Copy, B: Allocator + Copy, R: PartPacker<A> + Drop>(
     packer: R,
     mut parts: R::Parts,
@@ -149,7 +149,7 @@ fn say_pack<A: Allocator + Copy, B: Allocator + Copy, R: PartPacker<A> + Drop>(
     }
 }
 
-// Says the flush that ends a reply.
+// Sends the flush packet that ends a reply.
 fn say_flush<A: Allocator + Copy, B: Allocator + Copy, R: PartPacker<A> + Drop>(
     ends: Ends,
     goes_on: bool,
@@ -165,7 +165,7 @@ fn say_flush<A: Allocator + Copy, B: Allocator + Copy, R: PartPacker<A> + Drop>(
     }
 }
 
-// How a reply ends.
+// Returns how a reply ends.
 fn end_of<A: Allocator + Copy, R, P>(goes_on: bool) -> Stepped<A, R, P>
     ensures { result ≡ end_of goes_on }
 {
@@ -176,7 +176,7 @@ fn end_of<A: Allocator + Copy, R, P>(goes_on: bool) -> Stepped<A, R, P>
     }
 }
 
-// Why a packer failed, in words for a client.
+// Returns the text for a client about a failed packer.
 fn words_of(fault: PackFault) -> &'static str
     ensures words { result.now ≡ pack_fault_text fault }
     ensures few { length result.now ≤ max_words }

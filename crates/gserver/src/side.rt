@@ -1,4 +1,5 @@
-//! The server's end of a dialogue (gitprotocol-v2(5), "Initial Client Request" and "Command Request").
+//! The server's end of a dialogue (gitprotocol-v2(5), "Initial Client Request" and "Command
+//! Request").
 
 ghost use Rattle.std.specs.Prelude.{◌≡◌, ◌<◌, ◌+◌, ◌⊎◌, Bool, IfOk, IsSome, List, MatchResult, None, OnOk, Some, false, min};
 ghost use Rattle.std.specs.Option.{option_copied};
@@ -8,14 +9,14 @@ ghost use Rattle.grequest.specs.RequestValues.{asked_by_request};
 ghost use Rattle.gdialogue.specs.Sides.{MayAnswer};
 ghost use Rattle.gserver.specs.Listings.{SaysLsAnswer};
 ghost use Rattle.gserver.specs.Replying.{may_of};
-ghost use Rattle.gserver.specs.Serving.{AnswersAsked, AnswersHello, CannotAnswer, CannotGreet, CannotSend, Greets, IsFresh, LacksMemory, Refuses, SendsFrom, Stays, counted, goes_on_after, max_requests, messages_of};
+ghost use Rattle.gserver.specs.Serving.{AnswersAsked, AnswersHello, CannotAnswer, CannotGreet, CannotSend, Greets, IsFresh, LacksMemory, Refuses, SendsFrom, Stays, count_request, goes_on_after, max_requests, messages_of};
 ghost use Rattle.gserver.specs.steps.Answering.{AnswersOf, IsRefusal};
 
 use crate::err_text::ErrText;
 use crate::fetching::speak_fetch;
 use crate::greeting::Greeting;
 use crate::heard::Heard;
-use crate::host::{Host, Served};
+use crate::host::{Host, ServedRepository};
 use crate::listing::Listing;
 use crate::reply::ServerReply;
 use crate::speech::Speech;
@@ -27,27 +28,27 @@ use gparts::PartPacker;
 use grequest::{FetchRequest, LsRefsRequest, Request, RequestReader};
 use std::alloc::Allocator;
 
-/// The most requests of a connection after which another is heard.
+/// The maximum number of requests of a connection after which another is heard.
 pub const MAX_REQUESTS: u32 = u32::MAX;
 
-/// The server's end of a connection. It hears a first line, which names a repository, and then one request after the
-/// other.
+/// The server's end of a connection. It hears a first line, which names a repository, and then one
+/// request after the other.
 ///
-/// What it answers to a message that is refused, or that it cannot answer, is the packet of an error. Nothing more is
-/// heard then.
+/// A message that is refused, or that it cannot answer, gets an error packet. Nothing more is heard
+/// then.
 #[derive(Drop)]
 pub struct ServerSide<'h, A: Allocator + Copy, H, R> {
     host: &'h H,
     alloc: A,
     ends: Ends,
-    // None before the first line.
+    // `None` before the first line.
     repo: Option<R>,
     requests: u32,
     fault: Option<ServeFault>,
 }
 
 impl<'h, A: Allocator + Copy, H, R> ServerSide<'h, A, H, R> {
-    /// A side that has heard nothing.
+    /// Returns a side that has heard nothing.
     pub fn new(host: &'h H, alloc: A, ends: Ends) -> ServerSide<'h, A, H, R>
         ensures fresh { IsFresh result }
         ensures host { result.host.now ≡ host.now }
@@ -63,21 +64,22 @@ impl<'h, A: Allocator + Copy, H, R> ServerSide<'h, A, H, R> {
         }
     }
 
-    /// The repository that is served, if one is.
+    /// Returns the served repository, or `None` before the first line.
     pub fn repo(&self) -> Option<&R>
         ensures { option_copied result ≡ self.now.repo }
     {
         self.repo.as_ref()
     }
 
-    /// How many requests were answered, or are being answered. It stays at [`MAX_REQUESTS`] if there is one more.
+    /// Returns how many requests were answered, or are being answered. It stays at [`MAX_REQUESTS`]
+    /// if there is one more.
     pub fn requests(&self) -> u32
         ensures { result ≡ self.now.requests }
     {
         self.requests
     }
 
-    /// Why a message was refused, if one was for a fault of this side.
+    /// Returns the fault for which this side refused a message, if there was one.
     pub fn fault(&self) -> Option<&ServeFault>
         ensures { option_copied result ≡ self.now.fault }
     {
@@ -89,10 +91,10 @@ impl<A, H, R> ServerSide<'_, A, H, R>
 where
     A: Allocator + Copy,
     H: Host<A, R>,
-    R: Served<A> + PartPacker<A> + Drop,
+    R: ServedRepository<A> + PartPacker<A> + Drop,
 {
-    // The words for a message that does not come here.
-    fn unexpected(&mut self) -> ErrText
+    // Returns the text for a message that does not belong here.
+    fn unexpected_message(&mut self) -> ErrText
         ensures repo { self.new.repo ≡ self.old.repo }
         ensures requests { self.new.requests ≡ self.old.requests }
         ensures stays { Stays self.old self.new }
@@ -124,7 +126,7 @@ where
         }
     }
 
-    // Answers the first line.
+    // Replies to the first line.
     fn answer_hello(&mut self, hello: Option<Hello<A>>) -> Answer<ServerReply<A, R, R::Parts>>
         ensures answers { (asked : first_line.Hello) → hello ≡ Some asked → self.old.repo ≡ None
             → (said : List Packet) (goes : Bool) → MayAnswer (may_of R.server R.gives) result said goes
@@ -139,16 +141,16 @@ where
         ensures stays { Stays self.old self.new }
     {
         let Some(hello) = hello else {
-            return refusing::<A, R>(self.unexpected());
+            return refusal_of::<A, R>(self.unexpected_message());
         };
         if self.repo.is_some() {
-            return refusing::<A, R>(self.unexpected());
+            return refusal_of::<A, R>(self.unexpected_message());
         }
         let greeted = self.greet(&hello);
         answer_of::<A, R>(greeted, true)
     }
 
-    // Answers a request.
+    // Replies to a request.
     fn answer_request(&mut self, request: Request<A>) -> Answer<ServerReply<A, R, R::Parts>>
         ensures answers { (repo : R) → self.old.repo ≡ Some repo → (said : List Packet) (goes : Bool)
             → MayAnswer (may_of R.server R.gives) result said goes
@@ -163,7 +165,7 @@ where
             → (self.new.fault ≡ self.old.fault) ⊎ (goes ≡ false) }
         ensures fewer { (reply : ServerReply A R R.Parts) → result ≡ Answer.GoesOn reply
             → messages_of self.new.repo self.new.requests < messages_of self.old.repo self.old.requests }
-        ensures requests { self.new.requests ≡ counted (asked_by_request request) self.old.requests }
+        ensures requests { self.new.requests ≡ count_request (asked_by_request request) self.old.requests }
         ensures stays { Stays self.old self.new }
     {
         match request {
@@ -181,7 +183,7 @@ where
         }
     }
 
-    // Answers a request for refs.
+    // Replies to a request for refs.
     fn list(
         &mut self,
         asked: LsRefsRequest<A>,
@@ -200,7 +202,7 @@ where
     {
         let handle = match &self.repo {
             Some(repo) => repo.handle(),
-            None => return Err(self.unexpected()),
+            None => return Err(self.unexpected_message()),
         };
         match handle {
             Ok(repo) => {
@@ -211,7 +213,7 @@ where
         }
     }
 
-    // Answers a request for objects, from the repository as it is now.
+    // Replies to a request for objects, from the repository as it is now.
     fn send(
         &mut self,
         asked: &FetchRequest<A>,
@@ -232,7 +234,7 @@ where
     {
         let opened = match &self.repo {
             Some(repo) => self.host.open(repo)?,
-            None => return Err(self.unexpected()),
+            None => return Err(self.unexpected_message()),
         };
         let Ok(packer) = opened.handle() else {
             return Err(words::<A, H, R>(self.host, &mut self.fault, ServeFault::Memory));
@@ -246,7 +248,7 @@ where
     }
 }
 
-// The host's words for a fault, which is kept.
+// Returns the host's text for a fault, and keeps the fault.
 fn words<A: Allocator + Copy, H: Host<A, R>, R>(
     host: &H,
     kept: &mut Option<ServeFault>,
@@ -260,7 +262,7 @@ fn words<A: Allocator + Copy, H: Host<A, R>, R>(
     words
 }
 
-// Counts a request, and answers whether there may be more after it.
+// Counts a request, and returns whether there may be more after it.
 fn count(requests: &mut u32) -> bool
     ensures goes { result ≡ goes_on_after requests.old }
     ensures counts { requests.new ≡ min (requests.old + 1) max_requests }
@@ -270,17 +272,17 @@ fn count(requests: &mut u32) -> bool
     goes_on
 }
 
-// The packet of an error, as the last answer.
-fn refusing<A: Allocator + Copy, R: Served<A> + PartPacker<A>>(
+// Returns an error packet, as the last reply.
+fn refusal_of<A: Allocator + Copy, R: ServedRepository<A> + PartPacker<A>>(
     text: ErrText,
 ) -> Answer<ServerReply<A, R, R::Parts>>
     ensures { IsRefusal R.server R.gives text result }
 {
-    Answer::Last(ServerReply::Speech(Speech::refusing(text)))
+    Answer::Last(ServerReply::Speech(Speech::refusal_of(text)))
 }
 
-// An answer, after which the dialogue goes on or not; or the packet of an error.
-fn answer_of<A: Allocator + Copy, R: Served<A> + PartPacker<A>>(
+// Returns the reply and whether the dialogue goes on, or an error packet.
+fn answer_of<A: Allocator + Copy, R: ServedRepository<A> + PartPacker<A>>(
     answered: Result<ServerReply<A, R, R::Parts>, ErrText>,
     goes_on: bool,
 ) -> Answer<ServerReply<A, R, R::Parts>>
@@ -289,7 +291,7 @@ fn answer_of<A: Allocator + Copy, R: Served<A> + PartPacker<A>>(
     match answered {
         Ok(reply) if goes_on => Answer::GoesOn(reply),
         Ok(reply) => Answer::Last(reply),
-        Err(text) => refusing::<A, R>(text),
+        Err(text) => refusal_of::<A, R>(text),
     }
 }
 
@@ -297,7 +299,7 @@ impl<A, H, R> Side<Heard<A>, ServerReply<A, R, R::Parts>> for ServerSide<'_, A, 
 where
     A: Allocator + Copy,
     H: Host<A, R>,
-    R: Served<A> + PartPacker<A> + Drop,
+    R: ServedRepository<A> + PartPacker<A> + Drop,
 {
     ghost use Rattle.gserver.specs.Serving.{AnswersMessage, OpensFresh, RefusesMessage, messages_of, side_brings, side_judge};
 
@@ -333,6 +335,6 @@ where
 
     fn refuse(&mut self, fault: MessageFault) -> ServerReply<A, R, R::Parts> {
         let words = words::<A, H, R>(self.host, &mut self.fault, ServeFault::Request(fault));
-        ServerReply::Speech(Speech::refusing(words))
+        ServerReply::Speech(Speech::refusal_of(words))
     }
 }

@@ -1,4 +1,4 @@
-//! The reply to a request for objects, and the packet of an error.
+//! The reply to a request for objects, and an error packet.
 
 ghost use Rattle.std.specs.Prelude.{◌≡◌};
 
@@ -12,9 +12,9 @@ use gtalk::Outgoing;
 use std::alloc::Allocator;
 use std::mem;
 
-/// The reply to a request for objects, the packet of an error, or nothing.
+/// The reply to a request for objects, an error packet, or nothing.
 ///
-/// The pack comes from its packer, one piece at a time, and is never there whole.
+/// The pack arrives from its packer one piece at a time, and is never whole in memory.
 #[derive(Drop)]
 pub struct Speech<A: Allocator + Copy, R, P> {
     pub(crate) rest: Rest<A, R, P>,
@@ -24,8 +24,8 @@ pub struct Speech<A: Allocator + Copy, R, P> {
 }
 
 impl<A: Allocator + Copy, R, P> Speech<A, R, P> {
-    /// The packet of an error, after which nothing more is heard.
-    pub fn refusing(text: ErrText) -> Speech<A, R, P>
+    /// Returns an error packet, after which nothing more is heard.
+    pub fn refusal_of(text: ErrText) -> Speech<A, R, P>
         ensures { result.rest ≡ Rest.Refusal text }
     {
         Speech {
@@ -35,7 +35,7 @@ impl<A: Allocator + Copy, R, P> Speech<A, R, P> {
         }
     }
 
-    /// Nothing, after which nothing more is heard.
+    /// Returns no packets, after which nothing more is heard.
     pub fn silent() -> Speech<A, R, P>
         ensures { result.rest ≡ Rest.Nothing }
     {

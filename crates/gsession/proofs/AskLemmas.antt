@@ -19,7 +19,7 @@ use Rattle.glsreply.specs.RefTexts.{RefLine}
 use Rattle.glsreply.specs.WellFormed.{IsRefLine}
 use Rattle.gdag.proofs.Growing.{at_front, take_one}
 use Rattle.gdag.proofs.IdLists.{contains_head, either_way, flat_map-from}
-use Rattle.grefspec.specs.Refspecs.{Refspec, destination_of, matches}
+use Rattle.grefs.specs.Refspecs.{Refspec, destination_of, matches}
 use Rattle.gclientrepo.specs.declared.ask.Ask.{Ask}
 use Rattle.gclientrepo.specs.Asks.{NamesDiffer, is_asked, with_ask}
 use Rattle.gclientrepo.proofs.AskLemmas.{differ_push, with_ask_new, with_ask_there}

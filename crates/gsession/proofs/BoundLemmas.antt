@@ -58,7 +58,7 @@ module _ {A : Type 0} where
       → BeganStaysOn indexes index_fails
   began_stays_on still indexes index_fails g r old new grows began called =
       elim (kept r.graph.entries old new (does indexes index_fails r old new called)) [
-        | inl k ↦ record { full = rw k.tips began.full; sent = rw (k.tips, k.sent) began.sent }
+        | inl k ↦ record { connected = rw k.tips began.connected; sent = rw (k.tips, k.sent) began.sent }
         | inr (asked, none, made) ↦ still g r.graph.entries old new (Fetches asked) grows began made
       ]
 

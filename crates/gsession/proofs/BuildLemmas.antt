@@ -10,7 +10,7 @@ use Rattle.gname.specs.Ids.{IsIdOf}
 use Rattle.gname.specs.declared.formats.Format.{Format}
 use Rattle.gdag.specs.Levels.{distinct_of, is_in}
 use Rattle.gdag.proofs.IdLists.{new_ids-append}
-use Rattle.grefspec.specs.Refspecs.{Refspec}
+use Rattle.grefs.specs.Refspecs.{Refspec}
 use Rattle.gobject.specs.declared.node.Entry.{Entry}
 use Rattle.gname.specs.Ids.{has_format}
 use Rattle.grequest.specs.Asked.{Asked, Fetches}

@@ -18,17 +18,17 @@ use Rattle.gname.specs.Ids.{IsIdOf}
 use Rattle.gname.specs.Laws.{IdsHaveOneFormat}
 use Rattle.gname.specs.declared.formats.Format.{Format}
 use Rattle.gobject.specs.declared.node.Entry.{Entry}
-use Rattle.gobject.specs.Objects.{IdsDiffer, entry_of, place_of}
+use Rattle.gobject.specs.Objects.{IdsDiffer, entry_of, position_of}
 use Rattle.gdag.specs.Graphs.{History, Holds, IsGraph}
-use Rattle.gdag.specs.Laws.{DistinctAreOnce, OffersAreExact, PlacesAreNodes}
+use Rattle.gdag.specs.Laws.{DistinctAreOnce, OffersAreExact, PositionsAreNodes}
 use Rattle.gdag.specs.Levels.{distinct_of}
 use Rattle.gdag.specs.Offer.{IsOffer}
-use Rattle.gdag.specs.Reach.{IsFull, Reaches, here, onward}
+use Rattle.gdag.specs.Reach.{IsConnected, Reaches, here, onward}
 use Rattle.gdag.specs.Walks.{Misses}
 use Rattle.gdag.proofs.Choosing.{chosen_all}
 use Rattle.gdag.proofs.IdLists.{contains_from_any, contains_head, contains_tail, either_way, only_one}
-use Rattle.gdag.proofs.Places.{held_id}
-use Rattle.gwalk.specs.Marks.{AreFull}
+use Rattle.gdag.proofs.Positions.{held_id}
+use Rattle.gwalk.specs.Marks.{AreConnected}
 use Rattle.gclientrepo.specs.declared.ask.Ask.{Ask}
 use Rattle.gclientrepo.specs.Asks.{asked_ids}
 use Rattle.grequest.specs.Asked.{max_haves}
@@ -105,49 +105,49 @@ none_by (Some x) false e = refl
 
 module _ {A : Type 0} where
   -- a marked id
-  pub known_full : PlacesAreNodes A → (g : List (Entry A)) (marks : List Bool) (a : List ℕ) (place : ℕ) → IdsDiffer g
-      → AreFull g marks
-      → place_of g a ≡ Some place → slice_index_or marks place false ≡ true → IsFull g a
-  known_full places g marks a place differ full at marked =
-      let entry = full place marked in
+  pub known_connected : PositionsAreNodes A → (g : List (Entry A)) (marks : List Bool) (a : List ℕ) (place : ℕ) → IdsDiffer g
+      → AreConnected g marks
+      → position_of g a ≡ Some place → slice_index_or marks place false ≡ true → IsConnected g a
+  known_connected places g marks a place differ connected at marked =
+      let entry = connected place marked in
       let stands = ((places g differ).1 a place).0 at in
-      subst (λ b. IsFull g b) (ap (λ (e : Entry A). e.id)
+      subst (λ b. IsConnected g b) (ap (λ (e : Entry A). e.id)
       (same_Some entry.0 (entry_of a stands.0) (sym entry.1 ∙ stands.1))) entry.2
 
   -- a walk from one id
-  pub full_unless_missing : (g : List (Entry A)) (a : List ℕ) (found : Option (List ℕ)) → Misses g (a ∷ []) found
-      → IsTrue (is_none found) ↔ IsFull g a
-  full_unless_missing g a None full = (λ _. All-head (IsFull g) a [] full, λ _. refl)
-  full_unless_missing g a (Some b) lost =
+  pub connected_unless_missing : (g : List (Entry A)) (a : List ℕ) (found : Option (List ℕ)) → Misses g (a ∷ []) found
+      → IsTrue (is_none found) ↔ IsConnected g a
+  connected_unless_missing g a None connected = (λ _. All-head (IsConnected g) a [] connected, λ _. refl)
+  connected_unless_missing g a (Some b) lost =
       let from = lost.0 in
       let path : Reaches g a b = subst (λ c. Reaches g c b) (only_one a from.0 from.1) from.2 in
-      (λ none. absurd (true≢false (sym none)), λ full. absurd (true≢false (sym (full b path) ∙ ap is_some lost.1)))
+      (λ none. absurd (true≢false (sym none)), λ connected. absurd (true≢false (sym (connected b path) ∙ ap is_some lost.1)))
 
   -- an id that is not held
-  pub unheld_not_full : (g : List (Entry A)) (a : List ℕ) (held : Bool) → IsTrue held ↔ Holds g a → held ≡ false
-      → IsTrue false ↔ IsFull g a
-  unheld_not_full g a held is out =
-      (λ none. absurd (true≢false (sym none)), λ full. absurd (true≢false (sym (is.1 (full a here)) ∙ out)))
+  pub unheld_not_connected : (g : List (Entry A)) (a : List ℕ) (held : Bool) → IsTrue held ↔ Holds g a → held ≡ false
+      → IsTrue false ↔ IsConnected g a
+  unheld_not_connected g a held is out =
+      (λ none. absurd (true≢false (sym none)), λ connected. absurd (true≢false (sym (is.1 (connected a here)) ∙ out)))
 
   -- the wants have the format of the asks
   pub want_ids : DistinctAreOnce → (g : List (Entry A)) (asks : List (Ask A)) (wants : List (List ℕ))
       → AreWants g asks wants
       → (format : Format) → All (λ (ask : Ask A). IsIdOf format ask.id) asks → All (IsIdOf format) wants
   want_ids law g asks wants are format ids =
-      chosen_all (λ a. ¬ (IsFull g a)) (IsIdOf format) (distinct_of (asked_ids asks)) wants are
+      chosen_all (λ a. ¬ (IsConnected g a)) (IsIdOf format) (distinct_of (asked_ids asks)) wants are
       (all_distinct law (IsIdOf format) (asked_ids asks) (All-map (IsIdOf format) (λ (ask : Ask A). ask.id) asks ids))
 
   -- so the tips have the format of the graph
-  pub tip_ids : DistinctAreOnce → PlacesAreNodes A → (g : History A) (ids : List (List ℕ)) → IsGraph g
-      → All (IsFull g.entries) ids → All (IsIdOf g.format) (distinct_of ids)
-  tip_ids law places g ids is full =
+  pub tip_ids : DistinctAreOnce → PositionsAreNodes A → (g : History A) (ids : List (List ℕ)) → IsGraph g
+      → All (IsConnected g.entries) ids → All (IsIdOf g.format) (distinct_of ids)
+  tip_ids law places g ids is connected =
       all_distinct law (IsIdOf g.format) ids
-      (λ k d low. held_id places g is (get_or ids k d) (full k d low (get_or ids k d) here))
+      (λ k d low. held_id places g is (get_or ids k d) (connected k d low (get_or ids k d) here))
 
   -- ---- offered ids
 
   -- an id of the format leads to held ids of the format alone, whatever the format of the graph
-  reached_id : PlacesAreNodes A → IdsHaveOneFormat → (format : Format) (g : History A) (a b : List ℕ) → IsGraph g
+  reached_id : PositionsAreNodes A → IdsHaveOneFormat → (format : Format) (g : History A) (a b : List ℕ) → IsGraph g
       → IsIdOf format a → Holds g.entries b → Reaches g.entries a b → IsIdOf format b
   reached_id places one format g a b is id held here = id
   reached_id places one format g a b is id held (onward parent rest) =
@@ -155,7 +155,7 @@ module _ {A : Type 0} where
       (sym (one g.format a (held_id places g is a (ap is_some parent.1))).1 ∙ (one format a id).1)
       (held_id places g is b held)
 
-  pub offer_fits : OffersAreExact A → PlacesAreNodes A → IdsHaveOneFormat
+  pub offer_fits : OffersAreExact A → PositionsAreNodes A → IdsHaveOneFormat
       → (s : SessionState A) (g : History A) (n : ℕ) (offer : List (List ℕ)) → IsSession s → IsGraph g
       → IsOffer g.entries s.tips s.commons s.sent n offer → length s.commons + length offer ≤ max_haves
       → FitsBatch s offer

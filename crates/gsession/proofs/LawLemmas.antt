@@ -9,7 +9,7 @@ use Rattle.gname.specs.declared.formats.Format.{Format}
 use Rattle.gpkt.specs.Packets.{Packet}
 use Rattle.ggrammar.specs.Grammar.{Judge}
 use Rattle.ggrammar.specs.Kinds.{Meaning, ReadsExactly, ReadsMessage, SaysAtFront}
-use Rattle.ggrammar.specs.MessageBytes.{known}
+use Rattle.ggrammar.specs.MessageBytes.{known_bytes}
 use Rattle.ggrammar.specs.declared.ends.Ends.{Ends}
 use Rattle.glsreply.specs.LsReplies.{LsReply}
 use Rattle.glsreply.specs.LsReplies as ls
@@ -22,7 +22,7 @@ use Rattle.gdag.specs.Laws.{DistinctAreOnce}
 use Rattle.gdag.proofs.Choosing.{one_choice, select_from, select_has}
 use Rattle.gdag.proofs.IdLists.{in_or_not}
 use Rattle.gdag.specs.Levels.{distinct_of}
-use Rattle.gdag.specs.Reach.{IsFull}
+use Rattle.gdag.specs.Reach.{IsConnected}
 use Rattle.gclientrepo.specs.Asks.{asked_ids}
 use Rattle.gclientrepo.specs.Repos.{RepoState}
 use Rattle.gclientrepo.specs.declared.fault.RepoFault.TheVariants as repo
@@ -47,7 +47,7 @@ use Rattle.gdag.proofs.Growing.{grows_none, inserts_grows}
 -- the same bytes are one message
 one_message : {M : Type 0} (judge : Judge) (brings : List Packet → Packet → Bool) (Says : Meaning M)
     → ReadsExactly judge brings Says → (bytes left also : List ℕ) (one other : M)
-    → ReadsMessage judge Says (known bytes left) one → ReadsMessage judge Says (known bytes also) other → other ≡ one
+    → ReadsMessage judge Says (known_bytes bytes left) one → ReadsMessage judge Says (known_bytes bytes also) other → other ≡ one
 one_message judge brings Says exactly bytes left also one other reads reads_too =
     let there : SaysAtFront Says bytes left one = (exactly bytes left left (Ok one) one reads tt).0 (refl, refl) in
     let same = ((exactly bytes also left (Ok other) one reads_too tt).1 there).0 in
@@ -61,11 +61,11 @@ module _ {A : Type 0} where
   held_or_not (Some node) twice = refl
 
   -- what can't fail to be connected is connected
-  full_or_not : (g : List (Entry A)) (a : List ℕ) → ¬ (¬ (IsFull g a)) → IsFull g a
-  full_or_not g a twice b path = held_or_not (node_at g b) (λ lost. twice (λ full. lost (full b path)))
+  connected_or_not : (g : List (Entry A)) (a : List ℕ) → ¬ (¬ (IsConnected g a)) → IsConnected g a
+  connected_or_not g a twice b path = held_or_not (node_at g b) (λ lost. twice (λ connected. lost (connected b path)))
 
   abbrev IsLacking : List (Entry A) → List ℕ → Type 0
-  IsLacking g a = ¬ (IsFull g a)
+  IsLacking g a = ¬ (IsConnected g a)
 
   pub wants_are_exact : DistinctAreOnce → WantsAreExact A
   wants_are_exact law g asks wants are =
@@ -80,7 +80,7 @@ module _ {A : Type 0} where
             let a = get_or ids k d in
             elim (in_or_not wants a) [
               | inl there ↦ inl there
-              | inr out ↦ inr (full_or_not g a (λ lacks.
+              | inr out ↦ inr (connected_or_not g a (λ lacks.
                   out (select_has P are a lacks (((law ids).same a).1 (Contains-get_or ids k d low)))))
             ];
       }
@@ -126,7 +126,7 @@ module _ {A : Type 0} where
     pub taking_is_decided : ((reading : Reading) → ReadsExactly (judge reading) (brings reading) (Says reading))
         → TakingIsDecided indexes index_fails
     taking_is_decided exactly old one other r after after_too bytes left also (Ok taken) takes takes_too =
-        let reads = subst (λ (asked : FetchAsked). ReadsFetch (reading_for old asked) (known bytes also) takes_too.2.0)
+        let reads = subst (λ (asked : FetchAsked). ReadsFetch (reading_for old asked) (known_bytes bytes also) takes_too.2.0)
         (one_asked old takes.0 takes_too.0 takes.1 takes_too.1) takes_too.2.1 in
         let reading = reading_for old takes.0 in
         let reply = one_message (judge reading) (brings reading) (Says reading) (exactly reading) bytes left also

@@ -9,16 +9,16 @@ use Rattle.std.proofs.lemmas.List.Elements.{Contains-append_right, Contains-get_
 use Rattle.ggrammar.specs.declared.ends.Ends.{Ends}
 use Rattle.gobject.specs.declared.node.Entry.{Entry}
 use Rattle.gdag.specs.Graphs.{Holds}
-use Rattle.gdag.specs.Laws.{DistinctAreOnce, FullStaysFull, GrowingKeeps, OffersAreExact, ReachingGoesOn}
+use Rattle.gdag.specs.Laws.{DistinctAreOnce, ConnectedStaysConnected, GrowingKeeps, OffersAreExact, ReachingGoesOn}
 use Rattle.gdag.specs.Levels.{distinct_of}
-use Rattle.gdag.specs.Reach.{IsFull, SomeReaches}
+use Rattle.gdag.specs.Reach.{IsConnected, SomeReaches}
 use Rattle.gdag.proofs.IdLists.{contains_head}
-use Rattle.grefspec.specs.Refspecs.{Refspec}
-use Rattle.gclientrepo.specs.Repos.{RepoState, IsWhole}
+use Rattle.grefs.specs.Refspecs.{Refspec}
+use Rattle.gclientrepo.specs.Repos.{RepoState, IsConnectedRepo}
 use Rattle.grequest.specs.declared.flag.FetchFlag.TheVariants.{Done}
 use Rattle.grequest.specs.Asked.{Asked, Empty, Ls, Fetches, FetchAsked, fetch_has, max_haves}
 use Rattle.gsession.specs.Bounds.{BeganBegins, BeganStays, OffersAreNew}
-use Rattle.gsession.specs.Laws.{HavesAreFull, HavesAreNew, OneNext, OptionsAreAsked}
+use Rattle.gsession.specs.Laws.{HavesAreConnected, HavesAreNew, OneNext, OptionsAreAsked}
 use Rattle.gsession.specs.Requesting.{IsBatch, IsNext, batch_of, batch_size, fetch_request, waiting_for}
 use Rattle.gsession.specs.Sessions.{SessionState, Begins, BeginsWith, no_options}
 use Rattle.gsession.specs.declared.fault.ClientFault.{ClientFault}
@@ -72,11 +72,11 @@ module _ {A : Type 0} where
   offers_are_new exact g old new asked made goes_on =
       new_id old asked made.0 made.1.1 (batch_unsent exact g old made.0 made.1.2) goes_on
 
-  pub haves_are_full : OffersAreExact A → ReachingGoesOn A → HavesAreFull A
-  haves_are_full exact goes_on g old new asked tips commons made =
-      rw made.1.1 (All-append (IsFull g) old.commons made.0 commons
-      (batch_has exact (IsFull g) g old made.0 made.1.2 (λ a unsent reached b path.
-      All-contains (IsFull g) old.tips reached.0 tips reached.1 b (goes_on g reached.0 a b reached.2 path))))
+  pub haves_are_connected : OffersAreExact A → ReachingGoesOn A → HavesAreConnected A
+  haves_are_connected exact goes_on g old new asked tips commons made =
+      rw made.1.1 (All-append (IsConnected g) old.commons made.0 commons
+      (batch_has exact (IsConnected g) g old made.0 made.1.2 (λ a unsent reached b path.
+      All-contains (IsConnected g) old.tips reached.0 tips reached.1 b (goes_on g reached.0 a b reached.2 path))))
 
   pub haves_are_new : OffersAreExact A → HavesAreNew A
   haves_are_new exact g old new asked made =
@@ -120,26 +120,26 @@ module _ {A : Type 0} where
   -- ---- the graph on which a session began
 
   -- each tip is connected
-  pub tips_are_full : DistinctAreOnce → (r : RepoState A) → IsWhole r
-      → All (IsFull r.graph.entries) (distinct_of (values_of r.refs))
-  tips_are_full once r whole = all_distinct once (IsFull r.graph.entries) (values_of r.refs) whole.safe
+  pub tips_are_connected : DistinctAreOnce → (r : RepoState A) → IsConnectedRepo r
+      → All (IsConnected r.graph.entries) (distinct_of (values_of r.refs))
+  tips_are_connected once r whole = all_distinct once (IsConnected r.graph.entries) (values_of r.refs) whole.connected_refs
 
   pub began_begins : DistinctAreOnce → BeganBegins A
   began_begins once r refspecs limit ends session whole begins = rw begins.1 (record {
-    full = tips_are_full once r whole;
+    connected = tips_are_connected once r whole;
     sent = All-nil (λ a. Holds r.graph.entries a × SomeReaches r.graph.entries (distinct_of (values_of r.refs)) a);
   })
 
-  pub began_stays : OffersAreExact A → GrowingKeeps A → FullStaysFull A → BeganStays A
-  began_stays exact keeps full g h old new Empty grows began made = absurd made.1
-  began_stays exact keeps full g h old new (Ls asked) grows began made =
-      rw made.2 (record { full = began.full; sent = began.sent })
-  began_stays exact keeps full g h old new (Fetches asked) grows began made =
+  pub began_stays : OffersAreExact A → GrowingKeeps A → ConnectedStaysConnected A → BeganStays A
+  began_stays exact keeps connected g h old new Empty grows began made = absurd made.1
+  began_stays exact keeps connected g h old new (Ls asked) grows began made =
+      rw made.2 (record { connected = began.connected; sent = began.sent })
+  began_stays exact keeps connected g h old new (Fetches asked) grows began made =
       let P : List ℕ → Type 0 = λ a. Holds g a × SomeReaches g old.tips a in
       rw made.2 (record {
-        full = began.full;
+        connected = began.connected;
         sent = All-append P old.sent made.0 began.sent (batch_has exact P h old made.0 made.1.2 (λ a unsent reached.
-            let is_full = All-contains (IsFull g) old.tips reached.0 began.full reached.1 in
-            let back = (full g h reached.0 (keeps g h grows) is_full).1 a reached.2 in
-            (is_full a back, (reached.0, reached.1, back))));
+            let is_connected = All-contains (IsConnected g) old.tips reached.0 began.connected reached.1 in
+            let back = (connected g h reached.0 (keeps g h grows) is_connected).1 a reached.2 in
+            (is_connected a back, (reached.0, reached.1, back))));
       })

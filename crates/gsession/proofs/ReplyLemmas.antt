@@ -7,7 +7,7 @@ use Rattle.std.proofs.lemmas.List.Elements.{All-append, All-contains}
 use Rattle.std.proofs.lemmas.Map.Made.{length-le_from_is_member}
 use Rattle.gname.specs.Ids.{IsIdOf}
 use Rattle.gpkt.specs.Change.{Change}
-use Rattle.gpkt.specs.LineReading.{Reader}
+use Rattle.gpkt.specs.PacketReading.{Reader}
 use Rattle.ggrammar.specs.MessageReading.{LeavesReader}
 use Rattle.glsreply.specs.LsReplies.{LsReply}
 use Rattle.gobject.specs.declared.node.Entry.{Entry}

@@ -9,9 +9,9 @@ use Rattle.gname.specs.Ids.{Id}
 use Rattle.glsreply.specs.RefTexts.{RefLine}
 use Rattle.gobject.specs.declared.node.Entry.{Entry}
 use Rattle.gdag.specs.Levels.{distinct_of}
-use Rattle.gdag.specs.Reach.{IsFull}
+use Rattle.gdag.specs.Reach.{IsConnected}
 use Rattle.gdag.specs.Selecting.{Selects}
-use Rattle.grefspec.specs.Refspecs.{Refspec, destination_of, matches}
+use Rattle.grefs.specs.Refspecs.{Refspec, destination_of, matches}
 use Rattle.gclientrepo.specs.declared.ask.Ask.{Ask}
 use Rattle.gclientrepo.specs.Asks.{asked_ids, with_ask}
 
@@ -46,7 +46,7 @@ AreNamed asks = All (λ ask. IsRefName ask.name) asks
 
 -- the wants: the distinct asked ids that are not connected, in order
 abbrev pub AreWants : {A : Type 0} → List (Entry A) → List (Ask A) → List Id → Type 0
-AreWants g asks wants = Selects (λ a. ¬ (IsFull g a)) (distinct_of (asked_ids asks)) wants
+AreWants g asks wants = Selects (λ a. ¬ (IsConnected g a)) (distinct_of (asked_ids asks)) wants
 
 -- whether a refspec fetches HEAD
 abbrev pub takes_head : List Refspec → Bool

@@ -8,10 +8,10 @@ use Rattle.ggrammar.specs.declared.ends.Ends.{Ends}
 use Rattle.gobject.specs.declared.node.Entry.{Entry}
 use Rattle.gobject.specs.Packs.{Indexes, IndexFails}
 use Rattle.gdag.specs.Graphs.{Holds}
-use Rattle.gdag.specs.Reach.{Grows, IsFull, SomeReaches}
+use Rattle.gdag.specs.Reach.{Grows, IsConnected, SomeReaches}
 use Rattle.gdag.specs.Walks.{CountsReached}
-use Rattle.grefspec.specs.Refspecs.{Refspec}
-use Rattle.gclientrepo.specs.Repos.{IsWhole, RepoState}
+use Rattle.grefs.specs.Refspecs.{Refspec}
+use Rattle.gclientrepo.specs.Repos.{IsConnectedRepo, RepoState}
 use Rattle.grequest.specs.declared.flag.FetchFlag.TheVariants.{Done}
 use Rattle.grequest.specs.Asked.{Asked, Fetches, FetchAsked, fetch_has}
 use Rattle.gsession.specs.Calls.{HasCalled, IsOutOfTurn}
@@ -25,14 +25,14 @@ use Rattle.gsession.specs.declared.fault.ClientFault.{ClientFault}
 
 -- the session began on this graph: its tips are connected, and only ids were offered that the tips reach there
 pub record BeganOn {A : Type 0} (g : List (Entry A)) (s : SessionState A) : Type 0 where
-  pub full : All (IsFull g) s.tips
+  pub connected : All (IsConnected g) s.tips
   pub sent : All (λ a. Holds g a × SomeReaches g s.tips a) s.sent
 
 -- a session that begins on a connected repository begins on its graph
 abbrev pub BeganBegins : Type 0 → Type 0
 BeganBegins A =
     (r : RepoState A) (refspecs : List Refspec) (limit : ℕ) (ends : Ends) (session : SessionState A)
-    → IsWhole r → Begins r refspecs limit ends (Ok session) → BeganOn r.graph.entries session
+    → IsConnectedRepo r → Begins r refspecs limit ends (Ok session) → BeganOn r.graph.entries session
 
 -- it still did where it made its next request, as the graph grew
 abbrev pub BeganStays : Type 0 → Type 0

@@ -5,13 +5,13 @@ use Rattle.gname.specs.Names.{Name}
 use Rattle.gpkt.specs.Change.{Change}
 use Rattle.gpkt.specs.Packets.{Bytes}
 use Rattle.ggrammar.specs.Capabilities.{Capability}
-use Rattle.ggrammar.specs.MessageBytes.{known}
+use Rattle.ggrammar.specs.MessageBytes.{known_bytes}
 use Rattle.glsreply.specs.RefTexts.{RefLine}
 use Rattle.gfetchreply.specs.FetchReplies.{FetchReply}
 use Rattle.gobject.specs.declared.node.Entry.{Entry}
 use Rattle.gobject.specs.Packs.{Indexes, IndexFails}
-use Rattle.gdag.specs.Reach.{Grows, IsFull}
-use Rattle.grefspec.specs.Refspecs.{Refspec, destination_of, matches}
+use Rattle.gdag.specs.Reach.{Grows, IsConnected}
+use Rattle.grefs.specs.Refspecs.{Refspec, destination_of, matches}
 use Rattle.gclientrepo.specs.declared.ask.Ask.{Ask}
 use Rattle.gclientrepo.specs.declared.ask.RefUpdate.{RefUpdate}
 use Rattle.gclientrepo.specs.Asks.{NamesDiffer, asked_ids}
@@ -93,8 +93,8 @@ pub record FirstIsAsked (A : Type 0) : Type 0 where
 -- each want is an asked id that is not connected, and each other asked id is
 pub record AreExactWants {A : Type 0} (g : List (Entry A)) (asks : List (Ask A)) (wants : List Id) : Type 0 where
   pub asked : All (Contains (asked_ids asks)) wants
-  pub missing : All (λ a. ¬ (IsFull g a)) wants
-  pub others : All (λ a. Contains wants a ⊎ IsFull g a) (asked_ids asks)
+  pub missing : All (λ a. ¬ (IsConnected g a)) wants
+  pub others : All (λ a. Contains wants a ⊎ IsConnected g a) (asked_ids asks)
 
 -- the wants of a reply are exact
 abbrev pub WantsAreExact : Type 0 → Type 0
@@ -106,8 +106,8 @@ WantsAreExact A =
 abbrev pub ListingIsDecided : Type 0 → Type 0
 ListingIsDecided A =
     (old one other : SessionState A) (g : List (Entry A)) (bytes left also : Bytes)
-    (result : Result (LsTaken A) (ClientFault A)) → TakesLs old g (known bytes left) one result
-    → TakesLs old g (known bytes also) other result → one ≡ other
+    (result : Result (LsTaken A) (ClientFault A)) → TakesLs old g (known_bytes bytes left) one result
+    → TakesLs old g (known_bytes bytes also) other result → one ≡ other
 
 -- the session and the graph decide the next request, and the session that then waits for its reply
 abbrev pub OneNext : Type 0 → Type 0
@@ -129,10 +129,10 @@ OptionsAreAsked A =
 -- ---- haves
 
 -- each have is connected, where the tips and the common ids are
-abbrev pub HavesAreFull : Type 0 → Type 0
-HavesAreFull A =
-    (g : List (Entry A)) (old new : SessionState A) (asked : FetchAsked) → All (IsFull g) old.tips
-    → All (IsFull g) old.commons → MakesNext old g new (Fetches asked) → All (IsFull g) asked.haves
+abbrev pub HavesAreConnected : Type 0 → Type 0
+HavesAreConnected A =
+    (g : List (Entry A)) (old new : SessionState A) (asked : FetchAsked) → All (IsConnected g) old.tips
+    → All (IsConnected g) old.commons → MakesNext old g new (Fetches asked) → All (IsConnected g) asked.haves
 
 -- each have is common, or was not offered before
 abbrev pub HavesAreNew : Type 0 → Type 0

@@ -10,7 +10,7 @@ pub mod Bounds
 pub mod Laws
 pub mod Faults
 pub mod steps
-pub use Rattle.grefspec.specs.Refspecs
+pub use Rattle.grefs.specs.Refspecs
 pub use Rattle.gclientrepo.specs.Changes
 pub use Rattle.gclientrepo.specs.Repos
 pub use Rattle.gclientrepo.specs.Settling
@@ -21,7 +21,7 @@ pub use Rattle.gdag.specs.Levels
 pub use Rattle.gdag.specs.Insert
 pub use Rattle.gobject.specs.Packs
 pub use Rattle.gpkt.specs.Change
-pub use Rattle.gpkt.specs.LineReading
+pub use Rattle.gpkt.specs.PacketReading
 pub use Rattle.ggrammar.specs.MessageReading
 pub use Rattle.ghello.specs.Offers
 pub use Rattle.glsreply.specs.LsReplies

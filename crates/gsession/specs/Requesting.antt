@@ -7,7 +7,7 @@ use Rattle.gobject.specs.declared.node.Entry.{Entry}
 use Rattle.gdag.specs.Levels.{distinct_of}
 use Rattle.gdag.specs.Offer.{IsOffer}
 use Rattle.gdag.specs.declared.fault.GraphFault.TheVariants as graph
-use Rattle.grefspec.specs.Refspecs.{Refspec}
+use Rattle.grefs.specs.Refspecs.{Refspec}
 use Rattle.gclientrepo.specs.declared.fault.RepoFault.TheVariants as repo
 use Rattle.grequest.specs.declared.flag.LsRefsFlag.TheVariants.{Unborn}
 use Rattle.grequest.specs.declared.flag.FetchFlag.TheVariants.{NoProgress, IncludeTag, OfsDelta, Done}

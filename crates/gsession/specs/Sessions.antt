@@ -8,13 +8,13 @@ use Rattle.std.specs.Str.{bytes_eq}
 use Rattle.gname.specs.Ids.{Id, IsIdOf}
 use Rattle.gname.specs.declared.formats.Format.{Format}
 use Rattle.ggrammar.specs.declared.ends.Ends.{Ends}
-use Rattle.gpkt.specs.LineReading.{Reader}
+use Rattle.gpkt.specs.PacketReading.{Reader}
 use Rattle.ggrammar.specs.Capabilities.{Capability}
 use Rattle.ggrammar.specs.MessageReading.{LeavesReader}
 use Rattle.ghello.specs.Offers.{has_feature}
 use Rattle.gdag.specs.Levels.{distinct_of}
 use Rattle.gdag.specs.declared.fault.GraphFault.TheVariants as graph
-use Rattle.grefspec.specs.Refspecs.{Refspec}
+use Rattle.grefs.specs.Refspecs.{Refspec}
 use Rattle.gclientrepo.specs.declared.ask.Ask.{Ask}
 use Rattle.gclientrepo.specs.declared.fault.RepoFault.TheVariants as repo
 use Rattle.gclientrepo.specs.Repos.{RepoState}

@@ -5,7 +5,7 @@ use Rattle.gname.specs.Ids.{Id}
 use Rattle.gpkt.specs.Change.{Change}
 use Rattle.gpkt.specs.Packets.{Bytes, Packet}
 use Rattle.ggrammar.specs.Kinds.{ReadsMessage}
-use Rattle.ggrammar.specs.MessageBytes.{known}
+use Rattle.ggrammar.specs.MessageBytes.{known_bytes}
 use Rattle.ggrammar.specs.MessageReading.{ReadsRefused}
 use Rattle.ggrammar.specs.declared.fault.MessageFault.{MessageFault}
 use Rattle.gfetchreply.specs.FetchReplies.{Reading, FetchReply, Acks, Ready, Pack, Says, brings_into, judge}
@@ -154,8 +154,8 @@ module _ {A : Type 0} (indexes : Indexes A) (index_fails : IndexFails) where
   abbrev pub TakingIsDecided : Type 0
   TakingIsDecided =
       (old one other : SessionState A) (repo repo_one repo_other : RepoState A) (bytes left also : Bytes)
-      (result : Result Taken (ClientFault A)) → TakesReply old repo (known bytes left) one repo_one result
-      → TakesReply old repo (known bytes also) other repo_other result → one ≡ other
+      (result : Result Taken (ClientFault A)) → TakesReply old repo (known_bytes bytes left) one repo_one result
+      → TakesReply old repo (known_bytes bytes also) other repo_other result → one ≡ other
 
   -- once the reply to a request with `done` is taken, no more objects are asked for
   abbrev pub DoneIsLast : Type 0

@@ -1,4 +1,4 @@
-//! Ids that a server acknowledges.
+//! The ids that a server acknowledges.
 
 ghost use Rattle.std.specs.Prelude.{◌≡◌, ◌↔◌, ◌++◌, true, All, Contains, IfOk, IfSome, MatchOption};
 ghost use Rattle.std.specs.Str.{bytes_eq};
@@ -12,8 +12,8 @@ use gname::Oid;
 use indexmap::IndexSet;
 use std::alloc::{AllocError, Allocator};
 
-/// The first acknowledged id that is none of the haves. Each is looked up in a set of these; where out of memory
-/// for the set, it is searched for, so that no strange id is hidden.
+/// Returns the first acknowledged id that is not a have. Looks each up in a set of the haves. If
+/// out of memory for the set, it searches the list instead, so that no strange id is hidden.
 pub(crate) fn first_strange<A: Allocator + Copy>(
     alloc: A,
     haves: &[Oid],
@@ -28,7 +28,7 @@ pub(crate) fn first_strange<A: Allocator + Copy>(
     }
 }
 
-// The first acknowledged id that is none of the haves, which the set has where there is one.
+// Returns the first acknowledged id that is not a have. The set has the haves, if there is one.
 fn first_unoffered<A: Allocator + Copy>(
     offered: &Option<IndexSet<Oid, IdHasher, A>>,
     haves: &[Oid],
@@ -47,7 +47,7 @@ fn first_unoffered<A: Allocator + Copy>(
     None
 }
 
-// Whether the id is one of the haves, which the set has where there is one.
+// Whether the id is a have. The set has the haves, if there is one.
 fn is_offered<A: Allocator + Copy>(
     offered: &Option<IndexSet<Oid, IdHasher, A>>,
     haves: &[Oid],
@@ -63,7 +63,7 @@ fn is_offered<A: Allocator + Copy>(
     }
 }
 
-// The ids as a set.
+// Returns the ids as a set.
 fn set_of<A: Allocator + Copy>(
     alloc: A,
     ids: &[Oid],
@@ -74,7 +74,8 @@ fn set_of<A: Allocator + Copy>(
     ids.iter().copied().collect(alloc)
 }
 
-/// The common ids with those that are acknowledged, each once, in the order in which each came first.
+/// Returns the common ids and the acknowledged ids, each once, in the order of their first
+/// occurrence.
 pub(crate) fn with_acks<A: Allocator + Copy>(
     alloc: A,
     commons: &[Oid],

@@ -1,24 +1,25 @@
-//! What a session asks for.
+//! The asks of a session.
 
 ghost use Rattle.std.specs.Prelude.{◌≡◌, ◌↔◌, ◌∷◌, [], true, All, IfErr, IfOk, IsTrue, Ok, OnOk};
 ghost use Rattle.gname.specs.Ids.{IsIdOf};
 ghost use Rattle.gname.specs.declared.formats.Format.{Format};
 ghost use Rattle.glsreply.specs.WellFormed.{IsRefLine};
-ghost use Rattle.gdag.specs.Reach.{IsFull};
+ghost use Rattle.gdag.specs.Reach.{IsConnected};
 ghost use Rattle.gdag.specs.declared.fault.GraphFault.TheVariants.{Memory};
-ghost use Rattle.grefspec.specs.Refspecs.{FindsDestination};
+ghost use Rattle.grefs.specs.Refspecs.{FindsDestination};
 ghost use Rattle.gsession.specs.Asking.{AreNamed, AreWants, asks_by, asks_by_all, takes_head, unborn_told};
 ghost use Rattle.gsession.specs.steps.Calls.{AddsAsks, FindsAsks};
 
 use gclientrepo::{Ask, Asks, Repo};
-use ggraph::graph_laws::{distinct_are_once, places_are_nodes};
+use ggraph::graph_laws::{distinct_are_once, positions_are_nodes};
 use ggraph::{GraphFault, distinct_ids};
 use glsreply::{LsReply, RefLine};
 use gname::{Oid, RefName};
-use grefspec::Spec;
+use grefs::Spec;
 use std::alloc::{AllocError, Allocator};
 
-/// Whether each ref that refspecs ask for of the refs of a reply can have its name. It takes no memory.
+/// Whether each ref that the refspecs ask for can have its name, for the refs of a reply. Allocates
+/// nothing.
 pub(crate) fn are_named<A: Allocator + Copy>(specs: &[Spec<A>], reply: &LsReply<A>) -> bool
     ensures { IsTrue result ↔ AreNamed {A = A} (asks_by_all specs.now reply.now.lines) }
 {
@@ -30,7 +31,7 @@ pub(crate) fn are_named<A: Allocator + Copy>(specs: &[Spec<A>], reply: &LsReply<
     true
 }
 
-// Whether each ref to which a refspec takes a ref of a reply can have its name.
+// Whether each ref to which a refspec maps a ref of a reply can have its name.
 fn leads_to_names<A: Allocator + Copy>(spec: &Spec<A>, reply: &LsReply<A>) -> bool
     ensures { IsTrue result ↔ AreNamed {A = A} (asks_by spec.now reply.now.lines) }
 {
@@ -44,7 +45,8 @@ fn leads_to_names<A: Allocator + Copy>(spec: &Spec<A>, reply: &LsReply<A>) -> bo
     true
 }
 
-/// What refspecs ask for of the refs of a reply. It fails where out of memory, or where a ref can't have its name.
+/// Returns the asks of refspecs for the refs of a reply. Fails if out of memory, or if a ref can't
+/// have its name.
 pub(crate) fn asked_of<A: Allocator + Copy>(
     alloc: A,
     specs: &[Spec<A>],
@@ -61,7 +63,7 @@ pub(crate) fn asked_of<A: Allocator + Copy>(
     Ok(asks)
 }
 
-// Adds what a refspec asks for, line by line.
+// Adds the asks of a refspec, line by line.
 fn add_asks<A: Allocator + Copy>(
     spec: &Spec<A>,
     reply: &LsReply<A>,
@@ -71,14 +73,14 @@ fn add_asks<A: Allocator + Copy>(
 {
     for place in 0..reply.len() {
         if let Some(line) = reply.at(place) {
-            add_line(spec, line, asks)?;
+            ask_of_line(spec, line, asks)?;
         }
     }
     Ok(())
 }
 
-// Adds what a refspec asks for of one line, unless something is asked of that ref.
-fn add_line<A: Allocator + Copy>(
+// Adds the ask of a refspec for one line, unless there is an ask for that ref.
+fn ask_of_line<A: Allocator + Copy>(
     spec: &Spec<A>,
     line: &RefLine<A>,
     asks: &mut Asks<A>,
@@ -97,7 +99,8 @@ fn add_line<A: Allocator + Copy>(
     Ok(())
 }
 
-// Where a refspec takes a ref. It fails where out of memory, or where that is no ref name.
+// Returns the ref to which a refspec maps a ref. Fails if out of memory, or if it is not a ref
+// name.
 fn destination_of<A: Allocator + Copy>(
     alloc: A,
     spec: &Spec<A>,
@@ -111,7 +114,7 @@ fn destination_of<A: Allocator + Copy>(
     }
 }
 
-/// The distinct asked ids that are not connected, in order. It fails with `Memory` alone.
+/// Returns the distinct asked ids that are not connected, in order. Fails only with `Memory`.
 pub(crate) fn wants_of<A: Allocator + Copy>(
     repo: &Repo<A>,
     asks: &Asks<A>,
@@ -129,16 +132,17 @@ pub(crate) fn wants_of<A: Allocator + Copy>(
     let ids = distinct_ids(alloc, asked.as_slice())?;
     let mut wants = Vec::new(alloc);
     for id in ids.as_slice() {
-        if !is_full(repo, id)? {
+        if !is_connected(repo, id)? {
             wants.push(*id)?;
         }
     }
     Ok(wants)
 }
 
-// Whether an id is connected. An id that is not held, and one that the refs here reach, need no walk.
-fn is_full<A: Allocator + Copy>(repo: &Repo<A>, id: &Oid) -> Result<bool, GraphFault>
-    ensures full { IfOk result (λ full. IsTrue full ↔ IsFull repo.now.graph.entries id.now) }
+// Whether an id is connected. An id that is not held needs no walk, nor does one that the local
+// refs reach.
+fn is_connected<A: Allocator + Copy>(repo: &Repo<A>, id: &Oid) -> Result<bool, GraphFault>
+    ensures connected { IfOk result (λ connected. IsTrue connected ↔ IsConnected repo.now.graph.entries id.now) }
     ensures fault { IfErr result (λ fault. fault ≡ Memory) }
 {
     if !repo.graph().contains(id) {
@@ -152,18 +156,18 @@ fn is_full<A: Allocator + Copy>(repo: &Repo<A>, id: &Oid) -> Result<bool, GraphF
 
 // Whether the id is marked, and so connected.
 fn is_known<A: Allocator + Copy>(repo: &Repo<A>, id: &Oid) -> bool
-    ensures { result ≡ true → IsFull repo.now.graph.entries id.now }
+    ensures { result ≡ true → IsConnected repo.now.graph.entries id.now }
 {
     // Laws.
-    places_are_nodes::<A>();
+    positions_are_nodes::<A>();
     repo.laws();
-    match repo.graph().number(id) {
-        Some(number) => repo.known().marked(number),
+    match repo.graph().position(id) {
+        Some(number) => repo.marks().is_marked(number),
         None => false,
     }
 }
 
-/// The target of an unborn HEAD, where a refspec fetches HEAD.
+/// Returns the target of an unborn HEAD, if a refspec fetches HEAD.
 pub(crate) fn unborn_of<A: Allocator + Copy>(
     alloc: A,
     specs: &[Spec<A>],

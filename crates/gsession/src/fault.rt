@@ -1,4 +1,4 @@
-//! Why a call of a session is refused.
+//! Reasons why a call of a session is refused.
 
 ghost use Rattle.std.specs.Prelude.{◌≡◌, Some};
 ghost use Rattle.gdag.specs.declared.fault.GraphFault.TheVariants.{Memory};
@@ -15,7 +15,7 @@ use std::alloc::{AllocError, AllocFailed, Allocator, Global};
 use std::error::Error;
 use std::fmt;
 
-/// Why a call of a session was refused.
+/// The reason a call of a session was refused.
 #[derive(Debug, Drop)]
 pub enum ClientFault<A: Allocator + Copy = Global> {
     /// 20 to 25, 29, 30 and 41 to 54: the reply was refused, at one of its packets.
@@ -24,32 +24,33 @@ pub enum ClientFault<A: Allocator + Copy = Global> {
     Index(IndexFault),
     /// 82: there are more refspecs than a session takes.
     TooManySpecs,
-    /// 83: the call does not fit what the session waits for. Nothing changes.
+    /// 83: the call does not fit the stage of the session. Nothing changes.
     NoOpenRequest,
     /// 84: the server acknowledged this id, which the request did not name.
     StrangeAck { id: Oid },
     /// 86: more objects are wanted than a request takes.
     TooManyWants,
-    /// 60 to 64, 69, 75 and 85: the repository refused it, or it is out of memory (64).
+    /// 60 to 64, 69, 75 and 85: the repository refused the change, or it is out of memory (64).
     Repo(RepoFault<A>),
 }
 
 impl<A: Allocator + Copy> ClientFault<A> {
-    /// The number of the fault.
+    /// Returns the number of the fault.
     pub fn code(&self) -> u32
         ensures { result ≡ (client_fault_row self.now).0 }
     {
-        self.row().0
+        self.fault_row().0
     }
 
-    /// The name of the fault.
+    /// Returns the name of the fault.
     pub fn name(&self) -> &'static str
         ensures { result.now ≡ (client_fault_row self.now).1 }
     {
-        self.row().1
+        self.fault_row().1
     }
 
-    /// Whether it ends the session: each does but `NoOpenRequest`, after which the session is as it was.
+    /// Whether it ends the session: each does except `NoOpenRequest`, which leaves the session
+    /// unchanged.
     pub fn ends_session(&self) -> bool
         ensures { result ≡ ends_session self.now }
     {
@@ -64,18 +65,18 @@ impl<A: Allocator + Copy> ClientFault<A> {
         }
     }
 
-    /// The table: the number and the name of each fault.
-    pub fn row(&self) -> (u32, &'static str)
+    /// Returns the number and the name of the fault.
+    pub fn fault_row(&self) -> (u32, &'static str)
         ensures { (result.0, result.1.now) ≡ client_fault_row self.now }
     {
         match self {
             ClientFault::Message(fault) => (fault.code(), fault.name()),
-            ClientFault::Index(fault) => fault.row(),
+            ClientFault::Index(fault) => fault.fault_row(),
             ClientFault::TooManySpecs => (82, "TooManySpecs"),
             ClientFault::NoOpenRequest => (83, "NoOpenRequest"),
             ClientFault::StrangeAck { .. } => (84, "StrangeAck"),
             ClientFault::TooManyWants => (86, "TooManyWants"),
-            ClientFault::Repo(fault) => fault.row(),
+            ClientFault::Repo(fault) => fault.fault_row(),
         }
     }
 }

@@ -10,7 +10,8 @@ use ggraph::{Entry, IndexFault, Indexer};
 use std::alloc::Allocator;
 use std::marker::PhantomData;
 
-/// Feeds a pack to an indexer, piece by piece. After a fault of the indexer it only remembers that.
+/// Feeds a pack to an indexer, piece by piece. After a fault of the indexer it only keeps that
+/// fault.
 #[derive(Drop)]
 pub(crate) struct PackFeed<'k, K: Indexer<A>, A: Allocator + Copy> {
     indexer: &'k K,
@@ -19,7 +20,7 @@ pub(crate) struct PackFeed<'k, K: Indexer<A>, A: Allocator + Copy> {
 }
 
 impl<'k, K: Indexer<A>, A: Allocator + Copy> PackFeed<'k, K, A> {
-    /// A feed of nothing yet.
+    /// Returns an empty feed.
     pub(crate) fn start(alloc: A, indexer: &'k K) -> PackFeed<'k, K, A>
         ensures indexer { result.indexer.now ≡ indexer.now }
         ensures fed { MayHaveFed (K.fed indexer.now) (K.index_fails indexer.now) result.feed [] }
@@ -31,7 +32,7 @@ impl<'k, K: Indexer<A>, A: Allocator + Copy> PackFeed<'k, K, A> {
         }
     }
 
-    /// The entries of the pack that was fed, or the indexer's first fault.
+    /// Returns the entries of the pack that was fed. Fails with the indexer's first fault.
     pub(crate) fn finish(self) -> Result<Vec<Entry<A>, A>, IndexFault>
         ensures { MatchResult result
             (λ entries. ((bytes : Bytes)
@@ -81,7 +82,7 @@ impl<K: Indexer<A>, A: Allocator + Copy> PackSink for PackFeed<'_, K, A> {
 
     ghost same = { λ one other. one.indexer.now ≡ other.indexer.now };
 
-    // Each piece is taken: the indexer's fault is reported once the reply is read.
+    // Takes each piece: the indexer's fault is reported after the reply is read.
     ghost refuses = { false };
 
     fn piece(&mut self, bytes: &[u8]) -> bool

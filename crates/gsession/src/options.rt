@@ -1,17 +1,18 @@
-//! What a session fetches, and how.
+//! The parameters of a session's fetch.
 
 ghost use Rattle.std.specs.Prelude.{◌≡◌};
 ghost use Rattle.gsession.specs.Sessions.{no_options};
 
 use gfetchreply::PackLimit;
 use ggrammar::Ends;
-use grefspec::Spec;
+use grefs::Spec;
 use std::alloc::{Allocator, Global};
 
-/// How the packs of a session are asked for (gitprotocol-v2(5), "fetch").
+/// The options with which a session asks for packs (gitprotocol-v2(5), "fetch").
 #[derive(Clone, Copy, Debug, PartialEq, Eq)]
 pub struct PackOptions {
-    /// Whether a delta may name its base by its offset in the pack: each request for objects has `ofs-delta`.
+    /// Whether a delta may name its base by its offset in the pack: each request for objects has
+    /// `ofs-delta`.
     pub ofs_delta: bool,
     /// Whether the server may report progress: no request for objects has `no-progress`.
     pub progress: bool,
@@ -29,15 +30,15 @@ impl Default for PackOptions {
     }
 }
 
-/// What a session fetches, and how.
+/// The parameters of a session's fetch.
 #[derive(Clone, Copy)]
 pub struct FetchPlan<'a, A: Allocator + Copy = Global> {
-    /// By which refspecs: at most 16, and the first that leads to a ref counts.
+    /// The refspecs, at most 16. If several lead to one local ref, the first counts.
     pub specs: &'a [Spec<A>],
-    /// How many bytes a pack may have at most.
+    /// The maximum size of a pack in bytes.
     pub limit: PackLimit,
     /// How each reply ends.
     pub ends: Ends,
-    /// How packs are asked for.
+    /// The options with which packs are requested.
     pub options: PackOptions,
 }

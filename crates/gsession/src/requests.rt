@@ -13,11 +13,11 @@ ghost use Rattle.gsession.specs.steps.Calls.{with_prefix};
 use crate::options::PackOptions;
 use ggrammar::MessageFault;
 use gname::{Format, Oid, Prefix};
-use grefspec::Spec;
-use grequest::{FetchFlag, FetchRequest, LsRefsRequest, Request};
+use grefs::Spec;
+use grequest::{FetchFlag, FetchRequest, LsRefsFlag, LsRefsRequest, Request};
 use std::alloc::{AllocError, Allocator};
 
-/// How many ids are offered after so many rounds.
+/// Returns how many ids are offered after `rounds` rounds.
 pub(crate) fn batch_size(rounds: usize) -> usize
     ensures { result ≡ batch_size rounds }
 {
@@ -34,7 +34,7 @@ pub(crate) fn batch_size(rounds: usize) -> usize
     }
 }
 
-/// The request for refs. It fails where out of memory.
+/// Returns the request for refs. Fails if out of memory.
 pub(crate) fn refs_request<A: Allocator + Copy>(
     alloc: A,
     specs: &[Spec<A>],
@@ -46,14 +46,14 @@ pub(crate) fn refs_request<A: Allocator + Copy>(
     ensures format { IfOk result (λ request. ids_format request ≡ None) }
 {
     let mut request = LsRefsRequest::new(alloc);
-    request.set_unborn(unborn);
+    request.set(LsRefsFlag::Unborn, unborn);
     for spec in specs {
         add_prefix(spec.prefix(), &mut request)?;
     }
     Ok(Request::Ls(request))
 }
 
-// Asks for the names that begin with a prefix, too, unless they are asked for.
+// Adds a prefix of names to a request, unless the request has it.
 fn add_prefix<A: Allocator + Copy>(
     prefix: &Prefix<A>,
     request: &mut LsRefsRequest<A>,
@@ -71,7 +71,7 @@ fn add_prefix<A: Allocator + Copy>(
     }
 }
 
-// Whether the prefix is one of these.
+// Whether `prefixes` contains the prefix.
 fn has_prefix<A: Allocator + Copy>(prefixes: &[Prefix<A>], prefix: &Prefix<A>) -> bool
     ensures { result ≡ is_in prefixes.now prefix.now }
 {
@@ -80,7 +80,7 @@ fn has_prefix<A: Allocator + Copy>(prefixes: &[Prefix<A>], prefix: &Prefix<A>) -
         .any(|other| other.as_bytes() == prefix.as_bytes())
 }
 
-/// A request for objects that names no ids yet. It takes no memory.
+/// Returns a request for objects that names no ids yet. Allocates nothing.
 pub(crate) fn blank_request<A: Allocator + Copy>(
     alloc: A,
     format: Format,
@@ -89,14 +89,14 @@ pub(crate) fn blank_request<A: Allocator + Copy>(
     ensures { result ≡ record { format = format; asked = blank_request options } }
 {
     let mut request = FetchRequest::new(alloc, format);
-    request.set_no_progress(!options.progress);
-    request.set_include_tag(true);
+    request.set(FetchFlag::NoProgress, !options.progress);
+    request.set(FetchFlag::IncludeTag, true);
     request.set(FetchFlag::OfsDelta, options.ofs_delta);
     request
 }
 
-/// The request for the wanted objects, from one that names no ids: the client has the common ids and those of the
-/// batch, and is done without a batch. It fails where out of memory.
+/// Returns the request for the wanted objects, from one that names no ids. The haves are the common
+/// ids and those of the batch, and without a batch the client is done. Fails if out of memory.
 pub(crate) fn objects_request<A: Allocator + Copy>(
     blank: FetchRequest<A>,
     wants: &[Oid],
@@ -114,7 +114,7 @@ pub(crate) fn objects_request<A: Allocator + Copy>(
     ensures format { IfOk result (λ request. ids_format request ≡ Some blank.format) }
 {
     let mut request = blank;
-    request.set_done(batch.is_empty());
+    request.set(FetchFlag::Done, batch.is_empty());
     add_wants(wants, &mut request)?;
     add_haves(commons, &mut request)?;
     add_haves(batch, &mut request)?;
@@ -159,7 +159,7 @@ fn add_haves<A: Allocator + Copy>(
     Ok(())
 }
 
-// The fault of what fits a request: out of memory.
+// Converts the fault of an argument that fits its request: out of memory.
 fn no_memory(fault: MessageFault) -> AllocError
     requires { fault.why ≡ Memory }
 {

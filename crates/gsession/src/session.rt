@@ -1,4 +1,4 @@
-//! A client's session: how it begins, what it lends, and how it settles.
+//! A client's session: its beginning, its accessors, and its settling.
 
 ghost use Rattle.std.specs.Prelude.{◌≡◌, ◌↔◌, [], IsTrue, All, MatchBool, MatchResult, Ok, Err, IfOk, IfSome, option_map};
 ghost use Rattle.std.specs.Map.{values_of};
@@ -18,21 +18,21 @@ use gclientrepo::{Asks, Repo};
 use gfetchreply::PackLimit;
 use ggrammar::Ends;
 use ggraph::distinct_ids;
-use ggraph::graph_laws::{distinct_are_once, places_are_nodes};
+use ggraph::graph_laws::{distinct_are_once, positions_are_nodes};
 use ghello::Advert;
 use gname::{Format, Oid};
-use grefspec::Spec;
+use grefs::Spec;
 use grequest::Request;
 use std::alloc::{AllocError, Allocator, Global};
 use std::marker::Model;
 use std::mem;
 
-/// The most refspecs of a session.
+/// The maximum number of refspecs of a session.
 pub const MAX_SPECS: usize = 16;
 
-/// A client's conversation with one server: it asks for refs, then for the objects that are wanted, round by round
-/// until a pack comes, and at last moves refs here. Who has the connection sends each request, and hands the
-/// reader of the replies to the session.
+/// A client's conversation with one server. It asks for refs, then for the wanted objects, round by
+/// round until a pack arrives, and finally moves the local refs. The owner of the connection sends
+/// each request, and passes the reader of the replies to the session.
 #[derive(Drop)]
 pub struct Session<A: Allocator + Copy = Global> {
     format: Format,
@@ -40,7 +40,7 @@ pub struct Session<A: Allocator + Copy = Global> {
     limit: PackLimit,
     ends: Ends,
     options: PackOptions,
-    // The distinct ids of the refs when it began.
+    // The distinct ids of the refs at its beginning.
     tips: Vec<Oid, A>,
     offers_unborn: bool,
     stage: Stage,
@@ -75,11 +75,12 @@ impl<A: Allocator + Copy> Session<A> {
     ghost use Rattle.gsession.specs.Sessions.{Begins, BeginsWith, Hears, IsBegun, IsSession, after_fault, over};
     ghost use Rattle.gsession.specs.SettlingRefs.{SettlesSession};
 
-    /// A session that fetches by these refspecs from a server; nothing was sent to it yet. It keeps the distinct ids
-    /// of the refs, in the order of their names: from them it goes on to what it offers. A session without refspecs
-    /// asks for nothing.
+    /// Begins a session that fetches by these refspecs from a server; nothing was sent to the
+    /// server yet. It keeps the distinct ids of the refs, in the order of their names. Its offers
+    /// start at these ids. A session without refspecs asks for nothing.
     ///
-    /// It has no option for packs. It fails with `TooManySpecs` over 16, and where out of memory.
+    /// It has no option for packs. Fails with `TooManySpecs` for more than 16 refspecs, and if out
+    /// of memory.
     pub fn begin(
         alloc: A,
         repo: &Repo<A>,
@@ -98,9 +99,9 @@ impl<A: Allocator + Copy> Session<A> {
         Session::begin_with(alloc, repo, &plan)
     }
 
-    /// A session that [`Session::begin`] would begin, with options for packs.
+    /// Begins a session as [`Session::begin`] does, with options for packs.
     ///
-    /// It fails as `begin` does.
+    /// Fails as `begin` does.
     pub fn begin_with(
         alloc: A,
         repo: &Repo<A>,
@@ -132,10 +133,11 @@ impl<A: Allocator + Copy> Session<A> {
         })
     }
 
-    /// Hears the server's advertisement: whether it offers to report an unborn `HEAD` (gitprotocol-v2(5), "ls-refs").
-    /// Of several that are heard the last one counts.
+    /// Reads from the server's advertisement whether it reports an unborn `HEAD`
+    /// (gitprotocol-v2(5), "ls-refs"). If it is called several times, the last advertisement
+    /// counts.
     ///
-    /// It fails with `NoOpenRequest` after the first request, and nothing changes then.
+    /// Fails with `NoOpenRequest` after the first request, and nothing changes then.
     pub fn hear(&mut self, advert: &Advert<A>) -> Result<(), ClientFault<A>>
         ensures { Hears self.old advert.now self.new result }
     {
@@ -146,7 +148,7 @@ impl<A: Allocator + Copy> Session<A> {
         Ok(())
     }
 
-    // Whether nothing was requested yet.
+    // Whether nothing has been requested yet.
     fn is_begun(&self) -> bool
         ensures { MatchBool result (IsBegun self.now) (¬ (IsBegun self.now)) }
     {
@@ -156,8 +158,8 @@ impl<A: Allocator + Copy> Session<A> {
         }
     }
 
-    /// The request that waits for its reply. Its ids are of the session's format.
-    pub fn pending(&self) -> Option<&Request<A>>
+    /// Returns the request that waits for its reply. Its ids have the session's format.
+    pub fn open_request(&self) -> Option<&Request<A>>
         ensures pending { option_map asked_by_request (option_copied result) ≡ self.now.pending }
         ensures format { IfSome (option_copied result) (IsOfFormat self.now.format) }
         ensures session { IsSession self.now }
@@ -165,29 +167,30 @@ impl<A: Allocator + Copy> Session<A> {
         self.pending.as_ref()
     }
 
-    /// What is asked for: which refs here are to stand at which ids, and which of them by force. They are given out where
-    /// the refs are settled.
+    /// Returns the asks: the local refs to move, their ids, and whether each is forced. Settling
+    /// gives them to the caller.
     pub fn asks(&self) -> &Asks<A>
         ensures { result.now ≡ self.now.asks }
     {
         &self.asks
     }
 
-    /// The ids of the objects that are wanted, each once, in the order of the asks.
+    /// Returns the ids of the wanted objects, each once, in the order of the asks.
     pub fn wants(&self) -> &[Oid]
         ensures { result.now ≡ self.now.wants }
     {
         self.wants.as_slice()
     }
 
-    /// The ids that the server has acknowledged, each once, in the order in which they were first acknowledged.
+    /// Returns the ids that the server has acknowledged, each once, in the order of their first
+    /// acknowledgment.
     pub fn common(&self) -> &[Oid]
         ensures { result.now ≡ self.now.commons }
     {
         self.commons.as_slice()
     }
 
-    /// How many requests for objects were made, each a round.
+    /// Returns how many requests for objects were made, each a round.
     pub fn rounds(&self) -> usize
         ensures rounds { result ≡ self.now.rounds }
         ensures session { IsSession self.now }
@@ -195,19 +198,19 @@ impl<A: Allocator + Copy> Session<A> {
         self.rounds
     }
 
-    /// A law: what is true of each session.
+    /// A law: the properties of each session.
     pub fn laws(&self)
         ensures { IsSession self.now }
     {
         let _ = &self.rounds;
     }
 
-    // The allocator of the session's lists.
+    // Returns the allocator of the session's lists.
     fn allocator(&self) -> A {
         *self.wants.allocator()
     }
 
-    // Ends the session by a fault, unless the call did not fit what it waits for.
+    // Ends the session by a fault, unless the call did not fit its stage.
     fn end_by(&mut self, fault: ClientFault<A>) -> ClientFault<A>
         ensures fault { result ≡ fault }
         ensures session { self.new ≡ after_fault self.old fault }
@@ -226,12 +229,13 @@ impl<A: Allocator + Copy> Session<A> {
         set_pending(&mut self.pending, None);
     }
 
-    /// Moves the refs here: each that is new, or is moved by force or by a fast-forward, comes to stand at
-    /// the asked id, all at once, where each asked id is connected. Answers what became of each ask. The
-    /// session is over then.
+    /// Moves the local refs, all at once, if each asked id is connected. Sets each ref to the asked
+    /// id if the ref is new, forced or fast-forwarded. Returns the outcome of each ask. The session
+    /// is over then.
     ///
-    /// It fails with `NoOpenRequest` before a pack is taken, unless nothing is wanted, and nothing changes then. Else
-    /// the session is over, and the repository as before: with `Repo`, as `Repo::settle` fails.
+    /// Fails with `NoOpenRequest` before a pack is taken, unless nothing is wanted; nothing changes
+    /// then. Otherwise fails with `Repo`, as `Repo::settle` does; the session is over, and the
+    /// repository unchanged.
     pub fn settle(&mut self, repo: &mut Repo<A>) -> Result<Settled<A>, ClientFault<A>>
         ensures { MatchResult result
             (λ settled. SettlesSession self.old repo.old self.new repo.new
@@ -247,7 +251,7 @@ impl<A: Allocator + Copy> Session<A> {
         Ok(Settled { asks, updates })
     }
 
-    // Whether it is time to settle.
+    // Whether the session is ready to settle.
     fn is_settling(&self) -> bool
         ensures { IsTrue result ↔ (self.now.stage ≡ Stage.Settling) }
     {
@@ -257,7 +261,7 @@ impl<A: Allocator + Copy> Session<A> {
         }
     }
 
-    // Gives out the asks of a session that is over.
+    // Takes the asks out of a session that is over.
     fn take_asks(&mut self) -> Asks<A>
         requires stage { self.old.stage ≡ Stage.Over }
         requires pending { self.old.pending ≡ None }
@@ -269,14 +273,14 @@ impl<A: Allocator + Copy> Session<A> {
     }
 }
 
-// Has another request wait for its reply, or none. Here alone one that waited is dropped.
+// Sets or clears the request that waits for its reply. Only this function drops a waiting request.
 fn set_pending<A: Allocator + Copy>(pending: &mut Option<Request<A>>, next: Option<Request<A>>)
     ensures { pending.new ≡ next }
 {
     *pending = next;
 }
 
-// Copies of refspecs.
+// Copies refspecs.
 fn copy_specs<A: Allocator + Copy>(
     alloc: A,
     specs: &[Spec<A>],
@@ -293,14 +297,14 @@ fn copy_specs<A: Allocator + Copy>(
     Ok(copies)
 }
 
-// The distinct ids of the refs, in the order of their names.
+// Returns the distinct ids of the refs, in the order of their names.
 fn tips_of<A: Allocator + Copy>(alloc: A, repo: &Repo<A>) -> Result<Vec<Oid, A>, AllocError>
     ensures tips { IfOk result (λ tips. tips.items ≡ distinct_of (values_of repo.now.refs)) }
     ensures ids { IfOk result (λ tips. All (IsIdOf repo.now.graph.format) tips.items) }
 {
     // Laws.
     distinct_are_once();
-    places_are_nodes::<A>();
+    positions_are_nodes::<A>();
     repo.laws();
     let ids = repo.refs().ids(alloc)?;
     distinct_ids(alloc, ids.as_slice())

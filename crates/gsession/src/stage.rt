@@ -1,13 +1,13 @@
-//! How far a session is.
+//! The stages of a session.
 
-/// What a session waits for, or asks for next.
+/// The stage of a session: what it waits for, or asks for next.
 #[derive(Clone, Copy, Drop)]
 pub enum Stage {
     /// The refs of the server.
     Listing,
     /// The objects that are wanted.
     Fetching,
-    /// Nothing more of the server: the refs here may move.
+    /// Nothing more from the server: the local refs may move.
     Settling,
     /// Nothing: the session is over.
     Over,

@@ -1,34 +1,34 @@
-//! What a session took.
+//! The results of a session.
 
 use gclientrepo::{Asks, RefUpdate};
 use gname::RefName;
 use std::alloc::{Allocator, Global};
 
-/// What came of a reply to ls-refs.
+/// The result of a reply to ls-refs.
 #[derive(Debug, Drop)]
 pub struct LsTaken<A: Allocator + Copy = Global> {
-    /// How many refs are asked to stand at an id.
+    /// How many refs have an ask.
     pub asks: usize,
-    /// How many objects are wanted for that.
+    /// How many objects the asks need.
     pub wants: usize,
-    /// The ref that an unborn `HEAD` points at, where a refspec fetches `HEAD`.
+    /// The ref that an unborn `HEAD` points at, if a refspec fetches `HEAD`.
     pub unborn: Option<RefName<A>>,
 }
 
-/// What came of a reply to fetch.
+/// The result of a reply to fetch.
 #[derive(Clone, Copy, Debug, PartialEq, Eq, Drop)]
 pub enum Taken {
-    /// Acknowledgments alone: so many ids are common so far.
+    /// Acknowledgments alone: `common` ids are common so far.
     Round { common: usize },
-    /// A pack, too: so many of its objects are new.
+    /// A pack, too: `added` of its objects are new.
     PackTaken { added: usize },
 }
 
-/// What was asked for, and in the same order what became of it.
+/// The asks, and their outcomes in the same order.
 #[derive(Debug, Drop)]
 pub struct Settled<A: Allocator + Copy = Global> {
-    /// What was asked for.
+    /// The asks.
     pub asks: Asks<A>,
-    /// What became of each ask.
+    /// The outcome of each ask.
     pub updates: Vec<RefUpdate, A>,
 }

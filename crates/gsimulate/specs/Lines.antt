@@ -10,22 +10,22 @@ use Rattle.gworld.specs.declared.outcome.Outcome.{Outcome}
 use Rattle.gworld.specs.declared.outcome.Outcome.TheVariants as outcomes
 
 -- a number after its word
-abbrev pub counted : Bytes → ℕ → Bytes
-counted word number = word ++ decimal number
+abbrev pub count_text : Bytes → ℕ → Bytes
+count_text word number = word ++ decimal number
 
 -- what came of an event
 abbrev pub outcome_text : Outcome → Bytes
 outcome_text outcomes.Done = codes "done"
-outcome_text (outcomes.Asked request) = counted (codes "asked ") request
-outcome_text (outcomes.Served reply) = counted (codes "served ") reply
-outcome_text (outcomes.StrangerServed written) = counted (codes "stranger ") written
-outcome_text (outcomes.LsTaken asks wants) = counted (codes "ls asks=") asks ++ counted (codes " wants=") wants
-outcome_text (outcomes.Round common) = counted (codes "round common=") common
-outcome_text (outcomes.PackTaken added) = counted (codes "pack added=") added
+outcome_text (outcomes.Asked request) = count_text (codes "asked ") request
+outcome_text (outcomes.Served reply) = count_text (codes "served ") reply
+outcome_text (outcomes.StrangerServed written) = count_text (codes "stranger ") written
+outcome_text (outcomes.LsTaken asks wants) = count_text (codes "ls asks=") asks ++ count_text (codes " wants=") wants
+outcome_text (outcomes.Round common) = count_text (codes "round common=") common
+outcome_text (outcomes.PackTaken added) = count_text (codes "pack added=") added
 outcome_text (outcomes.Settled moved same not_forward) =
-    counted (codes "settled moved=") moved
-    ++ (counted (codes " same=") same ++ counted (codes " notforward=") not_forward)
-outcome_text (outcomes.Fault number) = counted (codes "fault ") number
+    count_text (codes "settled moved=") moved
+    ++ (count_text (codes " same=") same ++ count_text (codes " notforward=") not_forward)
+outcome_text (outcomes.Fault number) = count_text (codes "fault ") number
 
 abbrev pub outcome_line : Outcome → Bytes
 outcome_line outcome = outcome_text outcome ++ codes "\n"

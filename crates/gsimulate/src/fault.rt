@@ -10,13 +10,13 @@ use std::alloc::{Allocator, Global};
 use std::error::Error;
 use std::fmt;
 
-/// Why a simulation ends with status 1. One line is printed of it.
+/// The reason a simulation ends with status 1. It is printed as one line.
 #[derive(Debug, Drop)]
 pub enum SimulationFault<A: Allocator + Copy = Global> {
-    /// 64, 67, 68, 71, 80: a file is none of a server or of a client, or out of memory for it, or for what is to be
-    /// shown; 27: the output failed.
+    /// 64, 67, 68, 71, 80: a file is not one of a server or of a client, or memory ran out for it
+    /// or for the output. 27: the output failed.
     Program(ProgramFault<A>),
-    /// 92, 91: a line of the scenario is wrong, or out of memory for its events.
+    /// 92: a line of the scenario is wrong. 91: out of memory for its events.
     Scenario(ScenarioFault),
     /// 97, 90: no world can begin between this server and this client.
     World(WorldFault),
@@ -25,7 +25,7 @@ pub enum SimulationFault<A: Allocator + Copy = Global> {
 }
 
 impl<A: Allocator + Copy> SimulationFault<A> {
-    /// The number of the fault.
+    /// Returns the number of the fault.
     pub fn code(&self) -> u32
         ensures { result ≡ (simulation_fault_row self.now).0 }
     {
@@ -37,7 +37,7 @@ impl<A: Allocator + Copy> SimulationFault<A> {
         }
     }
 
-    /// The name of the fault.
+    /// Returns the name of the fault.
     pub fn name(&self) -> &'static str
         ensures { result.now ≡ (simulation_fault_row self.now).1 }
     {

@@ -1,4 +1,4 @@
-//! What came of events, and where refs stand, as lines.
+//! The outcomes of events, and the ids of refs, as lines.
 
 ghost use Rattle.std.specs.Prelude.{◌≡◌, ◌<◌, ◌++◌, IfOk, OnOk, Some, length, slice_get};
 ghost use Rattle.std.specs.List.{flat_map};
@@ -11,7 +11,7 @@ use gworld::Outcome;
 use itoa::{Buffer, Integer};
 use std::alloc::{AllocError, Allocator};
 
-/// A line for each outcome, and then one for each ref. It fails out of memory.
+/// Returns a line for each outcome, and then one for each ref. Fails only if out of memory.
 pub(crate) fn text_of<A: Allocator + Copy>(
     alloc: A,
     outcomes: &[Outcome],
@@ -25,7 +25,7 @@ pub(crate) fn text_of<A: Allocator + Copy>(
     Ok(text)
 }
 
-// A line for each outcome.
+// Appends a line for each outcome.
 fn put_outcomes<A: Allocator + Copy>(
     text: &mut Vec<u8, A>,
     outcomes: &[Outcome],
@@ -52,7 +52,7 @@ fn put_line<A: Allocator + Copy>(text: &mut Vec<u8, A>, outcome: &Outcome) -> Re
     text.extend_from_slice(b"\n")
 }
 
-// What came of an event.
+// Appends the outcome of an event.
 fn put_outcome<A: Allocator + Copy>(
     text: &mut Vec<u8, A>,
     outcome: &Outcome,
@@ -76,7 +76,7 @@ fn put_outcome<A: Allocator + Copy>(
     }
 }
 
-// How many refs are asked for, and how many objects are wanted.
+// Appends how many refs are asked for, and how many objects are wanted.
 fn put_taken<A: Allocator + Copy>(
     text: &mut Vec<u8, A>,
     asks: usize,
@@ -89,7 +89,8 @@ fn put_taken<A: Allocator + Copy>(
     put_count(text, b" wants=", wants)
 }
 
-// How many refs moved, stood at their ids already, and stayed because the move would have been no fast-forward.
+// Appends how many refs moved, how many had their ids already, and how many did not move because it
+// was not a fast-forward.
 fn put_settled<A: Allocator + Copy>(
     text: &mut Vec<u8, A>,
     moved: usize,
@@ -104,7 +105,7 @@ fn put_settled<A: Allocator + Copy>(
     put_count(text, b" notforward=", not_forward)
 }
 
-// A number after its word.
+// Appends a number after its word.
 fn put_count<A: Allocator + Copy, I: Integer>(
     text: &mut Vec<u8, A>,
     word: &[u8],
@@ -117,7 +118,7 @@ fn put_count<A: Allocator + Copy, I: Integer>(
     text.extend_from_slice(digits.format(number).as_bytes())
 }
 
-// A line for each ref.
+// Appends a line for each ref.
 fn put_refs<A: Allocator + Copy>(
     text: &mut Vec<u8, A>,
     refs: &[(RefName<A>, Oid)],

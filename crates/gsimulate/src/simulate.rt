@@ -1,4 +1,4 @@
-//! A scenario, run.
+//! Running a scenario.
 
 ghost use Rattle.std.specs.Prelude.{◌≡◌, MatchResult, Err};
 ghost use Rattle.gpkt.specs.Sending.{output_of};
@@ -19,10 +19,10 @@ use gpkt::Sink;
 use gworld::{Event, Outcome, Scenario, World};
 use std::alloc::Allocator;
 
-/// What is simulated, by the texts of its files.
+/// A simulation, given by the texts of its files.
 #[derive(Clone, Copy)]
 pub struct Simulation<'a> {
-    /// The text of the repository that is served.
+    /// The text of the served repository.
     pub server: &'a [u8],
     /// The text of the client's repository.
     pub client: &'a [u8],
@@ -30,14 +30,15 @@ pub struct Simulation<'a> {
     pub scenario: &'a [u8],
 }
 
-/// `gitv2 simulate SERVERFILE CLIENTFILE SCENARIO`: runs the events of a scenario between a server and a client that
-/// fetches from it, with plain packs (gitprotocol-v2(5)). What came of each event is a line on `output`, and then
-/// each ref of the client is one, `ref ID NAME`, in the byte order of the names. A fault is one line on `errors`: the
-/// first that is met in the server's file, the client's, the scenario, between the two repositories, and as the
-/// events happen. What is refused to an event is no fault but its outcome.
+/// `gitv2 simulate SERVERFILE CLIENTFILE SCENARIO`: runs the events of a scenario between a server
+/// and a client that fetches from it, with plain packs (gitprotocol-v2(5)). The outcome of each
+/// event is a line on `output`. Then each ref of the client is one, `ref ID NAME`, in the byte
+/// order of the names. A fault is one line on `errors`. It is the first fault in the server's file,
+/// the client's, the scenario, between the two repositories, and during the events. An event that
+/// is refused is not a fault; the refusal is its outcome.
 ///
-/// It answers the exit status: 0 where the lines are written and passed on, 1 where a fault was met. Nothing is written
-/// then, save a beginning where the output failed.
+/// Returns the exit status: 0 if the lines are written and flushed, 1 if there was a fault. Nothing
+/// is written then, except a prefix of the text if the output failed.
 pub fn cmd_simulate<A: Allocator + Copy, W: Sink, E: Sink>(
     alloc: A,
     files: &Simulation<'_>,
@@ -67,7 +68,7 @@ fn simulate<A: Allocator + Copy, W: Sink>(
     }
 }
 
-// The world of the two repositories, and the events of the scenario.
+// Returns the world of the two repositories, and the events of the scenario.
 fn begin<A: Allocator + Copy>(
     alloc: A,
     files: &Simulation<'_>,
@@ -79,7 +80,7 @@ fn begin<A: Allocator + Copy>(
     begin_between(alloc, server, repo, files)
 }
 
-// The server, and the client's repository.
+// Loads the server, and the client's repository.
 fn load_ends<A: Allocator + Copy>(
     alloc: A,
     files: &Simulation<'_>,
@@ -91,7 +92,7 @@ fn load_ends<A: Allocator + Copy>(
     Ok((server, repo))
 }
 
-// The scenario is read before the world begins, so that its fault is the one that is met.
+// Reads the scenario before the world begins, so that its fault is the first.
 fn begin_between<A: Allocator + Copy>(
     alloc: A,
     server: Server<A>,
@@ -108,7 +109,7 @@ fn begin_between<A: Allocator + Copy>(
     }
 }
 
-// The world between the two, and the events that are to happen in it.
+// Returns the world between the two, and its events.
 fn begin_world<A: Allocator + Copy>(
     server: Server<A>,
     repo: Repo<A>,
@@ -123,7 +124,7 @@ fn begin_world<A: Allocator + Copy>(
     }
 }
 
-// Runs the events in the world, and shows what came of them.
+// Runs the events in the world, and shows their outcomes.
 fn happen<A: Allocator + Copy, W: Sink>(
     alloc: A,
     running: &mut World<PlainPack, A>,
@@ -141,7 +142,7 @@ fn happen<A: Allocator + Copy, W: Sink>(
     }
 }
 
-// Shows what came of the events, and the refs.
+// Shows the outcomes of the events, and the refs.
 fn show<A: Allocator + Copy, W: Sink>(
     alloc: A,
     outcomes: &[Outcome],
@@ -158,7 +159,7 @@ fn show<A: Allocator + Copy, W: Sink>(
     }
 }
 
-// Writes a text, and passes it on.
+// Writes a text, and flushes it.
 fn send<A: Allocator + Copy, W: Sink>(text: &[u8], output: &mut W) -> Result<(), SimulationFault<A>>
     ensures shows { Shows {A = A} text.now (output_of W.contents W.passed_on W.is_down output.old
         output.new) result }

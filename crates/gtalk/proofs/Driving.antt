@@ -5,7 +5,7 @@ use Rattle.gpkt.specs.Packets.{Bytes, max_packet}
 use Rattle.gpkt.specs.Devices.{KeepsPassed, PassesAll}
 use Rattle.gtalk.specs.Talks.{IsNearer, Left, Talk}
 use Rattle.gtalk.specs.Connections.{BreaksOff, HasPassed, HearsRead, IsDone, LeavesSink, SendsSaid, pending_of}
-use Rattle.gtalk.specs.steps.Driving.{Driven, IsFewer, IsLater, calls_left, reading_left, reads_left, saying_left, turns_left, unstopped}
+use Rattle.gtalk.specs.steps.Driving.{Driven, IsFewer, IsLater, calls_left, reading_left, reads_left, saying_left, turns_left, count_unstopped}
 use Rattle.gtalk.specs.declared.connection.Connection.{Connection}
 use Rattle.gtalk.specs.declared.conversation.Stop.{Stop}
 use Rattle.gtalk.specs.declared.conversation.Turn.{Turn}
@@ -68,7 +68,7 @@ module _ {C : Type 0} (turn : C → Turn) (left : C → Left) where
   turn_over old new was (inl (same, few)) is other = absurd (other (same ∙ is))
   turn_over old new was (inr few) is other = few
 
-at_most_one : (stopped : Option Stop) → unstopped stopped ≤ 1
+at_most_one : (stopped : Option Stop) → count_unstopped stopped ≤ 1
 at_most_one None = omega arith
 at_most_one (Some why) = omega arith
 
@@ -98,15 +98,15 @@ module _ {C A : Type 0} (turn : C → Turn) (left : C → Left) where
   pub fewer_turns : (old new : Connection C A) → old.stopped ≡ None → IsFewer {A = A} left old new
       → turns_left {A = A} turn left new < turns_left {A = A} turn left old
   fewer_turns old new goes (inl less) =
-      let one : unstopped old.stopped ≡ 1 = ap unstopped goes in let most = at_most_one new.stopped in omega (arith, less, one, most)
+      let one : count_unstopped old.stopped ≡ 1 = ap count_unstopped goes in let most = at_most_one new.stopped in omega (arith, less, one, most)
   fewer_turns old new goes (inr (few, (why, stopped))) =
-      let one : unstopped old.stopped ≡ 1 = ap unstopped goes in
-      let none : unstopped new.stopped ≡ 0 = ap unstopped stopped in
+      let one : count_unstopped old.stopped ≡ 1 = ap count_unstopped goes in
+      let none : count_unstopped new.stopped ≡ 0 = ap count_unstopped stopped in
       omega (arith, few, one, none)
 
   pub said_turns : (old new : Connection C A) → new.stopped ≡ old.stopped → (left new.conversation).turns < (left old.conversation).turns
       → turns_left {A = A} turn left new < turns_left {A = A} turn left old
-  said_turns old new same less = let is = ap unstopped same in omega (arith, is, less)
+  said_turns old new same less = let is = ap count_unstopped same in omega (arith, is, less)
 
 -- ---- devices
 

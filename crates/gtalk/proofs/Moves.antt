@@ -2,8 +2,8 @@
 use Rattle.std.proofs.Common.{◌≡◌, ℕ, ◌+◌, List, [], ◌∷◌, ◌++◌, take, drop, Option, Some, None, Bool, false, Result, Ok, Err, OnOk, is_err, inl, refl, sym, ap, ◌∙◌, subst, arith, append-nil, append_assoc, take-append-drop}
 use Rattle.std.proofs.lemmas.Grind.{common_steps}
 use Rattle.gpkt.specs.Packets.{Bytes, Packet, Spells, SpellsAll, canonical, canonical_all}
-use Rattle.gpkt.specs.LineReading.{IsPartialLine}
-use Rattle.gtalk.specs.Talks.{Talk, Says, hearing, saying, stopping}
+use Rattle.gpkt.specs.PacketReading.{IsPartialPacket}
+use Rattle.gtalk.specs.Talks.{Talk, Says, talk_after, talk_with_reply, stop_talk}
 use Rattle.gtalk.specs.Partial.{IsKept, IsPartial, IsStopped}
 use Rattle.gtalk.specs.Connections.{Drives, HearsRead, Holds, IsHeld, Moves, SendsSaid, Spelt, bytes_in}
 use Rattle.std.proofs.KnownBytes.{Appends-kept, Appends-nil, Appends-trans, Consumes-nil, Consumes-trans}
@@ -35,7 +35,7 @@ pub taken : {E P : Type 0} (r : Result (Unit {0}) E) (b : Bool) → b ≡ is_err
 taken (Ok x) b is fine p = p
 taken (Err e) b is fine p = absurd (cc (is, fine))
 
-nothing_partial : IsPartialLine []
+nothing_partial : IsPartialPacket []
 nothing_partial = inl (omega arith)
 
 -- what was received stays, where nothing more is
@@ -52,10 +52,10 @@ more_spelt heard partial received more new is h = record {
 }
 
 -- a packet whose last bytes have come
-line_spelt : (heard : List Packet) (line : Packet) (partial received more new : Bytes) → new ≡ partial ++ more → Spells line new
+packet_spelt : (heard : List Packet) (line : Packet) (partial received more new : Bytes) → new ≡ partial ++ more → Spells line new
     → Spelt heard partial received → Spelt (heard ++ line ∷ []) [] (received ++ more)
 unfolding more_spelt
-line_spelt heard line partial received more new is spelt h = record {
+packet_spelt heard line partial received more new is spelt h = record {
   front = h.front ++ new;
   parts = (more_spelt heard partial received more new is h).parts ∙ sym (append-nil (h.front ++ new));
   spells = spells_next heard line h.front new h.spells spelt;
@@ -96,7 +96,7 @@ module _ {C A : Type 0} (holds : C → Talk → Type 0) where
   speaks c conversation p out received sent empty says h =
       let told = says h.talk h.held in
       record {
-        talk = saying h.talk told.more;
+        talk = talk_with_reply h.talk told.more;
         held = told.held;
         stopped = h.stopped;
         partial = h.partial;
@@ -114,7 +114,7 @@ module _ {C A : Type 0} (holds : C → Talk → Type 0) where
 
   -- some bytes more of a packet have come
   pub grows : (c : Connection C A) (more new : Bytes) (p : ∥ IsPartial c.stopped new ∥₁) (received sent : Bytes) → c.stopped ≡ None
-      → new ≡ c.incoming ++ more → IsPartialLine new
+      → new ≡ c.incoming ++ more → IsPartialPacket new
       → Holds {A = A} holds c received sent
       → Holds {A = A} holds (record { conversation = c.conversation; alloc = c.alloc; stopped = c.stopped; incoming = new; outgoing = c.outgoing; sent = c.sent; part = p })
       (received ++ more) (sent ++ [])
@@ -132,16 +132,16 @@ module _ {C A : Type 0} (holds : C → Talk → Type 0) where
 
   -- a packet is heard
   pub hears : (c : Connection C A) (conversation : C) (line : Packet) (more new left : Bytes) (p : ∥ IsPartial c.stopped left ∥₁) (received sent : Bytes) → c.stopped ≡ None
-      → left ≡ [] → new ≡ c.incoming ++ more → Spells line new → ((talk : Talk) → holds c.conversation talk → holds conversation (hearing talk line))
+      → left ≡ [] → new ≡ c.incoming ++ more → Spells line new → ((talk : Talk) → holds c.conversation talk → holds conversation (talk_after talk line))
       → Holds {A = A} holds c received sent
       → Holds {A = A} holds (record { conversation = conversation; alloc = c.alloc; stopped = c.stopped; incoming = left; outgoing = c.outgoing; sent = c.sent; part = p })
       (received ++ more) (sent ++ [])
   hears c conversation line more new left p received sent goes empty is spelt hear h = record {
-    talk = hearing h.talk line;
+    talk = talk_after h.talk line;
     held = hear h.talk h.held;
     stopped = h.stopped;
     partial = [];
-    heard = line_spelt h.talk.heard line h.partial received more new (is ∙ ap (λ b. b ++ more) (kept_all c received sent h goes)) spelt h.heard;
+    heard = packet_spelt h.talk.heard line h.partial received more new (is ∙ ap (λ b. b ++ more) (kept_all c received sent h goes)) spelt h.heard;
     rest = subst (λ s. IsStopped s []) (sym goes) nothing_partial;
     kept = subst (λ s. IsKept s [] left) (sym goes) empty;
     said = same_said (canonical_all h.talk.said) sent (drop c.sent (bytes_in c.outgoing)) h.said;
@@ -149,20 +149,20 @@ module _ {C A : Type 0} (holds : C → Talk → Type 0) where
 
   -- it is heard that no packet comes any more
   pub stops : (c : Connection C A) (conversation : C) (why : Stop) (more new : Bytes) (p : ∥ IsPartial (Some why) new ∥₁) (received sent : Bytes) → c.stopped ≡ None
-      → (IsPartialLine c.incoming → IsStopped (Some why) (c.incoming ++ more)) → IsKept (Some why) (c.incoming ++ more) new
-      → ((talk : Talk) → holds c.conversation talk → holds conversation (stopping talk why))
+      → (IsPartialPacket c.incoming → IsStopped (Some why) (c.incoming ++ more)) → IsKept (Some why) (c.incoming ++ more) new
+      → ((talk : Talk) → holds c.conversation talk → holds conversation (stop_talk talk why))
       → Holds {A = A} holds c received sent
       → Holds {A = A} holds (record { conversation = conversation; alloc = c.alloc; stopped = Some why; incoming = new; outgoing = c.outgoing; sent = c.sent; part = p })
       (received ++ more) (sent ++ [])
   stops c conversation why more new p received sent goes stopped kept stop h =
       let all = kept_all c received sent h goes in
       record {
-        talk = stopping h.talk why;
+        talk = stop_talk h.talk why;
         held = stop h.talk h.held;
         stopped = refl;
         partial = c.incoming ++ more;
         heard = more_spelt h.talk.heard h.partial received more (c.incoming ++ more) (ap (λ b. b ++ more) all) h.heard;
-        rest = stopped (subst IsPartialLine (sym all) (subst (λ s. IsStopped s h.partial) goes h.rest));
+        rest = stopped (subst IsPartialPacket (sym all) (subst (λ s. IsStopped s h.partial) goes h.rest));
         kept = kept;
         said = same_said (canonical_all h.talk.said) sent (drop c.sent (bytes_in c.outgoing)) h.said;
       }

@@ -3,37 +3,37 @@ use Rattle.std.specs.Prelude.{◌≡◌, ℕ, Bool, true, false, ◌+◌, ◌≤
 use Rattle.std.specs.Prelude.{[], length, Option, Some, None, Result, Ok, Err}
 use Rattle.std.specs.Io.KnownBytes.{IsAtEnd}
 use Rattle.gpkt.specs.Packets.{Bytes, Packet, Spells, digit_count, max_packet}
-use Rattle.gpkt.specs.LineReading.{AnnouncesAtFront, IsPartialLine, NoLine}
-use Rattle.gpkt.specs.declared.fault.LineFault.{LineFault}
-use Rattle.gpkt.specs.declared.fault.LineFault.TheVariants.{Truncated, Memory}
+use Rattle.gpkt.specs.PacketReading.{AnnouncesAtFront, IsPartialPacket, NoPacket}
+use Rattle.gpkt.specs.declared.fault.PacketFault.{PacketFault}
+use Rattle.gpkt.specs.declared.fault.PacketFault.TheVariants.{Truncated, Memory}
 use Rattle.gtalk.specs.declared.conversation.Stop.{Stop}
 use Rattle.gtalk.specs.declared.conversation.Stop.TheVariants as stop
 
 -- the bytes go no further than the digits, or than the packet that these announce
-abbrev pub IsWithinLine : Bytes → Type 0
-IsWithinLine bytes =
+abbrev pub IsWithinPacket : Bytes → Type 0
+IsWithinPacket bytes =
     (length bytes ≤ digit_count)
     ⊎ ((announced : ℕ) × AnnouncesAtFront bytes announced × (length bytes ≤ announced) × (announced ≤ max_packet))
 
 -- so many bytes are missing to the end of the digits, or of the packet that they announce
 pub record Lacks (bytes : Bytes) (missing : ℕ) : Type 0 where
-  pub within : (more : Bytes) → length more ≤ missing → IsWithinLine (bytes ++ more)
+  pub within : (more : Bytes) → length more ≤ missing → IsWithinPacket (bytes ++ more)
   pub room : length bytes + missing ≤ max_packet
 
 -- what the bytes are: a packet, the beginning of one, or none, for a reason
-abbrev pub IsFound : Bytes → Result (Option Packet) LineFault → Type 0
+abbrev pub IsFound : Bytes → Result (Option Packet) PacketFault → Type 0
 IsFound bytes (Ok (Some packet)) = Spells packet bytes
-IsFound bytes (Ok None) = IsPartialLine bytes
-IsFound bytes (Err fault) = NoLine fault bytes
+IsFound bytes (Ok None) = IsPartialPacket bytes
+IsFound bytes (Err fault) = NoPacket fault bytes
 
 -- Why nothing more is heard, where these bytes came after the last packet. Where there was no memory for them, they may
 -- be a whole packet.
 abbrev pub IsStopped : Option Stop → Bytes → Type 0
-IsStopped None partial = IsPartialLine partial
+IsStopped None partial = IsPartialPacket partial
 IsStopped (Some stop.Ended) partial = partial ≡ []
-IsStopped (Some (stop.Refused Memory)) partial = IsWithinLine partial
-IsStopped (Some (stop.Refused fault)) partial = NoLine fault partial
-IsStopped (Some stop.Failed) partial = IsPartialLine partial
+IsStopped (Some (stop.Refused Memory)) partial = IsWithinPacket partial
+IsStopped (Some (stop.Refused fault)) partial = NoPacket fault partial
+IsStopped (Some stop.Failed) partial = IsPartialPacket partial
 
 -- these bytes are kept, unless there was no memory for them
 abbrev pub IsKept : Option Stop → Bytes → Bytes → Type 0
@@ -42,7 +42,7 @@ IsKept stopped partial kept = kept ≡ partial
 
 -- while more is heard, the bytes that are kept are a part of a packet
 abbrev pub IsPartial : Option Stop → Bytes → Type 0
-IsPartial None kept = IsPartialLine kept
+IsPartial None kept = IsPartialPacket kept
 IsPartial (Some why) kept = Unit {0}
 
 -- it stopped for the bytes that came, if at all, and not for what did not come

@@ -15,22 +15,22 @@ abbrev pub no_talk : Talk
 no_talk = record { heard = []; stopped = None; said = [] }
 
 -- a packet more was heard
-abbrev pub hearing : Talk → Packet → Talk
-hearing talk packet = record { heard = talk.heard ++ packet ∷ []; stopped = talk.stopped; said = talk.said }
+abbrev pub talk_after : Talk → Packet → Talk
+talk_after talk packet = record { heard = talk.heard ++ packet ∷ []; stopped = talk.stopped; said = talk.said }
 
 -- it was heard that no packet comes any more
-abbrev pub stopping : Talk → Stop → Talk
-stopping talk why = record { heard = talk.heard; stopped = Some why; said = talk.said }
+abbrev pub stop_talk : Talk → Stop → Talk
+stop_talk talk why = record { heard = talk.heard; stopped = Some why; said = talk.said }
 
 -- some packets more were said
-abbrev pub saying : Talk → List Packet → Talk
-saying talk more = record { heard = talk.heard; stopped = talk.stopped; said = talk.said ++ more }
+abbrev pub talk_with_reply : Talk → List Packet → Talk
+talk_with_reply talk more = record { heard = talk.heard; stopped = talk.stopped; said = talk.said ++ more }
 
 -- some packets more were said, as these bytes
 pub record Says (Holds : Talk → Type 0) (talk : Talk) (bytes : Bytes) : Type 0 where
   pub more : List Packet
   pub spelt : bytes ≡ canonical_all more
-  pub held : Holds (saying talk more)
+  pub held : Holds (talk_with_reply talk more)
 
 -- how many bytes may wait to be sent: two packets
 abbrev pub queue_room : ℕ

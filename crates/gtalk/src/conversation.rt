@@ -2,68 +2,69 @@
 
 ghost use Rattle.std.specs.Prelude.{◌≡◌, []};
 ghost use Rattle.gpkt.specs.Packets.{packet_of};
-ghost use Rattle.gtalk.specs.Talks.{IsNearer, Left, Says, Talk, hearing, stopping};
+ghost use Rattle.gtalk.specs.Talks.{IsNearer, Left, Says, Talk, talk_after, stop_talk};
 
 use crate::outgoing::Outgoing;
-use gpkt::{Line, LineFault};
+use gpkt::{Packet, PacketFault};
 use std::alloc::Allocator;
 
 /// The end whose turn it is.
 #[derive(Clone, Copy, Debug, PartialEq, Eq)]
 pub enum Turn {
-    /// The peer's: a packet is heard, or that none comes.
+    /// The peer's turn: the conversation hears a packet, or that there are no more.
     Listens,
-    /// Its own: packets are said before anything more is heard.
+    /// Its own turn: it says packets before it hears anything more.
     Speaks,
-    /// Nobody's: nothing more is heard or said.
+    /// Nobody's turn: nothing more is heard or said.
     Done,
 }
 
-/// Why no packet comes any more.
+/// Why there are no more packets.
 #[derive(Clone, Copy, Debug, PartialEq, Eq)]
 pub enum Stop {
     /// The input ended between two packets.
     Ended,
-    /// The bytes that came are no packet, the input ended within one, or there was no memory for them.
-    Refused(LineFault),
+    /// The received bytes are not a packet, the input ended within one, or there was no memory for
+    /// them.
+    Refused(PacketFault),
     /// The device failed.
     Failed,
 }
 
 /// One end of a conversation: a value that hears packets and says packets.
 ///
-/// It knows no device. Its history is not kept: `holds` says what was heard and said so far. `left` counts down, so that
-/// each conversation ends.
+/// It knows no device. Its history is not stored: `holds` describes the packets heard and said so
+/// far. `left` counts down, so that each conversation ends.
 pub trait Conversation {
     ghost use Rattle.gtalk.specs.declared.conversation.Turn.{Turn};
 
     // The end whose turn it is.
     ghost turn: { Self → Turn };
 
-    // This was heard and said so far.
+    // These packets were heard and said so far.
     ghost holds: { Self → Talk → Type 0 };
 
-    // How much of it is left, at most.
+    // The maximum amount that is left.
     ghost left: { Self → Left };
 
-    /// Tells whose turn it is.
+    /// Returns whose turn it is.
     fn turn(&self) -> Turn
         ensures { result ≡ turn self.now };
 
     /// Hears the next packet.
-    fn hear(&mut self, line: Line<'_>)
+    fn hear(&mut self, line: Packet<'_>)
         requires { turn self.old ≡ Turn.Listens }
         ensures heard { (talk : Talk) → holds self.old talk
-            → holds self.new (hearing talk (packet_of line.entry)) }
+            → holds self.new (talk_after talk (packet_of line.entry)) }
         ensures nearer { (talk : Talk) → holds self.old talk → IsNearer turn left self.old self.new };
 
-    /// Hears that no packet comes any more.
+    /// Hears that there are no more packets.
     fn stop(&mut self, why: Stop)
         requires { turn self.old ≡ Turn.Listens }
-        ensures stopped { (talk : Talk) → holds self.old talk → holds self.new (stopping talk why) }
+        ensures stopped { (talk : Talk) → holds self.old talk → holds self.new (stop_talk talk why) }
         ensures nearer { (talk : Talk) → holds self.old talk → IsNearer turn left self.old self.new };
 
-    /// Says what is next into an empty queue: as many packets as it likes, or none for now.
+    /// Says the next packets into an empty queue: as many as it likes, or none for now.
     fn say<A: Allocator + Copy>(&mut self, out: &mut Outgoing<A>)
         requires turn { turn self.old ≡ Turn.Speaks }
         requires empty { out.old ≡ [] }

@@ -15,13 +15,13 @@ use crate::fault::TalkFault;
 use gpkt::{Down, Sink, Source};
 use std::alloc::Allocator;
 
-// The most bytes of one read.
+// The maximum number of bytes of one read.
 const PIECE: usize = 4_096;
 
-/// Holds a conversation to its end. All that is said is passed on before anything more is read, and nothing is read
-/// that is not heard.
+/// Drives a conversation to its end. All said packets are flushed before anything more is read, and
+/// the conversation hears all that is read.
 ///
-/// It fails where the sink fails, and where there is no memory for what is said. The conversation hears
+/// Fails if the sink fails, or if there is no memory for the packets to say. The conversation hears
 /// that the source ends or fails.
 pub fn drive<C: Conversation, A: Allocator + Copy, S: Source, W: Sink>(
     connection: &mut Connection<C, A>,
@@ -61,7 +61,7 @@ pub fn drive<C: Conversation, A: Allocator + Copy, S: Source, W: Sink>(
     }
 }
 
-// Says all of this turn, sends it, and passes it on.
+// Says all packets of this turn, sends them, and flushes the sink.
 fn speak<C: Conversation, A: Allocator + Copy, W: Sink>(
     connection: &mut Connection<C, A>,
     sink: &mut W,
@@ -117,7 +117,7 @@ fn say_some<C: Conversation, A: Allocator + Copy, W: Sink>(
     }
 }
 
-// Sends all that waits.
+// Sends all pending bytes.
 fn send<C: Conversation, A: Allocator + Copy, W: Sink>(
     connection: &mut Connection<C, A>,
     sink: &mut W,
@@ -140,7 +140,7 @@ fn send<C: Conversation, A: Allocator + Copy, W: Sink>(
     Ok(())
 }
 
-// Sends some of what waits.
+// Sends some of the pending bytes.
 fn send_some<C: Conversation, A: Allocator + Copy, W: Sink>(
     connection: &mut Connection<C, A>,
     sink: &mut W,
@@ -158,14 +158,14 @@ fn send_some<C: Conversation, A: Allocator + Copy, W: Sink>(
 {
     match sink.write(connection.output()) {
         Ok(count) => {
-            connection.sent(count);
+            connection.note_sent(count);
             Ok(())
         }
         Err(Down) => Err(TalkFault::Io),
     }
 }
 
-// Passes on all that was sent.
+// Flushes all that was sent.
 fn pass_on<W: Sink>(sink: &mut W) -> Result<(), TalkFault>
     ensures bytes { Keeps (W.contents sink.old) (W.contents sink.new) }
     ensures passed_on { OnOk result
@@ -181,7 +181,7 @@ fn pass_on<W: Sink>(sink: &mut W) -> Result<(), TalkFault>
     }
 }
 
-// Listens until it speaks, or nothing more is heard.
+// Listens until the conversation speaks, or nothing more is heard.
 fn listen<C: Conversation, A: Allocator + Copy, S: Source>(
     connection: &mut Connection<C, A>,
     source: &mut S,
@@ -207,7 +207,7 @@ fn listen<C: Conversation, A: Allocator + Copy, S: Source>(
     }
 }
 
-// Reads once, and no further than the packet that is coming.
+// Reads once, and not past the end of the current packet.
 #[tactic(auto, using(crate::proofs::Partials::lacks_fewer))]
 fn hear_some<C: Conversation, A: Allocator + Copy, S: Source>(
     connection: &mut Connection<C, A>,
@@ -228,7 +228,7 @@ fn hear_some<C: Conversation, A: Allocator + Copy, S: Source>(
     ensures loans { S.loans source.new ≡ S.loans source.old }
 {
     let mut piece = [0; PIECE];
-    let most = connection.wanted().min(PIECE);
+    let most = connection.receive_limit().min(PIECE);
     match read_front(source, &mut piece, most) {
         Ok(0) => connection.receive_end(),
         Ok(count) => connection.receive(&piece[..count]),
@@ -236,7 +236,7 @@ fn hear_some<C: Conversation, A: Allocator + Copy, S: Source>(
     }
 }
 
-// Reads so many bytes at most, into the front of `piece`.
+// Reads at most `most` bytes into the front of `piece`.
 fn read_front<S: Source>(source: &mut S, piece: &mut [u8], most: usize) -> Result<usize, Down>
     requires { most ≤ length piece.old }
     ensures few { IfOk result (λ n. n ≤ most) }

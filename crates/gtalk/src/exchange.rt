@@ -10,18 +10,18 @@ use crate::conversation::{Conversation, Stop, Turn};
 use crate::fault::TalkFault;
 use crate::incoming::Incoming;
 use crate::outgoing::Outgoing;
-use gpkt::LineFault;
+use gpkt::PacketFault;
 use std::alloc::Allocator;
 
 impl<C, A: Allocator + Copy> Connection<C, A> {
-    /// The conversation.
+    /// Returns the conversation.
     pub fn conversation(&self) -> &C
         ensures { result.now ≡ conversation_of self.now }
     {
         &self.conversation
     }
 
-    /// The conversation, as the calls left it. Bytes that wait to be sent are dropped.
+    /// Returns the conversation, as the calls left it. Pending bytes are dropped.
     pub fn into_conversation(self) -> C
     where
         C: Drop,
@@ -31,7 +31,7 @@ impl<C, A: Allocator + Copy> Connection<C, A> {
         conversation
     }
 
-    /// The bytes that are to be sent next.
+    /// Returns the bytes to send next.
     pub fn output(&self) -> &[u8]
         ensures { result.now ≡ pending_of self.now }
     {
@@ -41,7 +41,7 @@ impl<C, A: Allocator + Copy> Connection<C, A> {
 }
 
 impl<C: Conversation, A: Allocator + Copy> Connection<C, A> {
-    /// A connection on which nothing came and nothing was sent. It takes no memory.
+    /// Returns a connection on which nothing was received or sent. It does not allocate.
     pub fn new(conversation: C, alloc: A) -> Connection<C, A>
         ensures holds { C.holds conversation no_talk → Holds C.holds result [] [] }
         ensures conversation { conversation_of result ≡ conversation }
@@ -58,7 +58,8 @@ impl<C: Conversation, A: Allocator + Copy> Connection<C, A> {
         }
     }
 
-    /// Tells whose turn it is. It is nobody's, too, where the conversation listens and no packet comes any more.
+    /// Returns whose turn it is. It is also nobody's if the conversation listens and there are no
+    /// more packets.
     pub fn turn(&self) -> Turn
         ensures { IsTurn C.turn self.now result }
     {
@@ -68,18 +69,19 @@ impl<C: Conversation, A: Allocator + Copy> Connection<C, A> {
         }
     }
 
-    /// How many bytes are received at most before a packet is heard: 0 only once no packet comes any more.
-    pub fn wanted(&self) -> usize
+    /// Returns the maximum number of bytes to receive before a packet is heard. It is 0 only after
+    /// the packets stopped.
+    pub fn receive_limit(&self) -> usize
         ensures lacks { Lacks (partial_of self.now) result }
         ensures some { has_stopped self.now ≡ None → 0 < result }
     {
         self.incoming.lacks()
     }
 
-    /// Receives bytes, no more than are [`wanted`](Connection::wanted).
+    /// Receives bytes, at most [`receive_limit`](Connection::receive_limit) of them.
     ///
-    /// The conversation hears the packet that they complete. If they are no packet, or there is no memory for them, it hears
-    /// that no packet comes any more.
+    /// The conversation hears the packet that they complete. If they are not a packet, or if out of
+    /// memory for them, it hears that there are no more packets.
     pub fn receive(&mut self, bytes: &[u8])
         requires turn { C.turn (conversation_of self.old) ≡ Turn.Listens }
         requires goes_on { has_stopped self.old ≡ None }
@@ -89,8 +91,8 @@ impl<C: Conversation, A: Allocator + Copy> Connection<C, A> {
         ensures stopped { IsByBytes (has_stopped self.new) }
         ensures grows { Grows C.holds C.turn C.left self.old self.new (length bytes.now) }
     {
-        if self.incoming.take(bytes).is_err() {
-            let why = Stop::Refused(LineFault::Memory);
+        if self.incoming.take_bytes(bytes).is_err() {
+            let why = Stop::Refused(PacketFault::Memory);
             self.stopped = Some(why);
             self.conversation.stop(why);
             return;
@@ -123,7 +125,7 @@ impl<C: Conversation, A: Allocator + Copy> Connection<C, A> {
         self.conversation.stop(why);
     }
 
-    /// Receives that the device has failed.
+    /// Receives a failure of the device.
     pub fn receive_failure(&mut self)
         requires turn { C.turn (conversation_of self.old) ≡ Turn.Listens }
         requires goes_on { has_stopped self.old ≡ None }
@@ -136,10 +138,11 @@ impl<C: Conversation, A: Allocator + Copy> Connection<C, A> {
         self.conversation.stop(Stop::Failed);
     }
 
-    /// Says what is next, once all that was said before is sent.
+    /// Says the next packets, after all earlier ones were sent.
     ///
-    /// Its only fault is [`TalkFault::Memory`], and only a call that takes the room has it: the first, and the next
-    /// after [`give_back`](Connection::give_back). Nothing is said then, and the connection is as it was.
+    /// Fails only with [`TalkFault::Memory`], and only in a call that allocates the buffer: the
+    /// first, and the next after [`give_back`](Connection::give_back). Then nothing is said, and
+    /// the connection is unchanged.
     pub fn speak(&mut self) -> Result<(), TalkFault>
         requires turn { C.turn (conversation_of self.old) ≡ Turn.Speaks }
         requires all_sent { pending_of self.old ≡ [] }
@@ -164,7 +167,8 @@ impl<C: Conversation, A: Allocator + Copy> Connection<C, A> {
         Ok(())
     }
 
-    /// Gives back the room for what is said, if all of it was sent. Room is taken again once more is said.
+    /// Frees the buffer for said packets, if all of them were sent. It is allocated again when more
+    /// is said.
     pub fn give_back(&mut self)
         ensures moves { Moves C.holds self.old self.new [] [] }
         ensures pending { pending_of self.new ≡ pending_of self.old }
@@ -177,8 +181,8 @@ impl<C: Conversation, A: Allocator + Copy> Connection<C, A> {
         }
     }
 
-    /// So many bytes of the output were sent.
-    pub fn sent(&mut self, count: usize)
+    /// Records that `count` bytes of the output were sent.
+    pub fn note_sent(&mut self, count: usize)
         requires { count ≤ length (pending_of self.old) }
         ensures moves { Moves C.holds self.old self.new [] (take count (pending_of self.old)) }
         ensures pending { pending_of self.new ≡ drop count (pending_of self.old) }
@@ -192,7 +196,7 @@ impl<C: Conversation, A: Allocator + Copy> Connection<C, A> {
     }
 }
 
-// The bytes of a queue, if there is one.
+// Returns the bytes of a queue, if there is one.
 fn bytes_of<A: Allocator + Copy>(outgoing: &Option<Outgoing<A>>) -> &[u8]
     ensures bytes { result.now ≡ bytes_in outgoing.now }
     ensures few { length result.now ≤ queue_room }

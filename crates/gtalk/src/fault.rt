@@ -1,4 +1,4 @@
-//! Why a conversation was broken off.
+//! Why a conversation was aborted.
 
 ghost use Rattle.std.specs.Prelude.{◌≡◌, Some};
 ghost use Rattle.gtalk.specs.Faults.{talk_fault_text};
@@ -6,12 +6,12 @@ ghost use Rattle.gtalk.specs.Faults.{talk_fault_text};
 use std::error::Error;
 use std::fmt;
 
-/// Why a conversation was broken off.
+/// Why a conversation was aborted.
 #[derive(Clone, Copy, Debug, PartialEq, Eq)]
 pub enum TalkFault {
-    /// The sink failed. A beginning of what was said was written.
+    /// The sink failed. A prefix of the said packets was written.
     Io,
-    /// Out of memory for what is said. Nothing of it was said, and the conversation is as before.
+    /// Out of memory for the packets to say. None was said, and the conversation is unchanged.
     Memory,
 }
 

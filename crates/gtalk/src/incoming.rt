@@ -1,19 +1,19 @@
-//! The bytes of one packet, as they come, in pieces of any size.
+//! The bytes of one packet, received in pieces of any size.
 
 ghost use Rattle.std.specs.Prelude.{◌≡◌, ◌<◌, ◌≤◌, ◌++◌, [], length, IfErr, OnErr, OnOk, Some};
 ghost use Rattle.gpkt.specs.Packets.{digit_count, number_of};
-ghost use Rattle.gpkt.specs.LineReading.{AnnouncesAtFront, IsPartialLine, read_of};
-ghost use Rattle.gtalk.specs.Partial.{IsByBytes, IsByEnd, IsFound, IsStopped, IsWithinLine, Lacks};
+ghost use Rattle.gpkt.specs.PacketReading.{AnnouncesAtFront, IsPartialPacket, read_of};
+ghost use Rattle.gtalk.specs.Partial.{IsByBytes, IsByEnd, IsFound, IsStopped, IsWithinPacket, Lacks};
 
 use crate::conversation::Stop;
-use gpkt::{Line, LineFault, MAX_PACKET};
+use gpkt::{MAX_PACKET, Packet, PacketFault};
 use std::alloc::{AllocError, Allocator, Global};
 use std::marker::Model;
 
-// How many bytes the digits of a packet have.
+// The number of digits of a packet.
 const DIGITS: usize = 4;
 
-/// The bytes of one packet that have come so far.
+/// The received bytes of one packet.
 #[derive(Drop)]
 pub(crate) struct Incoming<A: Allocator + Copy = Global> {
     bytes: Vec<u8, A>,
@@ -21,17 +21,17 @@ pub(crate) struct Incoming<A: Allocator + Copy = Global> {
 
 impl<A: Allocator + Copy> Model for Incoming<A> {
     ghost use Rattle.std.specs.Prelude.{List, ℕ};
-    ghost use Rattle.gtalk.specs.Partial.{IsWithinLine};
+    ghost use Rattle.gtalk.specs.Partial.{IsWithinPacket};
 
     ghost Value = { List ℕ };
 
     ghost view = { λ i. i.bytes.items };
 
-    ghost invariant = { λ i. IsWithinLine i.bytes.items };
+    ghost invariant = { λ i. IsWithinPacket i.bytes.items };
 }
 
 impl<A: Allocator + Copy> Incoming<A> {
-    /// No byte of a packet, which takes no memory.
+    /// Returns an empty buffer. It does not allocate.
     pub(crate) fn new(alloc: A) -> Incoming<A>
         ensures { result ≡ [] }
     {
@@ -40,17 +40,19 @@ impl<A: Allocator + Copy> Incoming<A> {
         }
     }
 
-    /// How many bytes are missing to the end of the digits, or, once these are there, of the packet.
+    /// Returns the number of missing bytes: up to the end of the digits, or of the packet if these
+    /// are complete.
     pub(crate) fn lacks(&self) -> usize
         ensures lacks { Lacks self.now result }
-        ensures some { IsPartialLine self.now → 0 < result }
+        ensures some { IsPartialPacket self.now → 0 < result }
     {
         lacks_after(self.as_bytes())
     }
 
-    /// Takes these bytes, no more than are missing. Out of memory for them, it stays as it was.
+    /// Appends these bytes, at most as many as are missing. If out of memory, the buffer is
+    /// unchanged.
     #[tactic(auto, using(crate::proofs::Partials::within_after))]
-    pub(crate) fn take(&mut self, bytes: &[u8]) -> Result<(), AllocError>
+    pub(crate) fn take_bytes(&mut self, bytes: &[u8]) -> Result<(), AllocError>
         requires { Lacks self.old (length bytes.now) }
         ensures taken { OnOk result (self.new ≡ self.old ++ bytes.now) }
         ensures same { OnErr result (self.new ≡ self.old) }
@@ -58,27 +60,28 @@ impl<A: Allocator + Copy> Incoming<A> {
         self.bytes.extend_from_slice(bytes)
     }
 
-    /// The packet, where all of it has come.
-    pub(crate) fn line(&self) -> Result<Option<Line<'_>>, LineFault>
+    /// Returns the packet, if it is complete.
+    pub(crate) fn line(&self) -> Result<Option<Packet<'_>>, PacketFault>
         ensures found { IsFound self.now (read_of result) }
         ensures fault { IfErr result (λ fault. IsByBytes (Some (Stop.Refused fault))) }
     {
-        line_in(self.as_bytes())
+        packet_within(self.as_bytes())
     }
 
-    /// Why no packet comes where the input ends after these bytes, which are none or a part of a packet.
+    /// Returns the reason why there are no more packets if the input ends after these bytes. They
+    /// are empty or a part of a packet.
     pub(crate) fn end(&self) -> Stop
-        ensures stopped { IsPartialLine self.now → IsStopped (Some result) self.now }
+        ensures stopped { IsPartialPacket self.now → IsStopped (Some result) self.now }
         ensures end { IsByEnd (Some result) }
     {
         if self.bytes.is_empty() {
             Stop::Ended
         } else {
-            Stop::Refused(LineFault::Truncated)
+            Stop::Refused(PacketFault::Truncated)
         }
     }
 
-    /// Begins the next packet.
+    /// Starts the next packet.
     pub(crate) fn clear(&mut self)
         ensures { self.new ≡ [] }
     {
@@ -87,18 +90,18 @@ impl<A: Allocator + Copy> Incoming<A> {
 
     fn as_bytes(&self) -> &[u8]
         ensures bytes { result.now ≡ self.now }
-        ensures within { IsWithinLine self.now }
+        ensures within { IsWithinPacket self.now }
     {
         self.bytes.as_slice()
     }
 }
 
-// How many bytes are missing after these to the end of the digits, or of the packet.
+// Returns the number of missing bytes after these: up to the end of the digits, or of the packet.
 #[tactic(auto, using(crate::proofs::Partials::lacks_digits, crate::proofs::Partials::lacks_none, crate::proofs::Partials::partial_none))]
 fn lacks_after(bytes: &[u8]) -> usize
-    requires { IsWithinLine bytes.now }
+    requires { IsWithinPacket bytes.now }
     ensures lacks { Lacks bytes.now result }
-    ensures some { IsPartialLine bytes.now → 0 < result }
+    ensures some { IsPartialPacket bytes.now → 0 < result }
 {
     if bytes.len() < DIGITS {
         return DIGITS - bytes.len();
@@ -109,13 +112,13 @@ fn lacks_after(bytes: &[u8]) -> usize
     }
 }
 
-// How many bytes are missing of a packet that announces so many.
+// Returns the number of missing bytes of a packet that announces `announced` bytes.
 #[tactic(auto, using(crate::proofs::Partials::lacks_payload, crate::proofs::Partials::lacks_none, crate::proofs::Partials::partial_long, crate::proofs::Partials::partial_more))]
 fn lacks_of(bytes: &[u8], announced: usize) -> usize
-    requires within { IsWithinLine bytes.now }
+    requires within { IsWithinPacket bytes.now }
     requires announced { AnnouncesAtFront bytes.now announced }
     ensures lacks { Lacks bytes.now result }
-    ensures some { IsPartialLine bytes.now → 0 < result }
+    ensures some { IsPartialPacket bytes.now → 0 < result }
 {
     if announced > MAX_PACKET {
         0
@@ -124,7 +127,7 @@ fn lacks_of(bytes: &[u8], announced: usize) -> usize
     }
 }
 
-// The number that four digits stand for.
+// Returns the number that four digits spell.
 fn number(digits: &[u8]) -> Option<u16>
     requires { length digits.now ≡ digit_count }
     ensures { result ≡ number_of digits.now }
@@ -136,9 +139,9 @@ fn number(digits: &[u8]) -> Option<u16>
     }
 }
 
-// The packet that these bytes spell, where they are all of it.
-fn line_in(bytes: &[u8]) -> Result<Option<Line<'_>>, LineFault>
-    requires { IsWithinLine bytes.now }
+// Returns the packet that these bytes spell, if they are all of it.
+fn packet_within(bytes: &[u8]) -> Result<Option<Packet<'_>>, PacketFault>
+    requires { IsWithinPacket bytes.now }
     ensures found { IsFound bytes.now (read_of result) }
     ensures fault { IfErr result (λ fault. IsByBytes (Some (Stop.Refused fault))) }
 {
@@ -146,29 +149,29 @@ fn line_in(bytes: &[u8]) -> Result<Option<Line<'_>>, LineFault>
         return Ok(None);
     }
     match number(&bytes[..DIGITS]) {
-        None => Err(LineFault::BadDigits),
-        Some(0) => Ok(Some(Line::Flush)),
-        Some(1) => Ok(Some(Line::Delim)),
-        Some(2) => Ok(Some(Line::ResponseEnd)),
-        Some(3) => Err(LineFault::Reserved),
+        None => Err(PacketFault::BadDigits),
+        Some(0) => Ok(Some(Packet::Flush)),
+        Some(1) => Ok(Some(Packet::Delim)),
+        Some(2) => Ok(Some(Packet::ResponseEnd)),
+        Some(3) => Err(PacketFault::Reserved),
         Some(announced) => data_in(bytes, usize::from(announced)),
     }
 }
 
-// The data packet of so many bytes, where they are all there.
+// Returns the data packet that announces `announced` bytes, if all of them are there.
 #[tactic(auto, using(crate::proofs::Partials::whole_data))]
-fn data_in(bytes: &[u8], announced: usize) -> Result<Option<Line<'_>>, LineFault>
-    requires within { IsWithinLine bytes.now }
+fn data_in(bytes: &[u8], announced: usize) -> Result<Option<Packet<'_>>, PacketFault>
+    requires within { IsWithinPacket bytes.now }
     requires announced { AnnouncesAtFront bytes.now announced }
     requires long { digit_count ≤ announced }
     ensures found { IsFound bytes.now (read_of result) }
     ensures fault { IfErr result (λ fault. IsByBytes (Some (Stop.Refused fault))) }
 {
     if announced > MAX_PACKET {
-        Err(LineFault::TooLong)
+        Err(PacketFault::TooLong)
     } else if bytes.len() < announced {
         Ok(None)
     } else {
-        Ok(Some(Line::Data(&bytes[DIGITS..])))
+        Ok(Some(Packet::Data(&bytes[DIGITS..])))
     }
 }

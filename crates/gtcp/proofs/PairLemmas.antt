@@ -4,12 +4,12 @@ use Rattle.ggrammar.specs.declared.ends.Ends.TheVariants.{Plain}
 use Rattle.ghello.specs.Hello.{Hello, IsHello}
 use Rattle.gfetchreply.specs.Values.{default_limit}
 use Rattle.gpkt.specs.Sending.{Input, Output}
-use Rattle.grefspec.specs.Refspecs.{Refspec}
+use Rattle.grefs.specs.Refspecs.{Refspec}
 use Rattle.gclientrepo.specs.Repos.{RepoState}
 use Rattle.gclient.specs.Conversations.{start_of}
 use Rattle.gclient.specs.declared.fault.FetchFault.{FetchFault}
 use Rattle.gclient.specs.declared.fetched.Fetched.{Fetched}
-use Rattle.gconnect.specs.GitFetches.{FetchesGit}
+use Rattle.gclient.specs.GitFetches.{FetchesGit}
 use Rattle.gcmd.specs.Fetching.{plain_index_fails, plain_indexes}
 use Rattle.gcmd.specs.declared.fault.ProgramFault.{ProgramFault}
 use Rattle.gtcp.specs.Remote.{FetchesAsClient, FetchesInPair, pair_hello}

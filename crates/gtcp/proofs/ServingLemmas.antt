@@ -7,9 +7,9 @@ use Rattle.ggrammar.specs.declared.ends.Ends.{Ends}
 use Rattle.gpkt.specs.Change.{Change}
 use Rattle.gpkt.specs.Sending.{Input, Output, output_of}
 use Rattle.ganswer.specs.Servers.{Server}
-use Rattle.gconnect.specs.GitConnections.{ServesGit}
-use Rattle.gconnect.specs.declared.serving.GitEnd.{GitEnd}
-use Rattle.gcmd.specs.Programs.{Outcome}
+use Rattle.gserve.specs.GitConnections.{ServesGit}
+use Rattle.gserve.specs.declared.git_transport.GitEnd.{GitEnd}
+use Rattle.gcmd.specs.Programs.{ProgramOutcome}
 use Rattle.gcmd.specs.declared.fault.ProgramFault.TheVariants as program
 use Rattle.gtcp.specs.Sockets.{IsServed, ServesEach}
 use Rattle.gtcp.specs.steps.Sockets.{ServesBetween, input_by, output_by}
@@ -49,7 +49,7 @@ module _ {A W : Type 0} (contents passed_on : W → Option (List ℕ)) (is_down 
     }
 
     -- one more
-    pub serves_next : (a b c : W) (outcome : Outcome A) (could can : Bool) (count : ℕ)
+    pub serves_next : (a b c : W) (outcome : ProgramOutcome A) (could can : Bool) (count : ℕ)
         → ServesSoFar server packs fails path ends (output_of contents passed_on is_down a b) could count
         → IsServed server packs fails path ends outcome
         → Tells outcome could can (output_of contents passed_on is_down b c)

@@ -9,7 +9,7 @@ use Rattle.gpkt.proofs.SendingLemmas.{appends_join, passes_join, passes_still}
 use Rattle.gpkt.specs.declared.device.Down.{Down}
 use Rattle.gcmd.specs.Outputs.{IsSent}
 use Rattle.gcmd.specs.Printing.{fault_line}
-use Rattle.gcmd.specs.Programs.{Outcome}
+use Rattle.gcmd.specs.Programs.{ProgramOutcome}
 use Rattle.gcmd.specs.declared.fault.ProgramFault.{ProgramFault}
 use Rattle.gtcp.specs.steps.Remote.{PrintsSoFar, Tells}
 use Rattle.gtcp.specs.Telling.{PrintsFaults, PrintsNone, fault_in, fault_lines, faults_of}
@@ -133,7 +133,7 @@ module _ {A W : Type 0} (contents passed_on : W → Option (List ℕ)) (is_down 
   still_so a b c faults false so_far still =
       some_still contents passed_on is_down a b c (fault_lines faults) so_far still
 
-  prints_next : (a b c : W) (faults : List (ProgramFault A)) (outcome : Outcome A) (could can : Bool)
+  prints_next : (a b c : W) (faults : List (ProgramFault A)) (outcome : ProgramOutcome A) (could can : Bool)
       → PrintsSoFar (output_of contents passed_on is_down a b) faults could
       → Tells outcome could can (output_of contents passed_on is_down b c)
       → PrintsSoFar (output_of contents passed_on is_down a c) (faults ++ fault_in outcome) can
@@ -151,7 +151,7 @@ module _ {A W : Type 0} (contents passed_on : W → Option (List ℕ)) (is_down 
   prints_next a b c faults (Err fault) true false so_far next = some_more a b c faults fault so_far next
 
   -- so of the faults of connections
-  pub tells_next : (a b c : W) (outcomes : List (Outcome A)) (outcome : Outcome A) (could can : Bool)
+  pub tells_next : (a b c : W) (outcomes : List (ProgramOutcome A)) (outcome : ProgramOutcome A) (could can : Bool)
       → PrintsSoFar (output_of contents passed_on is_down a b) (faults_of outcomes) could
       → Tells outcome could can (output_of contents passed_on is_down b c)
       → PrintsSoFar (output_of contents passed_on is_down a c) (faults_of (outcomes ++ outcome ∷ [])) can

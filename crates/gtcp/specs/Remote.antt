@@ -10,7 +10,7 @@ use Rattle.ggrammar.specs.declared.fault.MessageFault.{MessageFault}
 use Rattle.ghello.specs.Hello.{Hello}
 use Rattle.gfetchreply.specs.Values.{default_limit}
 use Rattle.glsreply.specs.LsReplies.{LsReply}
-use Rattle.grefspec.specs.Refspecs.{Refspec}
+use Rattle.grefs.specs.Refspecs.{Refspec}
 use Rattle.gclientrepo.specs.Repos.{RepoState}
 use Rattle.ganswer.specs.Servers.{Server}
 use Rattle.gsession.specs.declared.fault.ClientFault.TheVariants as client
@@ -21,7 +21,7 @@ use Rattle.gclient.specs.declared.fetched.Fetched.{Fetched}
 use Rattle.gcmd.specs.Fetching.{IsFetchedInto, NamesClient, RefusesClient, Reports, SendsReport}
 use Rattle.gcmd.specs.Fetching.{plain_index_fails, plain_indexes}
 use Rattle.gcmd.specs.Outputs.{BreaksOff}
-use Rattle.gcmd.specs.Programs.{ExitsWith, Outcome}
+use Rattle.gcmd.specs.Programs.{ExitsWith, ProgramOutcome}
 use Rattle.gcmd.specs.Serving.{NamesServer, RefusesFile, plain_pack_fails, plain_packs}
 use Rattle.gcmd.specs.Stored.{ConcludesStored, IsKept, RefusesFile as RefusesStored, Stored}
 use Rattle.gcmd.specs.declared.fault.ProgramFault.{ProgramFault}
@@ -32,7 +32,7 @@ use Rattle.gtcp.specs.Listing.{reply_lines}
 use Rattle.gtcp.specs.Sockets.{FetchesFrom, FetchesOn, FitPrefixes, ListsFrom, RefusesPrefixes, ServesEach, asked_for}
 
 -- a fault was met for such a cause, and nothing is written
-abbrev pub StopsBefore : {A : Type 0} → (ProgramFault A → Type 0) → Output → Outcome A → Type 0
+abbrev pub StopsBefore : {A : Type 0} → (ProgramFault A → Type 0) → Output → ProgramOutcome A → Type 0
 StopsBefore {A} Cause output outcome =
     (fault : ProgramFault A) × Cause fault × (outcome ≡ Err fault) × IsUnwritten output
 
@@ -44,7 +44,7 @@ port_line port = codes "listening " ++ decimal port ++ codes "\n"
 
 -- what showing a port does: its line is written and passed on; or there is no such socket, or there is no memory for
 -- the line, or the output failed at it
-abbrev pub Announces : {A : Type 0} → Output → Outcome A → Type 0
+abbrev pub Announces : {A : Type 0} → Output → ProgramOutcome A → Type 0
 Announces output (Ok done) = (port : ℕ) × (port < 65_536) × Sends output (port_line port)
 Announces output (Err program.Socket) = IsUnwritten output
 Announces output (Err program.Memory) = IsUnwritten output
@@ -59,22 +59,22 @@ ServesNobody {A} file output fault =
 
 module _ {A : Type 0} (file path : Bytes) (ends : Ends) (connections : ℕ) (output : Output) where
   -- the port is shown, and the repository that the file names is served to so many
-  pub record IsServedToAll (errors : Output) (outcome : Outcome A) : Type 0 where
+  pub record IsServedToAll (errors : Output) (outcome : ProgramOutcome A) : Type 0 where
     pub server : Server A
     pub names : NamesServer file server
     pub announces : Announces {A = A} output (Ok tt)
     pub serves : ServesEach server plain_packs plain_pack_fails path ends errors connections outcome
 
   -- what `serve` does before it ends: that; or it is served to nobody
-  abbrev pub ServesRemote : Output → Outcome A → Type 0
+  abbrev pub ServesRemote : Output → ProgramOutcome A → Type 0
   ServesRemote errors outcome =
       IsServedToAll errors outcome ⊎ StopsBefore (ServesNobody file output) errors outcome
 
 -- it does that, and then it ends as that came out
 pub record RunsServing (A : Type 0) {E : Type 0} (errors : E → E → Output) (old new : E)
-    (Serves : Output → Outcome A → Type 0) (status : ℕ) : Type 0 where
+    (Serves : Output → ProgramOutcome A → Type 0) (status : ℕ) : Type 0 where
   pub middle : E
-  pub outcome : Outcome A
+  pub outcome : ProgramOutcome A
   pub serves : Serves (errors old middle) outcome
   pub exits : ExitsWith outcome (errors middle new) status
 
@@ -92,12 +92,12 @@ AsksRemote prefixes hello (Err (program.Fetch fault)) =
 AsksRemote prefixes hello (Err _) = ⊥
 
 -- the lines of a reply are written and passed on, or the output failed at them; or there is no memory for them
-abbrev pub ShowsReply : {A : Type 0} → LsReply → Output → Outcome A → Type 0
+abbrev pub ShowsReply : {A : Type 0} → LsReply → Output → ProgramOutcome A → Type 0
 ShowsReply reply output outcome =
     SendsReport (reply_lines reply) output outcome ⊎ ((outcome ≡ Err program.Memory) × IsUnwritten output)
 
 -- what `ls --tcp` does: that, of the server's reply; or a fault was met before
-abbrev pub ListsRemote : {A : Type 0} → List Bytes → Hello → Output → Outcome A → Type 0
+abbrev pub ListsRemote : {A : Type 0} → List Bytes → Hello → Output → ProgramOutcome A → Type 0
 ListsRemote {A} prefixes hello output outcome =
     ((reply : LsReply) × AsksRemote {A = A} prefixes hello (Ok reply) × ShowsReply reply output outcome)
     ⊎ StopsBefore (λ fault. AsksRemote prefixes hello (Err fault)) output outcome
@@ -117,7 +117,7 @@ FetchesAt old specs limit ends hello new (Err _) = ⊥
 -- how it ends after that: the file is replaced whole by the text of the new repository, and only then that is reported;
 -- where nothing was fetched the file has the old text, and nothing is reported
 abbrev pub EndsRemote : {A : Type 0} → Bytes → RepoState A → RepoState A → Result (Fetched A) (ProgramFault A)
-    → Stored → Output → Outcome A → Type 0
+    → Stored → Output → ProgramOutcome A → Type 0
 EndsRemote old repo new (Ok fetched) stored report outcome =
     IsFetchedInto repo new fetched × ConcludesStored old new fetched stored report outcome
 EndsRemote old repo new (Err fault) stored report outcome =
@@ -127,7 +127,7 @@ module _ {A : Type 0} (specs : List Refspec) (limit : ℕ) (ends : Ends) (hello 
     (report : Output)
   where
     -- the file is not opened: it stays, and nothing is reported
-    pub record IsNotOpened (outcome : Outcome A) : Type 0 where
+    pub record IsNotOpened (outcome : ProgramOutcome A) : Type 0 where
       pub fault : ProgramFault A
       pub refused : RefusesStored stored.old fault
       pub met : outcome ≡ Err fault
@@ -135,7 +135,7 @@ module _ {A : Type 0} (specs : List Refspec) (limit : ℕ) (ends : Ends) (hello 
       pub unreported : IsUnwritten report
 
     -- the repository that the file's text names fetches over a socket
-    pub record IsFetchedRemote (outcome : Outcome A) : Type 0 where
+    pub record IsFetchedRemote (outcome : ProgramOutcome A) : Type 0 where
       pub old : Bytes
       pub held : Holds stored.old old
       pub repo : RepoState A
@@ -146,7 +146,7 @@ module _ {A : Type 0} (specs : List Refspec) (limit : ℕ) (ends : Ends) (hello 
       pub ends_so : EndsRemote old repo new result stored report outcome
 
     -- what `fetch --tcp` does to a stored file; at the end this run holds no lockfile
-    abbrev pub FetchesRemote : Outcome A → Type 0
+    abbrev pub FetchesRemote : ProgramOutcome A → Type 0
     FetchesRemote outcome = (stored.lockfile ≡ Absent) × (IsFetchedRemote outcome ⊎ IsNotOpened outcome)
 
 -- ---- both ends
@@ -177,7 +177,7 @@ module _ {A : Type 0} (old : RepoState A) (specs : List Refspec) (new : RepoStat
 
 module _ {A : Type 0} (client : Bytes) (specs : List Refspec) where
   -- the repository that the client's file names was fetched into, and that is reported
-  pub record IsMet (output : Output) (outcome : Outcome A) : Type 0 where
+  pub record IsMet (output : Output) (outcome : ProgramOutcome A) : Type 0 where
     pub repo : RepoState A
     pub names : NamesClient client repo
     pub new : RepoState A
@@ -194,5 +194,5 @@ module _ {A : Type 0} (client : Bytes) (specs : List Refspec) where
       × FetchesInPair repo specs new (Err fault))
 
   -- what `pair` does: that; or a fault was met before
-  abbrev pub Meets : Output → Outcome A → Type 0
+  abbrev pub Meets : Output → ProgramOutcome A → Type 0
   Meets output outcome = IsMet output outcome ⊎ StopsBefore CannotMeet output outcome

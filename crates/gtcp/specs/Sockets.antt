@@ -14,17 +14,17 @@ use Rattle.grequest.specs.declared.flag.LsRefsFlag.TheVariants.{Symrefs, Peel}
 use Rattle.grequest.specs.Asked.{LsRefsAsked, ls_with, max_prefixes}
 use Rattle.grequest.specs.Building.{no_ls_refs}
 use Rattle.ganswer.specs.Servers.{Server}
+use Rattle.gserve.specs.GitConnections.{ServesGit}
+use Rattle.gserve.specs.declared.git_transport.GitEnd.{GitEnd}
+use Rattle.gserve.specs.declared.git_transport.GitEnd.TheVariants as git
 use Rattle.gsession.specs.declared.fault.ClientFault.TheVariants as client
 use Rattle.gclient.specs.Conversations.{Start}
 use Rattle.gclient.specs.declared.fault.FetchFault.{FetchFault}
 use Rattle.gclient.specs.declared.fault.FetchFault.TheVariants as fetch
 use Rattle.gclient.specs.declared.fetched.Fetched.{Fetched}
-use Rattle.gconnect.specs.GitConnections.{ServesGit}
-use Rattle.gconnect.specs.GitFetches.{FetchesGit}
-use Rattle.gconnect.specs.Listings.{ListsGit}
-use Rattle.gconnect.specs.declared.serving.GitEnd.{GitEnd}
-use Rattle.gconnect.specs.declared.serving.GitEnd.TheVariants as git
-use Rattle.gcmd.specs.Programs.{Outcome}
+use Rattle.gclient.specs.GitFetches.{FetchesGit}
+use Rattle.gclient.specs.Listings.{ListsGit}
+use Rattle.gcmd.specs.Programs.{ProgramOutcome}
 use Rattle.gcmd.specs.Serving.{outcome_of_connection}
 use Rattle.gcmd.specs.declared.fault.ProgramFault.TheVariants as program
 use Rattle.gtcp.specs.Telling.{PrintsFaults, faults_of}
@@ -88,14 +88,14 @@ ListsOn prefixes hello result =
 -- ---- serving
 
 -- how a connection comes out; that its client asked for another path is no fault of it
-abbrev pub outcome_of : {A : Type 0} → GitEnd → Outcome A
+abbrev pub outcome_of : {A : Type 0} → GitEnd → ProgramOutcome A
 outcome_of (git.Served served) = outcome_of_connection served.end
 outcome_of git.Elsewhere = Ok tt
 outcome_of (git.Refused fault) = Err (program.Request fault)
 outcome_of git.WriteFailed = Err program.WriteFailed
 
 -- all are served, or fewer
-abbrev pub IsCount : {A : Type 0} → List (Outcome A) → ℕ → Outcome A → Type 0
+abbrev pub IsCount : {A : Type 0} → List (ProgramOutcome A) → ℕ → ProgramOutcome A → Type 0
 IsCount outcomes connections (Ok done) = length outcomes ≡ connections
 IsCount outcomes connections (Err fault) = (fault ≡ program.Socket) × (length outcomes < connections)
 
@@ -107,13 +107,13 @@ module _ {A : Type 0} (server : Server A) (packs : Packs A) (fails : PackFails A
     pub serves : ServesGit server packs fails path ends input output ended
 
   -- a connection is served, and comes out so
-  abbrev pub IsServed : Outcome A → Type 0
+  abbrev pub IsServed : ProgramOutcome A → Type 0
   IsServed outcome = (ended : GitEnd) × HoldsServing ended × (outcome ≡ outcome_of ended)
 
   -- So many connections are served, one after the other, and the faults of all of them are printed, a line each, in
   -- their order. Or one of them can't be accepted, and those before it are.
-  pub record ServesEach (errors : Output) (connections : ℕ) (result : Outcome A) : Type 0 where
-    pub outcomes : List (Outcome A)
+  pub record ServesEach (errors : Output) (connections : ℕ) (result : ProgramOutcome A) : Type 0 where
+    pub outcomes : List (ProgramOutcome A)
     pub each : All IsServed outcomes
     pub prints : PrintsFaults errors (faults_of outcomes)
     pub count : IsCount outcomes connections result

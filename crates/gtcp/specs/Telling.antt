@@ -4,7 +4,7 @@ use Rattle.std.specs.List.{flat_map}
 use Rattle.gpkt.specs.Sending.{Output, IsUnwritten, Passes, SendsSome}
 use Rattle.gpkt.specs.Packets.{Bytes}
 use Rattle.gcmd.specs.Printing.{fault_line}
-use Rattle.gcmd.specs.Programs.{Outcome}
+use Rattle.gcmd.specs.Programs.{ProgramOutcome}
 use Rattle.gcmd.specs.declared.fault.ProgramFault.{ProgramFault}
 
 -- the lines of faults, one after the other
@@ -24,10 +24,10 @@ PrintsFaults errors faults =
 -- ---- the faults of connections
 
 -- that of a connection, if it had one
-abbrev pub fault_in : {A : Type 0} → Outcome A → List (ProgramFault A)
+abbrev pub fault_in : {A : Type 0} → ProgramOutcome A → List (ProgramFault A)
 fault_in (Ok done) = []
 fault_in (Err fault) = fault ∷ []
 
 -- those of connections, in their order
-abbrev pub faults_of : {A : Type 0} → List (Outcome A) → List (ProgramFault A)
+abbrev pub faults_of : {A : Type 0} → List (ProgramOutcome A) → List (ProgramFault A)
 faults_of outcomes = flat_map fault_in outcomes

@@ -1,4 +1,4 @@
-//! How long a peer may take.
+//! The time limits for a peer.
 
 ghost use Rattle.std.specs.Prelude.{◌≡◌, ◌≤◌};
 ghost use Rattle.std.specs.Duration.{as_nanos};
@@ -9,24 +9,24 @@ ghost use Rattle.gtcp.specs.steps.Deadlines.{LeavesOf, first_line_time, request_
 use std::marker::Model;
 use std::time::{Duration, Instant};
 
-/// The seconds in which a client of the server has to give its first line, all of it, from the accept on.
+/// The seconds that a client of the server has for its whole first line, starting at the accept.
 pub const MAX_FIRST_LINE: u64 = 10;
 
-/// The seconds in which a client of the server has to give a request, all of it, from the moment when the server waits
+/// The seconds that a client of the server has for a whole request, starting when the server waits
 /// for it.
 pub const MAX_REQUEST: u64 = 60;
 
-/// The seconds for which any peer may take no byte, and for which a server may give none.
+/// The seconds for which any peer may accept no byte, and for which a server may send none.
 pub const MAX_SILENCE: u64 = 60;
 
-/// The seconds in which an address has to take a connection.
+/// The seconds within which an address must accept a connection.
 pub const MAX_CONNECT: u64 = 60;
 
 /// The time that a client of the server has left.
 #[derive(Drop)]
 pub(crate) struct TimeLeft {
     left: Duration,
-    // When so much was left.
+    // When `left` was measured.
     at: Instant,
 }
 
@@ -44,7 +44,7 @@ impl Model for TimeLeft {
 }
 
 impl TimeLeft {
-    /// The time for a first line that begins now.
+    /// Returns the time for a first line that begins now.
     pub(crate) fn for_first_line(now: Instant) -> TimeLeft
         ensures { result ≡ (first_line_time, instant_nanos now) }
     {
@@ -54,7 +54,7 @@ impl TimeLeft {
         }
     }
 
-    /// The time for a request that begins now.
+    /// Returns the time for a request that begins now.
     pub(crate) fn for_request(now: Instant) -> TimeLeft
         ensures { result ≡ (request_time, instant_nanos now) }
     {
@@ -64,7 +64,7 @@ impl TimeLeft {
         }
     }
 
-    /// What is left of it now. `None` where nothing is, and where the clock went back.
+    /// Returns the time left now, or `None` if none is left or if the clock went back.
     pub(crate) fn until(self, now: Instant) -> Option<TimeLeft>
         ensures { LeavesOf self (instant_nanos now) result }
     {
@@ -76,7 +76,7 @@ impl TimeLeft {
         Some(TimeLeft { left, at: now })
     }
 
-    /// How long a read may wait, so that it ends in time.
+    /// Returns how long a read may wait, so that it ends in time.
     pub(crate) fn wait(&self) -> Duration
         ensures wait { as_nanos result ≡ self.now.0 }
         ensures most { as_nanos result ≤ longest_wait }

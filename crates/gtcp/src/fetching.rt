@@ -1,10 +1,10 @@
-//! A server at the other end of a stream, as its client.
+//! A client of the server at the other end of a stream.
 
 ghost use Rattle.std.specs.Prelude.{◌≡◌, ◌≤◌, ◌+◌, ℕ, IfOk, OnErr};
 ghost use Rattle.gdag.specs.Reach.{Grows};
 ghost use Rattle.gdag.specs.Walks.{CountsReached};
 ghost use Rattle.gpkt.specs.Change.{change_of};
-ghost use Rattle.gclientrepo.specs.Repos.{IsWhole};
+ghost use Rattle.gclientrepo.specs.Repos.{IsConnectedRepo};
 ghost use Rattle.gclientrepo.specs.Settling.{Settles};
 ghost use Rattle.gsession.specs.Sessions.{tips_of};
 ghost use Rattle.gclient.specs.Conversations.{start_for, start_of};
@@ -14,8 +14,7 @@ ghost use Rattle.gtcp.specs.steps.Remote.{MakesRequest};
 
 use crate::stream::{MESSAGE_BUFFER, Peer};
 use crate::timer::Silence;
-use gclient::{FetchFault, Fetched, PackOptions, Repo, Spec};
-use gconnect::{GitFetch, fetch_git, list_git};
+use gclient::{FetchFault, Fetched, GitFetch, PackOptions, Repo, Spec, fetch_git, list_git};
 use gfetchreply::PackLimit;
 use ggrammar::{Ends, MessageFault};
 use ggraph::Indexer;
@@ -23,18 +22,20 @@ use ghello::Hello;
 use glsreply::LsReply;
 use gname::Prefix;
 use gpkt::{FromRead, ToWrite};
-use grequest::LsRefsRequest;
+use grequest::{LsRefsFlag, LsRefsRequest};
 use std::alloc::Allocator;
 use std::io::{BufReader, BufWriter, Read, Write};
 use std::net::OpenStream;
 
-/// Fetches by refspecs from the server at the other end of the stream: writes the first line of a `git://` connection
-/// (gitprotocol-pack(5), "Git Transport"), which names the host and the path, and then does as `gclient::fetch_over`.
+/// Fetches by refspecs from the server at the other end of the stream. Writes the first line of a
+/// `git://` connection (gitprotocol-pack(5), "Git Transport"), which names the host and the path,
+/// and then does the same as `gclient::fetch_over`.
 ///
-/// It fails with 42 at packet 0 where the host or the path is not well-formed, and, out of memory, with 53 for the first
-/// line and 28 for the stream's buffers; nothing is read or written then. Otherwise it fails as `fetch_over`: the refs are
-/// as before, and objects only came to the graph. A read fails where the server gives no byte for
-/// [`MAX_SILENCE`](crate::MAX_SILENCE) seconds, and a write where it takes none.
+/// Fails with 42 at packet 0 if the host or the path is not well-formed. Fails with 53 if out of
+/// memory for the first line, and with 28 for the stream's buffers. Nothing is read or written
+/// then. Otherwise fails as `fetch_over`: the refs are unchanged, and the graph only gained
+/// objects. A read fails if the server sends no byte for [`MAX_SILENCE`](crate::MAX_SILENCE)
+/// seconds, and a write if it accepts none.
 pub fn fetch_on<A, K, S>(
     stream: S,
     host: &[u8],
@@ -56,7 +57,7 @@ where
         fetched.settled.asks fetched.settled.updates.items repo.new.refs) }
     ensures refs { OnErr result (repo.new.refs ≡ repo.old.refs) }
     ensures grows { Grows repo.old.graph.entries repo.new.graph.entries }
-    ensures safe { IsWhole repo.new }
+    ensures connected_refs { IsConnectedRepo repo.new }
     ensures bound { IfOk result (λ fetched. (held parents : ℕ)
         → CountsReached repo.old.graph.entries (tips_of repo.old) held parents
         → fetched.requests ≤ held + 1) }
@@ -77,9 +78,9 @@ where
     fetch_git_on(stream, repo, indexer, &fetch)
 }
 
-/// Fetches as [`fetch_on`] does, with a first line that is made, and with options for packs.
+/// Fetches as [`fetch_on`] does, with a given first line and with options for packs.
 ///
-/// It fails as `fetch_on` does, but not for the host or the path.
+/// Fails as `fetch_on` does, but not for the host or the path.
 pub fn fetch_git_on<A, K, S>(
     stream: S,
     repo: &mut Repo<A>,
@@ -97,7 +98,7 @@ where
         fetched.settled.asks fetched.settled.updates.items repo.new.refs) }
     ensures refs { OnErr result (repo.new.refs ≡ repo.old.refs) }
     ensures grows { Grows repo.old.graph.entries repo.new.graph.entries }
-    ensures safe { IsWhole repo.new }
+    ensures connected_refs { IsConnectedRepo repo.new }
     ensures bound { IfOk result (λ fetched. (held parents : ℕ)
         → CountsReached repo.old.graph.entries (tips_of repo.old) held parents
         → fetched.requests ≤ held + 1) }
@@ -105,7 +106,7 @@ where
     fetch_from(&Peer::new(stream, Silence), repo, indexer, fetch)
 }
 
-/// Fetches as [`fetch_on`] does, with a first line that is made.
+/// Fetches as [`fetch_on`] does, with a given first line.
 pub(crate) fn fetch_from<A, K, S>(
     peer: &Peer<S, Silence>,
     repo: &mut Repo<A>,
@@ -123,7 +124,7 @@ where
         fetched.settled.asks fetched.settled.updates.items repo.new.refs) }
     ensures refs { OnErr result (repo.new.refs ≡ repo.old.refs) }
     ensures grows { Grows repo.old.graph.entries repo.new.graph.entries }
-    ensures safe { IsWhole repo.new }
+    ensures connected_refs { IsConnectedRepo repo.new }
     ensures bound { IfOk result (λ fetched. (held parents : ℕ)
         → CountsReached repo.old.graph.entries (tips_of repo.old) held parents
         → fetched.requests ≤ held + 1) }
@@ -138,7 +139,7 @@ where
         return Err(FetchFault::NoBuffer);
     };
     let fetched = fetch_between(&mut reader, &mut writer, repo, indexer, fetch);
-    // What could not be written is not tried again.
+    // Bytes that could not be written are not tried again.
     let (_peer, _unwritten) = writer.into_parts();
     fetched
 }
@@ -160,7 +161,7 @@ fn fetch_between<A: Allocator + Copy, K: Indexer<A>, R: Read, W: Write>(
         fetched.settled.asks fetched.settled.updates.items repo.new.refs) }
     ensures refs { OnErr result (repo.new.refs ≡ repo.old.refs) }
     ensures grows { Grows repo.old.graph.entries repo.new.graph.entries }
-    ensures safe { IsWhole repo.new }
+    ensures connected_refs { IsConnectedRepo repo.new }
     ensures bound { IfOk result (λ fetched. (held parents : ℕ)
         → CountsReached repo.old.graph.entries (tips_of repo.old) held parents
         → fetched.requests ≤ held + 1) }
@@ -170,14 +171,15 @@ fn fetch_between<A: Allocator + Copy, K: Indexer<A>, R: Read, W: Write>(
     fetch_git(repo, &mut source, &mut sink, indexer, fetch)
 }
 
-/// Lists the refs of the server at the other end of the stream that begin with one of the prefixes, or all where there
-/// is none, with what symbolic refs point at and tags lead to, and an unborn `HEAD` where the server offers it
-/// (gitprotocol-v2(5), "ls-refs").
+/// Lists the refs of the server at the other end of the stream (gitprotocol-v2(5), "ls-refs").
+/// Lists those that begin with one of the prefixes, or all if there are none. The list has the
+/// targets of symbolic refs, peeled tags, and an unborn `HEAD` if the server offers it.
 ///
-/// It fails with 48 at packet 0 at a 65th prefix, with 42 at packet 0 where the host or the path is not well-formed, and,
-/// out of memory, with 53 for the request and the first line and 28 for the stream's buffers; nothing is read or written
-/// then. Otherwise it fails as `gconnect::list_git`. A read fails where the server gives no byte for
-/// [`MAX_SILENCE`](crate::MAX_SILENCE) seconds, and a write where it takes none.
+/// Fails with 48 at packet 0 at a 65th prefix, and with 42 at packet 0 if the host or the path is
+/// not well-formed. Fails with 53 if out of memory for the request and the first line, and with 28
+/// for the stream's buffers. Nothing is read or written then. Otherwise fails as
+/// `gclient::list_git`. A read fails if the server sends no byte for
+/// [`MAX_SILENCE`](crate::MAX_SILENCE) seconds, and a write if it accepts none.
 pub fn ls_on<A, S>(
     alloc: A,
     stream: S,
@@ -200,7 +202,7 @@ where
     }
 }
 
-/// Lists refs as [`ls_on`] does, with a first line and a request that are made.
+/// Lists refs as [`ls_on`] does, with a given first line and request.
 pub(crate) fn ls_from<A, S>(
     alloc: A,
     peer: &Peer<S, Silence>,
@@ -219,7 +221,7 @@ where
         return Err(FetchFault::NoBuffer);
     };
     let listed = list_between(alloc, &mut reader, &mut writer, hello, asked);
-    // What could not be written is not tried again.
+    // Bytes that could not be written are not tried again.
     let (_peer, _unwritten) = writer.into_parts();
     listed
 }
@@ -240,9 +242,9 @@ fn list_between<A: Allocator + Copy, R: Read, W: Write>(
     list_git(hello, &mut source, &mut sink, asked, alloc)
 }
 
-/// A request for refs, with what they point at and lead to.
+/// Returns a request for refs, with their targets and peeled ids.
 ///
-/// It fails with `Limit` at a 65th prefix, and where there is no memory.
+/// Fails with `Limit` at a 65th prefix, and if out of memory.
 pub(crate) fn request_for<A: Allocator + Copy>(
     alloc: A,
     prefixes: &[Prefix<A>],
@@ -250,8 +252,8 @@ pub(crate) fn request_for<A: Allocator + Copy>(
     ensures { MakesRequest prefixes.now result }
 {
     let mut asked = LsRefsRequest::new(alloc);
-    asked.set_symrefs(true);
-    asked.set_peel(true);
+    asked.set(LsRefsFlag::Symrefs, true);
+    asked.set(LsRefsFlag::Peel, true);
     for prefix in prefixes {
         asked.push_prefix(prefix.as_bytes())?;
     }

@@ -10,17 +10,17 @@ use gpkt::{Down, Sink};
 use std::alloc::{Allocator, Global};
 use std::marker::Model;
 
-/// The most bytes of a message between both ends of a pair: so many find room in a connection that nobody reads
-/// meanwhile.
+/// The maximum length in bytes of a message between both ends of a pair. A connection that nobody
+/// reads has room for one.
 pub const MAX_MESSAGE: usize = 32_768;
 
-/// A sink that holds a message back until a flush passes it on, and goes down at a message that is too long, of which
-/// nothing is written to the sink inside.
+/// A sink that holds a message back until it is flushed. It goes down at a message that is too
+/// long, and writes none of it to the inner sink.
 #[derive(Drop)]
 pub struct MessageSink<W, A: Allocator + Copy = Global> {
     sink: W,
     held: Vec<u8, A>,
-    // How many bytes were written to the sink inside.
+    // How many bytes were written to the inner sink.
     written: usize,
     is_too_long: bool,
     lacks_memory: bool,
@@ -49,7 +49,7 @@ impl<W, A: Allocator + Copy> Model for MessageSink<W, A> {
 }
 
 impl<W, A: Allocator + Copy> MessageSink<W, A> {
-    /// A sink that holds nothing. It takes no memory yet.
+    /// Returns a sink that holds nothing. Allocates nothing yet.
     pub fn new(alloc: A, sink: W) -> MessageSink<W, A>
         ensures { result ≡ record {
           inner = sink;
@@ -70,7 +70,7 @@ impl<W, A: Allocator + Copy> MessageSink<W, A> {
         }
     }
 
-    /// How many bytes were written to the sink inside; at most as many as a `usize` can count.
+    /// Returns how many bytes were written to the inner sink, at most `usize::MAX`.
     pub fn bytes_written(&self) -> usize
         ensures { result ≡ self.now.written }
     {
@@ -98,7 +98,7 @@ impl<W, A: Allocator + Copy> MessageSink<W, A> {
         self.is_down
     }
 
-    // Notes that it has failed, and answers so.
+    // Records that it has failed, and returns the error.
     fn fail<T>(&mut self) -> Result<T, Down>
         ensures same { self.new ≡ record self.old { down = true } }
         ensures err { IsErr result }
@@ -111,8 +111,8 @@ impl<W, A: Allocator + Copy> MessageSink<W, A> {
 impl<W: Sink, A: Allocator + Copy> MessageSink<W, A> {
     /// Holds more bytes of a message, and writes nothing.
     ///
-    /// It fails where the message would have more than [`MAX_MESSAGE`] bytes with them, and where there is no memory;
-    /// what is held stays so then, and it is down.
+    /// Fails if the message would then have more than [`MAX_MESSAGE`] bytes, and if out of memory.
+    /// The held bytes are unchanged then, and the sink is down.
     pub fn hold(&mut self, bytes: &[u8]) -> Result<(), Down>
         requires { self.old.down ≡ false }
         ensures inner { self.new.inner ≡ self.old.inner }
@@ -141,7 +141,7 @@ impl<W: Sink, A: Allocator + Copy> MessageSink<W, A> {
         }
     }
 
-    // Writes what is held to the sink inside. At an error the rest is held still.
+    // Writes the held bytes to the inner sink. At an error the rest is still held.
     fn write_held(&mut self) -> Result<(), Down>
         ensures bytes { Keeps (append_known (W.contents self.old.inner) self.old.held)
             (append_known (W.contents self.new.inner) self.new.held) }
@@ -157,7 +157,7 @@ impl<W: Sink, A: Allocator + Copy> MessageSink<W, A> {
     }
 }
 
-// Writes bytes from the front, and answers how many: all of them, unless the sink failed.
+// Writes bytes from the front, and returns how many: all of them, unless the sink failed.
 fn write_front<W: Sink>(bytes: &[u8], sink: &mut W) -> (usize, Result<(), Down>)
     ensures bound { result.0 ≤ length bytes.now }
     ensures all { OnOk result.1 (result.0 ≡ length bytes.now) }
@@ -174,7 +174,7 @@ fn write_front<W: Sink>(bytes: &[u8], sink: &mut W) -> (usize, Result<(), Down>)
     (count, Ok(()))
 }
 
-// Takes so many bytes from the front.
+// Removes `count` bytes from the front.
 fn remove_front<A: Allocator>(held: &mut Vec<u8, A>, count: usize)
     requires { count ≤ length held.old.items }
     ensures { held.new.items ≡ drop count held.old.items }
@@ -184,7 +184,7 @@ fn remove_front<A: Allocator>(held: &mut Vec<u8, A>, count: usize)
     held.truncate(len - count);
 }
 
-// What it writes to the sink inside it has passed on: so nothing is written there before a flush.
+// Bytes written to the inner sink count as flushed, so nothing is written there before a flush.
 impl<W: Sink, A: Allocator + Copy> Sink for MessageSink<W, A> {
     ghost contents = { λ h. append_known (W.contents h.inner) h.held };
 

@@ -11,21 +11,20 @@ use crate::message::MessageSink;
 use crate::stream::Peer;
 use crate::timer::Silence;
 use ganswer::Server;
-use gclient::{FetchFault, Fetched, PackOptions, Repo, Spec};
+use gclient::{FetchFault, Fetched, GitFetch, PackOptions, Repo, Spec, fetch_git};
 use gcmd::ProgramFault;
-use gconnect::{GitFetch, fetch_git, hear};
 use gfetchreply::PackLimit;
 use ggrammar::{Ends, MessageFault};
 use ggraph::PlainPack;
 use ghello::Hello;
 use gpkt::memory::SliceSource;
-use gpkt::{Down, FromRead, LineWriter, Sink, Source, ToWrite};
-use gserve::{ExchangeEnd, MAX_ERR_TEXT, OnePack, ServeFault, err_text, serve, serve_one};
+use gpkt::{Down, FromRead, PacketWriter, Sink, Source, ToWrite};
+use gserve::{ExchangeEnd, MAX_ERR_TEXT, OnePack, ServeFault, err_text, hear, serve, serve_one};
 use std::alloc::Allocator;
 use std::io::{BufReader, Read, Write};
 use std::net::{Net, OpenListener, OpenStream, SocketAddr, TcpListener, TcpStream};
 
-// What the client reads. Where it has read all that the server passed on, it is the server's turn.
+// The input of the client. When it has read all that the server flushed, the server has its turn.
 #[derive(Drop)]
 struct Answers<'a, N, F, W, A: Allocator + Copy> {
     server: &'a Server<A>,
@@ -41,7 +40,7 @@ struct Answers<'a, N, F, W, A: Allocator + Copy> {
 }
 
 impl<'a, N: Source, F: Source, W: Sink, A: Allocator + Copy> Answers<'a, N, F, W, A> {
-    // What a client reads of a server that has not had its turn.
+    // Returns the input of a client whose server has had no turn.
     fn new(server: &'a Server<A>, near: N, far_end: (F, W)) -> Self {
         let (far, far_sink) = far_end;
         Answers {
@@ -55,7 +54,7 @@ impl<'a, N: Source, F: Source, W: Sink, A: Allocator + Copy> Answers<'a, N, F, W
         }
     }
 
-    // The server's turn: it hears the client's first line, or it answers one request.
+    // Takes the server's turn: it hears the client's first line, or replies to one request.
     fn take_turn(&mut self)
         ensures { self.new.is_down ≡ self.old.is_down }
     {
@@ -79,8 +78,8 @@ impl<'a, N: Source, F: Source, W: Sink, A: Allocator + Copy> Answers<'a, N, F, W
         )
     }
 
-    // How many bytes the server has written that the client has not read.
-    fn left(&self) -> usize {
+    // Returns how many written bytes of the server the client has not read.
+    fn bytes_left(&self) -> usize {
         self.far_sink.bytes_written().saturating_sub(self.read)
     }
 
@@ -106,13 +105,13 @@ impl<N: Source, F: Source, W: Sink, A: Allocator + Copy> Source for Answers<'_, 
         if self.is_down {
             return Err(Down);
         }
-        if self.left() == 0 {
+        if self.bytes_left() == 0 {
             self.take_turn();
         }
         if self.far_sink.has_failed() {
             return self.fail();
         }
-        let room = buf.len().min(self.left());
+        let room = buf.len().min(self.bytes_left());
         match self.near.read(&mut buf[..room]) {
             Ok(count) => {
                 self.read = self.read.saturating_add(count);
@@ -123,7 +122,7 @@ impl<N: Source, F: Source, W: Sink, A: Allocator + Copy> Source for Answers<'_, 
     }
 }
 
-// The server hears the client's first line and advertises, or says why it refuses the line.
+// Hears the client's first line as the server, and advertises or reports why it refuses the line.
 fn greet<A: Allocator + Copy, F: Source, W: Sink>(server: &Server<A>, far: &mut F, sink: &mut W) {
     match hear(far, server.graph().allocator()) {
         Ok(_hello) => advertise(server, sink),
@@ -131,18 +130,18 @@ fn greet<A: Allocator + Copy, F: Source, W: Sink>(server: &Server<A>, far: &mut 
     }
 }
 
-// A connection whose client asks for nothing gets the advertisement alone.
+// Writes the advertisement alone, for a client that asks for nothing.
 fn advertise<A: Allocator + Copy, W: Sink>(server: &Server<A>, sink: &mut W) {
     let mut nothing = SliceSource::new(b"");
     let mut packer = OnePack::new(&PlainPack);
     let _served = serve(server, &mut packer, Ends::Plain, &mut nothing, sink);
 }
 
-// Writes the line of a refusal, and passes it on. It takes no memory.
+// Writes the line of a refusal, and flushes it. Allocates nothing.
 fn refuse<W: Sink>(fault: &ServeFault, sink: &mut W) {
     let mut text = [0; MAX_ERR_TEXT];
     let len = err_text(fault, &mut text);
-    let mut writer = LineWriter::new(sink);
+    let mut writer = PacketWriter::new(sink);
     if writer.text2(b"ERR ", &text[..len]).is_ok() {
         let _passed = writer.push();
     }
@@ -155,10 +154,11 @@ struct Joined<S> {
     far: S,
 }
 
-// How many strangers may connect before the client's own connection is found.
+// The maximum number of strangers that may connect before the client's own connection is found.
 const MAX_STRANGERS: usize = 16;
 
-// The address at which both ends meet, at any port that is free; and the host and the path that the client names.
+// The address at which both ends meet, with any free port. After it, the host and the path that the
+// client names.
 const MEETING: &str = "127.0.0.1:0";
 
 const HOST: &[u8] = b"127.0.0.1";
@@ -189,11 +189,13 @@ fn accept_from<L: OpenListener>(listener: &L, client: SocketAddr) -> Option<L::S
     None
 }
 
-/// Fetches by refspecs from the server into the repository, over a connection of this process, with plain packs.
+/// Fetches by refspecs from the server into the repository, over a connection of this process, with
+/// plain packs.
 ///
-/// It fails with `PairLimit` where a message would have more than [`MAX_MESSAGE`](crate::MAX_MESSAGE) bytes: nothing of
-/// it is written, and both ends stop. It fails with `Socket` where there is no such connection, and with `Memory` where
-/// there is no memory for its buffers or to hold a message. Otherwise it fails as `gclient::fetch_over`.
+/// Fails with `PairLimit` if a message would have more than [`MAX_MESSAGE`](crate::MAX_MESSAGE)
+/// bytes: none of it is written, and both ends stop. Fails with `Socket` if there is no such
+/// connection, and with `Memory` if out of memory for its buffers or to hold a message. Otherwise
+/// fails as `gclient::fetch_over`.
 pub(crate) fn fetch_in_pair<A: Allocator + Copy, N>(
     net: &N,
     server: &Server<A>,
@@ -217,7 +219,7 @@ where
     }
 }
 
-// Fetches so over a connection with these ends.
+// Fetches in the same way over a connection with these ends.
 fn fetch_between<A, S>(
     server: &Server<A>,
     repo: &mut Repo<A>,
@@ -243,7 +245,7 @@ where
     }
 }
 
-// Fetches so over these devices of the client's end.
+// Fetches in the same way over these devices of the client's end.
 fn fetch_from_far<A, N, V, S>(
     server: &Server<A>,
     repo: &mut Repo<A>,
@@ -271,7 +273,7 @@ where
     }
 }
 
-// Fetches so over these devices of both ends.
+// Fetches in the same way over these devices of both ends.
 fn converse<A, N, V, F, W>(
     server: &Server<A>,
     repo: &mut Repo<A>,
@@ -297,7 +299,8 @@ where
     exchange(repo, specs, &mut answers, &mut requests)
 }
 
-// Fetches so by these requests. The client ends with a flush, and the server has a last turn to hear it.
+// Fetches in the same way by these requests. The client ends with a flush packet, and the server
+// has a last turn to hear it.
 fn exchange<A, N, V, F, W>(
     repo: &mut Repo<A>,
     specs: &[Spec<A>],
@@ -324,7 +327,8 @@ where
     }
 }
 
-// Why both ends stopped: a message was too long, or there was no memory to hold it, or else the client's fault.
+// Returns why both ends stopped: a message was too long, there was no memory to hold it, or
+// otherwise the client's fault.
 fn fault_of<V: Sink, W: Sink, A: Allocator + Copy>(
     fault: FetchFault<A>,
     requests: &MessageSink<V, A>,
@@ -342,7 +346,7 @@ fn fault_of<V: Sink, W: Sink, A: Allocator + Copy>(
     ProgramFault::Fetch(fault)
 }
 
-// The client's end.
+// Fetches as the client's end.
 fn fetch_as_client<A: Allocator + Copy, S: Source, W: Sink>(
     repo: &mut Repo<A>,
     specs: &[Spec<A>],
@@ -368,7 +372,7 @@ fn fetch_as_client<A: Allocator + Copy, S: Source, W: Sink>(
     fetch_git(repo, answers, requests, &PlainPack, &fetch)
 }
 
-// The first line that the client writes.
+// Returns the first line that the client writes.
 fn hello_of_pair<A: Allocator + Copy>(alloc: A) -> Result<Hello<A>, MessageFault>
     ensures { MakesHello pair_hello result }
 {

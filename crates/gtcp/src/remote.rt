@@ -15,18 +15,17 @@ ghost use Rattle.gtcp.specs.Remote.{Announces, AsksRemote, FetchesAt, FetchesRem
 
 use crate::fetching::{fetch_from, ls_from, request_for};
 use crate::listing::text_of;
+use crate::location::Location;
 use crate::pair::fetch_in_pair;
-use crate::place::Place;
 use crate::serving::serve_listener;
 use crate::stream::{Peer, connect_to};
 use crate::timer::Silence;
 use ganswer::Server;
-use gclient::{FetchFault, Fetched, PackOptions, Repo, Spec};
+use gclient::{FetchFault, Fetched, GitFetch, PackOptions, Repo, Spec};
 use gcmd::{
     OpenedFile, ProgramFault, conclude_stored, finish, load_server, open_client, open_stored,
     send_report, send_text,
 };
-use gconnect::GitFetch;
 use gfetchreply::PackLimit;
 use ggrammar::Ends;
 use ggraph::PlainPack;
@@ -40,22 +39,24 @@ use std::time::Clock;
 
 // ---- serving
 
-/// What is served: at which address and path, to how many connections, how replies end, and the text of the repository.
+/// The service: its address and path, the number of connections, how replies end, and the text of
+/// the repository.
 #[derive(Drop)]
 pub struct Service<'a, A: Allocator + Copy> {
-    pub place: &'a Place<A>,
+    pub place: &'a Location<A>,
     pub connections: u32,
     pub ends: Ends,
     pub file: &'a [u8],
 }
 
-/// `gitv2 serve --listen ADDR --path PATH --connections N [--response-end] FILE`: shows the port that is listened at
-/// as the line `listening PORT` on `output`, and then serves so many connections, one after the other, as
-/// [`serve_listener`] does. The fault of a connection is one line on `errors`, and so is the fault that ends the
-/// program.
+/// `gitv2 serve --listen ADDR --path PATH --connections N [--response-end] FILE`: shows the port of
+/// the listener as the line `listening PORT` on `output`. Then it serves `connections` connections,
+/// one after the other, as [`serve_listener`] does. The fault of a connection is one line on
+/// `errors`, and so is the fault that ends the program.
 ///
-/// It answers the exit status: 0 where all connections were served, whatever their faults; 1 where the file is not
-/// served, there is no such socket, the port can't be shown, or a connection can't be accepted.
+/// Returns the exit status: 0 if all connections were served, whatever their faults. Returns 1 if
+/// the file is not served, there is no such socket, the port can't be shown, or a connection can't
+/// be accepted.
 pub fn cmd_serve<A: Allocator + Copy, N, W: Sink, E: Sink>(
     net: &N,
     alloc: A,
@@ -99,7 +100,7 @@ where
     }
 }
 
-// Serves so many connections at the place, and prints their faults alone.
+// Serves `connections` connections at the location, and prints only their faults.
 fn serve_at<A: Allocator + Copy, N, W: Sink, E: Sink>(
     net: &N,
     server: &Server<A>,
@@ -134,7 +135,7 @@ where
     }
 }
 
-// Shows the port that is listened at.
+// Shows the port of the listener.
 fn announce<A: Allocator + Copy, L: OpenListener, W: Sink>(
     alloc: A,
     listener: &L,
@@ -167,19 +168,21 @@ fn show_port<A: Allocator + Copy, W: Sink>(
 
 // ---- listing
 
-/// What is listed: of the server at which place, and the refs with which prefixes, or all where there is none.
+/// The listing: the location of the server, and the prefixes of the refs, or all refs if there are
+/// none.
 #[derive(Drop)]
 pub struct Listing<'a, A: Allocator + Copy> {
-    pub place: &'a Place<A>,
+    pub place: &'a Location<A>,
     pub prefixes: &'a [Prefix<A>],
 }
 
-/// `gitv2 ls --tcp ADDR --path PATH [PREFIX]...`: lists the refs of a server, a line each on `output`, as a reply that is
-/// written spells it (gitprotocol-v2(5), "ls-refs"). An unborn `HEAD` comes first, where the server has one. A fault is
-/// one line on `errors`: `Socket` where no address of the place takes a connection within
-/// [`MAX_CONNECT`](crate::MAX_CONNECT) seconds, and otherwise as [`ls_on`](crate::ls_on) fails.
+/// `gitv2 ls --tcp ADDR --path PATH [PREFIX]...`: lists the refs of a server, a line each on
+/// `output`, as a written reply spells them (gitprotocol-v2(5), "ls-refs"). An unborn `HEAD` is the
+/// first line, if the server has one. A fault is one line on `errors`. It is `Socket` if no address
+/// of the location accepts a connection within [`MAX_CONNECT`](crate::MAX_CONNECT) seconds, and
+/// otherwise as [`ls_on`](crate::ls_on) fails.
 ///
-/// It answers the exit status: 0 where the lines are written and passed on, 1 where a fault was met.
+/// Returns the exit status: 0 if the lines are written and flushed, 1 if there was a fault.
 pub fn cmd_ls_remote<A: Allocator + Copy, N, W: Sink, E: Sink>(
     net: &N,
     alloc: A,
@@ -257,25 +260,27 @@ fn show_reply<A: Allocator + Copy, W: Sink>(
 
 // ---- fetching
 
-/// What is fetched: from the server at which place, by which refspecs, how many bytes a pack may have, and how replies
+/// The fetch: the location of the server, the refspecs, the maximum size of a pack, and how replies
 /// end.
 #[derive(Drop)]
 pub struct RemoteFetch<'a, A: Allocator + Copy> {
-    pub place: &'a Place<A>,
+    pub place: &'a Location<A>,
     pub specs: &'a [Spec<A>],
     pub limit: PackLimit,
     pub ends: Ends,
 }
 
-/// `gitv2 fetch --tcp ADDR --path PATH [--limit N] [--response-end] FILE SPEC...`: locks and reads the client's file,
-/// connects to the server, and fetches by refspecs into the repository of the file. Where the refs were settled it
-/// replaces the file whole, and only then it writes the report to `report`. A fault is one line on `errors`.
+/// `gitv2 fetch --tcp ADDR --path PATH [--limit N] [--response-end] FILE SPEC...`: locks and reads
+/// the client's file, connects to the server, and fetches by refspecs into the repository of the
+/// file. If the refs were settled it replaces the file whole, and only then writes the report to
+/// `report`. A fault is one line on `errors`.
 ///
-/// It answers the exit status: 0 where the report is written and passed on, 1 where a fault was met. Where the file can't
-/// be locked, read or replaced the fault is `File`, or `Memory`; nobody is connected to before the file is locked and
-/// read. It is `Socket` where no address of the place takes a connection within [`MAX_CONNECT`](crate::MAX_CONNECT)
-/// seconds, and otherwise as [`fetch_on`](crate::fetch_on) fails. At every fault the file has the old text or the whole
-/// new one, and at the end this run holds no lockfile.
+/// Returns the exit status: 0 if the report is written and flushed, 1 if there was a fault. The
+/// fault is `File` or `Memory` if the file can't be locked, read or replaced. It connects to nobody
+/// before the file is locked and read. The fault is `Socket` if no address of the location accepts
+/// a connection within [`MAX_CONNECT`](crate::MAX_CONNECT) seconds, and otherwise as
+/// [`fetch_on`](crate::fetch_on) fails. At every fault the file has the old text or the whole new
+/// one, and at the end this run holds no lockfile.
 pub fn cmd_fetch_remote<A, N, T, R, E>(
     net: &N,
     alloc: A,
@@ -302,7 +307,7 @@ where
     finish(fetch_remote(net, alloc, file, fetch, report), errors)
 }
 
-// Fetches, and answers how that came out.
+// Fetches, and returns the outcome.
 fn fetch_remote<A, N, T, R>(
     net: &N,
     alloc: A,
@@ -327,7 +332,7 @@ where
     }
 }
 
-// The same for a file that is opened.
+// Does the same for an opened file.
 fn fetch_opened<A, N, T, R>(
     net: &N,
     opened: &mut OpenedFile<A>,
@@ -360,7 +365,7 @@ where
     }
 }
 
-// Fetches from the server at the place.
+// Fetches from the server at the location.
 fn fetch_at<A: Allocator + Copy, N>(
     net: &N,
     repo: &mut Repo<A>,
@@ -393,7 +398,7 @@ where
 
 // ---- both ends
 
-/// Both ends of a fetch: the server, the text of the repository that is fetched into, and the refspecs.
+/// Both ends of a fetch: the server, the text of the client's repository, and the refspecs.
 #[derive(Drop)]
 pub struct Pair<'a, A: Allocator + Copy> {
     pub server: &'a Server<A>,
@@ -401,11 +406,12 @@ pub struct Pair<'a, A: Allocator + Copy> {
     pub specs: &'a [Spec<A>],
 }
 
-/// `gitv2 pair SERVERFILE CLIENTFILE SPEC...`, once the server is loaded: fetches by refspecs from the one repository
-/// into the other, over a connection of this process, turn by turn, and reports on `output` as `fetch` does. A message
-/// has at most [`MAX_MESSAGE`](crate::MAX_MESSAGE) bytes. No file is written. A fault is one line on `errors`.
+/// `gitv2 pair SERVERFILE CLIENTFILE SPEC...`, after the server is loaded: fetches by refspecs from
+/// one repository into the other, over a connection of this process, turn by turn. Reports on
+/// `output` as `fetch` does. A message has at most [`MAX_MESSAGE`](crate::MAX_MESSAGE) bytes. No
+/// file is written. A fault is one line on `errors`.
 ///
-/// It answers the exit status: 0 where the report is written and passed on, 1 where a fault was met.
+/// Returns the exit status: 0 if the report is written and flushed, 1 if there was a fault.
 pub fn cmd_pair<A: Allocator + Copy, N, W: Sink, E: Sink>(
     net: &N,
     pair: &Pair<'_, A>,

@@ -12,26 +12,26 @@ use crate::stream::{MESSAGE_BUFFER, Peer};
 use crate::timer::{Timer, Turns};
 use ganswer::Server;
 use gcmd::{ProgramFault, print_fault};
-use gconnect::{Export, GitEnd, serve_git};
 use ggrammar::Ends;
 use ggraph::Packer;
 use gpkt::{FromRead, Sink, ToWrite};
-use gserve::{End, OnePack};
+use gserve::{End, Export, GitEnd, OnePack, serve_git};
 use std::alloc::Allocator;
 use std::io::{BufReader, BufWriter, Read, Write};
 use std::net::{OpenListener, OpenStream};
 use std::time::Clock;
 
-/// Serves so many connections, one after the other, each from its first line on (gitprotocol-pack(5), "Git
-/// Transport"). The fault of one is one line on `errors`, and the next is served all the same. Where there is no memory
-/// for a buffer a connection is served without one.
+/// Serves `connections` connections, one after the other, each starting at its first line
+/// (gitprotocol-pack(5), "Git Transport"). The fault of one is one line on `errors`, and the next
+/// is still served. If there is no memory for a buffer, a connection is served without one.
 ///
-/// A client has [`MAX_FIRST_LINE`](crate::MAX_FIRST_LINE) seconds for its first line, from the accept on, and
-/// [`MAX_REQUEST`](crate::MAX_REQUEST) for each request, from the moment when the server waits for it. The read that is
-/// under way when they are over fails, and so does each read where the clock fails or went back. A write fails where the
-/// client takes no byte for [`MAX_SILENCE`](crate::MAX_SILENCE) seconds.
+/// A client has [`MAX_FIRST_LINE`](crate::MAX_FIRST_LINE) seconds for its first line, starting at
+/// the accept. It has [`MAX_REQUEST`](crate::MAX_REQUEST) for each request, starting when the
+/// server waits for it. The read that is active when they are over fails, and so does each read if
+/// the clock fails or went back. A write fails if the client accepts no byte for
+/// [`MAX_SILENCE`](crate::MAX_SILENCE) seconds.
 ///
-/// It fails with `Socket` where a connection can't be accepted, and serves none from then on.
+/// Fails with `Socket` if a connection can't be accepted, and serves none after that.
 pub fn serve_listener<C, A, K, L, S, E>(
     clock: &C,
     server: &Server<A>,
@@ -63,7 +63,7 @@ where
     serve_each(&export, packer, &listening, errors)
 }
 
-// Where connections come from, how many are served, and the clock of their clients' time.
+// The listener, the number of connections to serve, and the clock of their clients' time.
 #[derive(Drop)]
 struct Listening<'a, C, L> {
     clock: &'a C,
@@ -71,7 +71,7 @@ struct Listening<'a, C, L> {
     connections: u32,
 }
 
-// Serves so many connections.
+// Serves the connections of a listener.
 fn serve_each<C, A, K, L, S, E>(
     export: &Export<'_, A>,
     packer: &K,
@@ -103,8 +103,8 @@ where
     Ok(())
 }
 
-// Prints the fault of a connection, if it had one, where all before it could be printed. It answers whether they still
-// can.
+// Prints the fault of a connection, if it had one and all before it could be printed. Returns
+// whether faults can still be printed.
 fn tell<A: Allocator + Copy, E: Sink>(
     outcome: Result<(), ProgramFault<A>>,
     can_tell: bool,
@@ -141,7 +141,7 @@ where
     outcome_of(ended)
 }
 
-// Serves it through buffers, where there is memory for them.
+// Serves it through buffers, if there is memory for them.
 fn serve_peer<A, K, S, T>(export: &Export<'_, A>, packer: &K, peer: &Peer<S, T>) -> GitEnd
 where
     A: Allocator + Copy,
@@ -180,7 +180,7 @@ where
     match BufWriter::with_capacity(alloc, MESSAGE_BUFFER, peer) {
         Ok(mut writer) => {
             let ended = serve_between(export, packer, reader, &mut writer);
-            // What could not be written is not tried again.
+            // Bytes that could not be written are not tried again.
             let (_peer, _unwritten) = writer.into_parts();
             ended
         }
@@ -207,7 +207,7 @@ fn serve_between<A: Allocator + Copy, K: Packer<A>, R: Read, W: Write>(
     serve_git(export, &mut OnePack::new(packer), &mut source, &mut sink)
 }
 
-// How a connection came out. That its client asked for another path is no fault of it.
+// Returns the outcome of a connection. A client that asks for another path is not a fault of it.
 fn outcome_of<A: Allocator + Copy>(ended: GitEnd) -> Result<(), ProgramFault<A>>
     ensures { result ≡ outcome_of ended }
 {

@@ -1,4 +1,4 @@
-//! A stream to a peer, whoever it is.
+//! A stream to any peer.
 
 ghost use Rattle.std.specs.Io.{ReadsAtMost};
 
@@ -9,24 +9,26 @@ use std::io::{self, ErrorKind, Read, Write};
 use std::net::{Net, OpenStream, Shutdown, TcpStream, ToSocketAddrs};
 use std::time::Duration;
 
-/// The bytes of a message that go out in one write.
+/// The maximum number of bytes of a message in one write.
 pub(crate) const MESSAGE_BUFFER: usize = 65_536;
 
-// The bytes of one read, and the most reads, of input that nobody wants.
+// The bytes of one read, and the most reads, of input to discard.
 const DROPPED_BYTES: usize = 4_096;
 
 const MAX_DROPS: usize = 1_024;
 
-// How often a read may be interrupted, as by a process that is stopped and goes on.
+// How often a read may be interrupted, as by a process that is stopped and continues.
 const MAX_INTERRUPTS: u32 = 1_024;
 
-// A write waits for so many seconds at a time. A wait in which the peer takes some bytes counts as none, so a peer that
-// stops in the middle of one is given up that much later.
+// A write waits for this many seconds at a time. A wait in which the peer accepts some bytes does
+// not count, so a peer that stops in the middle of one is given up that much later.
 const TAKING_WAIT: u64 = 5;
 
-/// Connects to the first of the addresses of a text, HOST:PORT, that takes a connection within [`MAX_CONNECT`] seconds.
+/// Connects to the first of the addresses of a text, HOST:PORT, that accepts a connection within
+/// [`MAX_CONNECT`] seconds.
 ///
-/// It fails as the look-up of the host does. If no address takes a connection, it fails as the last one did.
+/// Fails as the look-up of the host does. If no address accepts a connection, fails as the last one
+/// did.
 pub fn connect_to<N: Net>(net: &N, address: &str) -> io::Result<N::Stream> {
     let limit = Duration::from_secs(MAX_CONNECT);
     let mut last = io::Error::from(ErrorKind::AddrNotAvailable);
@@ -39,9 +41,10 @@ pub fn connect_to<N: Net>(net: &N, address: &str) -> io::Result<N::Stream> {
     Err(last)
 }
 
-/// The stream to a peer, shared by a reader and a writer: `&Peer` reads and writes. A read fails if the peer sends
-/// nothing in the time that the timer leaves it. A write fails if the peer accepts nothing for [`MAX_SILENCE`] seconds.
-/// Both fail if the system refuses such a limit, and if they are called while another call is under way.
+/// The stream to a peer, shared by a reader and a writer: `&Peer` reads and writes. A read fails if
+/// the peer sends nothing in the time that the timer leaves it. A write fails if the peer accepts
+/// nothing for [`MAX_SILENCE`] seconds. Both fail if the system refuses such a limit, and if they
+/// are called while another call is under way.
 #[derive(Drop)]
 pub struct Peer<S, T> {
     stream: RefCell<S>,
@@ -49,7 +52,8 @@ pub struct Peer<S, T> {
 }
 
 impl<S: OpenStream, T> Peer<S, T> {
-    /// The peer at the other end of a stream. Each message is sent at once, without waiting for the next.
+    /// Returns the peer at the other end of a stream. Each message is sent at once, without waiting
+    /// for the next.
     pub fn new(stream: S, timer: T) -> Peer<S, T> {
         let _ = stream.set_nodelay(true);
         Peer {
@@ -60,9 +64,10 @@ impl<S: OpenStream, T> Peer<S, T> {
 }
 
 impl<S: Read + OpenStream, T> Peer<S, T> {
-    /// Ends what is written, so that the last message and the end go out, and then drops what has come and was not read,
-    /// waiting for nothing. A socket that is closed over such input resets the connection, and the peer might then lose
-    /// the last message. It may lose it still where more comes before the socket is closed, or after it.
+    /// Shuts down writing, so that the last message and the end are sent, and then discards unread
+    /// input, without waiting. Closing a socket with unread input resets the connection, and the
+    /// peer might then lose the last message. It may still lose it if more arrives before the
+    /// socket is closed, or after it.
     pub fn hang_up(&self) {
         if let Ok(mut stream) = self.stream.try_borrow_mut() {
             let _ = stream.shutdown(Shutdown::Write);
@@ -123,7 +128,7 @@ impl<S: Write + OpenStream, T: Timer> Write for &Peer<S, T> {
     }
 }
 
-// Whether a write that failed so took nothing, and may be tried again.
+// Whether a write that failed with this error took nothing, and may be tried again.
 fn is_waiting(kind: ErrorKind) -> bool {
     matches!(
         kind,
@@ -131,12 +136,12 @@ fn is_waiting(kind: ErrorKind) -> bool {
     )
 }
 
-// No call is made while another is under way.
+// Returns the error of a call while another is active.
 fn in_use() -> io::Error {
     io::Error::from(ErrorKind::ResourceBusy)
 }
 
-// Drops what has come; the stream waits for nothing.
+// Discards the input that has arrived; the stream waits for nothing.
 fn drop_unread<S: Read>(stream: &mut S) {
     let mut dropped = [0; DROPPED_BYTES];
     for _ in 0..MAX_DROPS {

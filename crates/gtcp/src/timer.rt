@@ -1,4 +1,4 @@
-//! What says how long the reads of a stream may wait.
+//! Timers for the reads of a stream.
 
 ghost use Rattle.std.specs.Prelude.{◌≤◌, ◌<◌, IfOk, IfSome};
 ghost use Rattle.std.specs.Duration.{as_nanos};
@@ -11,19 +11,19 @@ use std::cell::Cell;
 use std::io;
 use std::time::{Clock, Duration, Instant};
 
-/// How long the reads of one stream may wait.
+/// The time that the reads of one stream may wait.
 pub trait Timer {
-    /// How long the next read may wait: more than nothing, and 60 seconds at most. It fails with `TimedOut` if the peer
-    /// has no time left.
+    /// Returns how long the next read may wait: more than zero, and at most 60 seconds. Fails with
+    /// `TimedOut` if the peer has no time left.
     fn next_read(&self) -> io::Result<Duration>
         ensures some { IfOk result (λ limit. 0 < as_nanos limit) }
         ensures most { IfOk result (λ limit. as_nanos limit ≤ longest_wait) };
 
-    /// Notes that bytes were written: the peer has sent what it was to send.
+    /// Records that bytes were written: the peer has sent its message.
     fn note_write(&self);
 }
 
-/// The timer of a server that its client waits for: each read may wait for [`MAX_SILENCE`] seconds.
+/// A client's timer for its server: each read may wait for [`MAX_SILENCE`] seconds.
 #[derive(Clone, Copy)]
 pub struct Silence;
 
@@ -35,19 +35,20 @@ impl Timer for Silence {
     fn note_write(&self) {}
 }
 
-// What a client of the server has time for.
+// The message for which a client of the server has time.
 #[derive(Drop)]
 enum Turn {
-    // Its first line, or a request, of which so much time is left.
+    // Its first line, or a request, with this time left.
     Given(TimeLeft),
-    // A request, from the next read on.
+    // A request, starting at the next read.
     Awaited,
-    // Nothing more: its time is over, or the clock failed.
+    // None: its time is over, or the clock failed.
     Over,
 }
 
 impl Turn {
-    // What the client has left now. `None` where nothing is, and where the clock went back.
+    // Returns the time that the client has left now, or `None` if none is left or if the clock went
+    // back.
     fn time_left(self, now: Instant) -> Option<TimeLeft>
         ensures { LeavesTurn self (instant_nanos now) result }
     {
@@ -59,8 +60,9 @@ impl Turn {
     }
 }
 
-/// The timer of a client that the server waits for. The client has [`MAX_FIRST_LINE`](crate::MAX_FIRST_LINE) seconds for
-/// its first line, and [`MAX_REQUEST`](crate::MAX_REQUEST) for each request after it, however many reads they take.
+/// A server's timer for its client. The client has [`MAX_FIRST_LINE`](crate::MAX_FIRST_LINE)
+/// seconds for its first line, and [`MAX_REQUEST`](crate::MAX_REQUEST) for each request after it,
+/// however many reads they take.
 #[derive(Drop)]
 pub struct Turns<'c, C> {
     clock: &'c C,
@@ -68,7 +70,7 @@ pub struct Turns<'c, C> {
 }
 
 impl<'c, C: Clock> Turns<'c, C> {
-    /// The timer of a connection that is accepted now.
+    /// Returns the timer of a connection that is accepted now.
     pub fn from_accept(clock: &'c C) -> Turns<'c, C> {
         let turn = match Instant::now(clock) {
             Ok(now) => Turn::Given(TimeLeft::for_first_line(now)),
@@ -80,8 +82,8 @@ impl<'c, C: Clock> Turns<'c, C> {
         }
     }
 
-    // What the client has left of its time now. `None` where nothing is, and where the clock fails or went back; so it
-    // stays then, until something is written.
+    // Returns the time that the client has left now, or `None` if none is left, or if the clock
+    // fails or went back. It stays `None` until something is written.
     fn take_time(&self) -> Option<TimeLeft>
         ensures { IfSome result (λ time. 0 < time.0) }
     {

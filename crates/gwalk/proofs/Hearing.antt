@@ -4,7 +4,7 @@ use Rattle.std.proofs.lemmas.Bool.{false≢true, or_cases, or_left, or_right}
 use Rattle.std.proofs.lemmas.List.Elements.{All-weaker, Contains-append_cases, Contains-append_left, Contains-append_right}
 use Rattle.std.proofs.lemmas.Option.{none-some}
 use Rattle.gobject.specs.declared.node.Entry.{Entry}
-use Rattle.gobject.specs.Objects.{place_of}
+use Rattle.gobject.specs.Objects.{position_of}
 use Rattle.gdag.specs.Offer.{MayBeOffered}
 use Rattle.gdag.specs.Reach.{Reaches, SomeReaches, here, onward}
 use Rattle.gdag.proofs.IdLists.{either_way, nothing_in_nil}
@@ -14,8 +14,8 @@ use Rattle.gwalk.specs.Offers.{AreReached}
 use Rattle.gwalk.specs.Walks.{IsWalk}
 use Rattle.gwalk.proofs.LevelWalk.{met_reached, reached_met}
 use Rattle.gwalk.proofs.Marking.{none_in}
-use Rattle.gwalk.proofs.Stopping.{stop_place}
-use Rattle.gwalk.proofs.Walking.{place_cases}
+use Rattle.gwalk.proofs.Stopping.{stop_position}
+use Rattle.gwalk.proofs.Walking.{position_cases}
 
 -- no id reaches anything yet
 pub none_reached : {A : Type 0} (g : List (Entry A)) → AreReached g [] []
@@ -31,7 +31,7 @@ module _ {A : Type 0} (g : List (Entry A)) where
     reaches_or : (a b : List ℕ) → Reaches g a b → ReachesPast g known a b ⊎ SomeReaches g commons b
     reaches_or a b here = inl there
     reaches_or a c (onward {b = b} parent path) =
-        elim (place_cases g a) [
+        elim (position_cases g a) [
           | inl e ↦ absurd (none-some parent.0 (sym (node_at_none g a e) ∙ parent.1))
           | inr w ↦ either_way (get_or known w.0 false)
               (λ t. let s = (are a w.0 w.1).0 t in inr (s.0, s.1, reaches_on g s.0 a c s.2 (onward parent path)))
@@ -49,7 +49,7 @@ module _ {A : Type 0} (g : List (Entry A)) where
     more_reached stops more reached marks met lost parents walk is a p e =
         let x = get_or reached p false in
         let y = get_or known p false in
-        let at : place_of (stop_at known g) a ≡ Some p = stop_place known g a ∙ e in
+        let at : position_of (stop_at known g) a ≡ Some p = stop_position known g a ∙ e in
         let walked = walk.has_met.marked a p at in (
           λ t. elim (or_cases x y (sym (is p) ∙ t)) [
             | inl new ↦

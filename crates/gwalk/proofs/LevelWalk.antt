@@ -33,15 +33,15 @@ module _ {A : Type 0} (g : List (Entry A)) (tips : List (List ℕ)) where
     more = [];
     levels = refl;
     has = e ∙ sym (append-nil (new_ids [] tips));
-    place = refl;
+    position = refl;
     ahead = ap (λ l. with_new l (parents_of_each g (new_ids [] tips))) e;
   }
 
   -- one id further in a level
   next_id : (ids : List (List ℕ)) (at k : ℕ) (done : List (List ℕ)) (y : List ℕ) (rest more : List (List ℕ)) → levels_below g tips (suc k) ≡ done ++ y ∷ rest → ids ≡ (done ++ y ∷ rest) ++ more → length done ≡ at → with_new ids (parents_of_each g (y ∷ rest)) ≡ levels_below g tips (suc (suc k)) → (x : List ℕ) → x ≡ get_or ids at x → (ids2 : List (List ℕ)) → ids2 ≡ with_new ids (parents_of g x) → IsWalked g tips ids2 (at + 1)
-  next_id ids at k done y rest more levels has place ahead x item ids2 is =
+  next_id ids at k done y rest more levels has position ahead x item ids2 is =
       let regroup : done ++ y ∷ rest ≡ (done ++ y ∷ []) ++ rest = simp append_assoc in
-      let same : x ≡ y = item ∙ ap (λ l. get_or l at x) (has ∙ (simp append_assoc)) ∙ ap (λ i. get_or (done ++ y ∷ (rest ++ more)) i x) (sym place) ∙ get_or-append_seam done y (rest ++ more) x in
+      let same : x ≡ y = item ∙ ap (λ l. get_or l at x) (has ∙ (simp append_assoc)) ∙ ap (λ i. get_or (done ++ y ∷ (rest ++ more)) i x) (sym position) ∙ get_or-append_seam done y (rest ++ more) x in
       let here : ids2 ≡ with_new ids (parents_of g y) = is ∙ ap (λ z. with_new ids (parents_of g z)) same in
       record {
         k = k;
@@ -50,31 +50,31 @@ module _ {A : Type 0} (g : List (Entry A)) (tips : List (List ℕ)) where
         more = more ++ new_ids ids (parents_of g y);
         levels = levels ∙ regroup;
         has = here ∙ ap (λ l. l ++ new_ids ids (parents_of g y)) (has ∙ ap (λ l. l ++ more) regroup) ∙ (simp append_assoc);
-        place = omega (arith, length-append done (y ∷ []));
+        position = omega (arith, length-append done (y ∷ []));
         ahead = ap (λ l. with_new l (parents_of_each g rest)) here ∙ sym (with_new-append ids (parents_of g y) (parents_of_each g rest)) ∙ ahead;
       }
 
   -- an id is taken up
   pub walk_goes : (ids : List (List ℕ)) (at : ℕ) → IsWalked g tips ids at → at < length ids → (x : List ℕ) → x ≡ get_or ids at x → (ids2 : List (List ℕ)) → ids2 ≡ with_new ids (parents_of g x) → IsWalked g tips ids2 (at + 1)
-  walk_goes ids at w inside x item ids2 is = in_level ids at w.k w.done w.rest w.more w.levels w.has w.place w.ahead inside x item ids2 is
+  walk_goes ids at w inside x item ids2 is = in_level ids at w.k w.done w.rest w.more w.levels w.has w.position w.ahead inside x item ids2 is
     where
       within : (ids : List (List ℕ)) (at k : ℕ) (done rest more : List (List ℕ)) → levels_below g tips (suc k) ≡ done ++ rest → ids ≡ (done ++ rest) ++ [] → length done ≡ at → with_new ids (parents_of_each g rest) ≡ levels_below g tips (suc (suc k)) → at < length ids → (x : List ℕ) → x ≡ get_or ids at x → (ids2 : List (List ℕ)) → ids2 ≡ with_new ids (parents_of g x) → IsWalked g tips ids2 (at + 1)
-      within ids at k done [] more levels has place ahead inside x item ids2 is =
+      within ids at k done [] more levels has position ahead inside x item ids2 is =
           let short : length ids ≡ length ((done ++ []) ++ []) = ap length has in
           absurd (omega (arith, simp (append-nil {A = List ℕ}) at short))
-      within ids at k done (y ∷ rest) more levels has place ahead inside x item ids2 is =
-          next_id ids at k done y rest [] levels has place ahead x item ids2 is
+      within ids at k done (y ∷ rest) more levels has position ahead inside x item ids2 is =
+          next_id ids at k done y rest [] levels has position ahead x item ids2 is
 
       -- at the end of a level the next one is the rest
       in_level : (ids : List (List ℕ)) (at k : ℕ) (done rest more : List (List ℕ)) → levels_below g tips (suc k) ≡ done ++ rest → ids ≡ (done ++ rest) ++ more → length done ≡ at → with_new ids (parents_of_each g rest) ≡ levels_below g tips (suc (suc k)) → at < length ids → (x : List ℕ) → x ≡ get_or ids at x → (ids2 : List (List ℕ)) → ids2 ≡ with_new ids (parents_of g x) → IsWalked g tips ids2 (at + 1)
-      in_level ids at k done [] more levels has place ahead inside x item ids2 is =
+      in_level ids at k done [] more levels has position ahead inside x item ids2 is =
           let next = level g tips (suc k) in
           let whole : ids ≡ levels_below g tips (suc (suc k)) = sym (with_new-nil ids) ∙ ahead in
           let parts = ap (λ l. l ++ next) (levels ∙ append-nil done) in
-          within ids at (suc k) done next [] parts (whole ∙ parts ∙ sym (append-nil (done ++ next))) place
+          within ids at (suc k) done next [] parts (whole ∙ parts ∙ sym (append-nil (done ++ next))) position
           (ap (λ l. with_new l (parents_of_each g next)) whole) inside x item ids2 is
-      in_level ids at k done (y ∷ rest) more levels has place ahead inside x item ids2 is =
-          next_id ids at k done y rest more levels has place ahead x item ids2 is
+      in_level ids at k done (y ∷ rest) more levels has position ahead inside x item ids2 is =
+          next_id ids at k done y rest more levels has position ahead x item ids2 is
 
   -- all ids were taken up
   pub walk_ends : (ids : List (List ℕ)) (at : ℕ) → IsWalked g tips ids at → length ids ≤ at → AreLevels g tips ids
@@ -82,7 +82,7 @@ module _ {A : Type 0} (g : List (Entry A)) (tips : List (List ℕ)) where
       let long = ap length w.has in
       let long1 = length-append (w.done ++ w.rest) w.more in
       let long2 = length-append w.done w.rest in
-      let place = w.place in
+      let position = w.position in
       let rest : w.rest ≡ [] = nil_from_length w.rest (omega arith) in
       let more : w.more ≡ [] = nil_from_length w.more (omega arith) in
       let joined : ids ≡ levels_below g tips (suc w.k) = w.has ∙ ap (λ l. (w.done ++ w.rest) ++ l) more ∙ append-nil (w.done ++ w.rest) ∙ sym w.levels in

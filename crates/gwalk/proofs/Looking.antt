@@ -5,7 +5,7 @@ use Rattle.std.proofs.lemmas.Bool.{false≢true}
 use Rattle.std.proofs.lemmas.Option.{none-some, same_Some}
 use Rattle.std.proofs.lemmas.List.Elements.{Contains-append_left, Contains-append_right, Contains-append_cases, Contains-push_cases}
 use Rattle.gobject.specs.declared.node.Entry.{Entry}
-use Rattle.gobject.specs.Objects.{node_at, place_of}
+use Rattle.gobject.specs.Objects.{node_at, position_of}
 use Rattle.gdag.specs.Reach.{Reaches, SomeReaches}
 use Rattle.gdag.specs.Levels.{new_ids, parents_of, parents_of_each}
 use Rattle.gwalk.specs.steps.Common.{AreGoals, ids_at}
@@ -13,12 +13,12 @@ use Rattle.gwalk.specs.Walks.{HasMet, places}
 use Rattle.gdag.proofs.IdLists.{nothing_in_nil, new_ids-from, new_ids-has, contains_head, contains_cases, only_one, with_new}
 use Rattle.gdag.proofs.LevelLaws.{parent_from}
 use Rattle.gdag.proofs.LevelReach.{in_reached}
-use Rattle.gdag.proofs.Reaching.{node_at_none, held_at_place, reaches_parent}
+use Rattle.gdag.proofs.Reaching.{node_at_none, held_at_position, reaches_parent}
 use Rattle.gwalk.specs.Offers.{IsUnderway, IsWalked}
 use Rattle.gwalk.proofs.LevelWalk.{reached_met}
 use Rattle.gdag.proofs.Choosing.{filter_selects, select_from, select_has}
 use Rattle.gwalk.proofs.Reached.{found_at}
-use Rattle.gwalk.proofs.Walking.{IsNext, none_left, ends_levels, place_cases, placed}
+use Rattle.gwalk.proofs.Walking.{IsNext, none_left, ends_levels, position_cases, placed}
 
 -- ---- the goals
 
@@ -54,12 +54,12 @@ walked_reached g starts ids at w a c =
 pub any_of : {X : Type 0} (P : X → Type 0) (xs : List X) (x : X) → Contains xs x → P x → Any P xs
 any_of P xs x c p = (c.0, x, c.1, c.2, p)
 
-unplaced : {A : Type 0} (g : List (Entry A)) (ids : List (List ℕ)) (a : List ℕ) (p : ℕ) → Contains ids a → place_of g a ≡ Some p → places g ids ≡ [] → ⊥
+unplaced : {A : Type 0} (g : List (Entry A)) (ids : List (List ℕ)) (a : List ℕ) (p : ℕ) → Contains ids a → position_of g a ≡ Some p → places g ids ≡ [] → ⊥
 unplaced g [] a p c e none = nothing_in_nil a c
 unplaced g (b ∷ bs) a p c e none =
-    let r = placed g b bs (place_of g b) refl none in
+    let r = placed g b bs (position_of g b) refl none in
     elim (contains_cases b bs a c) [
-      | inl same ↦ none-some p (sym r.0 ∙ ap (place_of g) same ∙ e)
+      | inl same ↦ none-some p (sym r.0 ∙ ap (position_of g) same ∙ e)
       | inr later ↦ unplaced g bs a p later e r.1
     ]
 
@@ -67,7 +67,7 @@ unplaced g (b ∷ bs) a p c e none =
 
 pub record IsLooking {A : Type 0} (g : List (Entry A)) (start : List ℕ) (goals : List Bool) (absent front back : List (List ℕ)) (marks : List Bool) (met : List ℕ) (lost : Option (List ℕ)) (parents at : ℕ) : Type 0 where
   pub underway : IsUnderway g (start ∷ []) front back marks met lost parents at
-  pub passed : (a : List ℕ) (p : ℕ) → Contains front a → place_of g a ≡ Some p → get_or goals p false ≡ true → ⊥
+  pub passed : (a : List ℕ) (p : ℕ) → Contains front a → position_of g a ≡ Some p → get_or goals p false ≡ true → ⊥
   pub others : (a : List ℕ) → Contains (front ++ back) a → node_at g a ≡ None → Contains absent a → ⊥
 
 module _ {A : Type 0} (g : List (Entry A)) (start : List ℕ) (goals : List Bool) (absent : List (List ℕ)) where
@@ -93,7 +93,7 @@ module _ {A : Type 0} (g : List (Entry A)) (start : List ℕ) (goals : List Bool
 
       -- the next id is a goal
       pub found : (ids : List (List ℕ)) → AreGoals g ids goals absent → get_or goals x false ≡ true → Any (Reaches g start) ids
-      found ids are t = any_of (Reaches g start) ids n.id ((are.marked n.id x n.place).0 t) (looked_reached n.id next_met)
+      found ids are t = any_of (Reaches g start) ids n.id ((are.marked n.id x n.position).0 t) (looked_reached n.id next_met)
 
       -- one of its parents is a goal that isn't held
       pub found_absent : (ids more : List (List ℕ)) → AreGoals g ids goals absent → more ≡ parents_of g n.id → Any (Contains absent) more → Any (Reaches g start) ids
@@ -112,10 +112,10 @@ module _ {A : Type 0} (g : List (Entry A)) (start : List ℕ) (goals : List Bool
                 elim (Contains-append_cases front (n.mid ++ n.id ∷ []) a c) [
                   | inl before ↦ now.passed a p before e t
                   | inr after ↦ elim (Contains-push_cases n.mid n.id a after) [
-                    | inl between ↦ no_place a p between e
+                    | inl between ↦ no_position a p between e
                     | inr same ↦
-                        let place : x ≡ p = same_Some x p (sym n.place ∙ ap (place_of g) same ∙ e) in
-                        false≢true (sym free ∙ ap (λ i. get_or goals i false) place ∙ t)
+                        let position : x ≡ p = same_Some x p (sym n.position ∙ ap (position_of g) same ∙ e) in
+                        false≢true (sym free ∙ ap (λ i. get_or goals i false) position ∙ t)
                   ]
                 ];
             others = λ a c none k.
@@ -125,8 +125,8 @@ module _ {A : Type 0} (g : List (Entry A)) (start : List ℕ) (goals : List Bool
                 ];
           }
         where
-          no_place : (a : List ℕ) (p : ℕ) → Contains n.mid a → place_of g a ≡ Some p → ⊥
-          no_place a p c e = unplaced g n.mid a p c e n.absent
+          no_position : (a : List ℕ) (p : ℕ) → Contains n.mid a → position_of g a ≡ Some p → ⊥
+          no_position a p c e = unplaced g n.mid a p c e n.absent
 
     -- all were taken up, and none is a goal
     pub looks_ends : length met ≤ at → (ids : List (List ℕ)) → AreGoals g ids goals absent → Any (Reaches g start) ids →
@@ -137,7 +137,7 @@ module _ {A : Type 0} (g : List (Entry A)) (start : List ℕ) (goals : List Bool
         let levels = ends_levels g (start ∷ []) front back marks met lost parents at under end in
         let goal : Contains ids b = (k, inside, is) in
         let c = reached_met g (start ∷ []) (front ++ back) levels b (start, contains_head start [], r) in
-        elim (place_cases g b) [
+        elim (position_cases g b) [
           | inl e ↦ now.others b c (node_at_none g b e) ((are.others b).1 (goal, node_at_none g b e))
           | inr w ↦ elim (Contains-append_cases front back b c) [
             | inl before ↦ now.passed b w.0 before w.1 ((are.marked b w.0 w.1).1 goal)
@@ -147,15 +147,15 @@ module _ {A : Type 0} (g : List (Entry A)) (start : List ℕ) (goals : List Bool
 
 -- ---- the ids at the positions of some ids are those that are held
 
-pub ids_at_places : {A : Type 0} (g : List (Entry A)) (ids : List (List ℕ)) → ids_at g (places g ids) ≡ filter (λ a. is_some (node_at g a)) ids
-ids_at_places g [] = refl
-ids_at_places {A} g (b ∷ bs) =
-    let later = ids_at_places g bs in
-    elim (place_cases g b) [
+pub ids_at_positions : {A : Type 0} (g : List (Entry A)) (ids : List (List ℕ)) → ids_at g (places g ids) ≡ filter (λ a. is_some (node_at g a)) ids
+ids_at_positions g [] = refl
+ids_at_positions {A} g (b ∷ bs) =
+    let later = ids_at_positions g bs in
+    elim (position_cases g b) [
       | inl e ↦ rw (e, node_at_none g b e) later
       | inr w ↦
           let h = found_at g b w.0 w.1 in
-          let held : is_some (node_at g b) ≡ true = held_at_place g b w.0 w.1 in
+          let held : is_some (node_at g b) ≡ true = held_at_position g b w.0 w.1 in
           rw (w.1, h.1, h.2, held) (ap (λ l. b ∷ l) later)
     ]
 

@@ -9,10 +9,10 @@ use Rattle.std.proofs.lemmas.List.{length-set, length_push, drop_more}
 use Rattle.std.proofs.lemmas.List.Elements.{All-contains}
 use Rattle.std.proofs.lemmas.Option.{slice_get_cases, slice_get_within, get_or_from_slice_get}
 use Rattle.gobject.specs.declared.node.Entry.{Entry}
-use Rattle.gdag.specs.Reach.{IsFull, SomeReaches}
+use Rattle.gdag.specs.Reach.{IsConnected, SomeReaches}
 use Rattle.gdag.specs.Sending.{IsNew}
-use Rattle.gwalk.specs.Marks.{AreFull, MarksReached}
-use Rattle.gwalk.specs.Walks.{AreMarked, marked}
+use Rattle.gwalk.specs.Marks.{AreConnected, MarksReached}
+use Rattle.gwalk.specs.Walks.{AreMarked, marked_entries}
 use Rattle.gdag.proofs.Reaching.{reaches_on}
 
 pub none_in : (p : ℕ) → get_or [] p false ≡ false
@@ -104,7 +104,7 @@ less_ends g wants commons wanted known marks w k long is = record {
 
 -- the entries at marked positions, from one position on
 pub marked_next : {A : Type 0} (g : List (Entry A)) (marks : List Bool) (i : ℕ) (entry : Entry A) →
-    slice_get g i ≡ Some entry → i < length marks → marked (drop i g) (drop i marks) ≡ marked (entry ∷ drop (i + 1) g)
+    slice_get g i ≡ Some entry → i < length marks → marked_entries (drop i g) (drop i marks) ≡ marked_entries (entry ∷ drop (i + 1) g)
     (get_or marks i false ∷ drop (i + 1) marks)
 marked_next g marks i entry at inside =
     let rest : drop i g ≡ entry ∷ drop (i + 1) g = drop_more g i entry (slice_get_within g i entry at)
@@ -127,12 +127,12 @@ module _ {A : Type 0} (g : List (Entry A)) (ids : List (List ℕ)) (old new : Li
   }
 
   -- what a connected id reaches is connected
-  pub full_more : All (IsFull g) ids → MarksReached g ids old new → AreFull g old → AreFull g new
-  full_more full m before p t =
+  pub connected_more : All (IsConnected g) ids → MarksReached g ids old new → AreConnected g old → AreConnected g new
+  connected_more connected m before p t =
       elim (slice_get_cases g p).1 [
         | inl w ↦ elim ((m.each p w.0 w.2).0 t) [
           | inl b ↦ before p b
-          | inr s ↦ (w.0, w.2, λ b q. All-contains (IsFull g) ids s.0 full s.1 b (reaches_on g s.0 (w.0).id b s.2 q))
+          | inr s ↦ (w.0, w.2, λ b q. All-contains (IsConnected g) ids s.0 connected s.1 b (reaches_on g s.0 (w.0).id b s.2 q))
         ]
         | inr past ↦ before p (sym (m.others p past.0) ∙ t)
       ]

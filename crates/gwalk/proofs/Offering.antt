@@ -5,7 +5,7 @@ use Rattle.std.specs.List.{slice_get}
 use Rattle.std.specs.Option.{option_map}
 use Rattle.std.proofs.lemmas.List.Elements.{All-head, All-tail, Contains-append_left, Contains-append_right, Contains-get_or, filter-append}
 use Rattle.gobject.specs.declared.node.Entry.{Entry}
-use Rattle.gobject.specs.Objects.{node_at, place_of}
+use Rattle.gobject.specs.Objects.{node_at, position_of}
 use Rattle.gdag.specs.Levels.{is_in, new_ids, parents_of_each, level, levels_below, AreLevels}
 use Rattle.gdag.specs.Laws.{LevelsAreDistances}
 use Rattle.gdag.specs.Offer.{IsOffer, MayBeOffered}
@@ -13,7 +13,7 @@ use Rattle.gwalk.specs.Offers.{AreReached, IsUnderway, IsWalked}
 use Rattle.gwalk.specs.Walks.{HasMet, places}
 use Rattle.gwalk.specs.steps.Offers.{HasMarks}
 use Rattle.gdag.proofs.IdLists.{either_way, contains_cases, contains_from_in, contains_head, contains_tail, in_from_contains, nothing_in_nil, absent_from_in}
-use Rattle.gdag.proofs.Reaching.{node_at_none, held_at_place}
+use Rattle.gdag.proofs.Reaching.{node_at_none, held_at_position}
 use Rattle.gwalk.proofs.LevelWalk.{met_reached, reached_met}
 use Rattle.gdag.proofs.Choosing.{filter_selects}
 use Rattle.std.proofs.lemmas.Bool.{and_parts, and_from, not-true, not_from_false, false_from_ne_true}
@@ -91,9 +91,9 @@ same_bool : (b : Bool) (ids : List (List ℕ)) (a : List ℕ) → (b ≡ true) �
 same_bool true ids a h = sym (in_from_contains ids a (h.0 refl))
 same_bool false ids a h = either_way (is_in ids a) (λ e. h.1 (contains_from_in ids a e) ∙ sym e) (λ e. sym e)
 
-pub untold_is : {A : Type 0} (g : List (Entry A)) (commons reached others : List (List ℕ)) → AreLevels g commons reached → (known sent : List Bool) → AreReached g commons known → HasMarks g others sent → (a : List ℕ) (p : ℕ) → place_of g a ≡ Some p → is_untold g reached others a ≡ (not (get_or known p false) && not (get_or sent p false))
+pub untold_is : {A : Type 0} (g : List (Entry A)) (commons reached others : List (List ℕ)) → AreLevels g commons reached → (known sent : List Bool) → AreReached g commons known → HasMarks g others sent → (a : List ℕ) (p : ℕ) → position_of g a ≡ Some p → is_untold g reached others a ≡ (not (get_or known p false) && not (get_or sent p false))
 untold_is g commons reached others levels known sent are marks a p e =
-    let held : is_some (node_at g a) ≡ true = held_at_place g a p e in
+    let held : is_some (node_at g a) ≡ true = held_at_position g a p e in
     let one : get_or known p false ≡ is_in reached a =
     same_bool (get_or known p false) reached a
     (λ t. reached_met g commons reached levels a ((are a p e).0 t), λ c. (are a p e).1 (met_reached g commons reached levels a c)) in
@@ -109,7 +109,7 @@ sent_marks g ids marks met lost parents h a p e =
 none_untold : {A : Type 0} (g : List (Entry A)) (reached others ids : List (List ℕ)) → places g ids ≡ [] → filter (is_untold g reached others) ids ≡ []
 none_untold g reached others [] none = refl
 none_untold g reached others (b ∷ bs) none =
-    let r = placed g b bs (place_of g b) refl none in
+    let r = placed g b bs (position_of g b) refl none in
     let absent = node_at_none g b r.0 in
     let later = none_untold g reached others bs r.1 in
     rw absent later
@@ -179,7 +179,7 @@ all_levels law g tips =
     let end = (law g tips).ends in (levels_below g tips end.0, record { count = end.0; joined = refl; last = end.1 })
 
 -- the id at the position of an id is that id
-pub id_taken : {A : Type 0} (g : List (Entry A)) (a b : List ℕ) (p : ℕ) → place_of g a ≡ Some p → option_map (λ (entry : Entry A). entry.id) (slice_get g p) ≡ Some b → b ≡ a
+pub id_taken : {A : Type 0} (g : List (Entry A)) (a b : List ℕ) (p : ℕ) → position_of g a ≡ Some p → option_map (λ (entry : Entry A). entry.id) (slice_get g p) ≡ Some b → b ≡ a
 id_taken {A} g a b p e is =
     let h = found_at g a p e in
     let both : Some b ≡ Some a = sym is ∙ ap (option_map (λ (entry : Entry A). entry.id)) h.1 ∙ ap Some h.2 in cc

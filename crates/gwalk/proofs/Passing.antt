@@ -10,7 +10,7 @@ use Rattle.gdag.specs.Reach.{SomeReaches}
 use Rattle.gdag.specs.Selecting.{Selects, none, keep, skip}
 use Rattle.gdag.specs.Walks.{CountsReached}
 use Rattle.gdag.proofs.Choosing.{selects_same}
-use Rattle.gdag.proofs.Holding.{own_place}
+use Rattle.gdag.proofs.Holding.{own_position}
 use Rattle.gwalk.specs.Marks.{CountsPast, IsUnmarked, SomeReachesPast, StopsAtMarks, stop_at}
 use Rattle.gwalk.proofs.Reached.{past_from, past_to}
 use Rattle.gwalk.proofs.Stopping.{bare_if}
@@ -18,8 +18,8 @@ use Rattle.gwalk.specs.Walks.{parents_in}
 
 -- a mark says of each entry whether it is left
 abbrev Marks : {A : Type 0} → (Entry A → Type 0) → List Bool → List (Entry A) → Type 0
-Marks {A} R marks g = (place : ℕ) (entry : Entry A) → slice_get g place ≡ Some entry →
-    (get_or marks place false ≡ false → R entry) × (get_or marks place false ≡ true → ¬ (R entry))
+Marks {A} R marks g = (position : ℕ) (entry : Entry A) → slice_get g position ≡ Some entry →
+    (get_or marks position false ≡ false → R entry) × (get_or marks position false ≡ true → ¬ (R entry))
 
 -- the same choice where no object has lost its parents, and those of it that are left
 record Whole {A : Type 0} (Q : List ℕ → Type 0) (R : Entry A → Type 0) (g chosen : List (Entry A)) : Type 0 where
@@ -33,7 +33,7 @@ record Whole {A : Type 0} (Q : List ℕ → Type 0) (R : Entry A → Type 0) (g 
 module _ {A : Type 0} (Q : List ℕ → Type 0) (R : Entry A → Type 0) where
   none_later : (entry : Entry A) (g : List (Entry A)) → Marks R [] (entry ∷ g) → Marks R [] g
   none_later entry g are zero = are 1
-  none_later entry g are (suc place) = are (suc (suc place))
+  none_later entry g are (suc position) = are (suc (suc position))
 
   keeps_one : (mark : Bool) (entry : Entry A) (g chosen : List (Entry A)) → (mark ≡ false → R entry) × (mark ≡ true → ¬ (R entry)) → Q entry.id → Whole Q R g chosen → Whole Q R (entry ∷ g) (bare_if mark entry ∷ chosen)
   keeps_one true entry g chosen is q rest = record {
@@ -82,16 +82,16 @@ module _ {A : Type 0} (Q : List ℕ → Type 0) (R : Entry A → Type 0) where
   whole [] (entry ∷ g) chosen are chooses =
       adds false entry g g chosen (are 0 entry refl) (λ more. whole [] g more (none_later entry g are)) chooses
   whole (mark ∷ marks) (entry ∷ g) chosen are chooses =
-      let on = λ (more : List (Entry A)). whole marks g more (λ place. are (suc place)) in
+      let on = λ (more : List (Entry A)). whole marks g more (λ position. are (suc position)) in
       adds mark entry g (stop_at marks g) chosen (are 0 entry refl) on chooses
 
 module _ {A : Type 0} (g : List (Entry A)) (marks : List Bool) (differ : IdsDiffer g) where
   marks_say : Marks (λ (entry : Entry A). IsUnmarked g marks entry.id) marks g
-  marks_say place entry at =
-      let own = own_place g place entry differ at in (
-        λ free. (place, own, free),
+  marks_say position entry at =
+      let own = own_position g position entry differ at in (
+        λ free. (position, own, free),
         λ marked left. (
-            let same : left.0 ≡ place = same_Some left.0 place (sym left.1 ∙ own) in
+            let same : left.0 ≡ position = same_Some left.0 position (sym left.1 ∙ own) in
             false≢true (sym (subst (λ (p : ℕ). get_or marks p false ≡ false) same left.2) ∙ marked)
             ),
       )

@@ -7,29 +7,29 @@ use Rattle.std.proofs.lemmas.Option.{same_Some}
 use Rattle.std.proofs.lemmas.Bool.{false≢true}
 use Rattle.gobject.specs.declared.node.Node.{Node}
 use Rattle.gobject.specs.declared.node.Entry.{Entry}
-use Rattle.gobject.specs.Objects.{node_at, place_of, IdsDiffer}
+use Rattle.gobject.specs.Objects.{node_at, position_of, IdsDiffer}
 use Rattle.gdag.specs.Graphs.{Holds, HasParent, IsNode, IsFirstAbsent}
-use Rattle.gdag.specs.Reach.{Reaches, here, onward, SomeReaches, IsFull}
-use Rattle.gwalk.specs.Marks.{AreFull, IsUnmarked, ReachesPast, there, further, stop_at}
+use Rattle.gdag.specs.Reach.{Reaches, here, onward, SomeReaches, IsConnected}
+use Rattle.gwalk.specs.Marks.{AreConnected, IsUnmarked, ReachesPast, there, further, stop_at}
 use Rattle.gdag.specs.Selecting.{Selects, none, keep, skip}
 use Rattle.gdag.specs.Walks.{CountsReached, Misses}
 use Rattle.gwalk.proofs.Marking.{none_in}
-use Rattle.gtopowalk.proofs.Places.{entry_there}
+use Rattle.gwalk.proofs.Positions.{entry_there}
 use Rattle.gdag.proofs.IdLists.{either_way, nothing_in_nil}
-use Rattle.gdag.proofs.Holding.{held_node, not_held, own_place, mapped_from}
+use Rattle.gdag.proofs.Holding.{held_node, not_held, own_position, mapped_from}
 use Rattle.std.proofs.Common.{All, zero, ◌++◌, ◌≡◌}
-use Rattle.gwalk.specs.Walks.{IsWalk, AreMarked, marked}
-use Rattle.gdag.proofs.Reaching.{held_at_place, node_at_place, place_inside, kept_along, some_reaches, place_of_node}
+use Rattle.gwalk.specs.Walks.{IsWalk, AreMarked, marked_entries}
+use Rattle.gdag.proofs.Reaching.{held_at_position, node_at_position, position_inside, kept_along, some_reaches, position_of_node}
 use Rattle.gwalk.proofs.LevelWalk.{met_reached, reached_met}
-use Rattle.gwalk.proofs.Stopping.{bare_if, stop_place, stop_slice, stopped_entry}
-use Rattle.gdag.proofs.Places.{id_at_place}
+use Rattle.gwalk.proofs.Stopping.{bare_if, stop_position, stop_slice, stopped_entry}
+use Rattle.gdag.proofs.Positions.{id_at_position}
 
 -- the marked positions are those of the ids that are reached
 pub marks_reached : {A : Type 0} (g : List (Entry A)) (starts : List (List ℕ)) (marks : List Bool) (met : List ℕ) (lost : Option (List ℕ)) (parents : ℕ) → IdsDiffer g → IsWalk g starts marks met lost parents → AreMarked (SomeReaches g starts) g marks
 marks_reached g starts marks met lost parents differ walk = record {
   long = walk.has_met.long;
   each = λ k entry at.
-      let h = walk.has_met.marked entry.id k (own_place g k entry differ at) in (
+      let h = walk.has_met.marked entry.id k (own_position g k entry differ at) in (
         λ t. met_reached g starts walk.ids walk.levels entry.id (h.0 t),
         λ s. h.1 (reached_met g starts walk.ids walk.levels entry.id s),
       );
@@ -37,7 +37,7 @@ marks_reached g starts marks met lost parents differ walk = record {
 
 -- ---- the entries at marked positions
 
-pub marked_selects : {A : Type 0} (P : Entry A → Type 0) (g : List (Entry A)) (marks : List Bool) → length marks ≡ length g → ((k : ℕ) (entry : Entry A) → slice_get g k ≡ Some entry → (get_or marks k false ≡ true) ↔ P entry) → Selects P g (marked g marks)
+pub marked_selects : {A : Type 0} (P : Entry A → Type 0) (g : List (Entry A)) (marks : List Bool) → length marks ≡ length g → ((k : ℕ) (entry : Entry A) → slice_get g k ≡ Some entry → (get_or marks k false ≡ true) ↔ P entry) → Selects P g (marked_entries g marks)
 marked_selects P [] marks long each = none
 marked_selects P (entry ∷ g) [] long each = absurd (omega arith)
 marked_selects P (entry ∷ g) (true ∷ marks) long each =
@@ -49,7 +49,7 @@ pub counts_reached : {A : Type 0} (g : List (Entry A)) (starts : List (List ℕ)
 counts_reached {A} g starts marks met lost parents differ walk =
     let m = marks_reached g starts marks met lost parents differ walk in
     record {
-      list = marked g marks;
+      list = marked_entries g marks;
       reached = marked_selects (λ entry. SomeReaches g starts entry.id) g marks m.long m.each;
       held_are = walk.has_met.once;
       parents_are = walk.has_met.parents_are;
@@ -59,28 +59,28 @@ counts_reached {A} g starts marks met lost parents differ walk =
 
 -- the entry that holds an id
 pub record IsHeldBy {A : Type 0} (g : List (Entry A)) (a : List ℕ) (node : Node A) : Type 0 where
-  pub place : ℕ
-  pub place_is : place_of g a ≡ Some place
+  pub position : ℕ
+  pub position_is : position_of g a ≡ Some position
   pub entry : Entry A
-  pub at : slice_get g place ≡ Some entry
+  pub at : slice_get g position ≡ Some entry
   pub node_is : entry.node ≡ node
   pub id_is : entry.id ≡ a
 
-pub found_at : {A : Type 0} (g : List (Entry A)) (a : List ℕ) (p : ℕ) → place_of g a ≡ Some p → (entry : Entry A) × (slice_get g p ≡ Some entry) × (entry.id ≡ a)
+pub found_at : {A : Type 0} (g : List (Entry A)) (a : List ℕ) (p : ℕ) → position_of g a ≡ Some p → (entry : Entry A) × (slice_get g p ≡ Some entry) × (entry.id ≡ a)
 found_at g a p e =
-    let there = entry_there g p (place_inside g a p e) in (there.0, there.1, id_at_place g a p there.0 e there.1)
+    let there = entry_there g p (position_inside g a p e) in (there.0, there.1, id_at_position g a p there.0 e there.1)
 
 pub held_by : {A : Type 0} (g : List (Entry A)) (a : List ℕ) (node : Node A) → IsNode g a node → IsHeldBy g a node
 held_by {A} g a node held =
-    let p = place_of_node g a node held in
-    let m = mapped_from (λ (entry : Entry A). entry.node) (slice_get g p.0) node (sym (node_at_place g a p.0 p.1) ∙ held) in
-    record { place = p.0; place_is = p.1; entry = m.0; at = m.1; node_is = m.2; id_is = id_at_place g a p.0 m.0 p.1 m.1 }
+    let p = position_of_node g a node held in
+    let m = mapped_from (λ (entry : Entry A). entry.node) (slice_get g p.0) node (sym (node_at_position g a p.0 p.1) ∙ held) in
+    record { position = p.0; position_is = p.1; entry = m.0; at = m.1; node_is = m.2; id_is = id_at_position g a p.0 m.0 p.1 m.1 }
 
 -- graphs with the same positions hold the same ids
-module _ {A : Type 0} (g h : List (Entry A)) (a : List ℕ) (same : place_of g a ≡ place_of h a) where
+module _ {A : Type 0} (g h : List (Entry A)) (a : List ℕ) (same : position_of g a ≡ position_of h a) where
   same_holds : Holds g a → Holds h a
   same_holds held =
-      let n = held_node g a held in let p = place_of_node g a n.0 n.1 in held_at_place h a p.0 (sym same ∙ p.1)
+      let n = held_node g a held in let p = position_of_node g a n.0 n.1 in held_at_position h a p.0 (sym same ∙ p.1)
 
   same_absent : node_at h a ≡ None → node_at g a ≡ None
   same_absent empty = not_held g a (λ held. (let k = rw empty at (same_holds held) in search (rules, k)))
@@ -94,22 +94,22 @@ module _ {A : Type 0} (known : List Bool) (g : List (Entry A)) where
   stop_parent : (a b : List ℕ) → HasParent (stop_at known g) a b → IsUnmarked g known a × (HasParent g a b)
   stop_parent a b parent =
       let h = held_by (stop_at known g) a parent.0 parent.1 in
-      let w = stopped_entry known g h.place h.entry h.at in
-      let place : place_of g a ≡ Some h.place = sym (stop_place known g a) ∙ h.place_is in
-      let is : node_at g a ≡ Some (w.0).node = node_at_place g a h.place place ∙ ap (option_map (λ (entry : Entry A). entry.node)) w.1 in
-      let c : Contains (bare_if (get_or known h.place false) w.0).node.parents b =
+      let w = stopped_entry known g h.position h.entry h.at in
+      let position : position_of g a ≡ Some h.position = sym (stop_position known g a) ∙ h.position_is in
+      let is : node_at g a ≡ Some (w.0).node = node_at_position g a h.position position ∙ ap (option_map (λ (entry : Entry A). entry.node)) w.1 in
+      let c : Contains (bare_if (get_or known h.position false) w.0).node.parents b =
       subst (λ (node : Node A). Contains node.parents b) (sym (ap (λ (entry : Entry A). entry.node) w.2 ∙ h.node_is)) parent.2 in
-      let free = bare_parent (get_or known h.place false) w.0 b c in
-      ((h.place, place, free.0), ((w.0).node, is, free.1))
+      let free = bare_parent (get_or known h.position false) w.0 b c in
+      ((h.position, position, free.0), ((w.0).node, is, free.1))
 
   parent_left : (a b : List ℕ) → IsUnmarked g known a → HasParent g a b → HasParent (stop_at known g) a b
   parent_left a b free parent =
       let h = held_by g a parent.0 parent.1 in
-      let same : free.0 ≡ h.place = same_Some free.0 h.place (sym free.1 ∙ h.place_is) in
-      let is : get_or known h.place false ≡ false = subst (λ (p : ℕ). get_or known p false ≡ false) same free.2 in
-      let node = node_at_place (stop_at known g) a h.place (stop_place known g a ∙ h.place_is) in
+      let same : free.0 ≡ h.position = same_Some free.0 h.position (sym free.1 ∙ h.position_is) in
+      let is : get_or known h.position false ≡ false = subst (λ (p : ℕ). get_or known p false ≡ false) same free.2 in
+      let node = node_at_position (stop_at known g) a h.position (stop_position known g a ∙ h.position_is) in
       let c = subst (λ (node : Node A). Contains node.parents b) (sym h.node_is) parent.2 in
-      ((h.entry).node, rw (node, stop_slice known g h.place, is, h.at) refl, c)
+      ((h.entry).node, rw (node, stop_slice known g h.position, is, h.at) refl, c)
 
   pub past_from : (a b : List ℕ) → Reaches (stop_at known g) a b → ReachesPast g known a b
   past_from a b here = there
@@ -124,43 +124,43 @@ module _ {A : Type 0} (known : List Bool) (g : List (Entry A)) where
   stop_reaches a b (onward {b = c} parent more) = onward (stop_parent a c parent).1 (stop_reaches c b more)
 
   -- a step leaves a connected id, or is a step here
-  step_here : AreFull g known → (a b : List ℕ) → HasParent g a b → IsFull g b ⊎ HasParent (stop_at known g) a b
-  step_here full a b parent =
+  step_here : AreConnected g known → (a b : List ℕ) → HasParent g a b → IsConnected g b ⊎ HasParent (stop_at known g) a b
+  step_here connected a b parent =
       let h = held_by g a parent.0 parent.1 in
-      either_way (get_or known h.place false)
+      either_way (get_or known h.position false)
       (λ is.
-      let f = full h.place is in
+      let f = connected h.position is in
       let same : (f.0).id ≡ a = ap (λ (e : Entry A). e.id) (same_Some f.0 h.entry (sym f.1 ∙ h.at)) ∙ h.id_is in
       inl (λ c r. f.2 c (subst (λ (x : List ℕ). Reaches g x c) (sym same) (onward parent r))))
-      (λ is. inr (parent_left a b (h.place, h.place_is, is) parent))
+      (λ is. inr (parent_left a b (h.position, h.position_is, is) parent))
 
-  module _ (full : AreFull g known) (starts : List (List ℕ)) where
-    goes_on : (a b : List ℕ) → SomeReaches (stop_at known g) starts a ⊎ IsFull g a → HasParent g a b → SomeReaches (stop_at known g) starts b ⊎ IsFull g b
+  module _ (connected : AreConnected g known) (starts : List (List ℕ)) where
+    goes_on : (a b : List ℕ) → SomeReaches (stop_at known g) starts a ⊎ IsConnected g a → HasParent g a b → SomeReaches (stop_at known g) starts b ⊎ IsConnected g b
     goes_on a b (inr f) parent = inr (λ c r. f c (onward parent r))
     goes_on a b (inl s) parent =
-        elim (step_here full a b parent) [
+        elim (step_here connected a b parent) [
           | inl f ↦ inr f
           | inr p ↦ inl (some_reaches (stop_at known g) starts a b s p)
         ]
 
-    reached_here : (a b : List ℕ) → Contains starts a → Reaches g a b → SomeReaches (stop_at known g) starts b ⊎ IsFull g b
+    reached_here : (a b : List ℕ) → Contains starts a → Reaches g a b → SomeReaches (stop_at known g) starts b ⊎ IsConnected g b
     reached_here a b c r =
-        kept_along g (λ x. SomeReaches (stop_at known g) starts x ⊎ IsFull g x) goes_on a b r (inl (a, c, here))
+        kept_along g (λ x. SomeReaches (stop_at known g) starts x ⊎ IsConnected g x) goes_on a b r (inl (a, c, here))
 
     pub misses : (marks : List Bool) (met : List ℕ) (lost : Option (List ℕ)) (parents : ℕ) → IsWalk (stop_at known g) starts marks met lost parents → Misses g starts lost
     misses marks met None parents walk = λ k d inside b r.
         elim (reached_here (get_or starts k d) b (Contains-get_or starts k d inside) r) [
-          | inl s ↦ same_holds (stop_at known g) g b (stop_place known g b) (walk.has_met.lost_is b (reached_met (stop_at known g) starts walk.ids walk.levels b s))
+          | inl s ↦ same_holds (stop_at known g) g b (stop_position known g b) (walk.has_met.lost_is b (reached_met (stop_at known g) starts walk.ids walk.levels b s))
           | inr f ↦ f b here
         ]
     misses marks met (Some b) parents walk =
         let is = walk.has_met.lost_is in
         let s = met_reached (stop_at known g) starts walk.ids walk.levels b is.0 in
-        ((s.0, s.1, stop_reaches s.0 b s.2), same_absent g (stop_at known g) b (sym (stop_place known g b)) is.1)
+        ((s.0, s.1, stop_reaches s.0 b s.2), same_absent g (stop_at known g) b (sym (stop_position known g b)) is.1)
 
 -- ids differ where some have lost their parents
 stop_none : {A : Type 0} (marks : List Bool) (g : List (Entry A)) (a : List ℕ) → node_at g a ≡ None → node_at (stop_at marks g) a ≡ None
-stop_none marks g a empty = same_absent (stop_at marks g) g a (stop_place marks g a) empty
+stop_none marks g a empty = same_absent (stop_at marks g) g a (stop_position marks g a) empty
 
 pub stop_differ : {A : Type 0} (marks : List Bool) (g : List (Entry A)) → IdsDiffer g → IdsDiffer (stop_at marks g)
 stop_differ [] g differ = differ
@@ -171,11 +171,11 @@ stop_differ (false ∷ marks) (entry ∷ g) differ = (stop_none marks g entry.id
 -- ---- what is missing where the graph is closed, and where nothing is marked
 
 -- where each id that is held is connected, the ids themselves are looked up
-pub held_misses : {A : Type 0} (g : List (Entry A)) (ids : List (List ℕ)) (o : Option (List ℕ)) → ((a : List ℕ) → Holds g a → IsFull g a) → MatchOption o (All (Holds g) ids) (IsFirstAbsent g ids) → Misses g ids o
-held_misses g ids None full all = λ k d inside. full (get_or ids k d) (all k d inside)
-held_misses g ids (Some b) full found =
+pub held_misses : {A : Type 0} (g : List (Entry A)) (ids : List (List ℕ)) (o : Option (List ℕ)) → ((a : List ℕ) → Holds g a → IsConnected g a) → MatchOption o (All (Holds g) ids) (IsFirstAbsent g ids) → Misses g ids o
+held_misses g ids None connected all = λ k d inside. connected (get_or ids k d) (all k d inside)
+held_misses g ids (Some b) connected found =
     let there : Contains (found.front ++ b ∷ found.rest) b = Contains-append_right found.front (b ∷ found.rest) b (zero, omega arith, refl) in
     ((b, subst (λ (xs : List (List ℕ)). Contains xs b) (sym found.parts) there, here), found.absent)
 
-pub nothing_full : {A : Type 0} (g : List (Entry A)) → AreFull g []
-nothing_full g p t = absurd (false≢true (sym (none_in p) ∙ t))
+pub nothing_connected : {A : Type 0} (g : List (Entry A)) → AreConnected g []
+nothing_connected g p t = absurd (false≢true (sym (none_in p) ∙ t))

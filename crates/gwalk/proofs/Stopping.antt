@@ -3,10 +3,10 @@ use Rattle.std.proofs.Common.{◌≡◌, ℕ, zero, suc, ◌<◌, ◌≤◌, Boo
 use Rattle.std.specs.List.{position_or_len, slice_get}
 use Rattle.std.specs.Option.{option_map}
 use Rattle.gobject.specs.declared.node.Entry.{Entry}
-use Rattle.gobject.specs.Objects.{has_id, place_of, entry_of, node_of, IsShaped}
+use Rattle.gobject.specs.Objects.{has_id, position_of, entry_of, node_of, IsShaped}
 use Rattle.gdag.proofs.Growing.{all_standing}
 use Rattle.gdag.proofs.Holding.{mapped_from}
-use Rattle.gtopowalk.proofs.Places.{entry_there}
+use Rattle.gwalk.proofs.Positions.{entry_there}
 use Rattle.gwalk.specs.Marks.{stop_at}
 use Rattle.gwalk.proofs.Marking.{none_in}
 
@@ -26,15 +26,15 @@ same_test : {A : Type 0} (mark : Bool) (a : List ℕ) (entry : Entry A) → has_
 same_test true a entry = refl
 same_test false a entry = refl
 
-stop_position : {A : Type 0} (marks : List Bool) (g : List (Entry A)) (a : List ℕ) → position_or_len (has_id a) (stop_at marks g) ≡ position_or_len (has_id a) g
-stop_position [] g a = refl
-stop_position (mark ∷ marks) [] a = refl
-stop_position (mark ∷ marks) (entry ∷ g) a =
-    let e = stop_position marks g a in
+stop_position_of : {A : Type 0} (marks : List Bool) (g : List (Entry A)) (a : List ℕ) → position_or_len (has_id a) (stop_at marks g) ≡ position_or_len (has_id a) g
+stop_position_of [] g a = refl
+stop_position_of (mark ∷ marks) [] a = refl
+stop_position_of (mark ∷ marks) (entry ∷ g) a =
+    let e = stop_position_of marks g a in
     rw (same_test mark a entry, e) refl
 
-pub stop_place : {A : Type 0} (marks : List Bool) (g : List (Entry A)) (a : List ℕ) → place_of (stop_at marks g) a ≡ place_of g a
-stop_place marks g a = rw (stop_position marks g a, stop_length marks g) refl
+pub stop_position : {A : Type 0} (marks : List Bool) (g : List (Entry A)) (a : List ℕ) → position_of (stop_at marks g) a ≡ position_of g a
+stop_position marks g a = rw (stop_position_of marks g a, stop_length marks g) refl
 
 same_entry : {A : Type 0} (o : Option (Entry A)) (mark : Bool) → mark ≡ false → o ≡ option_map (bare_if mark) o
 same_entry None mark e = refl

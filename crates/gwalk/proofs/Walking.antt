@@ -11,30 +11,30 @@ use Rattle.std.proofs.lemmas.List.Elements.{All-nil, All-push, Contains-append_l
 use Rattle.std.proofs.lemmas.List.Elements.{filter_map-append}
 use Rattle.gobject.specs.declared.node.Node.{Node}
 use Rattle.gobject.specs.declared.node.Entry.{Entry}
-use Rattle.gobject.specs.Objects.{place_of}
+use Rattle.gobject.specs.Objects.{position_of}
 use Rattle.gdag.specs.Graphs.{Holds}
 use Rattle.gdag.specs.Levels.{is_in, new_ids, parents_of, AreLevels}
 use Rattle.gwalk.specs.Offers.{IsUnderway, IsWalked}
 use Rattle.gwalk.specs.Walks.{HasMet, IsLost, IsWalk, parents_in, places}
 use Rattle.gdag.proofs.IdLists.{either_way, nothing_in_nil, in_or_not, in_from_contains, new_ids-old, new_ids-new, contains_from_in, with_new}
 use Rattle.gdag.proofs.Growing.{take_one}
-use Rattle.gdag.proofs.Reaching.{place_inside, place_same, node_at_none, held_at_place}
+use Rattle.gdag.proofs.Reaching.{position_inside, position_same, node_at_none, held_at_position}
 use Rattle.gdag.proofs.Holding.{mapped_from}
 use Rattle.gwalk.proofs.Counting.{marked_none, marked_more, marked_few}
 use Rattle.gwalk.proofs.LevelWalk.{with_new-nil, with_new-append, walk_begins, walk_goes, walk_ends}
-use Rattle.gtopowalk.proofs.Places.{parents_are}
+use Rattle.gwalk.proofs.Positions.{parents_are}
 
 -- an id has a position or has none
-pub place_cases : {A : Type 0} (g : List (Entry A)) (a : List ℕ) →
-    (place_of g a ≡ None) ⊎ ((p : ℕ) × (place_of g a ≡ Some p))
-place_cases g a = by (place_of g a) refl
+pub position_cases : {A : Type 0} (g : List (Entry A)) (a : List ℕ) →
+    (position_of g a ≡ None) ⊎ ((p : ℕ) × (position_of g a ≡ Some p))
+position_cases g a = by (position_of g a) refl
   where
-    by : (o : Option ℕ) → place_of g a ≡ o → (place_of g a ≡ None) ⊎ ((p : ℕ) × (place_of g a ≡ Some p))
+    by : (o : Option ℕ) → position_of g a ≡ o → (position_of g a ≡ None) ⊎ ((p : ℕ) × (position_of g a ≡ Some p))
     by None e = inl e
     by (Some p) e = inr (p, e)
 
 -- an id with a position gives that position
-pub placed : {A : Type 0} (g : List (Entry A)) (b : List ℕ) (bs : List (List ℕ)) (o : Option ℕ) → place_of g b ≡ o → places g (b ∷ bs) ≡ [] → (o ≡ None) × (places g bs ≡ [])
+pub placed : {A : Type 0} (g : List (Entry A)) (b : List ℕ) (bs : List (List ℕ)) (o : Option ℕ) → position_of g b ≡ o → places g (b ∷ bs) ≡ [] → (o ≡ None) × (places g bs ≡ [])
 placed g b bs None e none = (refl, sym (ap (λ o. cons_option o (places g bs)) e) ∙ none)
 placed g b bs (Some p) e none = absurd (let some : p ∷ places g bs ≡ [] = sym (ap (λ o. cons_option o (places g bs)) e) ∙ none in cc)
 
@@ -68,12 +68,12 @@ new_id ids a out =
     (λ e. absurd (out (contains_from_in ids a e)))
     (λ e. ap (λ l. ids ++ l) (new_ids-new ids a [] e))
 
-places_push : {A : Type 0} (g : List (Entry A)) (ids : List (List ℕ)) (a : List ℕ) (o : Option ℕ) → place_of g a ≡ o → places g (ids ++ a ∷ []) ≡ places g ids ++ cons_option o []
-places_push g ids a o e = filter_map-append (place_of g) ids (a ∷ []) ∙ ap (λ p. places g ids ++ cons_option p []) e
+positions_push : {A : Type 0} (g : List (Entry A)) (ids : List (List ℕ)) (a : List ℕ) (o : Option ℕ) → position_of g a ≡ o → places g (ids ++ a ∷ []) ≡ places g ids ++ cons_option o []
+positions_push g ids a o e = filter_map-append (position_of g) ids (a ∷ []) ∙ ap (λ p. places g ids ++ cons_option p []) e
 
 module _ {A : Type 0} (g : List (Entry A)) (ids : List (List ℕ)) (marks : List Bool) (met : List ℕ) (lost : Option (List ℕ)) (parents : ℕ) (old : HasMet g ids marks met lost parents) (a : List ℕ) where
   -- an id that is not held
-  pub meets_lost : place_of g a ≡ None → HasMet g (with_new ids (a ∷ [])) marks met (Some a) parents
+  pub meets_lost : position_of g a ≡ None → HasMet g (with_new ids (a ∷ [])) marks met (Some a) parents
   meets_lost e =
       let P : List (List ℕ) → Type 0 = λ l. HasMet g l marks met (Some a) parents in
       elim (in_or_not ids a) [
@@ -93,10 +93,10 @@ module _ {A : Type 0} (g : List (Entry A)) (ids : List (List ℕ)) (marks : List
             λ t. Contains-append_left ids (a ∷ []) b ((old.marked b p at).0 t),
             λ c. elim (Contains-push_cases ids a b c) [
               | inl before ↦ (old.marked b p at).1 before
-              | inr same ↦ absurd (none-some p (sym e ∙ ap (place_of g) same ∙ at))
+              | inr same ↦ absurd (none-some p (sym e ∙ ap (position_of g) same ∙ at))
             ],
           );
-          met_are = old.met_are ∙ sym (append-nil (places g ids)) ∙ sym (places_push g ids a None e);
+          met_are = old.met_are ∙ sym (append-nil (places g ids)) ∙ sym (positions_push g ids a None e);
           once = old.once;
           few = old.few;
           inside = old.inside;
@@ -106,24 +106,24 @@ module _ {A : Type 0} (g : List (Entry A)) (ids : List (List ℕ)) (marks : List
       ]
 
   -- an id that was met before
-  pub meets_again : (p : ℕ) → place_of g a ≡ Some p → get_or marks p false ≡ true → HasMet g (with_new ids (a ∷ [])) marks met lost parents
+  pub meets_again : (p : ℕ) → position_of g a ≡ Some p → get_or marks p false ≡ true → HasMet g (with_new ids (a ∷ [])) marks met lost parents
   meets_again p e t =
       let P : List (List ℕ) → Type 0 = λ l. HasMet g l marks met lost parents in
       subst P (sym (old_id ids a ((old.marked a p e).0 t))) old
 
-  lost_more : (o : Option (List ℕ)) (p : ℕ) → place_of g a ≡ Some p → IsLost g ids o → IsLost g (ids ++ a ∷ []) o
+  lost_more : (o : Option (List ℕ)) (p : ℕ) → position_of g a ≡ Some p → IsLost g ids o → IsLost g (ids ++ a ∷ []) o
   lost_more None p e none = λ b c.
       elim (Contains-push_cases ids a b c) [
         | inl before ↦ none b before
-        | inr same ↦ subst (λ (x : List ℕ). Holds g x) same (held_at_place g a p e)
+        | inr same ↦ subst (λ (x : List ℕ). Holds g x) same (held_at_position g a p e)
       ]
   lost_more (Some b) p e some = (Contains-append_left ids (a ∷ []) b some.0, some.1)
 
   -- an id that is held and new
-  pub meets_new : (p : ℕ) (more : List (List ℕ)) → place_of g a ≡ Some p → get_or marks p false ≡ false → option_map (λ entry. entry.node.parents) (slice_get g p) ≡ Some more → HasMet g (with_new ids (a ∷ [])) (set marks p true) (met ++ p ∷ []) lost (parents + length more)
+  pub meets_new : (p : ℕ) (more : List (List ℕ)) → position_of g a ≡ Some p → get_or marks p false ≡ false → option_map (λ entry. entry.node.parents) (slice_get g p) ≡ Some more → HasMet g (with_new ids (a ∷ [])) (set marks p true) (met ++ p ∷ []) lost (parents + length more)
   meets_new p more e free are =
       let P : List (List ℕ) → Type 0 = λ l. HasMet g l (set marks p true) (met ++ p ∷ []) lost (parents + length more) in
-      let inside : p < length marks = let h = place_inside g a p e in let l = old.long in omega arith in
+      let inside : p < length marks = let h = position_inside g a p e in let l = old.long in omega arith in
       let out : ¬ (Contains ids a) = λ c. false≢true (sym free ∙ (old.marked a p e).1 c) in
       let w = mapped_from (λ (entry : Entry A). entry.node.parents) (slice_get g p) more are in
       let counted = marked_more g marks p w.0 inside free w.1 in
@@ -134,7 +134,7 @@ module _ {A : Type 0} (g : List (Entry A)) (ids : List (List ℕ)) (marks : List
         marked = λ b q at.
             elim (cases_eq p q) [
               | inl same ↦
-                  let is : a ≡ b = place_same g a b p e (at ∙ ap Some (sym same)) in (
+                  let is : a ≡ b = position_same g a b p e (at ∙ ap Some (sym same)) in (
                     λ t. subst (λ (x : List ℕ). Contains (ids ++ a ∷ []) x) is (Contains-push ids a),
                     λ c. ap (λ i. get_or (set marks p true) i false) (sym same) ∙ get_or-set_same marks p true false inside,
                   )
@@ -143,14 +143,14 @@ module _ {A : Type 0} (g : List (Entry A)) (ids : List (List ℕ)) (marks : List
                     λ t. Contains-append_left ids (a ∷ []) b ((old.marked b q at).0 (sym kept ∙ t)),
                     λ c. kept ∙ elim (Contains-push_cases ids a b c) [
                       | inl first ↦ (old.marked b q at).1 first
-                      | inr is ↦ absurd (other (same_Some p q (sym e ∙ ap (place_of g) is ∙ at)))
+                      | inr is ↦ absurd (other (same_Some p q (sym e ∙ ap (position_of g) is ∙ at)))
                     ],
                   )
             ];
-        met_are = ap (λ l. l ++ p ∷ []) old.met_are ∙ sym (places_push g ids a (Some p) e);
+        met_are = ap (λ l. l ++ p ∷ []) old.met_are ∙ sym (positions_push g ids a (Some p) e);
         once = omega arith;
         few = (let most = marked_few g (set marks p true) in omega arith);
-        inside = All-push (λ q. q < length g) met p old.inside (place_inside g a p e);
+        inside = All-push (λ q. q < length g) met p old.inside (position_inside g a p e);
         lost_is = lost_more lost p e old.lost_is;
         parents_are = omega arith;
       }
@@ -167,10 +167,10 @@ pub underway : {A : Type 0} (g : List (Entry A)) (starts : List (List ℕ)) (mar
 underway g starts marks met lost parents h = record {
   walked = walk_begins g starts (with_new [] starts) refl;
   has_met = h;
-  place = refl;
+  position = refl;
 }
 
-no_parents : {A : Type 0} (g : List (Entry A)) (a : List ℕ) → place_of g a ≡ None → parents_of g a ≡ []
+no_parents : {A : Type 0} (g : List (Entry A)) (a : List ℕ) → position_of g a ≡ None → parents_of g a ≡ []
 no_parents g a e = rw (node_at_none g a e) refl
 
 -- the next id to take up: those of the back before it are not held
@@ -180,7 +180,7 @@ pub record IsNext {A : Type 0} (g : List (Entry A)) (starts front back : List (L
   pub rest : List (List ℕ)
   pub parts : back ≡ mid ++ id ∷ rest
   pub absent : places g mid ≡ []
-  pub place : place_of g id ≡ Some x
+  pub position : position_of g id ≡ Some x
   pub walked : IsWalked g starts (front ++ back) (length front + length mid)
 
 module _ {A : Type 0} (g : List (Entry A)) where
@@ -190,7 +190,7 @@ module _ {A : Type 0} (g : List (Entry A)) where
   passes starts [] front rest none walked = let z : length front + 0 ≡ length front = omega arith in rw z walked
   passes starts (b ∷ mid) front rest none walked =
       let ids = front ++ b ∷ (mid ++ rest) in
-      let r = placed g b mid (place_of g b) refl none in
+      let r = placed g b mid (position_of g b) refl none in
       let inside : length front < length ids = omega (arith, length-append front (b ∷ (mid ++ rest))) in
       let item : b ≡ get_or ids (length front) b = sym (get_or-append_seam front b (mid ++ rest) b) in
       let goes = walk_goes g starts ids (length front) walked inside b item ids in
@@ -203,10 +203,10 @@ module _ {A : Type 0} (g : List (Entry A)) where
   -- the first id that is held
   split_back : (back : List (List ℕ)) (x : ℕ) (xs : List ℕ) → places g back ≡ x ∷ xs → (mid : List (List ℕ)) ×
       (id : List ℕ) × (rest : List (List ℕ)) × (back ≡ mid ++ id ∷ rest) × (places g mid ≡ []) ×
-      (place_of g id ≡ Some x)
+      (position_of g id ≡ Some x)
   split_back [] x xs are = absurd (let e : [] ≡ x ∷ xs = are in cc)
   split_back (b ∷ bs) x xs are =
-      elim (place_cases g b) [
+      elim (position_cases g b) [
         | inl e ↦ (let n = split_back bs x xs (rw e at are) in (b ∷ n.0, n.1, n.2, ap (λ t. b ∷ t) n.3, rw e n.4, n.5))
         | inr w ↦ (let all : w.0 ∷ places g bs ≡ x ∷ xs = rw w.1 at are in let same : w.0 ≡ x = cc in
             ([], b, bs, refl, refl, w.1 ∙ ap Some same))
@@ -214,10 +214,10 @@ module _ {A : Type 0} (g : List (Entry A)) where
 
 module _ {A : Type 0} (g : List (Entry A)) (starts front back : List (List ℕ)) (marks : List Bool) (met : List ℕ) (lost : Option (List ℕ)) (parents at : ℕ) (now : IsUnderway g starts front back marks met lost parents at) where
   met_parts : met ≡ places g front ++ places g back
-  met_parts = now.has_met.met_are ∙ filter_map-append (place_of g) front back
+  met_parts = now.has_met.met_are ∙ filter_map-append (position_of g) front back
 
   left_are : places g back ≡ drop at met
-  left_are = sym (drop_at (places g front) (places g back) at now.place) ∙ ap (drop at) (sym met_parts)
+  left_are = sym (drop_at (places g front) (places g back) at now.position) ∙ ap (drop at) (sym met_parts)
 
   pub next : (x : ℕ) → at < length met → x ≡ get_or met at x → IsNext g starts front back x
   next x inside is =
@@ -226,7 +226,7 @@ module _ {A : Type 0} (g : List (Entry A)) (starts front back : List (List ℕ))
       let W : ℕ → List (List ℕ) → Type 0 = λ i l. IsWalked g starts (front ++ l) i in
       let on = passes g starts s.0 front (s.1 ∷ s.2) s.4 (subst (W (length front)) s.3 now.walked) in
       let walked = subst (W (length front + length s.0)) (sym s.3) on in
-      record { mid = s.0; id = s.1; rest = s.2; parts = s.3; absent = s.4; place = s.5; walked = walked }
+      record { mid = s.0; id = s.1; rest = s.2; parts = s.3; absent = s.4; position = s.5; walked = walked }
 
   pub none_left : length met ≤ at → places g back ≡ []
   none_left end = left_are ∙ drop_all at met end
@@ -258,26 +258,26 @@ module _ {A : Type 0} (g : List (Entry A)) (starts front back : List (List ℕ))
       let again : with_new (front ++ back) more ≡ (front ++ (n.mid ++ n.id ∷ [])) ++ (n.rest ++ new_ids (front ++ back) more) =
       ap (λ l. l ++ new_ids (front ++ back) more) whole ∙ (simp append_assoc) in
       let count : i + 1 ≡ length (front ++ (n.mid ++ n.id ∷ [])) = omega arith in
-      let p1 = filter_map-append (place_of g) front (n.mid ++ n.id ∷ []) in
-      let p2 = places_push g n.mid n.id (Some x) n.place in
+      let p1 = filter_map-append (position_of g) front (n.mid ++ n.id ∷ []) in
+      let p2 = positions_push g n.mid n.id (Some x) n.position in
       let p3 : places g (front ++ (n.mid ++ n.id ∷ [])) ≡ places g front ++ x ∷ [] = p1 ∙ ap (λ l. places g front ++ l) (p2 ∙ ap (λ l. l ++ x ∷ []) n.absent) in
       let p4 = ap length p3 in
       let p5 = length-append (places g front) (x ∷ []) in
-      let p6 = now.place in
+      let p6 = now.position in
       record {
         walked = subst (λ (l : List (List ℕ)). IsWalked g starts l (length (front ++ (n.mid ++ n.id ∷ [])))) again
             (subst (λ (k : ℕ). IsWalked g starts (with_new (front ++ back) more) k) count went);
         has_met = subst (λ (l : List (List ℕ)). HasMet g l marks2 met2 lost2 parents2) again then;
-        place = omega arith;
+        position = omega arith;
       }
 
 -- ---- the parents that are lent
 
-pub lent_parents : {A : Type 0} (g : List (Entry A)) (a : List ℕ) (p : ℕ) (parents : List (List ℕ)) → place_of g a ≡ Some p → option_map (λ entry. entry.node.parents) (slice_get g p) ≡ Some parents → parents ≡ parents_of g a
+pub lent_parents : {A : Type 0} (g : List (Entry A)) (a : List ℕ) (p : ℕ) (parents : List (List ℕ)) → position_of g a ≡ Some p → option_map (λ entry. entry.node.parents) (slice_get g p) ≡ Some parents → parents ≡ parents_of g a
 lent_parents {A} g a p parents e are =
     let n = parents_are g a p parents e are in
     sym (ap (λ (o : Option (Node A)). unwrap_or (option_map (λ (node : Node A). node.parents) o) []) n.1 ∙ n.2)
 
 -- the position of an id is inside the marks
-pub mark_inside : {A : Type 0} (g : List (Entry A)) (ids : List (List ℕ)) (marks : List Bool) (met : List ℕ) (lost : Option (List ℕ)) (parents : ℕ) (a : List ℕ) (p : ℕ) → HasMet g ids marks met lost parents → place_of g a ≡ Some p → p < length marks
-mark_inside g ids marks met lost parents a p h e = let i = place_inside g a p e in let l = h.long in omega arith
+pub mark_inside : {A : Type 0} (g : List (Entry A)) (ids : List (List ℕ)) (marks : List Bool) (met : List ℕ) (lost : Option (List ℕ)) (parents : ℕ) (a : List ℕ) (p : ℕ) → HasMet g ids marks met lost parents → position_of g a ≡ Some p → p < length marks
+mark_inside g ids marks met lost parents a p h e = let i = position_inside g a p e in let l = h.long in omega arith

@@ -3,17 +3,17 @@ use Rattle.std.specs.Prelude.{◌≡◌, ◌≤◌, ◌⊎◌, ◌↔◌, ℕ, B
 use Rattle.std.specs.Prelude.{slice_index_or, sum_by, Contains, Some}
 use Rattle.gname.specs.Ids.{Id}
 use Rattle.gobject.specs.declared.node.Entry.{Entry}
-use Rattle.gobject.specs.Objects.{entry_of, node_of, place_of, IdsDiffer}
+use Rattle.gobject.specs.Objects.{entry_of, node_of, position_of, IdsDiffer}
 use Rattle.gdag.specs.Graphs.{HasParent}
-use Rattle.gdag.specs.Reach.{Reaches, IsFull, SomeReaches, Grows}
+use Rattle.gdag.specs.Reach.{Reaches, IsConnected, SomeReaches, Grows}
 use Rattle.gdag.specs.Selecting.{Selects}
 use Rattle.gdag.specs.Walks.{CountsReached}
 
 -- each marked id is connected
-abbrev pub AreFull : {A : Type 0} → List (Entry A) → List Bool → Type 0
-AreFull {A} g marks =
-    (place : ℕ) → slice_index_or marks place false ≡ true →
-    (entry : Entry A) × (slice_get g place ≡ Some entry) × IsFull g entry.id
+abbrev pub AreConnected : {A : Type 0} → List (Entry A) → List Bool → Type 0
+AreConnected {A} g marks =
+    (position : ℕ) → slice_index_or marks position false ≡ true →
+    (entry : Entry A) × (slice_get g position ≡ Some entry) × IsConnected g entry.id
 
 -- the same objects where the marked ones have no parents
 abbrev pub stop_at : {A : Type 0} → List Bool → List (Entry A) → List (Entry A)
@@ -24,7 +24,7 @@ stop_at (mark ∷ marks) (entry ∷ g) =
 
 -- the id is held, and its position has no mark
 abbrev pub IsUnmarked : {A : Type 0} → List (Entry A) → List Bool → Id → Type 0
-IsUnmarked g marks a = (place : ℕ) × (place_of g a ≡ Some place) × (slice_index_or marks place false ≡ false)
+IsUnmarked g marks a = (position : ℕ) × (position_of g a ≡ Some position) × (slice_index_or marks position false ≡ false)
 
 -- reaching by steps that leave unmarked ids: an id reaches itself, and where it is held and has no mark all that a
 -- parent of it reaches so
@@ -58,22 +58,22 @@ StopsAtMarks A =
 
 -- the ids that some ids reach were marked, and all other marks are as before
 pub record MarksReached {A : Type 0} (g : List (Entry A)) (ids : List Id) (old new : List Bool) : Type 0 where
-  pub each : (place : ℕ) (entry : Entry A) → slice_get g place ≡ Some entry →
-      (slice_index_or new place false ≡ true) ↔ ((slice_index_or old place false ≡ true) ⊎ SomeReaches g ids entry.id)
-  pub others : (place : ℕ) → length g ≤ place → slice_index_or new place false ≡ slice_index_or old place false
+  pub each : (position : ℕ) (entry : Entry A) → slice_get g position ≡ Some entry →
+      (slice_index_or new position false ≡ true) ↔ ((slice_index_or old position false ≡ true) ⊎ SomeReaches g ids entry.id)
+  pub others : (position : ℕ) → length g ≤ position → slice_index_or new position false ≡ slice_index_or old position false
 
 -- marks stay true where a graph grows
-abbrev pub MarksStayFull : Type 0 → Type 0
-MarksStayFull A = (g h : List (Entry A)) (marks : List Bool) → Grows g h → AreFull g marks → AreFull h marks
+abbrev pub MarksStayConnected : Type 0 → Type 0
+MarksStayConnected A = (g h : List (Entry A)) (marks : List Bool) → Grows g h → AreConnected g marks → AreConnected h marks
 
 -- the marks cover the ids: all that one of these reaches has its mark
 abbrev pub Covers : {A : Type 0} → List (Entry A) → List Id → List Bool → Type 0
 Covers {A} g ids marks =
-    (place : ℕ) (entry : Entry A) → slice_get g place ≡ Some entry → SomeReaches g ids entry.id
-    → slice_index_or marks place false ≡ true
+    (position : ℕ) (entry : Entry A) → slice_get g position ≡ Some entry → SomeReaches g ids entry.id
+    → slice_index_or marks position false ≡ true
 
 -- marks that cover connected ids still do where a graph grows
 abbrev pub CoveringStays : Type 0 → Type 0
 CoveringStays A =
     (g h : List (Entry A)) (ids : List Id) (marks : List Bool)
-    → Grows g h → IdsDiffer h → All (IsFull g) ids → Covers g ids marks → Covers h ids marks
+    → Grows g h → IdsDiffer h → All (IsConnected g) ids → Covers g ids marks → Covers h ids marks

@@ -4,7 +4,7 @@ use Rattle.std.specs.Prelude.{◌≡◌, ◌↔◌, ℕ, suc, Bool, true, false,
 use Rattle.std.specs.Prelude.{Some}
 use Rattle.gname.specs.Ids.{Id}
 use Rattle.gobject.specs.declared.node.Entry.{Entry}
-use Rattle.gobject.specs.Objects.{place_of}
+use Rattle.gobject.specs.Objects.{position_of}
 use Rattle.gdag.specs.Levels.{level, levels_below, new_ids, parents_of_each}
 use Rattle.gdag.specs.Offer.{MayBeOffered}
 use Rattle.gdag.specs.Reach.{SomeReaches}
@@ -21,7 +21,7 @@ pub record IsWalked {A : Type 0} (g : List (Entry A)) (tips ids : List Id) (at :
   pub more : List Id
   pub levels : levels_below g tips (suc k) ≡ done ++ rest
   pub has : ids ≡ (done ++ rest) ++ more
-  pub place : length done ≡ at
+  pub position : length done ≡ at
   pub ahead : ids ++ new_ids ids (parents_of_each g rest) ≡ levels_below g tips (suc (suc k))
 
 -- the walk has taken up the ids of the front, and not those of the back
@@ -29,13 +29,13 @@ pub record IsUnderway {A : Type 0} (g : List (Entry A)) (tips front back : List 
     (lost : Option Id) (parents at : ℕ) : Type 0 where
   pub walked : IsWalked g tips (front ++ back) (length front)
   pub has_met : HasMet g (front ++ back) marks met lost parents
-  pub place : length (places g front) ≡ at
+  pub position : length (places g front) ≡ at
 
 -- the marked ids are those that one of the ids reaches
 abbrev pub AreReached : {A : Type 0} → List (Entry A) → List Id → List Bool → Type 0
 AreReached g ids marks =
-    (a : Id) (place : ℕ) → place_of g a ≡ Some place
-    → (slice_index_or marks place false ≡ true) ↔ SomeReaches g ids a
+    (a : Id) (position : ℕ) → position_of g a ≡ Some position
+    → (slice_index_or marks position false ≡ true) ↔ SomeReaches g ids a
 
 -- ids were offered from these tips, where these are common: the walk from the tips is underway, and may offer none of
 -- the ids that it has taken up; what the common ids reach is marked, and what was offered

@@ -4,30 +4,30 @@ use Rattle.std.specs.Prelude.{slice_index_or, sum_by, All, Contains, Option, Non
 use Rattle.std.specs.List.{filter_map}
 use Rattle.gname.specs.Ids.{Id}
 use Rattle.gobject.specs.declared.node.Entry.{Entry}
-use Rattle.gobject.specs.Objects.{node_at, place_of}
+use Rattle.gobject.specs.Objects.{node_at, position_of}
 use Rattle.gdag.specs.Graphs.{Holds}
 use Rattle.gdag.specs.Levels.{AreLevels}
 
 -- the positions of those of some ids that are held, in order
 abbrev pub places : {A : Type 0} → List (Entry A) → List Id → List ℕ
-places g ids = filter_map (place_of g) ids
+places g ids = filter_map (position_of g) ids
 
 -- how many parents the nodes of some entries have
 abbrev pub parents_in : {A : Type 0} → List (Entry A) → ℕ
 parents_in list = sum_by (λ entry. length entry.node.parents) list
 
 -- the entries at marked positions
-abbrev pub marked : {A : Type 0} → List (Entry A) → List Bool → List (Entry A)
-marked [] marks = []
-marked (entry ∷ g) [] = []
-marked (entry ∷ g) (true ∷ marks) = entry ∷ marked g marks
-marked (entry ∷ g) (false ∷ marks) = marked g marks
+abbrev pub marked_entries : {A : Type 0} → List (Entry A) → List Bool → List (Entry A)
+marked_entries [] marks = []
+marked_entries (entry ∷ g) [] = []
+marked_entries (entry ∷ g) (true ∷ marks) = entry ∷ marked_entries g marks
+marked_entries (entry ∷ g) (false ∷ marks) = marked_entries g marks
 
 -- the marked ids are those with P
 pub record AreMarked {A : Type 0} (P : Id → Type 0) (g : List (Entry A)) (marks : List Bool) : Type 0 where
   pub long : length marks ≡ length g
-  pub each : (place : ℕ) (entry : Entry A) → slice_get g place ≡ Some entry →
-      (slice_index_or marks place false ≡ true) ↔ P entry.id
+  pub each : (position : ℕ) (entry : Entry A) → slice_get g position ≡ Some entry →
+      (slice_index_or marks position false ≡ true) ↔ P entry.id
 
 -- one of the ids that is not held, where there is one
 abbrev pub IsLost : {A : Type 0} → List (Entry A) → List Id → Option Id → Type 0
@@ -40,12 +40,12 @@ pub record HasMet {A : Type 0} (g : List (Entry A)) (ids : List Id) (marks : Lis
     (lost : Option Id) (parents : ℕ) : Type 0 where
   pub long : length marks ≡ length g
   pub met_are : met ≡ places g ids
-  pub once : length met ≡ length (marked g marks)
+  pub once : length met ≡ length (marked_entries g marks)
   pub few : length met ≤ length g
-  pub inside : All (λ place. place < length g) met
+  pub inside : All (λ position. position < length g) met
   pub lost_is : IsLost g ids lost
-  pub parents_are : parents ≡ parents_in (marked g marks)
-  pub marked : (a : Id) (p : ℕ) → place_of g a ≡ Some p → (slice_index_or marks p false ≡ true) ↔ Contains ids a
+  pub parents_are : parents ≡ parents_in (marked_entries g marks)
+  pub marked : (a : Id) (p : ℕ) → position_of g a ≡ Some p → (slice_index_or marks p false ≡ true) ↔ Contains ids a
 
 -- what a walk from some ids ends with: it has met the ids of all levels about them
 pub record IsWalk {A : Type 0} (g : List (Entry A)) (starts : List Id) (marks : List Bool) (met : List ℕ)

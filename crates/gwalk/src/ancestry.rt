@@ -1,30 +1,30 @@
-//! What is missing of the ancestries of some ids.
+//! Missing ancestors of some ids.
 
 ghost use Rattle.std.specs.Prelude.{◌≡◌, IfOk, IfErr, IsTrue, is_ok};
 ghost use Rattle.gdag.specs.Graphs.{IsOrdered};
 ghost use Rattle.gdag.specs.Walks.{Misses, CountsReached};
 ghost use Rattle.gdag.specs.declared.fault.GraphFault.TheVariants.{Memory};
-ghost use Rattle.gwalk.specs.Marks.{AreFull, stop_at};
+ghost use Rattle.gwalk.specs.Marks.{AreConnected, stop_at};
 
-use crate::marks::FullMarks;
+use crate::marks::ConnectedMarks;
 use crate::walk::walk_past;
 use gdag::{Graph, GraphFault};
 use gname::Oid;
 use std::alloc::Allocator;
 
-/// How much a walk took up.
+/// The size of a walk.
 #[derive(Clone, Copy, Debug, PartialEq, Eq)]
 pub struct Count {
-    /// How many ids it took up. No id is taken up twice.
+    /// The number of ids visited. No id is visited twice.
     pub ids: u64,
-    /// How many parents their nodes have, those of marked ids left out.
+    /// The number of parents of their nodes, without the parents of marked ids.
     pub parents: u64,
 }
 
-/// What is missing of the ancestries of some ids: `None` where each of them is connected, and else
-/// an id that one of them reaches and that is not held.
+/// Returns an id that the graph does not contain and that one of the given ids reaches. Returns
+/// `None` if each of the given ids is connected.
 ///
-/// In an ordered graph it looks the ids up, and takes no memory. It fails with `Memory` alone.
+/// In an ordered graph it looks the ids up, and does not allocate. Fails only with `Memory`.
 pub fn missing<A: Allocator + Copy>(
     graph: &Graph<A>,
     ids: &[Oid],
@@ -35,7 +35,7 @@ pub fn missing<A: Allocator + Copy>(
 {
     // Laws.
     gdag::laws::ordered_is_closed::<A>();
-    gdag::laws::closed_is_full::<A>();
+    gdag::laws::closed_is_connected::<A>();
     if graph.is_ordered() {
         return Ok(graph.first_absent(ids));
     }
@@ -43,9 +43,10 @@ pub fn missing<A: Allocator + Copy>(
     Ok(missing)
 }
 
-/// What `missing` answers, and how many held ids the ids reach, with how many parents.
+/// Returns the result of `missing`, the number of ids of the graph that the given ids reach, and
+/// the number of their parents.
 ///
-/// It fails with `Memory` alone.
+/// Fails only with `Memory`.
 pub fn missing_counted<A: Allocator + Copy>(
     graph: &Graph<A>,
     ids: &[Oid],
@@ -55,19 +56,20 @@ pub fn missing_counted<A: Allocator + Copy>(
         pair.1.parents) }
     ensures fault { IfErr result (λ fault. fault ≡ Memory) }
 {
-    missing_known(graph, ids, &FullMarks::new(graph.allocator()))
+    missing_known(graph, ids, &ConnectedMarks::new(graph.allocator()))
 }
 
-/// What `missing` answers, by a walk that doesn't go on from marked ids; and how many held ids the ids
-/// reach by steps that leave unmarked ids, with how many parents the unmarked ones of these have.
+/// Returns the result of `missing`, by a walk that stops at marked ids. The count has the ids of
+/// the graph that the given ids reach by steps from unmarked ids, and the parents of the unmarked
+/// ones.
 ///
-/// It fails with `Memory` alone.
+/// Fails only with `Memory`.
 pub fn missing_known<A: Allocator + Copy>(
     graph: &Graph<A>,
     ids: &[Oid],
-    known: &FullMarks<A>,
+    known: &ConnectedMarks<A>,
 ) -> Result<(Option<Oid>, Count), GraphFault>
-    requires { AreFull graph.now.entries known.now }
+    requires { AreConnected graph.now.entries known.now }
     ensures answer { IfOk result (λ pair. Misses graph.now.entries ids.now pair.0) }
     ensures count { IfOk result (λ pair.
         CountsReached (stop_at known.now graph.now.entries) ids.now pair.1.ids pair.1.parents) }

@@ -1,4 +1,4 @@
-//! What both ends have, and what reaches it.
+//! The ids that both ends have, and the ids that reach them.
 
 ghost use Rattle.std.specs.Prelude.{◌≡◌, ◌↔◌, ◌<◌, [], List, Ok, Some, length, not, is_some, filter, IfOk, IfErr, IsTrue, false, All, Contains};
 ghost use Rattle.std.specs.List.{Any};
@@ -16,10 +16,10 @@ use gdag::{Graph, GraphFault};
 use gname::Oid;
 use std::alloc::{AllocError, Allocator};
 
-/// The common ids (gitprotocol-v2(5), "fetch": `ACK`): the distinct haves that are held, in the order in
-/// which each comes first.
+/// Returns the common ids (gitprotocol-v2(5), "fetch": `ACK`): the distinct haves that the graph
+/// contains, in the order of their first occurrences.
 ///
-/// It fails with `Memory` alone.
+/// Fails only with `Memory`.
 pub fn common_ids<A: Allocator + Copy>(
     graph: &Graph<A>,
     haves: &[Oid],
@@ -31,29 +31,29 @@ pub fn common_ids<A: Allocator + Copy>(
     Ok(ids_at(graph, walk.met.as_slice())?)
 }
 
-/// Whether the first id reaches the second: whether they are one id, or a parent of the first, which is
-/// then held, reaches the second.
+/// Whether the first id reaches the second: they are the same id, or a parent of the first reaches
+/// the second. In the latter case the graph contains the first.
 ///
-/// In an ordered graph it passes once over the objects from the second id to the first. In any other it walks
-/// from the first id no further than to the second. It fails with `Memory` alone.
+/// In an ordered graph it passes once over the objects from the second id to the first. In any
+/// other graph it walks from the first id, but not past the second. Fails only with `Memory`.
 pub fn reaches<A: Allocator + Copy>(graph: &Graph<A>, a: &Oid, b: &Oid) -> Result<bool, GraphFault>
     ensures answer { IfOk result (λ answer. IsTrue answer
         ↔ Reaches graph.now.entries a.now b.now) }
     ensures fault { IfErr result (λ fault. fault ≡ Memory) }
 {
     if graph.is_ordered() {
-        return gtopowalk::reaches(graph, a, b);
+        return crate::ordered::reaches(graph, a, b);
     }
     let goals = Goals::new(graph, &[*b])?;
     Ok(goals.reached_by(graph, a)?)
 }
 
-/// Whether enough is common for a pack (gitprotocol-v2(5), "fetch": `ready`): there are common ids, and
-/// each want reaches one of them. Where there are none it takes no memory.
+/// Whether enough is common for a pack (gitprotocol-v2(5), "fetch": `ready`): there are common ids,
+/// and each want reaches one of them. It does not allocate if there are none.
 ///
-/// In an ordered graph it passes once over the objects from the first common id to the last want. In any
-/// other it walks from each want no further than to the first common id that it meets. It fails with
-/// `Memory` alone.
+/// In an ordered graph it passes once over the objects from the first common id to the last want.
+/// In any other graph it walks from each want, but not past the first common id that it meets.
+/// Fails only with `Memory`.
 pub fn ready<A: Allocator + Copy>(
     graph: &Graph<A>,
     wants: &[Oid],
@@ -65,7 +65,7 @@ pub fn ready<A: Allocator + Copy>(
     ensures fault { IfErr result (λ fault. fault ≡ Memory) }
 {
     if graph.is_ordered() {
-        return gtopowalk::ready(graph, wants, commons);
+        return crate::ordered::ready(graph, wants, commons);
     }
     if commons.is_empty() {
         return Ok(false);
@@ -91,7 +91,7 @@ fn all_reach<A: Allocator + Copy>(
     Ok(true)
 }
 
-/// The walk that has met the ids and went no further. It fails where there is no memory.
+/// Returns a walk that has met only the given ids. Fails only if out of memory.
 pub fn met_of<A: Allocator + Copy>(graph: &Graph<A>, ids: &[Oid]) -> Result<Walk<A>, AllocError>
     ensures { IfOk result (λ walk. HasMet graph.now.entries (new_ids [] ids.now)
         walk.marks.items walk.met.items walk.lost walk.parents) }
@@ -101,29 +101,29 @@ pub fn met_of<A: Allocator + Copy>(graph: &Graph<A>, ids: &[Oid]) -> Result<Walk
     Ok(walk)
 }
 
-// The ids at some positions.
+// Returns the ids at some positions.
 fn ids_at<A: Allocator + Copy>(
     graph: &Graph<A>,
     numbers: &[usize],
 ) -> Result<Vec<Oid, A>, AllocError>
-    requires { All (λ number. number < length graph.now.entries) numbers.now }
+    requires { All (λ position. position < length graph.now.entries) numbers.now }
     ensures { IfOk result (λ ids. ids.items ≡ ids_at graph.now.entries numbers.now) }
 {
     let mut ids = Vec::new(graph.allocator());
-    for number in numbers {
-        ids.push(*graph.id_at(*number))?;
+    for position in numbers {
+        ids.push(*graph.id_at(*position))?;
     }
     Ok(ids)
 }
 
-// Whether the id is not held.
+// Whether the graph does not contain the id.
 fn is_absent<A: Allocator + Copy>(graph: &Graph<A>, id: &Oid) -> bool
     ensures { result ≡ not (is_some (node_at graph.now.entries id.now)) }
 {
     graph.node(id).is_none()
 }
 
-// Those of the ids that are not held.
+// Returns those of the ids that the graph does not contain.
 fn absent_of<A: Allocator + Copy>(graph: &Graph<A>, ids: &[Oid]) -> Result<Vec<Oid, A>, AllocError>
     ensures { IfOk result (λ absent.
         absent.items ≡ filter (λ a. not (is_some (node_at graph.now.entries a))) ids.now) }
@@ -134,7 +134,7 @@ fn absent_of<A: Allocator + Copy>(graph: &Graph<A>, ids: &[Oid]) -> Result<Vec<O
         .collect(graph.allocator())
 }
 
-// Whether one of the ids is on the list.
+// Whether one of the ids is in the list.
 fn has_one(list: &[Oid], ids: &[Oid]) -> bool
     ensures { IsTrue result ↔ Any (Contains list.now) ids.now }
 {
@@ -146,7 +146,7 @@ fn has_one(list: &[Oid], ids: &[Oid]) -> bool
     false
 }
 
-// Ids that a walk looks for: a mark at the position of each that is held, and the others.
+// The ids that a walk looks for: a mark at the position of each id of the graph, and the other ids.
 #[derive(Drop)]
 struct Goals<A: Allocator + Copy> {
     marks: Vec<bool, A>,
@@ -181,9 +181,9 @@ impl<A: Allocator + Copy> Goals<A> {
         walk.meet(graph, &[], start)?;
         let mut at = 0;
         while at < walk.met.len() {
-            let place = walk.met[at];
-            let parents = graph.parents(place);
-            if self.marks[place] {
+            let position = walk.met[at];
+            let parents = graph.parents(position);
+            if self.marks[position] {
                 return Ok(true);
             }
             if has_one(self.absent.as_slice(), parents) {

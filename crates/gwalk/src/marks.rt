@@ -2,9 +2,9 @@
 
 ghost use Rattle.std.specs.Prelude.{◌≡◌, ℕ, List, [], length, IfOk, ◌||◌, OnOk, OnErr, IfErr, All, slice_index_or, false};
 ghost use Rattle.gobject.specs.declared.node.Entry.{Entry};
-ghost use Rattle.gdag.specs.Reach.{IsFull};
+ghost use Rattle.gdag.specs.Reach.{IsConnected};
 ghost use Rattle.gdag.specs.declared.fault.GraphFault.TheVariants.{Memory};
-ghost use Rattle.gwalk.specs.Marks.{AreFull, MarksReached};
+ghost use Rattle.gwalk.specs.Marks.{AreConnected, MarksReached};
 
 use crate::walk::walk_from;
 use gdag::{Graph, GraphFault};
@@ -14,11 +14,11 @@ use std::marker::Model;
 
 /// Marks of connected ids, by their positions in a graph's store order.
 #[derive(Debug, Drop)]
-pub struct FullMarks<A: Allocator + Copy = Global> {
+pub struct ConnectedMarks<A: Allocator + Copy = Global> {
     marks: Vec<bool, A>,
 }
 
-impl<A: Allocator + Copy> Model for FullMarks<A> {
+impl<A: Allocator + Copy> Model for ConnectedMarks<A> {
     ghost use Rattle.std.specs.Prelude.{List, Bool};
 
     ghost Value = { List Bool };
@@ -26,25 +26,26 @@ impl<A: Allocator + Copy> Model for FullMarks<A> {
     ghost view = { λ it. it.marks.items };
 }
 
-impl<A: Allocator + Copy> FullMarks<A> {
-    /// No marks. It takes no memory.
-    pub fn new(alloc: A) -> FullMarks<A>
+impl<A: Allocator + Copy> ConnectedMarks<A> {
+    /// Returns an empty set of marks. It does not allocate.
+    pub fn new(alloc: A) -> ConnectedMarks<A>
         ensures none { result ≡ [] }
-        ensures full { (g : List (Entry A)) → AreFull g result }
+        ensures connected { (g : List (Entry A)) → AreConnected g result }
     {
-        FullMarks {
+        ConnectedMarks {
             marks: Vec::new(alloc),
         }
     }
 
-    /// Whether the id at the position is marked. Past the end there is no mark. It takes no memory.
-    pub fn marked(&self, number: usize) -> bool
-        ensures { result ≡ slice_index_or self.now number false }
+    /// Whether the id at the position is marked. There is no mark after the end. It does not
+    /// allocate.
+    pub fn is_marked(&self, position: usize) -> bool
+        ensures { result ≡ slice_index_or self.now position false }
     {
-        is_marked(self.marks.as_slice(), number)
+        is_marked(self.marks.as_slice(), position)
     }
 
-    // The marks by position.
+    // Returns the marks by position.
     pub(crate) fn as_slice(&self) -> &[bool]
         ensures { result.now ≡ self.now }
     {
@@ -52,18 +53,18 @@ impl<A: Allocator + Copy> FullMarks<A> {
     }
 }
 
-/// Marks all ids that the given ones, which are connected, reach. The others are marked as before.
+/// Marks all ids that the given ids, which are connected, reach. The other marks are unchanged.
 ///
-/// The marks then stand in memory of the graph's allocator. It fails with `Memory` alone, and leaves the marks
-/// as they were.
-pub fn mark_full<A: Allocator + Copy>(
+/// The marks are then in memory of the graph's allocator. Fails only with `Memory`, and leaves the
+/// marks unchanged.
+pub fn mark_connected<A: Allocator + Copy>(
     graph: &Graph<A>,
     ids: &[Oid],
-    marks: &mut FullMarks<A>,
+    marks: &mut ConnectedMarks<A>,
 ) -> Result<(), GraphFault>
-    requires { All (IsFull graph.now.entries) ids.now }
+    requires { All (IsConnected graph.now.entries) ids.now }
     ensures marked { OnOk result (MarksReached graph.now.entries ids.now marks.old marks.new) }
-    ensures full { AreFull graph.now.entries marks.old → AreFull graph.now.entries marks.new }
+    ensures connected { AreConnected graph.now.entries marks.old → AreConnected graph.now.entries marks.new }
     ensures unchanged { OnErr result (marks.new ≡ marks.old) }
     ensures fault { IfErr result (λ fault. fault ≡ Memory) }
 {
@@ -72,30 +73,30 @@ pub fn mark_full<A: Allocator + Copy>(
     Ok(())
 }
 
-/// A mark where one of the two has it. It fails where there is no memory.
+/// Returns a mark wherever one of the two has it. Fails only if out of memory.
 pub fn either<A: Allocator + Copy>(
     reached: Vec<bool, A>,
     old: &[bool],
 ) -> Result<Vec<bool, A>, AllocError>
-    ensures { IfOk result (λ marks. (number : ℕ) → slice_index_or marks.items number false
-        ≡ (slice_index_or reached.items number false || slice_index_or old.now number false)) }
+    ensures { IfOk result (λ marks. (position : ℕ) → slice_index_or marks.items position false
+        ≡ (slice_index_or reached.items position false || slice_index_or old.now position false)) }
 {
     let mut marks = reached;
-    for (number, mark) in old.iter().enumerate() {
-        if number >= marks.len() {
+    for (position, mark) in old.iter().enumerate() {
+        if position >= marks.len() {
             marks.push(*mark)?;
         } else if *mark {
-            marks[number] = true;
+            marks[position] = true;
         }
     }
     Ok(marks)
 }
 
-/// Whether a position is marked. One past the end is not.
-pub fn is_marked(marks: &[bool], number: usize) -> bool
-    ensures { result ≡ slice_index_or marks.now number false }
+/// Whether a position is marked. A position after the end is not.
+pub fn is_marked(marks: &[bool], position: usize) -> bool
+    ensures { result ≡ slice_index_or marks.now position false }
 {
-    match marks.get(number) {
+    match marks.get(position) {
         Some(mark) => *mark,
         None => false,
     }

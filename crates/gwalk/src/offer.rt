@@ -17,12 +17,13 @@ use gdag::{Graph, GraphFault};
 use gname::Oid;
 use std::alloc::{AllocError, Allocator, Global};
 
-/// The ids to offer as haves to another end that has `commons` (gitprotocol-v2(5), "fetch": `have`): the
-/// first `n` held ids, level by level, that no id of `commons` reaches and that are not in `sent`.
+/// Returns the ids to offer as haves to another end that has `commons` (gitprotocol-v2(5), "fetch":
+/// `have`). They are the first `n` ids of the graph, level by level, that no id of `commons`
+/// reaches and that are not in `sent`.
 ///
-/// Level 0 is the tips in order, each once. Each next level is the parents of the ids of the level before
-/// it, in order, each once, without ids of earlier levels; an id that is not held has no parents. It goes
-/// no further than to the level where it has `n`. It fails with `Memory` alone.
+/// Level 0 is the tips in order, each once. Each next level is the parents of the ids of the
+/// previous level, in order, each once, without ids of earlier levels. An id that the graph does
+/// not contain has no parents. It stops at the level where it has `n`. Fails only with `Memory`.
 pub fn haves<A: Allocator + Copy>(
     graph: &Graph<A>,
     tips: &[Oid],
@@ -39,30 +40,30 @@ pub fn haves<A: Allocator + Copy>(
     Ok(ids)
 }
 
-/// A walk from some tips, and how many of the ids that it met were taken up.
+/// A walk from some tips, and how many of the ids that it met were visited.
 #[derive(Drop)]
 pub(crate) struct Tour<A: Allocator + Copy> {
     pub(crate) walk: Walk<A>,
     pub(crate) at: usize,
 }
 
-/// Ids that are offered as haves batch by batch, level by level from some tips. The walk goes on where it was, so all
-/// batches together cost what one walk costs.
+/// Ids that are offered as haves in batches, level by level from some tips. The walk is resumed, so
+/// all batches together cost one walk.
 #[derive(Drop)]
 pub struct Offers<A: Allocator + Copy = Global> {
     tour: Tour<A>,
-    // A mark at the position of each held id that a common id reaches.
+    // A mark at the position of each id of the graph that a common id reaches.
     known: Vec<bool, A>,
-    // How many ids are common.
+    // The number of common ids.
     heard: usize,
     // The ids that were offered.
     sent: Walk<A>,
 }
 
 impl<A: Allocator + Copy> Offers<A> {
-    /// Begins at the tips, where these ids were offered before and none is common yet.
+    /// Starts at the tips. The ids in `sent` were offered before, and none is common yet.
     ///
-    /// It fails with `Memory` alone.
+    /// Fails only with `Memory`.
     pub fn new(graph: &Graph<A>, tips: &[Oid], sent: &[Oid]) -> Result<Offers<A>, GraphFault>
         ensures offers { IfOk result (AreOffers graph.now.entries tips.now [] sent.now) }
         ensures fault { IfErr result (λ fault. fault ≡ Memory) }
@@ -78,10 +79,11 @@ impl<A: Allocator + Copy> Offers<A> {
         })
     }
 
-    /// The next batch: what [`haves`] answers where these ids are common and all batches before were sent. The common
-    /// ids begin with those of the call before, and the graph is the same.
+    /// Returns the next batch: the result of [`haves`] with `commons` as common, and all batches
+    /// before as sent. The common ids begin with those of the previous call, and the graph is the
+    /// same.
     ///
-    /// It fails with `Memory` alone, and then is of no more use.
+    /// Fails only with `Memory`, and then can't be used further.
     pub fn next(
         &mut self,
         graph: &Graph<A>,
@@ -107,7 +109,7 @@ impl<A: Allocator + Copy> Offers<A> {
         Ok(ids)
     }
 
-    // Marks what the common ids reach, of which the first ones were heard before.
+    // Marks all ids that the common ids reach. The first common ids were handled before.
     fn hear(&mut self, graph: &Graph<A>, commons: &[Oid]) -> Result<(), AllocError>
         requires { (tips first rest sent : List Id) × (commons.now ≡ first ++ rest)
             × AreOffers graph.now.entries tips first sent self.old }
@@ -127,15 +129,15 @@ impl<A: Allocator + Copy> Offers<A> {
     }
 }
 
-// Whether the id at the position is marked neither as known nor as sent.
-fn is_untold(known: &[bool], sent: &[bool], number: usize) -> bool
-    ensures { result ≡ (not (slice_index_or known.now number false) &&
-        not (slice_index_or sent.now number false)) }
+// Whether the position is marked neither as known nor as sent.
+fn is_untold(known: &[bool], sent: &[bool], position: usize) -> bool
+    ensures { result ≡ (not (slice_index_or known.now position false) &&
+        not (slice_index_or sent.now position false)) }
 {
-    !is_marked(known, number) && !is_marked(sent, number)
+    !is_marked(known, position) && !is_marked(sent, position)
 }
 
-// The first `n` ids that are untold of those that the tour goes on to.
+// Returns the first `n` ids of the rest of the tour that are marked neither as known nor as sent.
 fn first_untold<A: Allocator + Copy>(
     graph: &Graph<A>,
     tour: &mut Tour<A>,
@@ -164,11 +166,11 @@ fn first_untold<A: Allocator + Copy>(
             tour.at = at;
             return Ok(list);
         }
-        let number = tour.walk.met[at];
-        if is_untold(known, sent, number) {
-            list.push(*graph.id_at(number))?;
+        let position = tour.walk.met[at];
+        if is_untold(known, sent, position) {
+            list.push(*graph.id_at(position))?;
         }
-        tour.walk.meet_all(graph, &[], graph.parents(number))?;
+        tour.walk.meet_all(graph, &[], graph.parents(position))?;
         at += 1;
     }
     tour.at = at;

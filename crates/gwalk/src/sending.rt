@@ -3,13 +3,13 @@
 ghost use Rattle.std.specs.Prelude.{◌≡◌, ◌↔◌, ◌⊎◌, [], IfOk, IfErr, IfSome, IsSome, IsTrue, ℕ, Some, length, slice_index_or, true, false};
 ghost use Rattle.std.specs.Map.{values_of};
 ghost use Rattle.gname.specs.Ids.{Id};
-ghost use Rattle.gobject.specs.Objects.{place_of};
+ghost use Rattle.gobject.specs.Objects.{position_of};
 ghost use Rattle.gdag.specs.Graphs.{IsGraph};
 ghost use Rattle.gdag.specs.Peeling.{IsTagOf, PeelsTo};
 ghost use Rattle.gdag.specs.Sending.{IsListToSend, IsNew};
 ghost use Rattle.gdag.specs.declared.fault.GraphFault.TheVariants.{Memory};
 ghost use Rattle.gwalk.specs.steps.Tags.{AreTagged, IsTagFrom, LeadsToMarked};
-ghost use Rattle.gwalk.specs.Walks.{AreMarked, marked};
+ghost use Rattle.gwalk.specs.Walks.{AreMarked, marked_entries};
 
 use crate::marks::is_marked;
 use crate::walk::walk_from;
@@ -20,11 +20,11 @@ use gobject::{Entry, Kind};
 use grefs::Refs;
 use std::alloc::{AllocError, Allocator};
 
-/// The entries to send for the wants to one in whose graph the common ids are connected
-/// (gitprotocol-v2(5), "fetch": `want`, `have`): those that some want reaches and no common id reaches,
-/// in store order.
+/// Returns the entries to send for the wants to a receiver in whose graph the common ids are
+/// connected (gitprotocol-v2(5), "fetch": `want`, `have`). They are the entries that some want
+/// reaches and no common id reaches, in store order.
 ///
-/// It fails with `Memory` alone.
+/// Fails only with `Memory`.
 pub fn send_list<A: Allocator + Copy>(
     graph: &Graph<A>,
     wants: &[Oid],
@@ -41,11 +41,11 @@ pub fn send_list<A: Allocator + Copy>(
     Ok(list_to_send(graph, wants, commons, &[])?)
 }
 
-/// The entries to send with `include-tag` (gitprotocol-v2(5), "fetch"): those of `send_list`, and each tag
-/// before the commit on the chain of tags that begins at the id of a ref, where `send_list` has that
-/// commit. In store order.
+/// Returns the entries to send with `include-tag` (gitprotocol-v2(5), "fetch"), in store order.
+/// They are the entries of `send_list`, and each tag on the chain of tags from a ref's id to a
+/// commit of `send_list`.
 ///
-/// It fails with `Memory` alone.
+/// Fails only with `Memory`.
 pub fn send_list_tags<A: Allocator + Copy>(
     graph: &Graph<A>,
     wants: &[Oid],
@@ -64,7 +64,8 @@ pub fn send_list_tags<A: Allocator + Copy>(
     Ok(list_to_send(graph, wants, commons, tips.as_slice())?)
 }
 
-// The list to send, with the tags that lead from the tips: by a pass where parents came first, else by walks.
+// Returns the list to send, with the tags of the tips. It uses a pass if parents come first, and
+// walks otherwise.
 fn list_to_send<A: Allocator + Copy>(
     graph: &Graph<A>,
     wants: &[Oid],
@@ -77,12 +78,12 @@ fn list_to_send<A: Allocator + Copy>(
     ensures fault { IfErr result (λ fault. fault ≡ Memory) }
 {
     if graph.is_ordered() {
-        return gtopowalk::send_list(graph, wants, commons, tips);
+        return crate::ordered::send_list(graph, wants, commons, tips);
     }
     Ok(walked_list(graph, wants, commons, tips)?)
 }
 
-// The same by walks.
+// Returns the same list by walks.
 fn walked_list<A: Allocator + Copy>(
     graph: &Graph<A>,
     wants: &[Oid],
@@ -98,7 +99,7 @@ fn walked_list<A: Allocator + Copy>(
     Ok(entries_at(graph, marks.as_slice())?)
 }
 
-// The marks, and one for each tag on a chain of tags from a tip to a marked commit.
+// Returns the marks, with one for each tag on a chain of tags from a tip to a marked commit.
 fn with_tags<A: Allocator + Copy>(
     graph: &Graph<A>,
     new: &[bool],
@@ -123,23 +124,23 @@ fn leads_to_marked<A: Allocator + Copy>(graph: &Graph<A>, marks: &[bool], id: &O
     let Some(commit) = graph.peel(id) else {
         return false;
     };
-    let Some(number) = graph.number(&commit) else {
+    let Some(position) = graph.position(&commit) else {
         return false;
     };
-    is_marked(marks, number)
+    is_marked(marks, position)
 }
 
-// A tag's position, and the id that it names.
+// The position of a tag, and the id that it names.
 #[derive(Clone, Copy)]
 struct Tag {
-    number: usize,
+    position: usize,
     named: Oid,
 }
 
-// The tag under the id.
+// Returns the tag under the id.
 fn tag_at<A: Allocator + Copy>(graph: &Graph<A>, id: &Oid) -> Option<Tag>
     ensures found { IfSome result (λ tag.
-        (place_of graph.now.entries id.now ≡ Some tag.number)
+        (position_of graph.now.entries id.now ≡ Some tag.position)
         × IsTagOf graph.now.entries id.now tag.named) }
     ensures only { (b : Id) → IsTagOf graph.now.entries id.now b → IsSome result }
 {
@@ -148,8 +149,8 @@ fn tag_at<A: Allocator + Copy>(graph: &Graph<A>, id: &Oid) -> Option<Tag>
         return None;
     }
     let named = *node.parents.as_slice().first()?;
-    let number = graph.number(id)?;
-    Some(Tag { number, named })
+    let position = graph.position(id)?;
+    Some(Tag { position, named })
 }
 
 // Marks the tags of the chain that begins at the id and leads to a commit.
@@ -157,9 +158,9 @@ fn mark_chain<A: Allocator + Copy>(graph: &Graph<A>, marks: &mut Vec<bool, A>, i
     requires long { length marks.old.items ≡ length graph.now.entries }
     requires ends { (c : Id) × PeelsTo graph.now.entries id.now c }
     ensures long { length marks.new.items ≡ length graph.now.entries }
-    ensures each { (place : ℕ) (a : Id) → place_of graph.now.entries a ≡ Some place →
-        (slice_index_or marks.new.items place false ≡ true) ↔
-        ((slice_index_or marks.old.items place false ≡ true)
+    ensures each { (position : ℕ) (a : Id) → position_of graph.now.entries a ≡ Some position →
+        (slice_index_or marks.new.items position false ≡ true) ↔
+        ((slice_index_or marks.old.items position false ≡ true)
         ⊎ IsTagFrom graph.now.entries id.now a) }
 {
     let mut at = *id;
@@ -167,12 +168,12 @@ fn mark_chain<A: Allocator + Copy>(graph: &Graph<A>, marks: &mut Vec<bool, A>, i
         let Some(tag) = tag_at(graph, &at) else {
             return;
         };
-        marks[tag.number] = true;
+        marks[tag.position] = true;
         at = tag.named;
     }
 }
 
-// A mark at the position of each entry that some want reaches and no common id does.
+// Returns a mark at the position of each entry that some want reaches and no common id does.
 fn new_marks<A: Allocator + Copy>(
     graph: &Graph<A>,
     wants: &[Oid],
@@ -185,27 +186,27 @@ fn new_marks<A: Allocator + Copy>(
     let known = walk_from(graph, commons)?;
     let wanted = walk_from(graph, wants)?;
     let mut marks = wanted.marks;
-    for place in 0..marks.len() {
-        if known.marks[place] {
-            marks[place] = false;
+    for position in 0..marks.len() {
+        if known.marks[position] {
+            marks[position] = false;
         }
     }
     Ok(marks)
 }
 
-// The entries at marked positions, in store order.
+// Returns the entries at marked positions, in store order.
 fn entries_at<A: Allocator + Copy>(
     graph: &Graph<A>,
     marks: &[bool],
 ) -> Result<Vec<Entry<A>, A>, AllocError>
     requires { length marks.now ≡ length graph.now.entries }
-    ensures { IfOk result (λ list. list.items ≡ marked graph.now.entries marks.now) }
+    ensures { IfOk result (λ list. list.items ≡ marked_entries graph.now.entries marks.now) }
 {
     let alloc = graph.allocator();
     let mut list = Vec::new(alloc);
-    for (place, mark) in marks.iter().enumerate() {
+    for (position, mark) in marks.iter().enumerate() {
         if *mark {
-            list.push(graph.entry_in(place, alloc)?)?;
+            list.push(graph.entry_in(position, alloc)?)?;
         }
     }
     Ok(list)

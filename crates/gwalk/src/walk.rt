@@ -1,4 +1,4 @@
-//! The walk from some objects to their parents, and on to theirs.
+//! The walk from some objects to all their ancestors.
 
 ghost use Rattle.std.specs.Prelude.{◌≡◌, ◌<◌, ◌∷◌, ◌++◌, [], Bool, List, slice_get, length, IfOk, OnOk, Some};
 ghost use Rattle.std.specs.Option.{option_map};
@@ -13,38 +13,38 @@ use gdag::Graph;
 use gname::Oid;
 use std::alloc::{AllocError, Allocator};
 
-/// What a walk has met so far. Each held id is taken up once.
+/// The state of a walk. Each id of the graph is visited once.
 #[derive(Drop)]
 pub struct Walk<A: Allocator + Copy> {
-    /// A mark at the position of each held id that was met.
+    /// A mark at the position of each id of the graph that was met.
     pub marks: Vec<bool, A>,
-    /// The positions of these, level by level.
+    /// Their positions, level by level.
     pub met: Vec<usize, A>,
-    /// An id that was met and is not held, where there is one.
+    /// An id that was met and is not in the graph, if there is one.
     pub lost: Option<Oid>,
-    /// How many parents the met nodes have, those of known ones left out.
+    /// The number of parents of the met nodes, without the parents of known ones.
     pub parents: u64,
 }
 
-/// The parents of the node at a position; none where the position is marked as known.
+/// Returns the parents of the node at a position, or none if the position is marked as known.
 pub fn parents_past<'a, A: Allocator + Copy>(
     graph: &'a Graph<A>,
     known: &[bool],
-    place: usize,
+    position: usize,
 ) -> &'a [Oid]
-    requires { place < length graph.now.entries }
+    requires { position < length graph.now.entries }
     ensures { option_map (λ entry. entry.node.parents)
-        (slice_get (stop_at known.now graph.now.entries) place)
+        (slice_get (stop_at known.now graph.now.entries) position)
         ≡ Some result.now }
 {
-    if is_marked(known, place) {
+    if is_marked(known, position) {
         return &[];
     }
-    graph.parents(place)
+    graph.parents(position)
 }
 
 impl<A: Allocator + Copy> Walk<A> {
-    /// A walk that has met nothing. It fails where there is no memory.
+    /// Returns a walk that has met nothing. Fails only if out of memory.
     pub fn new(graph: &Graph<A>) -> Result<Walk<A>, AllocError>
         ensures graph { IsGraph graph.now }
         ensures met { IfOk result (λ walk. (known : List Bool) →
@@ -61,7 +61,7 @@ impl<A: Allocator + Copy> Walk<A> {
         })
     }
 
-    /// Meets an id. It fails where there is no memory; the walk is then of no use.
+    /// Meets an id. Fails only if out of memory. After that, the walk can't be used further.
     pub fn meet(&mut self, graph: &Graph<A>, known: &[bool], id: &Oid) -> Result<(), AllocError>
         requires graph { IsGraph graph.now }
         requires has { (ids : List Id) × HasMet (stop_at known.now graph.now.entries) ids
@@ -72,19 +72,19 @@ impl<A: Allocator + Copy> Walk<A> {
             HasMet (stop_at known.now graph.now.entries) (ids ++ new_ids ids (id.now ∷ []))
             self.new.marks.items self.new.met.items self.new.lost self.new.parents) }
     {
-        let Some(place) = graph.number(id) else {
+        let Some(position) = graph.position(id) else {
             self.lost = Some(*id);
             return Ok(());
         };
-        if !self.marks[place] {
-            self.met.push(place)?;
-            self.marks[place] = true;
-            self.parents += parents_past(graph, known, place).len() as u64;
+        if !self.marks[position] {
+            self.met.push(position)?;
+            self.marks[position] = true;
+            self.parents += parents_past(graph, known, position).len() as u64;
         }
         Ok(())
     }
 
-    /// Meets some ids, in order. It fails as `meet` does.
+    /// Meets some ids, in order. Fails as `meet` does.
     pub fn meet_all(
         &mut self,
         graph: &Graph<A>,
@@ -107,8 +107,8 @@ impl<A: Allocator + Copy> Walk<A> {
     }
 }
 
-/// Walks from the ids to all that they reach by steps that leave ids which are not known. It fails
-/// where there is no memory.
+/// Walks from the ids to all ids that they reach by steps from ids that are not known. Fails only
+/// if out of memory.
 pub fn walk_past<A: Allocator + Copy>(
     graph: &Graph<A>,
     known: &[bool],
@@ -122,14 +122,14 @@ pub fn walk_past<A: Allocator + Copy>(
     walk.meet_all(graph, known, starts)?;
     let mut at = 0;
     while at < walk.met.len() {
-        let place = walk.met[at];
-        walk.meet_all(graph, known, parents_past(graph, known, place))?;
+        let position = walk.met[at];
+        walk.meet_all(graph, known, parents_past(graph, known, position))?;
         at += 1;
     }
     Ok(walk)
 }
 
-/// Walks from the ids to all that they reach. It fails where there is no memory.
+/// Walks from the ids to all ids that they reach. Fails only if out of memory.
 pub fn walk_from<A: Allocator + Copy>(
     graph: &Graph<A>,
     starts: &[Oid],

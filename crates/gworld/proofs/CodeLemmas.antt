@@ -16,10 +16,10 @@ use Rattle.gsession.specs.declared.fault.ClientFault.{ClientFault}
 use Rattle.ganswer.specs.Answers.{Answers, Refuses, Reply}
 use Rattle.ganswer.specs.Faults.{serve_fault_row, build_fault_row}
 use Rattle.ganswer.specs.declared.fault.ServeFault.{ServeFault}
-use Rattle.ggrammar.specs.MessageBytes.{known}
+use Rattle.ggrammar.specs.MessageBytes.{known_bytes}
 use Rattle.ggrammar.specs.MessageReading.{IsReadFailure}
 use Rattle.gobject.specs.Packs.{Indexes, IndexFails, Packs, PackFails}
-use Rattle.gpkt.specs.LineReading.{Reader}
+use Rattle.gpkt.specs.PacketReading.{Reader}
 use Rattle.gsession.specs.TakingRefs.{TakesLs}
 use Rattle.gsession.specs.TakingReplies.{TakesReply}
 use Rattle.gsession.specs.declared.fault.ClientFault.TheVariants as client
@@ -37,7 +37,7 @@ use Rattle.gclientrepo.specs.Laws.{RefusalsChangeNothing}
 use Rattle.gclientrepo.specs.declared.fault.RepoFault.{RepoFault}
 use Rattle.gworld.specs.steps.Bringing.{BringsTo, IsAwaited, TakesIfOpen, objects_outcome, refs_outcome}
 use Rattle.gworld.specs.Events.{AddsAtClient, AddsAtServer, AsksNext, Delivers, Forges, ServesRequest, SettlesRefs}
-use Rattle.gworld.specs.Events.{mark_after, settled_outcome, waiting, waits_for}
+use Rattle.gworld.specs.Events.{mark_after, settled_outcome, waiting_session, waits_for}
 use Rattle.gworld.specs.Taking.{TakesObjects, TakesRefs, code_of}
 use Rattle.gworld.specs.Worlds.{Kept, WorldState}
 use Rattle.gworld.specs.declared.outcome.Outcome.{Outcome}
@@ -62,7 +62,7 @@ module _ {A : Type 0} {w now : WorldState A} (same : w ≡ now) where
   -- ---- the session
 
   -- a request waits for its reply
-  pub waits_on : (s : SessionState A) → w.session ≡ Some s → IsSome s.pending → IsSome (waiting now.session)
+  pub waits_on : (s : SessionState A) → w.session ≡ Some s → IsSome s.pending → IsSome (waiting_session now.session)
   waits_on s is waits = rw (← same, is) (some_waits s s.pending waits)
 
   -- where no request is due, none is made
@@ -184,23 +184,23 @@ module _ {A : Type 0} {w now : WorldState A} (same : w ≡ now) where
         → MatchResult result (λ (o : Outcome). BringsTo indexes index_fails kept count s.pending s w.repo w.answered o
         after repo mark) (λ (e : E). (after ≡ s) × (repo ≡ w.repo) × (mark ≡ w.answered) × IsSome s.pending)
         → MatchResult result (λ (o : Outcome). Delivers indexes index_fails now (slice_get now.kept number) count
-        (waiting now.session) o (record w { session = Some after; repo = repo; answered = mark }))
+        (waiting_session now.session) o (record w { session = Some after; repo = repo; answered = mark }))
         (λ (e : E). (record w { session = Some after; repo = repo; answered = mark } ≡ now)
-        × IsSome (slice_get now.kept number) × IsSome (waiting now.session))
+        × IsSome (slice_get now.kept number) × IsSome (waiting_session now.session))
     brought_result number count kept s after repo mark (Ok outcome) at is brings =
         let new : WorldState A = record w { session = Some after; repo = repo; answered = mark } in
         let to = brought_to kept count s after repo s.pending outcome mark is brings in
         rw (← same, at) (subst (λ (o : Option (SessionState A)). Delivers indexes index_fails w (Some kept) count
-        (waiting o) outcome new) (sym is) to)
+        (waiting_session o) outcome new) (sym is) to)
     brought_result number count kept s after repo mark (Err e) at is brings =
         (as_before s after repo mark is brings.0 brings.1 brings.2 ∙ same, rw (← same, at) refl, waits_on s is brings.3)
 
     pub none_delivered : (number count : ℕ) → slice_get w.kept number ≡ None
-        → Delivers indexes index_fails now (slice_get now.kept number) count (waiting now.session) (Fault 93) now
+        → Delivers indexes index_fails now (slice_get now.kept number) count (waiting_session now.session) (Fault 93) now
     none_delivered number count at = rw (← same, at) (refl, refl)
 
     pub not_open : (number count : ℕ) (kept : Kept) → slice_get w.kept number ≡ Some kept → w.session ≡ None
-        → Delivers indexes index_fails now (slice_get now.kept number) count (waiting now.session) (Fault 83) w
+        → Delivers indexes index_fails now (slice_get now.kept number) count (waiting_session now.session) (Fault 83) w
     not_open number count kept at is = rw (← same, at, is) (refl, refl)
 
     forged_to : (bytes : List ℕ) (s after : SessionState A) (repo : RepoState A) (pending : Option Asked)
@@ -214,19 +214,19 @@ module _ {A : Type 0} {w now : WorldState A} (same : w ≡ now) where
     pub forged_step : (bytes : List ℕ) (s after : SessionState A) (repo : RepoState A) (took : Option Outcome)
         (outcome : Outcome) → w.session ≡ Some s → took ≡ Some outcome
         → TakesIfOpen indexes index_fails s.pending s w.repo bytes took after repo
-        → Forges indexes index_fails now bytes (waiting now.session) outcome
+        → Forges indexes index_fails now bytes (waiting_session now.session) outcome
         (record w { session = Some after; repo = repo; forged = true; answered = false })
     forged_step bytes s after repo took outcome is told takes =
         let open_takes = subst (λ (o : Option Outcome). TakesIfOpen indexes index_fails s.pending s w.repo bytes o after
         repo) told takes in
         let new : WorldState A = record w { session = Some after; repo = repo; forged = true; answered = false } in
-        rw (← same) (subst (λ (o : Option (SessionState A)). Forges indexes index_fails w bytes (waiting o) outcome new)
+        rw (← same) (subst (λ (o : Option (SessionState A)). Forges indexes index_fails w bytes (waiting_session o) outcome new)
         (sym is) (forged_to bytes s after repo s.pending outcome open_takes))
 
 -- what a reply to ls-refs comes to
 pub took_refs : {A S : Type 0} (is_down : S → Bool) (old new : Reader S) (s after : SessionState A) (repo : RepoState A)
     (bytes left : List ℕ) (result : Result (LsTaken A) (ClientFault A)) → old.failed ≡ false
-    → is_down new.source ≡ false → TakesLs s repo.graph.entries (known bytes left) after result
+    → is_down new.source ≡ false → TakesLs s repo.graph.entries (known_bytes bytes left) after result
     → LeavesReplies is_down old new result → TakesRefs s repo bytes (refs_outcome result) after repo
 took_refs is_down old new s after repo bytes left (Ok taken) well up takes leaves =
     (left, taken, takes, refl, refl, refl)
@@ -240,7 +240,7 @@ took_refs is_down old new s after repo bytes left (Err fault) well up takes leav
 pub took_objects : {A S : Type 0} (indexes : Indexes A) (index_fails : IndexFails) (is_down : S → Bool)
     (old new : Reader S) (s after : SessionState A) (repo moved : RepoState A) (bytes left : List ℕ)
     (result : Result Taken (ClientFault A)) → old.failed ≡ false → is_down new.source ≡ false
-    → TakesReply indexes index_fails s repo (known bytes left) after moved result
+    → TakesReply indexes index_fails s repo (known_bytes bytes left) after moved result
     → LeavesReplies is_down old new result
     → TakesObjects indexes index_fails s repo bytes (objects_outcome result) after moved
 took_objects indexes index_fails is_down old new s after repo moved bytes left (Ok (Round common)) well up takes leaves =

@@ -4,7 +4,7 @@ use Rattle.std.proofs.lemmas.List.Elements.{All-weaker, All-contains}
 use Rattle.gname.specs.Limits.{max_pack}
 use Rattle.gname.specs.declared.formats.Format.{Format}
 use Rattle.ggrammar.specs.Kinds.{ReadsMessage}
-use Rattle.ggrammar.specs.MessageBytes.{known}
+use Rattle.ggrammar.specs.MessageBytes.{known_bytes}
 use Rattle.ggrammar.specs.declared.ends.Ends.{Ends}
 use Rattle.ggrammar.specs.declared.ends.Ends.TheVariants.{Plain}
 use Rattle.glsreply.specs.LsReplies as refs
@@ -17,7 +17,7 @@ use Rattle.gobject.specs.declared.node.Entry.{Entry}
 use Rattle.gdag.specs.Graphs.{Holds, IsNode}
 use Rattle.gdag.specs.Insert.{Inserts}
 use Rattle.gdag.specs.Laws.{AgreesWith, HasAll}
-use Rattle.gdag.specs.Reach.{Agree, Grows, IsFull, Reaches}
+use Rattle.gdag.specs.Reach.{Agree, Grows, IsConnected, Reaches}
 use Rattle.grequest.specs.Asked.{Asked, Empty, Ls, Fetches, FetchAsked, is_direct, max_haves}
 use Rattle.gclientrepo.specs.Repos.{RepoState}
 use Rattle.ganswer.specs.Answers.{Answers, Reply, Ls as Refs, Fetch as Objects}
@@ -27,7 +27,7 @@ use Rattle.ganswer.specs.Servers.{IsServer, Server}
 use Rattle.gsession.specs.Sessions.{SessionState, IsSession}
 use Rattle.gsession.specs.TakingReplies.{ReadsFetch, reading_for, Awaits, HasPack, after_acks, InsertsPack}
 use Rattle.gworld.specs.Sound.{IsUnforgedAndFaithful, IsSoundKept, IsSoundRequest, IsSoundFetch, IsSoundSession}
-use Rattle.gworld.specs.Sound.{IsWantedOrFull, IsSound}
+use Rattle.gworld.specs.Sound.{IsWantedOrConnected, IsSound}
 use Rattle.gworld.specs.Worlds.{Kept, PackTools, WorldState, reply_bytes}
 use Rattle.gworld.proofs.Reading.{objects_read, objects_unlike, refs_read, refs_unlike}
 use Rattle.gclientrepo.specs.Asks.{asked_ids}
@@ -70,7 +70,7 @@ module _ {A : Type 0} {tools : PackTools A} (laws : WorldLaws tools) where
     lines_told : (asked : Asked) (reply : Reply) (told : LsReply) → Grows server.graph.entries w.server.graph.entries
         → Answers server tools.packs asked reply → IsSoundRequest w asked
         → ReadsMessage (refs.judge server.graph.format Plain) (refs.Says server.graph.format Plain)
-        (known (take count (reply_bytes reply)) left) told
+        (known_bytes (take count (reply_bytes reply)) left) told
         → All (λ (line : RefLine). Holds w.server.graph.entries line.id) told.lines
     lines_told (Ls asked) (Refs reply) told grown answers sound reads =
         let g = server.graph.entries in
@@ -90,7 +90,7 @@ module _ {A : Type 0} {tools : PackTools A} (laws : WorldLaws tools) where
     pub kept_fetch : (reading : Reading) (asked : Asked) (reply : Reply) (read : FetchReply)
         → server.graph.format ≡ reading.format → reading.ends ≡ Plain
         → Answers server tools.packs asked reply → IsSoundRequest w asked
-        → ReadsFetch reading (known (take count (reply_bytes reply)) left) read → IsKeptFetch server asked reply read
+        → ReadsFetch reading (known_bytes (take count (reply_bytes reply)) left) read → IsKeptFetch server asked reply read
     kept_fetch reading (Ls asked) (Refs reply) read format plain answers sound reads =
         absurd (objects_unlike laws.reading server.graph.format reading reply read count left
         (laws.refs_fit server asked reply is answers) reads)
@@ -113,8 +113,8 @@ module _ {A : Type 0} {tools : PackTools A} (laws : WorldLaws tools) where
       let bytes = take count (reply_bytes kept.reply) in record {
         refs = λ unforged left reply reads.
             lines_told w is.server count left is.is kept.asked kept.reply reply is.grown is.answers is.request
-            (subst (λ (f : Format). ReadsMessage (refs.judge f Plain) (refs.Says f Plain) (known bytes left) reply) same
-            (subst (λ (e : Ends). ReadsMessage (refs.judge s.format e) (refs.Says s.format e) (known bytes left) reply)
+            (subst (λ (f : Format). ReadsMessage (refs.judge f Plain) (refs.Says f Plain) (known_bytes bytes left) reply) same
+            (subst (λ (e : Ends). ReadsMessage (refs.judge s.format e) (refs.Says s.format e) (known_bytes bytes left) reply)
             plain reads));
         objects = λ unforged asked left reply reads.
             let read = kept_fetch w is.server count left is.is (reading_for s asked) kept.asked kept.reply reply
@@ -142,10 +142,10 @@ module _ {A : Type 0} {tools : PackTools A} (laws : WorldLaws tools) where
   pack_completes : (w : WorldState A) (old : Server A) (asked : FetchAsked) (pack : List ℕ) (repo : RepoState A)
       (added : ℕ) → IsUnforgedAndFaithful tools w → Agree w.server.graph.entries w.repo.graph.entries
       → IsServer old → Grows old.graph.entries w.server.graph.entries → All (Holds old.graph.entries) asked.wants
-      → All (IsFull w.repo.graph.entries) asked.haves → IsEnough old tools.packs asked pack
+      → All (IsConnected w.repo.graph.entries) asked.haves → IsEnough old tools.packs asked pack
       → InsertsPack tools.indexes tools.index_fails w.repo pack repo added
       → IsCompleted w.server asked.wants repo.graph.entries
-  pack_completes w old asked pack repo added honest agree is grown held full enough inserts =
+  pack_completes w old asked pack repo added honest agree is grown held connected enough inserts =
       let g = w.repo.graph.entries in
       let server = w.server.graph.entries in
       let list = enough.list in
@@ -159,7 +159,7 @@ module _ {A : Type 0} {tools : PackTools A} (laws : WorldLaws tools) where
       (λ (entry : Entry A) here node there. let both = sym there ∙ keeps entry.id entry.node here in cc) list
       enough.nodes in record {
         all = laws.has_all old.graph.entries server repo.graph.entries asked.wants is.closed keeps held
-            (enough.enough g repo.graph.entries format before full comes);
+            (enough.enough g repo.graph.entries format before connected comes);
         agree = laws.agreeing server g list repo.graph.entries format agree nodes comes;
       }
 
@@ -193,31 +193,31 @@ module _ {A : Type 0} {tools : PackTools A} (laws : WorldLaws tools) where
         fetch = read.fetch;
         is_asked = read.is_asked;
         completed = pack_completes w is.server read.fetch (pack_of reply) repo added honest (world.agree honest) is.is
-            is.grown read.answers.can.held request.full enough head.2;
+            is.grown read.answers.can.held request.connected enough head.2;
       }
 
   -- ---- an answered session can settle
 
-  pub either_full : (g : List (Entry A)) (s : SessionState A) → All (IsFull g) s.wants → (a : List ℕ) → IsWantedOrFull g s a
-      → IsFull g a
-  either_full g s full a (inl wanted) = All-contains (IsFull g) s.wants a full wanted
-  either_full g s full a (inr there) = there
+  pub either_connected : (g : List (Entry A)) (s : SessionState A) → All (IsConnected g) s.wants → (a : List ℕ) → IsWantedOrConnected g s a
+      → IsConnected g a
+  either_connected g s connected a (inl wanted) = All-contains (IsConnected g) s.wants a connected wanted
+  either_connected g s connected a (inr there) = there
 
   -- `v` is the world after the pack came, in which the session was sound
   pub can_settle : {w v : WorldState A} {s : SessionState A} {kept : Kept} (after : SessionState A)
       (fetch : FetchAsked) (acks : List (List ℕ))
       → IsSession s → Awaits s fetch → kept.asked ≡ Fetches fetch → PackCame w kept v.repo → IsSoundSession v s
-      → after ≡ after_acks s Settling acks → All (IsFull v.repo.graph.entries) (asked_ids after.asks)
+      → after ≡ after_acks s Settling acks → All (IsConnected v.repo.graph.entries) (asked_ids after.asks)
   can_settle {w} {v} {s} {kept} after fetch acks session waits same came sound is =
       let g = v.repo.graph.entries in
       let both : Fetches came.fetch ≡ Fetches fetch = sym came.is_asked ∙ same in
       let one : came.fetch ≡ fetch = cc in
       let wants : came.fetch.wants ≡ s.wants =
       ap (λ (x : FetchAsked). x.wants) one ∙ (laws.waits s fetch session waits).wants in
-      let full : All (IsFull g) s.wants = subst (All (IsFull g)) wants
+      let connected : All (IsConnected g) s.wants = subst (All (IsConnected g)) wants
       (All-weaker
-      (λ (want : List ℕ). IsFull g want × ((a : List ℕ) → Reaches w.server.graph.entries want a → Holds g a))
-      (IsFull g) (λ (want : List ℕ) both. both.0) came.fetch.wants came.completed.all) in
-      subst (λ (x : SessionState A). All (IsFull g) (asked_ids x.asks)) (sym is)
-      (All-weaker (IsWantedOrFull g s) (IsFull g) (λ (a : List ℕ) either. either_full g s full a either)
+      (λ (want : List ℕ). IsConnected g want × ((a : List ℕ) → Reaches w.server.graph.entries want a → Holds g a))
+      (IsConnected g) (λ (want : List ℕ) both. both.0) came.fetch.wants came.completed.all) in
+      subst (λ (x : SessionState A). All (IsConnected g) (asked_ids x.asks)) (sym is)
+      (All-weaker (IsWantedOrConnected g s) (IsConnected g) (λ (a : List ℕ) either. either_connected g s connected a either)
       (asked_ids s.asks) sound.asked)

@@ -10,11 +10,11 @@ use Rattle.gname.specs.Limits.{max_pack}
 use Rattle.gname.specs.declared.formats.Format.{Format}
 use Rattle.gpkt.specs.Change.{Change}
 use Rattle.gpkt.specs.Packets.{Packet}
-use Rattle.gpkt.specs.declared.fault.LineFault.TheVariants as line
+use Rattle.gpkt.specs.declared.fault.PacketFault.TheVariants as line
 use Rattle.ggrammar.specs.Faults.{why_row}
 use Rattle.ggrammar.specs.Grammar.{Judge}
 use Rattle.ggrammar.specs.Kinds.{ReadsExactly, SaysAtFront}
-use Rattle.ggrammar.specs.MessageBytes.{IsFront, IsOfBytes, known}
+use Rattle.ggrammar.specs.MessageBytes.{IsFront, IsOfBytes, known_bytes}
 use Rattle.ggrammar.specs.MessageReading.{IsReadFailure, IsReasonAfter, ReadsRefused}
 use Rattle.ggrammar.specs.declared.ends.Ends.{Ends}
 use Rattle.ggrammar.specs.declared.ends.Ends.TheVariants.{Plain}
@@ -142,7 +142,7 @@ module _ {A : Type 0} {tools : PackTools A} (answers : WorldLaws tools) (laws : 
       (spelt : IsFront (canonical_reply Plain reply) (objects_bytes reply) []) where
     -- a reply whose pack is within the limit is not refused for a reason in its bytes
     within_limit : ReadsRefused (judge (limited format asked)) (brings (limited format asked)) front
-        (known (objects_bytes reply) left) fault
+        (known_bytes (objects_bytes reply) left) fault
         → IsOfBytes fault.why → length (pack_of reply) ≤ default_limit → ⊥
     within_limit refused certain short =
         let reading = limited format asked in
@@ -153,7 +153,7 @@ module _ {A : Type 0} {tools : PackTools A} (answers : WorldLaws tools) (laws : 
         ((laws.exactly reading (objects_bytes reply) left [] (Err fault) reply (front, refused) certain).1 there).0
 
     refused_told : (number : ℕ) → ReadsRefused (judge (limited format asked)) (brings_into false (limited format asked))
-        front (known (objects_bytes reply) left) fault
+        front (known_bytes (objects_bytes reply) left) fault
         → number ≡ (why_row fault.why).code → (fault.why ≡ why.Memory) ⊎ IsOfBytes fault.why
         → MayDecline tools r reply number
     refused_told number refused is (inl memory) =
@@ -161,7 +161,7 @@ module _ {A : Type 0} {tools : PackTools A} (answers : WorldLaws tools) (laws : 
     refused_told number refused is (inr certain) =
         let reading = limited format asked in
         let kept = refused_for_bytes (judge reading) (brings_into false reading) (brings reading) front
-        (known (objects_bytes reply) left) fault certain refused in
+        (known_bytes (objects_bytes reply) left) fault certain refused in
         let over : fault.why ≡ why.Limit = laws.over_limit reading max_pack (canonical_reply Plain reply) front reply
         (objects_bytes reply) left [] fault says spelt kept certain in
         elim (leb_tells (length (pack_of reply)) default_limit) [
@@ -210,7 +210,7 @@ module _ {A : Type 0} {tools : PackTools A} (answers : WorldLaws tools) (laws : 
 
     -- the reply that is read is that reply
     read_whole : (read : FetchReply) (also : FetchAsked) (left : List ℕ) → ReadsFetch (reading_for s also)
-        (known (take count (reply_bytes (Objects reply))) left) read → read ≡ reply
+        (known_bytes (take count (reply_bytes (Objects reply))) left) read → read ≡ reply
     read_whole read also left reads =
         let kept = kept_fetch answers w server count left is.is (reading_for s also) (Fetches asked) (Objects reply)
         read (is.format ∙ sym is.session_format) is.ends is.is_answer is.request reads in
@@ -244,7 +244,7 @@ module _ {A : Type 0} {tools : PackTools A} (answers : WorldLaws tools) (laws : 
 
     take_fault : (left : List ℕ) (fault : ClientFault A) (number : ℕ) → length (reply_bytes (Objects reply)) ≤ count
         → IsTakeFault tools.indexes tools.index_fails s w.repo
-        (known (take count (reply_bytes (Objects reply))) left) fault
+        (known_bytes (take count (reply_bytes (Objects reply))) left) fault
         → IsAtHand fault → number ≡ code_of fault → MayDecline tools w.repo reply number
     take_fault left client.NoOpenRequest number all fault at same = absurd (fault.0 (asked, is.waits))
     take_fault left (client.Message cause) number all fault at same =
@@ -254,10 +254,10 @@ module _ {A : Type 0} {tools : PackTools A} (answers : WorldLaws tools) (laws : 
         ap (λ (f : FetchAsked). reading_for s f) (same_awaited fault.0 fault.1)
         ∙ reading_is s server.graph.format asked (is.session_format ∙ sym is.format) is.limit is.ends in
         let refused = subst (λ (b : List ℕ). ReadsRefused (judge (reading_for s fault.0))
-        (brings_into false (reading_for s fault.0)) fault.2.0 (known b left) cause) (take_all count bytes all)
+        (brings_into false (reading_for s fault.0)) fault.2.0 (known_bytes b left) cause) (take_all count bytes all)
         fault.2.1 in
         let refused_too = subst (λ (r : Reading). ReadsRefused (judge r) (brings_into false r) fault.2.0
-        (known bytes left) cause) reading refused in
+        (known_bytes bytes left) cause) reading refused in
         let written = objects_written answers.reading any reply refl largest
         (reply_fits answers is.is is.request.few is.is_answer) in
         refused_told w.repo server.graph.format asked reply fault.2.0 left cause written.0

@@ -19,14 +19,14 @@ use Rattle.gsession.specs.declared.fault.ClientFault.TheVariants as client
 use Rattle.gclientrepo.specs.declared.fault.RepoFault.TheVariants as repos
 use Rattle.gdag.specs.declared.fault.GraphFault.TheVariants as graph
 use Rattle.ganswer.specs.Answers.{Answers, Reply, Nothing, Fetch, Ls as Refs}
-use Rattle.gworld.specs.Events.{AsksNext, Delivers, ServesRequest, waiting, waits_for}
+use Rattle.gworld.specs.Events.{AsksNext, Delivers, ServesRequest, waiting_session, waits_for}
 use Rattle.gworld.specs.Faults.{memory_refused}
 use Rattle.gworld.specs.Fetching.{CanSettle, HasFetched, IsDone, IsReplyTakenOrDeclined, IsRound, IsTried, Rounds}
 use Rattle.gworld.specs.Fetching.{StopsByLimits}
 use Rattle.gworld.specs.Laws.{GraphsOnlyGrow, IsNoForge, StepsKeep}
 use Rattle.gworld.specs.Promises.{IsServedOrRefused, IsSettledOrRefused, IsUpToDate, Promises}
 use Rattle.gworld.specs.Runs.{RunWith}
-use Rattle.gworld.specs.Sound.{AreEndsWhole, IsSound, IsSoundSession, IsUnforgedAndFaithful}
+use Rattle.gworld.specs.Sound.{AreEndsConnected, IsSound, IsSoundSession, IsUnforgedAndFaithful}
 use Rattle.gworld.specs.Taking.{IsPackTaken, TakesBytes, code_of}
 use Rattle.gworld.specs.Worlds.{Kept, PackTools, WorldState, reply_bytes}
 use Rattle.gscenario.specs.declared.event.Event.{Event}
@@ -43,10 +43,10 @@ at_end (first ∷ xs) x = at_end xs x
 
 -- a run keeps a sound world sound, whose ends are whole
 pub leads_soundly : {A : Type 0} (tools : PackTools A) → StepsKeep tools
-    → (w v : WorldState A) (events : List (Event A)) (outcomes : List Outcome) → AreEndsWhole w → IsSound tools w
-    → RunWith (Promises tools) w events outcomes v → AreEndsWhole v × IsSound tools v
+    → (w v : WorldState A) (events : List (Event A)) (outcomes : List Outcome) → AreEndsConnected w → IsSound tools w
+    → RunWith (Promises tools) w events outcomes v → AreEndsConnected v × IsSound tools v
 leads_soundly {A} tools keep w v [] [] ends sound run =
-    (subst AreEndsWhole (sym run) ends, subst (IsSound tools) (sym run) sound)
+    (subst AreEndsConnected (sym run) ends, subst (IsSound tools) (sym run) sound)
 leads_soundly tools keep w v (first ∷ events) (told ∷ outcomes) ends sound (next, here, rest) =
     leads_soundly tools keep next v events outcomes here.ends (keep w next first told ends here.ends sound here.step).0
     rest
@@ -260,13 +260,13 @@ module _ {A : Type 0} (tools : PackTools A) where
       let kept : Kept = record { asked = request; reply = served.reply } in
       let held = last_kept w tried.after_asking two s asked served in
       let session : two.session ≡ Some asked.after = served.session ∙ asked.session in
-      let waits : waiting two.session ≡ Some (asked.after, request) =
-      ap waiting session
+      let waits : waiting_session two.session ≡ Some (asked.after, request) =
+      ap waiting_session session
       ∙ ap (waits_for asked.after) (made_waits w.repo.graph.entries s asked.after request asked.made) in
       let Comes = Delivers tools.indexes tools.index_fails two in
       let comes : Comes (Some kept) count (Some (asked.after, request)) tried.brought v =
       subst (λ (o : Option (SessionState A × Asked)). Comes (Some kept) count o tried.brought v) waits
-      (subst (λ (o : Option Kept). Comes o count (waiting two.session) tried.brought v) held tried.brings.step) in
+      (subst (λ (o : Option Kept). Comes o count (waiting_session two.session) tried.brought v) held tried.brings.step) in
       has_brought n count w.repo.graph.entries two v s asked.after request served.reply tried.brought
       (counts_of n w s at) asked.made comes round.is_brought (tried.whole kept held)
 
@@ -376,7 +376,7 @@ module _ {A : Type 0} (tools : PackTools A) (keep : StepsKeep tools) (grow : Gra
   -- a world after so many rounds of a session
   pub record Stands (n : ℕ) (w : WorldState A) : Type 0 where
     pub honest : IsUnforgedAndFaithful tools w
-    pub ends : AreEndsWhole w
+    pub ends : AreEndsConnected w
     pub sound : IsSound tools w
     pub session : SessionState A
     pub goes_on : w.session ≡ Some session
@@ -417,7 +417,7 @@ module _ {A : Type 0} (tools : PackTools A) (keep : StepsKeep tools) (grow : Gra
         goes_on = next.goes_on;
         at = next.at;
         counts = subst (λ (tips : List (List ℕ)). CountsReached h tips reached parents) (sym next.tips)
-            (stay g h s.tips reached parents grows led.0.graph.differ (sound_session n w stands).began.full
+            (stay g h s.tips reached parents grows led.0.graph.differ (sound_session n w stands).began.connected
             stands.counts);
       }
 
@@ -474,7 +474,7 @@ module _ {A : Type 0} (tools : PackTools A) (keep : StepsKeep tools) (grow : Gra
         either = inr (can_settle n w stands settles.0 settles.2, omega (arith, rounds, many));
       }
 
-  begins_to_stand : (w : WorldState A) (s : SessionState A) → IsUnforgedAndFaithful tools w → AreEndsWhole w
+  begins_to_stand : (w : WorldState A) (s : SessionState A) → IsUnforgedAndFaithful tools w → AreEndsConnected w
       → IsSound tools w → w.session ≡ Some s → IsBegun s
       → CountsReached w.repo.graph.entries s.tips reached parents → Stands 0 w
   begins_to_stand w s honest ends sound is begun counts =
@@ -489,7 +489,7 @@ module _ {A : Type 0} (tools : PackTools A) (keep : StepsKeep tools) (grow : Gra
         counts = counts;
       }
 
-  pub completed : (w v : WorldState A) (s : SessionState A) (n : ℕ) → IsUnforgedAndFaithful tools w → AreEndsWhole w
+  pub completed : (w v : WorldState A) (s : SessionState A) (n : ℕ) → IsUnforgedAndFaithful tools w → AreEndsConnected w
       → IsSound tools w → w.session ≡ Some s → IsBegun s
       → CountsReached w.repo.graph.entries s.tips reached parents → Rounds tools n w v → HasFetched tools n reached v
   completed w v s n honest ends sound is begun counts rounds =

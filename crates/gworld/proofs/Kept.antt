@@ -16,8 +16,8 @@ use Rattle.gsession.specs.SettlingRefs.{SettlesSession}
 use Rattle.gsession.specs.declared.fault.ClientFault.{ClientFault}
 use Rattle.gsession.specs.declared.fault.ClientFault.TheVariants as client
 use Rattle.gsession.specs.declared.taken.Taken.TheVariants as taken
-use Rattle.ggrammar.specs.MessageBytes.{known}
-use Rattle.gworld.specs.Events.{AsksNext, Delivers, Forges, ServesRequest, SettlesRefs, Step, waiting}
+use Rattle.ggrammar.specs.MessageBytes.{known_bytes}
+use Rattle.gworld.specs.Events.{AsksNext, Delivers, Forges, ServesRequest, SettlesRefs, Step, waiting_session}
 use Rattle.gworld.specs.Laws.{LeadsThrough, LeavesClientRefs, LeavesServer, LeavesServerRefs, OthersLeaveRefs}
 use Rattle.gworld.specs.Runs.{Run, RunWith}
 use Rattle.gworld.specs.Taking.{TakesBytes}
@@ -100,11 +100,11 @@ module _ {A : Type 0} (tools : PackTools A) (grows : TakingOnlyGrows tools.index
   bytes_grow (Ls asked) s after before repo bytes (LsTaken asks wants) takes = only_same before repo takes.5
   bytes_grow (Ls asked) s after before repo bytes (Fault number) takes = only_same before repo takes.5
   bytes_grow (Fetches asked) s after before repo bytes (Round common) takes =
-      grows s after before repo (known bytes takes.0) (Ok (taken.Round common)) takes.1
+      grows s after before repo (known_bytes bytes takes.0) (Ok (taken.Round common)) takes.1
   bytes_grow (Fetches asked) s after before repo bytes (PackTaken added) takes =
-      grows s after before repo (known bytes takes.0) (Ok (taken.PackTaken added)) takes.1
+      grows s after before repo (known_bytes bytes takes.0) (Ok (taken.PackTaken added)) takes.1
   bytes_grow (Fetches asked) s after before repo bytes (Fault number) takes =
-      grows s after before repo (known bytes takes.0) (Err takes.1) takes.2
+      grows s after before repo (known_bytes bytes takes.0) (Err takes.1) takes.2
   bytes_grow _ s after before repo bytes _ takes = absurd takes
 
   -- a settle that is refused changes nothing
@@ -174,9 +174,9 @@ module _ {A : Type 0} (tools : PackTools A) (grows : TakingOnlyGrows tools.index
     step_spares event.Ask outcome step = asks_spare w.session outcome step
     step_spares (event.Serve number) outcome step = serves_spare number (slice_get w.sent number) outcome step
     step_spares (event.Deliver number count) outcome step =
-        delivers_spare number count (slice_get w.kept number) (waiting w.session) outcome step
+        delivers_spare number count (slice_get w.kept number) (waiting_session w.session) outcome step
     step_spares (event.Forge bytes) outcome step =
-        forges_spare (event.Forge bytes) bytes.items (waiting w.session) outcome step
+        forges_spare (event.Forge bytes) bytes.items (waiting_session w.session) outcome step
     step_spares (event.StrangeRequest bytes) outcome step = unchanged (event.StrangeRequest bytes) step.0
     step_spares event.Settle outcome step = settles_spare w.session outcome step
     step_spares event.RestartClient outcome step = neither event.RestartClient
@@ -306,8 +306,8 @@ module _ {A : Type 0} (tools : PackTools A) (grows : TakingOnlyGrows tools.index
     refused_leaves event.Ask step = asks_refused w.session step
     refused_leaves (event.Serve at) step = serves_refused (slice_get w.sent at) step
     refused_leaves (event.Deliver at count) step =
-        delivers_refused (slice_get w.kept at) count (waiting w.session) step
-    refused_leaves (event.Forge bytes) step = forges_refused bytes.items (waiting w.session) step
+        delivers_refused (slice_get w.kept at) count (waiting_session w.session) step
+    refused_leaves (event.Forge bytes) step = forges_refused bytes.items (waiting_session w.session) step
     refused_leaves (event.StrangeRequest bytes) step = same_ends step.0
     refused_leaves event.Settle step = settles_refused w.session step
     refused_leaves event.RestartClient step = let wrong : Fault number ≡ Done = step.0 in absurd (cc)

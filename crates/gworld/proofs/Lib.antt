@@ -8,6 +8,6 @@ pub mod CodeLemmas
 pub mod Runs
 pub mod Starting
 pub mod Kept
-pub mod Whole
+pub mod Connected
 pub mod Listing
 pub mod Fetching

@@ -6,7 +6,7 @@ use Rattle.std.proofs.lemmas.List.{take_all}
 use Rattle.gname.specs.declared.formats.Format.{Format}
 use Rattle.ggrammar.specs.Faults.{why_row}
 use Rattle.ggrammar.specs.Kinds.{ReadsMessage, SaysAtFront}
-use Rattle.ggrammar.specs.MessageBytes.{IsOfBytes, known}
+use Rattle.ggrammar.specs.MessageBytes.{IsOfBytes, known_bytes}
 use Rattle.ggrammar.specs.MessageReading.{IsReadFailure, ReadsRefused}
 use Rattle.ggrammar.specs.declared.ends.Ends.{Ends}
 use Rattle.ggrammar.specs.declared.ends.Ends.TheVariants.{Plain}
@@ -28,7 +28,7 @@ use Rattle.gsession.specs.TakingRefs.{IsLsFault, ReadsRefs, ReadsUntaken, Refuse
 use Rattle.gsession.specs.TakingRefs.{WantsTooMuch}
 use Rattle.gsession.specs.declared.fault.ClientFault.{ClientFault}
 use Rattle.gsession.specs.declared.fault.ClientFault.TheVariants as client
-use Rattle.gworld.specs.Events.{Delivers, Step, waiting, waits_for}
+use Rattle.gworld.specs.Events.{Delivers, Step, waiting_session, waits_for}
 use Rattle.gworld.specs.Promises.{BringsRefs, IsListedOrDeclined, ListsRefs, MayDeclineRefs}
 use Rattle.gworld.specs.Sound.{IsSound, IsSoundKept, IsSoundSession}
 use Rattle.gworld.specs.Taking.{IsAtHand, TakesBytes, code_of}
@@ -47,16 +47,16 @@ module _ {A : Type 0} {tools : PackTools A} (laws : WorldLaws tools) (faults : F
   module _ (s : SessionState A) (format : Format) (reply : LsReply) (is : IsLsReplyIn format reply)
       (same : s.format ≡ format) (plain : s.ends ≡ Plain) (count : ℕ) (left : List ℕ) where
     -- the reply that is read is that reply
-    read_same : (told : LsReply) → ReadsRefs s (known (take count (refs_bytes reply)) left) told → told ≡ reply
+    read_same : (told : LsReply) → ReadsRefs s (known_bytes (take count (refs_bytes reply)) left) told → told ≡ reply
     read_same told reads = refs_read laws.reading format reply told count left is
         (subst (λ (f : Format). ReadsMessage (refs.judge f Plain) (refs.Says f Plain)
-        (known (take count (refs_bytes reply)) left) told) same
+        (known_bytes (take count (refs_bytes reply)) left) told) same
         (subst (λ (e : Ends). ReadsMessage (refs.judge s.format e) (refs.Says s.format e)
-        (known (take count (refs_bytes reply)) left) told) plain reads))
+        (known_bytes (take count (refs_bytes reply)) left) told) plain reads))
 
     -- a complete one is refused only out of memory
     refused_memory : (cause : MessageFault) → length (refs_bytes reply) ≤ count
-        → RefusesRefs s (known (take count (refs_bytes reply)) left) cause
+        → RefusesRefs s (known_bytes (take count (refs_bytes reply)) left) cause
         → (cause.why ≡ why.Memory) ⊎ IsOfBytes cause.why → cause.why ≡ why.Memory
     refused_memory cause all refused (inl memory) = memory
     refused_memory cause all refused (inr certain) =
@@ -64,11 +64,11 @@ module _ {A : Type 0} {tools : PackTools A} (laws : WorldLaws tools) (faults : F
         let lines = refs.canonical_reply Plain reply in
         let written = refs_written laws.reading format reply is in
         let there : SaysAtFront (refs.Says format Plain) bytes [] reply = (lines, front_all written.1, written.0) in
-        let here : ReadsRefused (refs.judge format Plain) refs.brings refused.0 (known bytes left) cause =
-        subst (λ (f : Format). ReadsRefused (refs.judge f Plain) refs.brings refused.0 (known bytes left) cause) same
-        (subst (λ (e : Ends). ReadsRefused (refs.judge s.format e) refs.brings refused.0 (known bytes left) cause)
+        let here : ReadsRefused (refs.judge format Plain) refs.brings refused.0 (known_bytes bytes left) cause =
+        subst (λ (f : Format). ReadsRefused (refs.judge f Plain) refs.brings refused.0 (known_bytes bytes left) cause) same
+        (subst (λ (e : Ends). ReadsRefused (refs.judge s.format e) refs.brings refused.0 (known_bytes bytes left) cause)
         plain
-        (subst (λ (b : List ℕ). ReadsRefused (refs.judge s.format s.ends) refs.brings refused.0 (known b left) cause)
+        (subst (λ (b : List ℕ). ReadsRefused (refs.judge s.format s.ends) refs.brings refused.0 (known_bytes b left) cause)
         (take_all count bytes all) refused.1)) in
         absurd (err_is_no_ok cause reply
         ((faults.refs_exactly format Plain bytes left [] (Err cause) reply (refused.0, here) certain).1 there).0)
@@ -80,14 +80,14 @@ module _ {A : Type 0} {tools : PackTools A} (laws : WorldLaws tools) (faults : F
       (is : IsLsReplyIn format reply) (same : s.format ≡ format) (all : length (refs_bytes reply) ≤ count)
       (left : List ℕ) (number : ℕ) where
     abbrev Read : LsReply → Type 0
-    Read told = ReadsRefs s (known (take count (refs_bytes reply)) left) told
+    Read told = ReadsRefs s (known_bytes (take count (refs_bytes reply)) left) told
 
     told_same : (told : LsReply) → Read told → told ≡ reply
     told_same told reads = read_same s format reply is same session.ends count left told reads
 
     message_fault : (cause : MessageFault) → IsReadFailure false false cause.why → number ≡ (why_row cause.why).code
-        → RefusesRefs s (known (take count (refs_bytes reply)) left) cause
-        ⊎ ReadsUntaken s w.repo.graph.entries (known (take count (refs_bytes reply)) left) (client.Message cause)
+        → RefusesRefs s (known_bytes (take count (refs_bytes reply)) left) cause
+        ⊎ ReadsUntaken s w.repo.graph.entries (known_bytes (take count (refs_bytes reply)) left) (client.Message cause)
         → MayDeclineRefs w s reply number
     message_fault cause at is_number (inl refused) =
         let memory = refused_memory s format reply is same session.ends count left cause all refused
@@ -100,7 +100,7 @@ module _ {A : Type 0} {tools : PackTools A} (laws : WorldLaws tools) (faults : F
     )
 
     refs_fault : (fault : ClientFault A)
-        → IsLsFault s w.repo.graph.entries (known (take count (refs_bytes reply)) left) fault → IsAtHand fault
+        → IsLsFault s w.repo.graph.entries (known_bytes (take count (refs_bytes reply)) left) fault → IsAtHand fault
         → number ≡ code_of fault → MayDeclineRefs w s reply number
     refs_fault client.NoOpenRequest why at is_number = absurd (why.0 (asked, waits))
     refs_fault (client.Message cause) why at is_number = message_fault cause at is_number why.1
@@ -130,16 +130,16 @@ module _ {A : Type 0} {tools : PackTools A} (laws : WorldLaws tools) (faults : F
 
   module _ {w : WorldState A} (sound : IsSound tools w) where
     delivers_listed : (v : WorldState A) (number count : ℕ) (outcome : Outcome)
-        → Delivers tools.indexes tools.index_fails w (slice_get w.kept number) count (waiting w.session) outcome v
+        → Delivers tools.indexes tools.index_fails w (slice_get w.kept number) count (waiting_session w.session) outcome v
         → (reply : LsReply) (s : SessionState A) → BringsRefs w number count reply s
         → IsListedOrDeclined w s reply outcome
     delivers_listed v number count outcome delivers reply s brings =
         let kept = brings.kept in
         let Comes = Delivers tools.indexes tools.index_fails w in
-        let found : Comes (Some kept) count (waiting w.session) outcome v =
-        subst (λ (o : Option Kept). Comes o count (waiting w.session) outcome v) brings.at delivers in
+        let found : Comes (Some kept) count (waiting_session w.session) outcome v =
+        subst (λ (o : Option Kept). Comes o count (waiting_session w.session) outcome v) brings.at delivers in
         let to : Comes (Some kept) count (waits_for s s.pending) outcome v =
-        subst (λ (o : Option (SessionState A)). Comes (Some kept) count (waiting o) outcome v) brings.goes_on found in
+        subst (λ (o : Option (SessionState A)). Comes (Some kept) count (waiting_session o) outcome v) brings.goes_on found in
         let comes : Comes (Some kept) count (Some (s, kept.asked)) outcome v =
         subst (λ (o : Option Asked). Comes (Some kept) count (waits_for s o) outcome v) brings.waits to in
         let bytes = comes.2 in

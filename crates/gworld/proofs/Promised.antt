@@ -10,7 +10,7 @@ use Rattle.gobject.specs.Packs.{AreEntries}
 use Rattle.gfetchreply.specs.FetchReplies.{FetchReply}
 use Rattle.gdag.proofs.Growing.{all_standing}
 use Rattle.gdag.specs.Graphs.{History}
-use Rattle.gdag.specs.Reach.{IsFull, here}
+use Rattle.gdag.specs.Reach.{IsConnected, here}
 use Rattle.gdag.specs.declared.fault.GraphFault.TheVariants as graph
 use Rattle.grefs.specs.declared.fault.RefsFault.TheVariants as refs
 use Rattle.grequest.specs.Asked.{Asked, Empty, Ls, Fetches, FetchAsked}
@@ -38,9 +38,9 @@ use Rattle.gworld.specs.Promises.{AsksSeldom, BringsAnswer, BringsWants, Complet
 use Rattle.gworld.specs.Promises.{IsBrought, IsUpToDate, SettlesUpToDate}
 use Rattle.gworld.specs.Promises.{IsServedOrRefused, IsSettledOrRefused, IsTakenOrDeclined, MayRefuse, ServesSent}
 use Rattle.gworld.specs.Promises.{SettlesAnswered, SharesCommons, Promises, TakesAnswers}
-use Rattle.gworld.specs.Sound.{AreEndsWhole, IsUnforgedAndFaithful, IsSound, IsSoundKept, IsSoundRequest}
-use Rattle.gworld.specs.Sound.{IsSoundSession, IsWantedOrFull}
-use Rattle.gworld.specs.Events.{Delivers, ServesRequest, SettlesRefs, Step, waiting, waits_for}
+use Rattle.gworld.specs.Sound.{AreEndsConnected, IsUnforgedAndFaithful, IsSound, IsSoundKept, IsSoundRequest}
+use Rattle.gworld.specs.Sound.{IsSoundSession, IsWantedOrConnected}
+use Rattle.gworld.specs.Events.{Delivers, ServesRequest, SettlesRefs, Step, waiting_session, waits_for}
 use Rattle.gworld.specs.Faults.{no_such, out_of_turn}
 use Rattle.gworld.specs.Taking.{TakesBytes, code_of}
 use Rattle.gworld.specs.Worlds.{Kept, PackTools, WorldState, reply_bytes}
@@ -48,7 +48,7 @@ use Rattle.gscenario.specs.declared.event.Event.{Event}
 use Rattle.gscenario.specs.declared.event.Event.TheVariants as event
 use Rattle.gworld.specs.declared.outcome.Outcome.{Outcome}
 use Rattle.gworld.specs.declared.outcome.Outcome.TheVariants.{Served, PackTaken, Settled, Fault}
-use Rattle.gworld.proofs.Delivering.{either_full, pack_came}
+use Rattle.gworld.proofs.Delivering.{either_connected, pack_came}
 use Rattle.gworld.proofs.Faults.{FaultLaws, IsWhole, whole_taken}
 use Rattle.gworld.proofs.Listing.{lists_each}
 use Rattle.gworld.proofs.Sessions.{IsAnsweredIn, IsSoundIn, WorldLaws}
@@ -75,57 +75,57 @@ module _ {A : Type 0} {tools : PackTools A} (laws : WorldLaws tools) where
   -- ---- settling
 
   settle_fault : HeldIsNotMissing A → (s after : SessionState A) (before new : RepoState A) (fault : ClientFault A)
-      (number : ℕ) → s.stage ≡ Settling → All (IsFull before.graph.entries) (asked_ids s.asks)
+      (number : ℕ) → s.stage ≡ Settling → All (IsConnected before.graph.entries) (asked_ids s.asks)
       → SettlesSession s before after new (Err fault)
       → number ≡ code_of fault → ((number ≡ 69) × CannotSettle before.refs s.asks) ⊎ (number ≡ 64)
-  settle_fault law s after before new (client.Repo (repo.NotConnected missing)) number stage full settles same =
-      absurd (law before.graph.entries (asked_ids s.asks) missing full settles.2.1)
-  settle_fault law s after before new (client.Repo (repo.Refs refs.Refs)) number stage full settles same =
+  settle_fault law s after before new (client.Repo (repo.NotConnected missing)) number stage connected settles same =
+      absurd (law before.graph.entries (asked_ids s.asks) missing connected settles.2.1)
+  settle_fault law s after before new (client.Repo (repo.Refs refs.Refs)) number stage connected settles same =
       inl (same, settles.2.2)
-  settle_fault law s after before new (client.Repo (repo.Refs refs.Memory)) number stage full settles same = inr same
-  settle_fault law s after before new (client.Repo (repo.Graph graph.Memory)) number stage full settles same = inr same
-  settle_fault law s after before new (client.Repo _) number stage full settles same = absurd settles.2
-  settle_fault law s after before new client.NoOpenRequest number stage full settles same = absurd (settles.0 stage)
-  settle_fault law s after before new _ number stage full settles same = absurd settles
+  settle_fault law s after before new (client.Repo (repo.Refs refs.Memory)) number stage connected settles same = inr same
+  settle_fault law s after before new (client.Repo (repo.Graph graph.Memory)) number stage connected settles same = inr same
+  settle_fault law s after before new (client.Repo _) number stage connected settles same = absurd settles.2
+  settle_fault law s after before new client.NoOpenRequest number stage connected settles same = absurd (settles.0 stage)
+  settle_fault law s after before new _ number stage connected settles same = absurd settles
 
   has_settled : (old new : RepoState A) (asks : List (Ask A)) (updates : List RefUpdate)
       → SettlesAsks old asks new (Ok updates) → HasSettled old asks new
   has_settled old new asks updates settles = record {
-    full = subst (λ (g : History A). All (IsFull g.entries) (asked_ids asks)) (sym settles.0.graph) settles.0.full;
+    connected = subst (λ (g : History A). All (IsConnected g.entries) (asked_ids asks)) (sym settles.0.graph) settles.0.connected;
     moved = settles.1.asked;
   }
 
   -- the session settles where it is time for that, and each asked id is connected
-  settles_full : HeldIsNotMissing A → (w v : WorldState A) (s : SessionState A) (outcome : Outcome)
-      → s.stage ≡ Settling → All (IsFull w.repo.graph.entries) (asked_ids s.asks) → SettlesRefs w (Some s) outcome v
+  settles_connected : HeldIsNotMissing A → (w v : WorldState A) (s : SessionState A) (outcome : Outcome)
+      → s.stage ≡ Settling → All (IsConnected w.repo.graph.entries) (asked_ids s.asks) → SettlesRefs w (Some s) outcome v
       → IsSettledOrRefused w.repo (Some s) outcome v.repo
-  settles_full law w v s (Settled moved same not_forward) stage full settles =
+  settles_connected law w v s (Settled moved same not_forward) stage connected settles =
       subst (λ (x : WorldState A). HasSettled w.repo s.asks x.repo) (sym settles.6)
       (has_settled w.repo settles.1 s.asks settles.3 settles.4.3)
-  settles_full law w v s (Fault number) stage full settles =
-      settle_fault law s settles.0 w.repo settles.1 settles.2 number stage full settles.3 settles.4
-  settles_full law w v s _ stage full settles = absurd settles
+  settles_connected law w v s (Fault number) stage connected settles =
+      settle_fault law s settles.0 w.repo settles.1 settles.2 number stage connected settles.3 settles.4
+  settles_connected law w v s _ stage connected settles = absurd settles
 
   settles_well : HeldIsNotMissing A → (w v : WorldState A) (session : Option (SessionState A)) (outcome : Outcome)
       → IsUnforgedAndFaithful tools w → IsAnsweredIn tools w session → SettlesRefs w session outcome v
       → IsSettledOrRefused w.repo session outcome v.repo
   settles_well law w v None outcome honest can settles = absurd can
   settles_well law w v (Some s) outcome honest can settles =
-      settles_full law w v s outcome can.stage (can.full honest) settles
+      settles_connected law w v s outcome can.stage (can.connected honest) settles
 
   -- where nothing is wanted, each asked id is connected
-  none_wanted : (g : List (Entry A)) (s : SessionState A) → s.wants ≡ [] → All (IsWantedOrFull g s) (asked_ids s.asks)
-      → All (IsFull g) (asked_ids s.asks)
-  none_wanted g s none each = All-weaker (IsWantedOrFull g s) (IsFull g)
+  none_wanted : (g : List (Entry A)) (s : SessionState A) → s.wants ≡ [] → All (IsWantedOrConnected g s) (asked_ids s.asks)
+      → All (IsConnected g) (asked_ids s.asks)
+  none_wanted g s none each = All-weaker (IsWantedOrConnected g s) (IsConnected g)
       (λ (a : List ℕ) either.
-      either_full laws g s (subst (All (IsFull g)) (sym none) (All-nil (IsFull g))) a either) (asked_ids s.asks) each
+      either_connected laws g s (subst (All (IsConnected g)) (sym none) (All-nil (IsConnected g))) a either) (asked_ids s.asks) each
 
   settles_idle : HeldIsNotMissing A → (w v : WorldState A) (session : Option (SessionState A)) (outcome : Outcome)
       → IsSoundIn w session → SettlesRefs w session outcome v
       → IfSome session (λ s. IsUpToDate s → IsSettledOrRefused w.repo session outcome v.repo)
   settles_idle law w v None outcome is settles = tt
   settles_idle law w v (Some s) outcome is settles = λ idle.
-      settles_full law w v s outcome idle.stage (none_wanted w.repo.graph.entries s idle.none is.asked) settles
+      settles_connected law w v s outcome idle.stage (none_wanted w.repo.graph.entries s idle.none is.asked) settles
 
   settles_up_to_date : HeldIsNotMissing A → (w v : WorldState A) → IsSound tools w → (e : Event A) (outcome : Outcome)
       → Step tools w e outcome v → SettlesUpToDate w e outcome v
@@ -157,14 +157,14 @@ module _ {A : Type 0} {tools : PackTools A} (laws : WorldLaws tools) where
       to_complete s (Some asked) session delivers = absurd delivers.2.takes
 
       kept_complete : (session : Option (SessionState A)) → IsSoundIn w session
-          → Delivers tools.indexes tools.index_fails w (Some kept) count (waiting session) (PackTaken added) v
+          → Delivers tools.indexes tools.index_fails w (Some kept) count (waiting_session session) (PackTaken added) v
           → Brought
       kept_complete None session delivers =
           let wrong : PackTaken added ≡ Fault out_of_turn = delivers.0 in absurd (cc)
       kept_complete (Some s) session delivers = to_complete s s.pending session delivers
 
     found_complete : (v : WorldState A) (number count added : ℕ) (found : Option Kept) → slice_get w.kept number ≡ found
-        → Delivers tools.indexes tools.index_fails w found count (waiting w.session) (PackTaken added) v
+        → Delivers tools.indexes tools.index_fails w found count (waiting_session w.session) (PackTaken added) v
         → BringsWants w number v
     found_complete v number count added None at delivers =
         let wrong : PackTaken added ≡ Fault no_such = delivers.0 in absurd (cc)
@@ -207,16 +207,16 @@ module _ {A : Type 0} {tools : PackTools A} (laws : WorldLaws tools) where
           whole_taken laws faults whole count after outcome r all takes
 
       takes_answers : (v : WorldState A) (number count : ℕ) (outcome : Outcome)
-          → Delivers tools.indexes tools.index_fails w (slice_get w.kept number) count (waiting w.session) outcome v
+          → Delivers tools.indexes tools.index_fails w (slice_get w.kept number) count (waiting_session w.session) outcome v
           → (reply : FetchReply) → BringsAnswer w number count reply → IsTakenOrDeclined tools w.repo reply outcome
       takes_answers v number count outcome delivers reply brings =
           let kept = brings.kept in
           let s = brings.session in
           let Comes = Delivers tools.indexes tools.index_fails w in
-          let found : Comes (Some kept) count (waiting w.session) outcome v =
-          subst (λ (o : Option Kept). Comes o count (waiting w.session) outcome v) brings.at delivers in
+          let found : Comes (Some kept) count (waiting_session w.session) outcome v =
+          subst (λ (o : Option Kept). Comes o count (waiting_session w.session) outcome v) brings.at delivers in
           let to : Comes (Some kept) count (waits_for s s.pending) outcome v =
-          subst (λ (o : Option (SessionState A)). Comes (Some kept) count (waiting o) outcome v) brings.goes_on found in
+          subst (λ (o : Option (SessionState A)). Comes (Some kept) count (waiting_session o) outcome v) brings.goes_on found in
           let comes : Comes (Some kept) count (Some (s, kept.asked)) outcome v =
           subst (λ (o : Option Asked). Comes (Some kept) count (waits_for s o) outcome v) brings.waits to in
           let bytes = comes.2 in
@@ -286,14 +286,14 @@ module _ {A : Type 0} {tools : PackTools A} (laws : WorldLaws tools) where
   -- ---- from a sound world a step leads to a sound world, and keeps its promises
 
   pub promised : FaultLaws A → HeldIsNotMissing A → RoundsAreFew A → (w v : WorldState A) (e : Event A)
-      (outcome : Outcome) → AreEndsWhole w → AreEndsWhole v → IsSound tools w → Step tools w e outcome v
+      (outcome : Outcome) → AreEndsConnected w → AreEndsConnected v → IsSound tools w → Step tools w e outcome v
       → IsSound tools v × Promises tools w e outcome v
   promised faults settling rounds w v e outcome ends later sound step =
       let after = step_sound laws w v ends later sound e outcome step in (
         after,
         record {
           step = step;
-          refs = later.repo.safe;
+          refs = later.repo.connected_refs;
           few = requests_few rounds v v.session after.session later.session;
           commons = commons_shared v v.session after.session;
           lists = lists_each laws faults sound v e outcome step;

@@ -16,7 +16,7 @@ use Rattle.grequest.specs.Asked.{Asked}
 use Rattle.gsession.specs.Sessions.{SessionState}
 use Rattle.gscenario.specs.declared.event.Event.TheVariants as event
 use Rattle.gworld.specs.Laws.{IsNoForge, KeepsAll}
-use Rattle.gworld.specs.Events.{AsksNext, Delivers, ServesRequest, SettlesRefs, Step, waiting}
+use Rattle.gworld.specs.Events.{AsksNext, Delivers, ServesRequest, SettlesRefs, Step, waiting_session}
 use Rattle.gworld.specs.declared.outcome.Outcome.TheVariants.{Done, Asked as Asks, Served, Settled, Fault}
 
 -- ---- a run goes on
@@ -117,7 +117,7 @@ module _ {A : Type 0} (tools : PackTools A) where
     unforged_step event.Ask outcome quiet step = asks_unforged w.session outcome step
     unforged_step (event.Serve number) outcome quiet step = serves_unforged (slice_get w.sent number) outcome step
     unforged_step (event.Deliver number count) outcome quiet step =
-        delivers_unforged (slice_get w.kept number) count (waiting w.session) outcome step
+        delivers_unforged (slice_get w.kept number) count (waiting_session w.session) outcome step
     unforged_step (event.Forge bytes) outcome quiet step = absurd quiet
     unforged_step (event.StrangeRequest bytes) outcome quiet step = ap mark step.0
     unforged_step event.Settle outcome quiet step = settles_unforged w.session outcome step

@@ -5,16 +5,16 @@ use Rattle.std.specs.Prelude.{IfSome, MatchOption}
 use Rattle.std.proofs.lemmas.List.Elements.{All-weaker, All-contains, All-map, All-nil}
 use Rattle.gobject.specs.declared.node.Entry.{Entry}
 use Rattle.gdag.specs.Graphs.{Holds}
-use Rattle.gdag.specs.Laws.{FullStaysFull, GrowingGoesOn, GrowingKeeps, KeepingHolds, KeepingReaches, KeepingHasAll}
+use Rattle.gdag.specs.Laws.{ConnectedStaysConnected, GrowingGoesOn, GrowingKeeps, KeepingHolds, KeepingReaches, KeepingHasAll}
 use Rattle.gdag.specs.Laws.{AgreeingStays, ComingGrows}
-use Rattle.gdag.specs.Reach.{Grows, IsFull, SomeReaches}
+use Rattle.gdag.specs.Reach.{Grows, IsConnected, SomeReaches}
 use Rattle.grequest.specs.Asked.{Asked, Empty, Ls, Fetches, FetchAsked}
 use Rattle.gclientrepo.specs.Asks.{asked_ids}
 use Rattle.gsession.specs.Bounds.{BeganOn, BeganBegins, BeganStays}
 use Rattle.gsession.specs.Sessions.{SessionState, Begins, IsSession, new_session, over, tells_unborn, tips_of}
 use Rattle.gsession.specs.Sessions.{after_fault, ends_session}
 use Rattle.gworld.specs.Sound.{IsAnswered, IsUnforgedAndFaithful, IsSoundFetch, IsSoundKept, IsSoundRequest}
-use Rattle.gworld.specs.Sound.{IsSoundSession, IsWantedOrFull}
+use Rattle.gworld.specs.Sound.{IsSoundSession, IsWantedOrConnected}
 use Rattle.gworld.specs.Worlds.{Kept, PackTools, WorldState}
 use Rattle.std.proofs.lemmas.Option.{none-some}
 use Rattle.ggrammar.specs.declared.ends.Ends.TheVariants.{Plain}
@@ -22,12 +22,12 @@ use Rattle.gfetchreply.specs.Values.{default_limit}
 use Rattle.glsreply.specs.LsReplies.{LsReply}
 use Rattle.glsreply.specs.RefTexts.{RefLine}
 use Rattle.gdag.proofs.Growing.{grows_none}
-use Rattle.grefspec.specs.Refspecs.{Refspec}
-use Rattle.gclientrepo.specs.Repos.{IsWhole, RepoState}
+use Rattle.grefs.specs.Refspecs.{Refspec}
+use Rattle.gclientrepo.specs.Repos.{IsConnectedRepo, RepoState}
 use Rattle.gclientrepo.specs.declared.ask.Ask.{Ask}
-use Rattle.ganswer.specs.Adverts.{advertised}
+use Rattle.ganswer.specs.Adverts.{advertisement}
 use Rattle.gsession.specs.Asking.{AreWants, asked_of}
-use Rattle.gsession.specs.Laws.{AsksAreOfLines, AreCommonsAfter, HavesAreFull, IsAskOf, OpenIsTheSessions}
+use Rattle.gsession.specs.Laws.{AsksAreOfLines, AreCommonsAfter, HavesAreConnected, IsAskOf, OpenIsTheSessions}
 use Rattle.gsession.specs.Laws.{WantsAreExact, OnlyGrows, RepliesAddCommons, TakingOnlyGrows}
 use Rattle.gsession.specs.Requesting.{MakesNext}
 use Rattle.gsession.specs.TakingRefs.{TakesLines, ReadsRefs, stage_for}
@@ -35,7 +35,7 @@ use Rattle.gsession.specs.TakingReplies.{Awaits, after_acks, ReadsFetch, reading
 use Rattle.gsession.specs.declared.stage.Stage.{Stage}
 use Rattle.gsession.specs.declared.stage.Stage.TheVariants.{Fetching, Settling, Over}
 use Rattle.gsession.specs.declared.taken.LsTaken.{LsTaken}
-use Rattle.ggrammar.specs.MessageBytes.{known}
+use Rattle.ggrammar.specs.MessageBytes.{known_bytes}
 use Rattle.gfetchreply.specs.FetchHeads.{acknowledged_by}
 use Rattle.gfetchreply.specs.FetchReplies.{FetchReply}
 use Rattle.gsession.specs.declared.fault.ClientFault.{ClientFault}
@@ -62,7 +62,7 @@ pub record WorldLaws {A : Type 0} (tools : PackTools A) : Type 0 where
   pub keeps : GrowingKeeps A
   pub goes_on : GrowingGoesOn A
   pub holds : KeepingHolds A
-  pub full : FullStaysFull A
+  pub connected : ConnectedStaysConnected A
   pub reaches : KeepingReaches A
   pub has_all : KeepingHasAll A
   pub agreeing : AgreeingStays A
@@ -70,7 +70,7 @@ pub record WorldLaws {A : Type 0} (tools : PackTools A) : Type 0 where
   -- of sessions
   pub begins : BeganBegins A
   pub stays : BeganStays A
-  pub haves : HavesAreFull A
+  pub haves : HavesAreConnected A
   pub wants : WantsAreExact A
   pub asks : AsksAreOfLines A
   pub waits : OpenIsTheSessions A
@@ -89,10 +89,10 @@ pub record WorldLaws {A : Type 0} (tools : PackTools A) : Type 0 where
 
 -- what the bytes say, where nothing was forged: the server holds the objects of refs, and the acknowledged ids
 pub record Tells {A : Type 0} (v : WorldState A) (s : SessionState A) (bytes : List ℕ) : Type 0 where
-  pub refs : v.forged ≡ false → (left : List ℕ) (reply : LsReply) → ReadsRefs s (known bytes left) reply
+  pub refs : v.forged ≡ false → (left : List ℕ) (reply : LsReply) → ReadsRefs s (known_bytes bytes left) reply
       → All (λ (line : RefLine). Holds v.server.graph.entries line.id) reply.lines
   pub objects : v.forged ≡ false → (asked : FetchAsked) (left : List ℕ) (reply : FetchReply)
-      → ReadsFetch (reading_for s asked) (known bytes left) reply
+      → ReadsFetch (reading_for s asked) (known_bytes bytes left) reply
       → All (Holds v.server.graph.entries) (acknowledged_by reply)
 
 -- what holds of the common ids and of those that are acknowledged holds of the common ids afterwards
@@ -116,7 +116,7 @@ module _ {A : Type 0} where
 
   -- a session that has heard the advertisement of the server
   abbrev pub hearing : SessionState A → WorldState A → SessionState A
-  hearing s w = record s { offers_unborn = tells_unborn (advertised w.server.graph.format) }
+  hearing s w = record s { offers_unborn = tells_unborn (advertisement w.server.graph.format) }
 
   pub honest_before : {tools : PackTools A} {w v : WorldState A} → Extends w v → IsUnforgedAndFaithful tools v
       → IsUnforgedAndFaithful tools w
@@ -148,17 +148,17 @@ module _ {A : Type 0} where
   -- a session in which no request waits, with other asks, wants and common ids
   idle_sound : {w : WorldState A} {s : SessionState A} → IsSoundSession w s
       → (stage : Stage) (asks : List (Ask A)) (wants commons : List (List ℕ))
-      → All (IsFull w.repo.graph.entries) commons → (w.forged ≡ false → All (Holds w.server.graph.entries) commons)
-      → All (IsWantedOrFull w.repo.graph.entries (record s { wants = wants })) (asked_ids asks)
+      → All (IsConnected w.repo.graph.entries) commons → (w.forged ≡ false → All (Holds w.server.graph.entries) commons)
+      → All (IsWantedOrConnected w.repo.graph.entries (record s { wants = wants })) (asked_ids asks)
       → (w.forged ≡ false → All (Holds w.server.graph.entries) wants)
       → IsSoundSession w
       (record s { stage = stage; pending = None; asks = asks; wants = wants; commons = commons })
-  idle_sound is stage asks wants commons full shared asked wanted = record {
+  idle_sound is stage asks wants commons connected shared asked wanted = record {
     format = is.format;
     limit = is.limit;
     ends = is.ends;
-    began = record { full = is.began.full; sent = is.began.sent };
-    commons = full;
+    began = record { connected = is.began.connected; sent = is.began.sent };
+    commons = connected;
     shared = shared;
     waits = λ fetch waits. absurd (none-some (Fetches fetch) waits);
     asked = asked;
@@ -168,7 +168,7 @@ module _ {A : Type 0} where
   pub settled_sound : {w : WorldState A} {s : SessionState A} → IsSoundSession w s
       → IsSoundSession w (record (over s) { asks = [] })
   settled_sound {w} {s} is = idle_sound is Over [] s.wants s.commons is.commons is.shared
-      (All-nil (IsWantedOrFull w.repo.graph.entries s)) is.wanted
+      (All-nil (IsWantedOrConnected w.repo.graph.entries s)) is.wanted
 
   if_sound : {v : WorldState A} {s : SessionState A} (after : SessionState A) (ends : Bool)
       → after ≡ (if ends then over s else s) → IsSoundSession v s → IsSoundSession v after
@@ -205,16 +205,16 @@ module _ {A : Type 0} {tools : PackTools A} (laws : WorldLaws tools) where
   all_held g h grows ids all =
       All-weaker (Holds g) (Holds h) (λ (a : List ℕ) held. laws.holds g h a (laws.keeps g h grows) held) ids all
 
-  full_in : (g h : List (Entry A)) → Grows g h → (a : List ℕ) → IsFull g a → IsFull h a
-  full_in g h grows a full = (laws.full g h a (laws.keeps g h grows) full).0
+  connected_in : (g h : List (Entry A)) → Grows g h → (a : List ℕ) → IsConnected g a → IsConnected h a
+  connected_in g h grows a connected = (laws.connected g h a (laws.keeps g h grows) connected).0
 
-  all_full : (g h : List (Entry A)) → Grows g h → (ids : List (List ℕ)) → All (IsFull g) ids → All (IsFull h) ids
-  all_full g h grows ids all = All-weaker (IsFull g) (IsFull h) (λ (a : List ℕ) full. full_in g h grows a full) ids all
+  all_connected : (g h : List (Entry A)) → Grows g h → (ids : List (List ℕ)) → All (IsConnected g) ids → All (IsConnected h) ids
+  all_connected g h grows ids all = All-weaker (IsConnected g) (IsConnected h) (λ (a : List ℕ) connected. connected_in g h grows a connected) ids all
 
-  wanted_in : (g h : List (Entry A)) (s : SessionState A) → Grows g h → (a : List ℕ) → IsWantedOrFull g s a
-      → IsWantedOrFull h s a
+  wanted_in : (g h : List (Entry A)) (s : SessionState A) → Grows g h → (a : List ℕ) → IsWantedOrConnected g s a
+      → IsWantedOrConnected h s a
   wanted_in g h s grows a (inl wanted) = inl wanted
-  wanted_in g h s grows a (inr full) = inr (full_in g h grows a full)
+  wanted_in g h s grows a (inr connected) = inr (connected_in g h grows a connected)
 
   module _ {w v : WorldState A} (e : Extends w v) where
     held_after : (ids : List (List ℕ)) → (w.forged ≡ false → All (Holds w.server.graph.entries) ids) → v.forged ≡ false
@@ -222,12 +222,12 @@ module _ {A : Type 0} {tools : PackTools A} (laws : WorldLaws tools) where
     held_after ids held unforged =
         all_held w.server.graph.entries v.server.graph.entries e.server ids (held (e.forged unforged))
 
-    full_after : (ids : List (List ℕ)) → All (IsFull w.repo.graph.entries) ids → All (IsFull v.repo.graph.entries) ids
-    full_after ids all = all_full w.repo.graph.entries v.repo.graph.entries e.client ids all
+    connected_after : (ids : List (List ℕ)) → All (IsConnected w.repo.graph.entries) ids → All (IsConnected v.repo.graph.entries) ids
+    connected_after ids all = all_connected w.repo.graph.entries v.repo.graph.entries e.client ids all
 
     fetch_grown : {asked : FetchAsked} → IsSoundFetch w asked → IsSoundFetch v asked
     fetch_grown {asked} is = record {
-      full = full_after asked.haves is.full;
+      connected = connected_after asked.haves is.connected;
       few = is.few;
       some = is.some;
       held = held_after asked.wants is.held;
@@ -260,7 +260,7 @@ module _ {A : Type 0} {tools : PackTools A} (laws : WorldLaws tools) where
         let g = w.repo.graph.entries in
         let h = v.repo.graph.entries in
         let keeps = laws.keeps g h e.client in record {
-          full = full_after s.tips is.full;
+          connected = connected_after s.tips is.connected;
           sent = All-weaker (λ (a : List ℕ). Holds g a × SomeReaches g s.tips a)
               (λ (a : List ℕ). Holds h a × SomeReaches h s.tips a)
               (λ (a : List ℕ) both. (
@@ -277,10 +277,10 @@ module _ {A : Type 0} {tools : PackTools A} (laws : WorldLaws tools) where
           limit = is.limit;
           ends = is.ends;
           began = began_grown is.began;
-          commons = full_after s.commons is.commons;
+          commons = connected_after s.commons is.commons;
           shared = held_after s.commons is.shared;
           waits = λ asked waits. fetch_grown (is.waits asked waits);
-          asked = All-weaker (IsWantedOrFull g s) (IsWantedOrFull h s)
+          asked = All-weaker (IsWantedOrConnected g s) (IsWantedOrConnected h s)
               (λ (a : List ℕ) either. wanted_in g h s e.client a either) (asked_ids s.asks) is.asked;
           wanted = held_after s.wants is.wanted;
         }
@@ -294,7 +294,7 @@ module _ {A : Type 0} {tools : PackTools A} (laws : WorldLaws tools) where
     answered_grown None is = absurd is
     answered_grown (Some s) is = record {
       stage = is.stage;
-      full = λ honest. full_after (asked_ids s.asks) (is.full (honest_before e honest));
+      connected = λ honest. connected_after (asked_ids s.asks) (is.connected (honest_before e honest));
     }
 
   -- ---- a session that begins
@@ -309,15 +309,15 @@ module _ {A : Type 0} {tools : PackTools A} (laws : WorldLaws tools) where
         format = refl;
         limit = refl;
         ends = refl;
-        began = record { full = on.full; sent = on.sent };
-        commons = All-nil (IsFull w.repo.graph.entries);
+        began = record { connected = on.connected; sent = on.sent };
+        commons = All-nil (IsConnected w.repo.graph.entries);
         shared = λ unforged. All-nil (Holds w.server.graph.entries);
         waits = λ asked waits. absurd (none-some (Fetches asked) waits);
-        asked = All-nil (IsWantedOrFull w.repo.graph.entries new);
+        asked = All-nil (IsWantedOrConnected w.repo.graph.entries new);
         wanted = λ unforged. All-nil (Holds w.server.graph.entries);
       }) began
 
-  pub begin_sound : (w : WorldState A) (specs : List Refspec) (session : SessionState A) → IsWhole w.repo
+  pub begin_sound : (w : WorldState A) (specs : List Refspec) (session : SessionState A) → IsConnectedRepo w.repo
       → Begins w.repo specs default_limit Plain (Ok session) → IsSoundSession w (hearing session w)
   begin_sound w specs session whole begins =
       began_sound w specs session begins.1 (laws.begins w.repo specs default_limit Plain session whole begins)
@@ -331,7 +331,7 @@ module _ {A : Type 0} {tools : PackTools A} (laws : WorldLaws tools) where
         let next = made.1 in
         let wants : asked.wants ≡ s.wants = ap (λ (x : FetchAsked). x.wants) next.1 in
         let open_fetch = laws.waits after asked session (ap (λ (x : SessionState A). x.pending) made.2) in record {
-          full = laws.haves w.repo.graph.entries s after asked sound.began.full sound.commons made;
+          connected = laws.haves w.repo.graph.entries s after asked sound.began.connected sound.commons made;
           few = open_fetch.few;
           some = λ none.
               session.some (ap (λ (x : SessionState A). x.stage) made.2 ∙ next.0)
@@ -348,7 +348,7 @@ module _ {A : Type 0} {tools : PackTools A} (laws : WorldLaws tools) where
     asked_sound Empty made = absurd made.1
     asked_sound (Ls ls) made = subst (IsSoundSession w) (sym made.2)
         (asking_sound sound (Some (Ls ls)) s.sent s.rounds
-        (record { full = sound.began.full; sent = sound.began.sent })
+        (record { connected = sound.began.connected; sent = sound.began.sent })
         (λ asked waits. let both : Some (Ls ls) ≡ Some (Fetches asked) = waits in absurd (cc)))
     asked_sound (Fetches fetch) made =
         let g = w.repo.graph.entries in
@@ -402,16 +402,16 @@ module _ {A : Type 0} {tools : PackTools A} (laws : WorldLaws tools) where
       → AreCommonsAfter asked.haves acks s.commons after.commons
       → (w.forged ≡ false → All (Holds w.server.graph.entries) acks) → IsSoundSession w after
   acks_sound {w} {s} after asked stage acks is waits same are told =
-      let P = IsFull w.repo.graph.entries in
+      let P = IsConnected w.repo.graph.entries in
       let haves = asked.haves in
       let new = (after_acks s stage acks).commons in
       let are_new : AreCommonsAfter haves acks s.commons new =
       subst (λ (x : SessionState A). AreCommonsAfter haves acks s.commons x.commons) same are in
-      let full = (is.waits asked waits).full in
-      let acks_full : All P acks =
-      All-weaker (Contains haves) P (λ (a : List ℕ) there. All-contains P haves a full there) acks are.named in
+      let connected = (is.waits asked waits).connected in
+      let acks_connected : All P acks =
+      All-weaker (Contains haves) P (λ (a : List ℕ) there. All-contains P haves a connected there) acks are.named in
       subst (IsSoundSession w) (sym same)
-      (idle_sound is stage s.asks s.wants new (commons_after P haves acks s.commons new are_new is.commons acks_full)
+      (idle_sound is stage s.asks s.wants new (commons_after P haves acks s.commons new are_new is.commons acks_connected)
       (λ unforged.
       commons_after (Holds w.server.graph.entries) haves acks s.commons new are_new (is.shared unforged)
       (told unforged)) is.asked is.wanted)
@@ -429,11 +429,11 @@ module _ {A : Type 0} {tools : PackTools A} (laws : WorldLaws tools) where
     bytes_only (Ls asked) repo (RefsTold asks wants) takes = only_same before repo takes.5
     bytes_only (Ls asked) repo (Fault number) takes = only_same before repo takes.5
     bytes_only (Fetches asked) repo (Round common) takes =
-        laws.grows s after before repo (known bytes takes.0) (Ok (taken.Round common)) takes.1
+        laws.grows s after before repo (known_bytes bytes takes.0) (Ok (taken.Round common)) takes.1
     bytes_only (Fetches asked) repo (PackTaken added) takes =
-        laws.grows s after before repo (known bytes takes.0) (Ok (taken.PackTaken added)) takes.1
+        laws.grows s after before repo (known_bytes bytes takes.0) (Ok (taken.PackTaken added)) takes.1
     bytes_only (Fetches asked) repo (Fault number) takes =
-        laws.grows s after before repo (known bytes takes.0) (Err takes.1) takes.2
+        laws.grows s after before repo (known_bytes bytes takes.0) (Err takes.1) takes.2
     bytes_only _ repo _ takes = absurd takes
 
     -- the session is sound in the world after bytes came; refs are judged by the graph as it was, which stays

@@ -8,7 +8,7 @@ use Rattle.std.proofs.lemmas.Option.{get_or_from_slice_get, slice_get_cases, sli
 use Rattle.gobject.specs.declared.node.Entry.{Entry}
 use Rattle.gobject.specs.Objects.{IdsDiffer, entry_of}
 use Rattle.gdag.proofs.Growing.{all_standing, at_front, take_one}
-use Rattle.gdag.specs.Laws.{AgreesWith, PlacesAreNodes}
+use Rattle.gdag.specs.Laws.{AgreesWith, PositionsAreNodes}
 use Rattle.gdag.specs.Reach.{Agree}
 use Rattle.ganswer.specs.Servers.{Server}
 use Rattle.gclientrepo.specs.Repos.{RepoState}
@@ -48,7 +48,7 @@ module _ {A : Type 0} where
   }
 
   -- where it agrees with each entry, the graphs agree
-  pub graphs_agree : PlacesAreNodes A → (g h : List (Entry A)) (p : ℕ) → length g ≤ p → IdsDiffer g
+  pub graphs_agree : PositionsAreNodes A → (g h : List (Entry A)) (p : ℕ) → length g ≤ p → IdsDiffer g
       → All (AgreesWith h) (take p g)
       → Agree g h
   graphs_agree law g h p past differ before a m n here there =

@@ -23,9 +23,9 @@ use Rattle.gsession.specs.declared.stage.Stage.{Stage}
 use Rattle.gsession.specs.declared.stage.Stage.TheVariants.{Settling}
 use Rattle.gdag.specs.declared.fault.GraphFault.TheVariants as graph
 use Rattle.gclientrepo.specs.declared.fault.RepoFault.TheVariants as repo
-use Rattle.gworld.specs.Sound.{AreEndsWhole, IsAnswered, IsSound, IsSoundKept, IsSoundRequest, IsSoundSession}
+use Rattle.gworld.specs.Sound.{AreEndsConnected, IsAnswered, IsSound, IsSoundKept, IsSoundRequest, IsSoundSession}
 use Rattle.gworld.specs.Sound.{IsUnforgedAndFaithful}
-use Rattle.gworld.specs.Events.{AsksNext, Delivers, Forges, ServesRequest, SettlesRefs, Step, mark_after, waiting}
+use Rattle.gworld.specs.Events.{AsksNext, Delivers, Forges, ServesRequest, SettlesRefs, Step, mark_after, waiting_session}
 use Rattle.gworld.specs.Events.{waits_for}
 use Rattle.gworld.specs.Taking.{IsFullAnswer}
 use Rattle.gworld.specs.Worlds.{Kept, PackTools, WorldState, reply_bytes}
@@ -87,7 +87,7 @@ module _ {A : Type 0} {tools : PackTools A} (laws : WorldLaws tools) where
   mark_left v s after false mark is can same = subst (IsAnswered tools v) (sym is) (can same)
 
   -- from a sound world, `w`, a step leads to `v`
-  module _ (w v : WorldState A) (ends : AreEndsWhole w) (later : AreEndsWhole v) (sound : IsSound tools w) where
+  module _ (w v : WorldState A) (ends : AreEndsConnected w) (later : AreEndsConnected v) (sound : IsSound tools w) where
     same_sound : v ≡ w → Sound v
     same_sound same = subst Sound (sym same) sound
 
@@ -249,15 +249,15 @@ module _ {A : Type 0} {tools : PackTools A} (laws : WorldLaws tools) where
           → (Honest u → Honest w) → s.pending ≡ Some asked → IsSoundSession u s
           → Takes laws asked s w.repo (take count (reply_bytes kept.reply)) outcome after u.repo
           → IsFullAnswer kept asked count outcome → IsAnswered tools u after
-      bytes_settle u (Fetches asked) (PackTaken added) after before waits still takes full = record {
+      bytes_settle u (Fetches asked) (PackTaken added) after before waits still takes connected = record {
         stage = ap (λ (x : SessionState A). x.stage) takes.1.2.2.1.1;
-        full = λ honest.
-            can_settle laws after asked (acknowledged_by takes.1.2.0) types waits full.same
+        connected = λ honest.
+            can_settle laws after asked (acknowledged_by takes.1.2.0) types waits connected.same
             (pack_came laws count added after u.repo (before honest) sound is session takes) still takes.1.2.2.1.1;
       }
-      bytes_settle u (Ls asked) (PackTaken added) after before waits still takes full = absurd takes
-      bytes_settle u Empty outcome after before waits still takes full = absurd takes
-      bytes_settle u asked outcome after before waits still takes full = absurd full.pack
+      bytes_settle u (Ls asked) (PackTaken added) after before waits still takes connected = absurd takes
+      bytes_settle u Empty outcome after before waits still takes connected = absurd takes
+      bytes_settle u asked outcome after before waits still takes connected = absurd connected.pack
 
       delivers_to : (pending : Option Asked) (outcome : Outcome) → s.pending ≡ pending
           → Delivers tools.indexes tools.index_fails w (Some kept) count (waits_for s pending) outcome v → Sound v
@@ -281,7 +281,7 @@ module _ {A : Type 0} {tools : PackTools A} (laws : WorldLaws tools) where
 
     delivers_sound : (number count : ℕ) (found : Option Kept) (session : Option (SessionState A)) (outcome : Outcome)
         → slice_get w.kept number ≡ found → IsSoundIn w session → IfSome session IsSession
-        → Delivers tools.indexes tools.index_fails w found count (waiting session) outcome v → Sound v
+        → Delivers tools.indexes tools.index_fails w found count (waiting_session session) outcome v → Sound v
     delivers_sound number count None session outcome at is types delivers = same_sound delivers.1
     delivers_sound number count (Some kept) None outcome at is types delivers = same_sound delivers.1
     delivers_sound number count (Some kept) (Some s) outcome at is types delivers =
@@ -317,7 +317,7 @@ module _ {A : Type 0} {tools : PackTools A} (laws : WorldLaws tools) where
         (λ wrong. never wrong)
 
     forges_sound : (bytes : List ℕ) (session : Option (SessionState A)) (outcome : Outcome) → IsSoundIn w session
-        → Forges tools.indexes tools.index_fails w bytes (waiting session) outcome v → Sound v
+        → Forges tools.indexes tools.index_fails w bytes (waiting_session session) outcome v → Sound v
     forges_sound bytes None outcome is forges = forged_in_vain forges.1
     forges_sound bytes (Some s) outcome is forges = forges_to bytes s s.pending outcome is forges
 

@@ -11,7 +11,7 @@ use Rattle.gobject.specs.declared.node.Node.{Node}
 use Rattle.gobject.specs.Packs.{Indexes, IndexFails, Packs, PackFails}
 use Rattle.gdag.specs.Graphs.{IsNode}
 use Rattle.gdag.specs.Laws.{AgreesWith}
-use Rattle.grefspec.specs.Refspecs.{Refspec}
+use Rattle.grefs.specs.Refspecs.{Refspec}
 use Rattle.gclientrepo.specs.Changes.{AddsLocal, SetsLocal}
 use Rattle.gclientrepo.specs.Faults.{repo_fault_row}
 use Rattle.gclientrepo.specs.Repos.{RepoState}
@@ -20,7 +20,7 @@ use Rattle.gclientrepo.specs.declared.ask.RefUpdate.{RefUpdate}
 use Rattle.gclientrepo.specs.declared.ask.RefUpdate.TheVariants as update
 use Rattle.gclientrepo.specs.declared.fault.RepoFault.{RepoFault}
 use Rattle.grequest.specs.Asked.{Asked}
-use Rattle.ganswer.specs.Adverts.{advertised}
+use Rattle.ganswer.specs.Adverts.{advertisement}
 use Rattle.ganswer.specs.Answers.{Answers, Refuses, Reply}
 use Rattle.ganswer.specs.Changes.{Adds, Sets}
 use Rattle.ganswer.specs.Faults.{build_fault_row, lacks_memory, serve_fault_row}
@@ -71,7 +71,7 @@ module _ {A : Type 0} where
   abbrev pub BeginsSession : WorldState A → List Refspec → Outcome → WorldState A → Type 0
   BeginsSession w specs outcomes.Done new =
       (begun session : SessionState A) × Begins w.repo specs default_limit Plain (Ok begun)
-      × Hears begun (advertised w.server.graph.format) session (Ok tt)
+      × Hears begun (advertisement w.server.graph.format) session (Ok tt)
       × (new ≡ record w { session = Some session; answered = false })
   BeginsSession w specs (outcomes.Fault number) new =
       (fault : ClientFault A) × Begins w.repo specs default_limit Plain (Err fault)
@@ -201,9 +201,9 @@ abbrev pub waits_for : {A : Type 0} → SessionState A → Option Asked → Opti
 waits_for s None = None
 waits_for s (Some asked) = Some (s, asked)
 
-abbrev pub waiting : {A : Type 0} → Option (SessionState A) → Option (SessionState A × Asked)
-waiting None = None
-waiting (Some s) = waits_for s s.pending
+abbrev pub waiting_session : {A : Type 0} → Option (SessionState A) → Option (SessionState A × Asked)
+waiting_session None = None
+waiting_session (Some s) = waits_for s s.pending
 
 module _ {A : Type 0} (indexes : Indexes A) (index_fails : IndexFails) where
   -- The bytes come as the reply to the request that waits, which changes the session and the repository. `forged` and
@@ -240,9 +240,9 @@ module _ {A : Type 0} (tools : PackTools A) where
   Step w (event.Serve number) outcome new =
       ServesRequest tools.packs tools.pack_fails w (slice_get w.sent number) outcome new
   Step w (event.Deliver number count) outcome new =
-      Delivers tools.indexes tools.index_fails w (slice_get w.kept number) count (waiting w.session) outcome new
+      Delivers tools.indexes tools.index_fails w (slice_get w.kept number) count (waiting_session w.session) outcome new
   Step w (event.Forge bytes) outcome new =
-      Forges tools.indexes tools.index_fails w bytes.items (waiting w.session) outcome new
+      Forges tools.indexes tools.index_fails w bytes.items (waiting_session w.session) outcome new
   Step w (event.StrangeRequest bytes) outcome new =
       HearsStranger tools.packs tools.pack_fails w bytes.items outcome new
   Step w event.Settle outcome new = SettlesRefs w w.session outcome new

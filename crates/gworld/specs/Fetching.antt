@@ -8,7 +8,7 @@ use Rattle.gsession.specs.Sessions.{IsBegun, SessionState}
 use Rattle.gworld.specs.Faults.{memory_refused}
 use Rattle.gworld.specs.Promises.{IsListedOrDeclined, IsServedOrRefused, IsSettledOrRefused, IsTakenOrDeclined}
 use Rattle.gworld.specs.Promises.{Promises, client_graph}
-use Rattle.gworld.specs.Sound.{AreEndsWhole, IsSound, IsUnforgedAndFaithful}
+use Rattle.gworld.specs.Sound.{AreEndsConnected, IsSound, IsUnforgedAndFaithful}
 use Rattle.gworld.specs.Worlds.{Kept, PackTools, WorldState, reply_bytes}
 use Rattle.gscenario.specs.declared.event.Event.TheVariants as event
 use Rattle.gworld.specs.declared.outcome.Outcome.{Outcome}
@@ -67,7 +67,7 @@ module _ {A : Type 0} (tools : PackTools A) where
   abbrev pub FetchesComplete : Type 0
   FetchesComplete =
       (w new : WorldState A) (begun : SessionState A) (rounds reached parents : ℕ)
-      → IsUnforgedAndFaithful tools w → AreEndsWhole w → IsSound tools w → w.session ≡ Some begun → IsBegun begun
+      → IsUnforgedAndFaithful tools w → AreEndsConnected w → IsSound tools w → w.session ≡ Some begun → IsBegun begun
       → CountsReached (client_graph w) begun.tips reached parents → Rounds rounds w new
       → HasFetched rounds reached new
 

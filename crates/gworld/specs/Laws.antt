@@ -5,10 +5,10 @@ use Rattle.grefs.specs.RefLists.{IsRefs}
 use Rattle.gclientrepo.specs.Repos.{RepoState}
 use Rattle.ganswer.specs.Servers.{Server}
 use Rattle.gsession.specs.Sessions.{IsSession}
-use Rattle.gworld.specs.Promises.{AreCommonsShared, AreRefsWhole, AreRequestsFew, HonestPromises, Promises}
+use Rattle.gworld.specs.Promises.{AreCommonsShared, AreRefsConnected, AreRequestsFew, HonestPromises, Promises}
 use Rattle.gworld.specs.Promises.{SettlesUpToDate, SharesCommons}
 use Rattle.gworld.specs.Runs.{Run, RunWith}
-use Rattle.gworld.specs.Sound.{AreEndsWhole, IsSound}
+use Rattle.gworld.specs.Sound.{AreEndsConnected, IsSound}
 use Rattle.gworld.specs.Events.{Step}
 use Rattle.gworld.specs.Starts.{CanStart}
 use Rattle.gworld.specs.Worlds.{PackTools, WorldState, new_world}
@@ -20,7 +20,7 @@ use Rattle.gworld.specs.declared.outcome.Outcome.TheVariants as outcomes
 -- from a sound world each step that leaves both ends whole leads to a sound world, and keeps its promises
 abbrev pub StepsKeep : {A : Type 0} → PackTools A → Type 0
 StepsKeep {A} tools =
-    (w new : WorldState A) (event : Event A) (outcome : Outcome) → AreEndsWhole w → AreEndsWhole new
+    (w new : WorldState A) (event : Event A) (outcome : Outcome) → AreEndsConnected w → AreEndsConnected new
     → IsSound tools w → Step tools w event outcome new
     → IsSound tools new × Promises tools w event outcome new
 
@@ -32,10 +32,10 @@ pub record AreListed {A : Type 0} (w : WorldState A) : Type 0 where
   pub session : IfSome w.session IsSession
 
 -- each step leaves both ends whole
-abbrev pub EndsStayWhole : {A : Type 0} → PackTools A → Type 0
-EndsStayWhole {A} tools =
-    (w new : WorldState A) (event : Event A) (outcome : Outcome) → AreEndsWhole w → AreListed new
-    → Step tools w event outcome new → AreEndsWhole new
+abbrev pub EndsStayConnected : {A : Type 0} → PackTools A → Type 0
+EndsStayConnected {A} tools =
+    (w new : WorldState A) (event : Event A) (outcome : Outcome) → AreEndsConnected w → AreListed new
+    → Step tools w event outcome new → AreEndsConnected new
 
 -- a step to a world whose lists are in order
 pub record StepsListed {A : Type 0} (tools : PackTools A) (w : WorldState A) (event : Event A) (outcome : Outcome)
@@ -46,9 +46,9 @@ pub record StepsListed {A : Type 0} (tools : PackTools A) (w : WorldState A) (ev
 -- from a sound world with whole ends each run keeps its promises, and leads to such a world
 abbrev pub RunsKeepPromises : {A : Type 0} → PackTools A → Type 0
 RunsKeepPromises {A} tools =
-    (w new : WorldState A) (events : List (Event A)) (outcomes : List Outcome) → AreEndsWhole w → IsSound tools w
+    (w new : WorldState A) (events : List (Event A)) (outcomes : List Outcome) → AreEndsConnected w → IsSound tools w
     → RunWith (StepsListed tools) w events outcomes new
-    → RunWith (Promises tools) w events outcomes new × AreEndsWhole new × IsSound tools new
+    → RunWith (Promises tools) w events outcomes new × AreEndsConnected new × IsSound tools new
 
 -- a world as it begins is sound
 abbrev pub NewWorldsAreSound : {A : Type 0} → PackTools A → Type 0
@@ -62,10 +62,10 @@ PromisesAreRuns {A} tools =
     → RunWith (Promises tools) w events outcomes new → Run tools w events outcomes new
 
 -- where the client's refs are connected, they are so after any run
-abbrev pub RefsStayWhole : {A : Type 0} → PackTools A → Type 0
-RefsStayWhole {A} tools =
-    (w new : WorldState A) (events : List (Event A)) (outcomes : List Outcome) → AreRefsWhole w
-    → RunWith (Promises tools) w events outcomes new → AreRefsWhole new
+abbrev pub RefsStayConnected : {A : Type 0} → PackTools A → Type 0
+RefsStayConnected {A} tools =
+    (w new : WorldState A) (events : List (Event A)) (outcomes : List Outcome) → AreRefsConnected w
+    → RunWith (Promises tools) w events outcomes new → AreRefsConnected new
 
 -- where the client's session asked for objects at most once more than there are ids that its tips reach, so it is
 -- after any run
@@ -100,10 +100,10 @@ FrontsKeepPromises {A} tools =
     → (v : WorldState A) × LeadsThrough (Promises tools) w front rest outcomes new v
 
 -- where the client's refs are connected, they are so in every world through which a run leads
-abbrev pub RefsAreAlwaysWhole : {A : Type 0} → PackTools A → Type 0
-RefsAreAlwaysWhole {A} tools =
-    (w new v : WorldState A) (front rest : List (Event A)) (outcomes : List Outcome) → AreRefsWhole w
-    → LeadsThrough (Promises tools) w front rest outcomes new v → AreRefsWhole v
+abbrev pub RefsAreAlwaysConnected : {A : Type 0} → PackTools A → Type 0
+RefsAreAlwaysConnected {A} tools =
+    (w new v : WorldState A) (front rest : List (Event A)) (outcomes : List Outcome) → AreRefsConnected w
+    → LeadsThrough (Promises tools) w front rest outcomes new v → AreRefsConnected v
 
 -- ---- nothing is lost
 
@@ -163,7 +163,7 @@ CommonsStayShared {A} tools =
 pub record KeepsAll {A : Type 0} (tools : PackTools A) (w : WorldState A) (event : Event A) (outcome : Outcome)
     (new : WorldState A) : Type 0 where
   pub step : Step tools w event outcome new
-  pub refs : AreRefsWhole new
+  pub refs : AreRefsConnected new
   pub commons : IfSome new.session (SharesCommons new)
   pub up_to_date : SettlesUpToDate w event outcome new
   pub few : AreRequestsFew new

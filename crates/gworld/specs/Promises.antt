@@ -15,9 +15,9 @@ use Rattle.gfetchreply.specs.FetchReplies.{FetchReply, Acks, Ready, Pack}
 use Rattle.gfetchreply.specs.FetchHeads.{pack_of}
 use Rattle.gfetchreply.specs.Values.{default_limit}
 use Rattle.glsreply.specs.LsReplies.{LsReply}
-use Rattle.ggraph.specs.SafeRefs.{IsSafe}
+use Rattle.ggraph.specs.ConnectedRefs.{HasConnectedRefs}
 use Rattle.gdag.specs.Graphs.{Holds}
-use Rattle.gdag.specs.Reach.{IsFull, Reaches}
+use Rattle.gdag.specs.Reach.{IsConnected, Reaches}
 use Rattle.gdag.specs.Walks.{CountsReached}
 use Rattle.gdag.specs.declared.fault.GraphFault.TheVariants as graph
 use Rattle.grefs.specs.RefLists.{ref_at}
@@ -35,7 +35,7 @@ use Rattle.gsession.specs.TakingReplies.{RefusesPack}
 use Rattle.gsession.specs.declared.stage.Stage.TheVariants.{Settling}
 use Rattle.gworld.specs.Faults.{indexer_failed, memory_refused, no_memory_to_read, no_room, pack_over_limit}
 use Rattle.gworld.specs.Faults.{bad_name, packer_failed, too_many_refs, too_many_wants}
-use Rattle.gworld.specs.Sound.{AreEndsWhole, IsUnforgedAndFaithful}
+use Rattle.gworld.specs.Sound.{AreEndsConnected, IsUnforgedAndFaithful}
 use Rattle.gworld.specs.Events.{Step}
 use Rattle.gworld.specs.Worlds.{Kept, PackTools, WorldState, reply_bytes}
 use Rattle.gscenario.specs.declared.event.Event.{Event}
@@ -60,8 +60,8 @@ module _ {A : Type 0} where
   -- ---- 1. the client's refs are connected
 
   -- the client holds whatever each of its refs reaches
-  abbrev pub AreRefsWhole : WorldState A → Type 0
-  AreRefsWhole w = IsSafe (client_graph w) w.repo.refs
+  abbrev pub AreRefsConnected : WorldState A → Type 0
+  AreRefsConnected w = HasConnectedRefs (client_graph w) w.repo.refs
 
   -- ---- 2. server and client hold each common id
 
@@ -83,7 +83,7 @@ module _ {A : Type 0} where
   -- the want is connected at the client, which also holds all that it reaches at the server
   abbrev pub IsBrought : WorldState A → Id → Type 0
   IsBrought w want =
-      IsFull (client_graph w) want × ((a : Id) → Reaches (server_graph w) want a → Holds (client_graph w) a)
+      IsConnected (client_graph w) want × ((a : Id) → Reaches (server_graph w) want a → Holds (client_graph w) a)
 
   -- the kept reply answers a request for objects, and each want of that request was brought
   pub record BringsWants (w : WorldState A) (number : ℕ) (new : WorldState A) : Type 0 where
@@ -208,7 +208,7 @@ module _ {A : Type 0} where
 
   -- each asked id is connected, and each ref that may move has moved
   pub record HasSettled (old : RepoState A) (asks : List (Ask A)) (new : RepoState A) : Type 0 where
-    pub full : All (IsFull new.graph.entries) (asked_ids asks)
+    pub connected : All (IsConnected new.graph.entries) (asked_ids asks)
     pub moved : All (MovesAsked old new) asks
 
   -- The session settles what it asked for; or the refs can't be set, as there would be too many (no refspec moves
@@ -252,10 +252,10 @@ module _ {A : Type 0} (tools : PackTools A) where
   -- common id. Where packer and indexer are faithful, too, all the rest holds.
   pub record Promises (w : WorldState A) (event : Event A) (outcome : Outcome) (new : WorldState A) : Type 0 where
     pub step : Step tools w event outcome new
-    pub refs : AreRefsWhole new
+    pub refs : AreRefsConnected new
     pub commons : AreCommonsShared new
     pub lists : ListsRefs w event outcome
     pub up_to_date : SettlesUpToDate w event outcome new
     pub few : AreRequestsFew new
-    pub ends : AreEndsWhole new
+    pub ends : AreEndsConnected new
     pub honest : IsUnforgedAndFaithful tools w → HonestPromises w event outcome new

@@ -3,7 +3,7 @@ use Rattle.std.specs.Prelude.{◌≡◌, ◌⊎◌, ⊤, true, List, [], ◌∷�
 use Rattle.gdag.specs.Laws.{AgreesWith}
 use Rattle.gsession.specs.Requesting.{is_due}
 use Rattle.gsession.specs.Sessions.{SessionState}
-use Rattle.gworld.specs.Events.{Step, waiting}
+use Rattle.gworld.specs.Events.{Step, waiting_session}
 use Rattle.gworld.specs.Worlds.{PackTools, WorldState}
 use Rattle.gscenario.specs.declared.event.Event.{Event}
 use Rattle.gscenario.specs.declared.event.Event.TheVariants as event
@@ -30,8 +30,8 @@ abbrev pub NeedsMemory : {A : Type 0} → WorldState A → Event A → Type 0
 NeedsMemory w (event.Begin specs) = ⊥
 NeedsMemory {A} w event.Ask = (s : SessionState A) × (w.session ≡ Some s) × (is_due s.stage s.pending ≡ true)
 NeedsMemory w (event.Serve number) = IsSome (slice_get w.sent number)
-NeedsMemory w (event.Deliver number count) = IsSome (slice_get w.kept number) × IsSome (waiting w.session)
-NeedsMemory w (event.Forge bytes) = IsSome (waiting w.session)
+NeedsMemory w (event.Deliver number count) = IsSome (slice_get w.kept number) × IsSome (waiting_session w.session)
+NeedsMemory w (event.Forge bytes) = IsSome (waiting_session w.session)
 NeedsMemory w (event.StrangeRequest bytes) = ⊤
 NeedsMemory w event.Settle = ⊥
 NeedsMemory w event.RestartClient = ⊥

@@ -7,10 +7,10 @@ use Rattle.gobject.specs.declared.node.Entry.{Entry}
 use Rattle.ggrammar.specs.declared.ends.Ends.TheVariants.{Plain}
 use Rattle.gfetchreply.specs.Values.{default_limit}
 use Rattle.gdag.specs.Graphs.{Holds, IsGraph}
-use Rattle.gdag.specs.Reach.{Agree, Grows, IsFull}
+use Rattle.gdag.specs.Reach.{Agree, Grows, IsConnected}
 use Rattle.grefs.specs.RefLists.{IsRefs}
 use Rattle.grequest.specs.Asked.{Asked, Empty, Ls, Fetches, FetchAsked, max_haves}
-use Rattle.gclientrepo.specs.Repos.{IsWhole}
+use Rattle.gclientrepo.specs.Repos.{IsConnectedRepo}
 use Rattle.gclientrepo.specs.Asks.{asked_ids}
 use Rattle.ganswer.specs.Answers.{Answers}
 use Rattle.ganswer.specs.Servers.{IsServer, Server}
@@ -22,9 +22,9 @@ use Rattle.gworld.specs.Worlds.{Kept, PackTools, WorldState}
 
 module _ {A : Type 0} where
   -- what the types of server, repository and session keep: the server misses no object, the client's refs are connected
-  pub record AreEndsWhole (w : WorldState A) : Type 0 where
+  pub record AreEndsConnected (w : WorldState A) : Type 0 where
     pub server : IsServer w.server
-    pub repo : IsWhole w.repo
+    pub repo : IsConnectedRepo w.repo
     pub graph : IsGraph w.repo.graph
     pub refs : IsRefs w.repo.refs
     pub session : IfSome w.session IsSession
@@ -34,7 +34,7 @@ module _ {A : Type 0} where
   -- a request for objects: each have is connected at the client, and something is wanted, which the server holds
   -- unless bytes were forged
   pub record IsSoundFetch (w : WorldState A) (asked : FetchAsked) : Type 0 where
-    pub full : All (IsFull w.repo.graph.entries) asked.haves
+    pub connected : All (IsConnected w.repo.graph.entries) asked.haves
     pub few : length asked.haves ≤ max_haves
     pub some : asked.wants ≢ []
     pub held : w.forged ≡ false → All (Holds w.server.graph.entries) asked.wants
@@ -57,8 +57,8 @@ module _ {A : Type 0} where
   -- ---- the session
 
   -- an asked id is wanted, or connected at the client
-  abbrev pub IsWantedOrFull : List (Entry A) → SessionState A → Id → Type 0
-  IsWantedOrFull g s a = Contains s.wants a ⊎ IsFull g a
+  abbrev pub IsWantedOrConnected : List (Entry A) → SessionState A → Id → Type 0
+  IsWantedOrConnected g s a = Contains s.wants a ⊎ IsConnected g a
 
   -- A session began on what its repository holds, and offered nothing else. Each common id is connected at the client.
   -- Where nothing was forged, the server holds each common id and each want, too.
@@ -67,10 +67,10 @@ module _ {A : Type 0} where
     pub limit : s.limit ≡ default_limit
     pub ends : s.ends ≡ Plain
     pub began : BeganOn w.repo.graph.entries s
-    pub commons : All (IsFull w.repo.graph.entries) s.commons
+    pub commons : All (IsConnected w.repo.graph.entries) s.commons
     pub shared : w.forged ≡ false → All (Holds w.server.graph.entries) s.commons
     pub waits : (asked : FetchAsked) → Awaits s asked → IsSoundFetch w asked
-    pub asked : All (IsWantedOrFull w.repo.graph.entries s) (asked_ids s.asks)
+    pub asked : All (IsWantedOrConnected w.repo.graph.entries s) (asked_ids s.asks)
     pub wanted : w.forged ≡ false → All (Holds w.server.graph.entries) s.wants
 
 module _ {A : Type 0} (tools : PackTools A) where
@@ -84,7 +84,7 @@ module _ {A : Type 0} (tools : PackTools A) where
   -- faithful, each id that it asks for is connected
   pub record IsAnswered (w : WorldState A) (s : SessionState A) : Type 0 where
     pub stage : s.stage ≡ Settling
-    pub full : IsUnforgedAndFaithful w → All (IsFull w.repo.graph.entries) (asked_ids s.asks)
+    pub connected : IsUnforgedAndFaithful w → All (IsConnected w.repo.graph.entries) (asked_ids s.asks)
 
   -- What stays true. Each have of each request that was sent is connected at the client, and the server holds each
   -- want, unless bytes were forged. Each kept reply answers its request, as the server was then. Where nothing

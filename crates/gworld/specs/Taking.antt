@@ -1,7 +1,7 @@
 -- Bytes come as the reply to the request that waits.
 use Rattle.std.specs.Prelude.{◌≡◌, ⊤, ℕ, false, ◌≤◌, length, Ok, Err}
 use Rattle.gpkt.specs.Packets.{Bytes}
-use Rattle.ggrammar.specs.MessageBytes.{known}
+use Rattle.ggrammar.specs.MessageBytes.{known_bytes}
 use Rattle.ggrammar.specs.MessageReading.{IsReadFailure}
 use Rattle.gobject.specs.Packs.{Indexes, IndexFails}
 use Rattle.gclientrepo.specs.Repos.{RepoState}
@@ -32,10 +32,10 @@ IsAtHand _ = ⊤
 abbrev pub TakesRefs : {A : Type 0} → SessionState A → RepoState A → Bytes → Outcome → SessionState A → RepoState A
     → Type 0
 TakesRefs {A} s repo bytes (outcomes.LsTaken asks wants) after new =
-    (left : Bytes) × (taken : LsTaken A) × TakesLs s repo.graph.entries (known bytes left) after (Ok taken)
+    (left : Bytes) × (taken : LsTaken A) × TakesLs s repo.graph.entries (known_bytes bytes left) after (Ok taken)
     × (asks ≡ taken.asks) × (wants ≡ taken.wants) × (new ≡ repo)
 TakesRefs {A} s repo bytes (outcomes.Fault number) after new =
-    (left : Bytes) × (fault : ClientFault A) × TakesLs s repo.graph.entries (known bytes left) after (Err fault)
+    (left : Bytes) × (fault : ClientFault A) × TakesLs s repo.graph.entries (known_bytes bytes left) after (Err fault)
     × IsAtHand fault × (number ≡ code_of fault) × (new ≡ repo)
 TakesRefs s repo bytes _ after new = ⊥
 
@@ -45,13 +45,13 @@ module _ {A : Type 0} (indexes : Indexes A) (index_fails : IndexFails) where
   abbrev pub TakesObjects : SessionState A → RepoState A → Bytes → Outcome → SessionState A → RepoState A → Type 0
   TakesObjects s repo bytes (outcomes.Round common) after new =
       (left : Bytes)
-      × TakesReply indexes index_fails s repo (known bytes left) after new (Ok (taken.Round common))
+      × TakesReply indexes index_fails s repo (known_bytes bytes left) after new (Ok (taken.Round common))
   TakesObjects s repo bytes (outcomes.PackTaken added) after new =
       (left : Bytes)
-      × TakesReply indexes index_fails s repo (known bytes left) after new (Ok (taken.PackTaken added))
+      × TakesReply indexes index_fails s repo (known_bytes bytes left) after new (Ok (taken.PackTaken added))
   TakesObjects s repo bytes (outcomes.Fault number) after new =
       (left : Bytes) × (fault : ClientFault A)
-      × TakesReply indexes index_fails s repo (known bytes left) after new (Err fault)
+      × TakesReply indexes index_fails s repo (known_bytes bytes left) after new (Err fault)
       × IsAtHand fault × (number ≡ code_of fault)
   TakesObjects s repo bytes _ after new = ⊥
 

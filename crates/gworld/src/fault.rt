@@ -1,4 +1,4 @@
-//! Why there is no such world, and why a run stopped.
+//! Reasons why there is no world, or a run stopped.
 
 ghost use Rattle.std.specs.Prelude.{◌≡◌, Some};
 ghost use Rattle.gworld.specs.Faults.{run_fault_row, run_fault_text, world_fault_row, world_fault_text};
@@ -10,42 +10,43 @@ use std::alloc::{Allocator, Global};
 use std::error::Error;
 use std::fmt;
 
-/// The fault of an event that would have server and client hold one id with two objects.
+/// The fault of an event after which server and client would hold one id with different objects.
 pub(crate) const DISAGREE: u32 = 90;
 
-/// The fault of an event that names a request that was not sent, or a reply that is not kept.
+/// The fault of an event that names a request that was not sent, or a reply that was not kept.
 pub(crate) const NO_SUCH: u32 = 93;
 
-/// The fault of an event for which the client's session does not wait: there is none, or another call is due.
+/// The fault of an event that does not fit the client's session: there is none, or it needs another
+/// call.
 pub(crate) const NO_OPEN_REQUEST: u32 = 83;
 
-/// Why there is no such world.
+/// The reason there is no such world.
 #[derive(Clone, Copy, Debug, PartialEq, Eq, Drop)]
 pub enum WorldFault {
-    /// 97: server and client have ids of two object formats.
+    /// 97: server and client have ids of different object formats.
     TwoFormats,
-    /// 90: server and client hold this id with two objects. It is the first such id in the order of the server's
-    /// objects.
+    /// 90: server and client hold this id with different objects. It is the first such id in the
+    /// order of the server's objects.
     Disagree { id: Oid },
 }
 
 impl WorldFault {
-    /// The number of the fault.
+    /// Returns the number of the fault.
     pub fn code(&self) -> u32
         ensures { result ≡ (world_fault_row self.now).0 }
     {
-        self.row().0
+        self.fault_row().0
     }
 
-    /// The name of the fault.
+    /// Returns the name of the fault.
     pub fn name(&self) -> &'static str
         ensures { result.now ≡ (world_fault_row self.now).1 }
     {
-        self.row().1
+        self.fault_row().1
     }
 
-    // The table of numbers and names.
-    fn row(&self) -> (u32, &'static str)
+    // Returns the number and the name of the fault.
+    fn fault_row(&self) -> (u32, &'static str)
         ensures { (result.0, result.1.now) ≡ world_fault_row self.now }
     {
         match self {
@@ -70,35 +71,35 @@ impl fmt::Display for WorldFault {
 
 impl Error for WorldFault {}
 
-/// Why a run stopped before it did all events.
+/// The reason a run stopped before it did all events.
 #[derive(Debug, Drop)]
 pub enum RunFault<A: Allocator + Copy = Global> {
-    /// 91: out of memory for a list of the world or a buffer. `outcomes` are those of the events that were done; the
-    /// next one has not begun.
+    /// 91: out of memory for a list of the world or a buffer. `outcomes` has the results of the
+    /// done events; the next one has not begun.
     Memory { outcomes: Vec<Outcome, A> },
 }
 
 impl<A: Allocator + Copy> RunFault<A> {
-    /// The number of the fault.
+    /// Returns the number of the fault.
     pub fn code(&self) -> u32
         ensures { result ≡ (run_fault_row self.now).0 }
     {
-        self.row().0
+        self.fault_row().0
     }
 
-    /// The name of the fault.
+    /// Returns the name of the fault.
     pub fn name(&self) -> &'static str
         ensures { result.now ≡ (run_fault_row self.now).1 }
     {
-        self.row().1
+        self.fault_row().1
     }
 
-    // The table of numbers and names.
-    fn row(&self) -> (u32, &'static str)
+    // Returns the number and the name of the fault.
+    fn fault_row(&self) -> (u32, &'static str)
         ensures { (result.0, result.1.now) ≡ run_fault_row self.now }
     {
         match self {
-            RunFault::Memory { .. } => ScenarioFault::Memory.row(),
+            RunFault::Memory { .. } => ScenarioFault::Memory.fault_row(),
         }
     }
 }

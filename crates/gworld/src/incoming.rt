@@ -1,4 +1,4 @@
-//! Bytes come as the reply to the request that waits.
+//! Bytes that arrive as the reply to the open request.
 
 ghost use Rattle.std.specs.Prelude.{◌≡◌, IsOkUnless, IsSome, MatchResult, alloc_error, take, Some};
 ghost use Rattle.gworld.specs.steps.Bringing.{IsAwaited, TakesIfOpen, objects_outcome, refs_outcome};
@@ -9,12 +9,12 @@ use crate::outcome::Outcome;
 use gclientrepo::Repo;
 use ggraph::Indexer;
 use gpkt::memory::SliceSource;
-use gpkt::{LineBuffer, LineReader};
+use gpkt::{PacketBuffer, PacketReader};
 use grequest::Request;
 use gsession::{ClientFault, LsTaken, Session, Taken};
 use std::alloc::{AllocError, Allocator};
 
-/// What a session waits for.
+/// The reply that a session awaits.
 #[derive(Clone, Copy, Drop)]
 pub(crate) enum Due {
     /// No reply.
@@ -25,18 +25,18 @@ pub(crate) enum Due {
     Objects,
 }
 
-// What the session waits for.
-fn awaited<A: Allocator + Copy>(session: &Session<A>) -> Due
+// Returns the reply that the session awaits.
+fn due_of<A: Allocator + Copy>(session: &Session<A>) -> Due
     ensures { IsAwaited session.now.pending result }
 {
-    match session.pending() {
+    match session.open_request() {
         Some(Request::Ls(_)) => Due::Refs,
         Some(Request::Fetch(_)) => Due::Objects,
         Some(Request::Empty) | None => Due::Nothing,
     }
 }
 
-/// What the request that waits makes of some bytes; nothing, where none waits.
+/// Passes some bytes to the session as its awaited reply. Returns `None` if it awaits none.
 pub(crate) fn take_bytes<A: Allocator + Copy, K: Indexer<A>>(
     session: &mut Session<A>,
     repo: &mut Repo<A>,
@@ -48,7 +48,7 @@ pub(crate) fn take_bytes<A: Allocator + Copy, K: Indexer<A>>(
         session.old.pending session.old repo.old bytes.now took session.new repo.new)
         (λ _. (session.new ≡ session.old) × (repo.new ≡ repo.old) × IsSome session.old.pending) }
 {
-    match awaited(session) {
+    match due_of(session) {
         Due::Nothing => Ok(None),
         Due::Refs => {
             let outcome = take_refs(session, repo, bytes)?;
@@ -61,7 +61,7 @@ pub(crate) fn take_bytes<A: Allocator + Copy, K: Indexer<A>>(
     }
 }
 
-// Bytes come as the reply to ls-refs.
+// Takes bytes as the reply to ls-refs.
 fn take_refs<A: Allocator + Copy>(
     session: &mut Session<A>,
     repo: &Repo<A>,
@@ -72,12 +72,12 @@ fn take_refs<A: Allocator + Copy>(
         (λ _. session.new ≡ session.old) }
 {
     let buffer = line_buffer(repo.graph().allocator())?;
-    let mut reader = LineReader::with_buffer(buffer, SliceSource::new(bytes));
+    let mut reader = PacketReader::with_buffer(buffer, SliceSource::new(bytes));
     let result = session.take_ls(repo, &mut reader);
     Ok(refs_outcome(result))
 }
 
-// The outcome of a reply to ls-refs.
+// Returns the outcome of a reply to ls-refs.
 fn refs_outcome<A: Allocator + Copy>(taking: Result<LsTaken<A>, ClientFault<A>>) -> Outcome
     ensures { result ≡ refs_outcome taking }
 {
@@ -86,18 +86,18 @@ fn refs_outcome<A: Allocator + Copy>(taking: Result<LsTaken<A>, ClientFault<A>>)
             asks: taken.asks,
             wants: taken.wants,
         },
-        Err(fault) => refused(fault),
+        Err(fault) => outcome_of_fault(fault),
     }
 }
 
-/// The outcome of a fault.
-pub(crate) fn refused<A: Allocator + Copy>(fault: ClientFault<A>) -> Outcome
+/// Returns the outcome of a fault.
+pub(crate) fn outcome_of_fault<A: Allocator + Copy>(fault: ClientFault<A>) -> Outcome
     ensures { result ≡ outcome.Fault (code_of fault) }
 {
     Outcome::Fault { code: fault.code() }
 }
 
-// Bytes come as the reply to fetch.
+// Takes bytes as the reply to fetch.
 fn take_objects<A: Allocator + Copy, K: Indexer<A>>(
     session: &mut Session<A>,
     repo: &mut Repo<A>,
@@ -110,33 +110,33 @@ fn take_objects<A: Allocator + Copy, K: Indexer<A>>(
         (λ _. (session.new ≡ session.old) × (repo.new ≡ repo.old)) }
 {
     let buffer = line_buffer(repo.graph().allocator())?;
-    let mut reader = LineReader::with_buffer(buffer, SliceSource::new(bytes));
+    let mut reader = PacketReader::with_buffer(buffer, SliceSource::new(bytes));
     let result = session.take_reply(repo, &mut reader, indexer);
     Ok(objects_outcome(result))
 }
 
-// The outcome of a reply to fetch.
+// Returns the outcome of a reply to fetch.
 fn objects_outcome<A: Allocator + Copy>(taking: Result<Taken, ClientFault<A>>) -> Outcome
     ensures { result ≡ objects_outcome taking }
 {
     match taking {
         Ok(Taken::Round { common }) => Outcome::Round { common },
         Ok(Taken::PackTaken { added }) => Outcome::PackTaken { added },
-        Err(fault) => refused(fault),
+        Err(fault) => outcome_of_fault(fault),
     }
 }
 
-// A buffer for packets.
-fn line_buffer<A: Allocator + Copy>(alloc: A) -> Result<LineBuffer<A>, AllocError>
+// Returns a buffer for packets.
+fn line_buffer<A: Allocator + Copy>(alloc: A) -> Result<PacketBuffer<A>, AllocError>
     ensures { IsOkUnless result alloc_error }
 {
-    match LineBuffer::new(alloc) {
+    match PacketBuffer::new(alloc) {
         Ok(buffer) => Ok(buffer),
         Err(_) => Err(AllocError),
     }
 }
 
-/// The first so many bytes; all, where there are fewer.
+/// Returns the first `count` bytes, or all if there are fewer.
 pub(crate) fn front(bytes: &[u8], count: usize) -> &[u8]
     ensures { result.now ≡ take count bytes.now }
 {

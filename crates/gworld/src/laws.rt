@@ -1,8 +1,8 @@
-//! The laws of worlds: functions without effect, whose contracts they are.
+//! The laws of worlds: functions without effect, which exist for their contracts.
 
 ghost use Rattle.std.specs.Prelude.{◌≡◌, false};
 ghost use Rattle.gworld.specs.Fetching.{FetchesComplete, OnlyLimitsRefuse};
-ghost use Rattle.gworld.specs.Laws.{CommonsStayShared, EndsStayWhole, FrontsAreRuns, FrontsKeepPromises, GraphsOnlyGrow, HonestRunsKeepAll, NewWorldsAreSound, OthersLeaveRefs, PromisesAreRuns, RefsAreAlwaysWhole, RefsStayWhole, RefusalsLeaveBothEnds, RequestsStayFew, RunsKeepPromises, StepsKeep};
+ghost use Rattle.gworld.specs.Laws.{CommonsStayShared, EndsStayConnected, FrontsAreRuns, FrontsKeepPromises, GraphsOnlyGrow, HonestRunsKeepAll, NewWorldsAreSound, OthersLeaveRefs, PromisesAreRuns, RefsAreAlwaysConnected, RefsStayConnected, RefusalsLeaveBothEnds, RequestsStayFew, RunsKeepPromises, StepsKeep};
 ghost use Rattle.gworld.specs.Sound.{IsUnforgedAndFaithful};
 ghost use Rattle.gworld.specs.Worlds.{WorldState, tools_of};
 
@@ -11,12 +11,12 @@ use ganswer::laws::{
     packs_are_enough, servers_grow,
 };
 use gclientrepo::laws::{
-    held_is_not_missing, refusals_change_nothing, setting_stays_whole, settling_stays_whole,
-    whole_stays,
+    connected_repo_stays, held_is_not_missing, refusals_change_nothing, setting_stays_connected,
+    settling_stays_connected,
 };
 use ggraph::graph_laws::{
-    agreeing_entries_fit, agreeing_stays, closed_stays, coming_grows, counts_stay, full_stays_full,
-    growing_goes_on, growing_keeps, keeping_has_all, keeping_holds, keeping_reaches,
+    agreeing_entries_fit, agreeing_stays, closed_stays, coming_grows, connected_stays_connected,
+    counts_stay, growing_goes_on, growing_keeps, keeping_has_all, keeping_holds, keeping_reaches,
     reached_are_counted,
 };
 use ggraph::{Faithful, Indexer, Packer};
@@ -28,8 +28,9 @@ use gsession::laws::{
 };
 use std::alloc::Allocator;
 
-/// From a sound world each step leads to a sound world, and keeps its promises. The premise is that both ends are whole
-/// after the step, too: [`ends_stay_whole`] has what follows of that from the step.
+/// From a sound world each step leads to a sound world, and keeps its promises. The premise is that
+/// both ends are also whole after the step. [`ends_stay_connected`] says how much of that follows
+/// from the step.
 pub fn steps_keep<A: Allocator + Copy, K: Packer<A> + Indexer<A>>()
     ensures { (k : K) → StepsKeep (tools_of (K.packs k) (K.pack_fails k) (K.indexes k)
         (K.index_fails k)) }
@@ -39,7 +40,7 @@ pub fn steps_keep<A: Allocator + Copy, K: Packer<A> + Indexer<A>>()
     coming_grows::<A>();
     keeping_holds::<A>();
     keeping_reaches::<A>();
-    full_stays_full::<A>();
+    connected_stays_connected::<A>();
     keeping_has_all::<A>();
     agreeing_stays::<A>();
     agreeing_entries_fit::<A>();
@@ -73,8 +74,8 @@ pub fn steps_keep<A: Allocator + Copy, K: Packer<A> + Indexer<A>>()
     taking_only_grows::<A, K>();
 }
 
-/// A world with a faithful packer and indexer, in which no bytes were forged, keeps all that is promised of such
-/// worlds.
+/// A world with a faithful packer and indexer, in which no bytes were forged, keeps all promises
+/// for such worlds.
 pub fn faithful_lose_nothing<A: Allocator + Copy, K: Faithful<A>>(tools: &K)
     ensures { ((w : WorldState A) → w.forged ≡ false
         → IsUnforgedAndFaithful (tools_of (K.packs tools.now) (K.pack_fails tools.now)
@@ -90,25 +91,26 @@ pub fn promises_are_runs<A: Allocator + Copy, K: Packer<A> + Indexer<A>>()
 {}
 
 /// If each ref of the client is connected, it stays so over any run.
-pub fn refs_stay_whole<A: Allocator + Copy, K: Packer<A> + Indexer<A>>()
-    ensures { (k : K) → RefsStayWhole (tools_of (K.packs k) (K.pack_fails k) (K.indexes k)
+pub fn refs_stay_connected<A: Allocator + Copy, K: Packer<A> + Indexer<A>>()
+    ensures { (k : K) → RefsStayConnected (tools_of (K.packs k) (K.pack_fails k) (K.indexes k)
         (K.index_fails k)) }
 {}
 
-/// Over any run the client's session asks for objects at most N + 1 times, if it did so before. N is how many ids its
-/// tips reach. The tips are the ids of the client's refs when the session began.
+/// Over any run the client's session asks for objects at most N + 1 times, if it did so before and
+/// its tips reach N ids. The tips are the ids of the client's refs when the session began.
 pub fn requests_stay_few<A: Allocator + Copy, K: Packer<A> + Indexer<A>>()
     ensures { (k : K) → RequestsStayFew (tools_of (K.packs k) (K.pack_fails k) (K.indexes k)
         (K.index_fails k)) }
 {}
 
-/// If no bytes were forged, and server and client hold each common id, this stays so over any run that forges none.
+/// If no bytes were forged, and server and client hold each common id, this stays so over any run
+/// without forged bytes.
 pub fn commons_stay_shared<A: Allocator + Copy, K: Packer<A> + Indexer<A>>()
     ensures { (k : K) → CommonsStayShared (tools_of (K.packs k) (K.pack_fails k) (K.indexes k)
         (K.index_fails k)) }
 {}
 
-/// A front of a run is a run, whose steps keep their promises where those of the whole run do.
+/// A prefix of a run is a run. Its steps keep their promises if those of the whole run do.
 pub fn fronts_are_runs<A: Allocator + Copy, K: Packer<A> + Indexer<A>>()
     ensures runs { (k : K) → FrontsAreRuns (tools_of (K.packs k) (K.pack_fails k) (K.indexes k)
         (K.index_fails k)) }
@@ -116,9 +118,10 @@ pub fn fronts_are_runs<A: Allocator + Copy, K: Packer<A> + Indexer<A>>()
         (K.index_fails k)) }
 {}
 
-/// At all times the client's refs are connected: if they are when a run begins, they are in each of its worlds.
-pub fn refs_are_always_whole<A: Allocator + Copy, K: Packer<A> + Indexer<A>>()
-    ensures { (k : K) → RefsAreAlwaysWhole (tools_of (K.packs k) (K.pack_fails k) (K.indexes k)
+/// The client's refs are connected at all times: if they are when a run begins, they are in each of
+/// its worlds.
+pub fn refs_are_always_connected<A: Allocator + Copy, K: Packer<A> + Indexer<A>>()
+    ensures { (k : K) → RefsAreAlwaysConnected (tools_of (K.packs k) (K.pack_fails k) (K.indexes k)
         (K.index_fails k)) }
 {}
 
@@ -132,8 +135,8 @@ pub fn graphs_only_grow<A: Allocator + Copy, K: Packer<A> + Indexer<A>>()
     servers_grow::<A>();
 }
 
-/// Only a settle or [`Event::ClientRef`](crate::Event::ClientRef) moves refs of the client; only an event of the
-/// server's own moves its refs, or changes it otherwise.
+/// Only [`Event::Settle`](crate::Event::Settle) or [`Event::ClientRef`](crate::Event::ClientRef)
+/// moves refs of the client. Only the server's own events move its refs, or change it otherwise.
 pub fn others_leave_refs<A: Allocator + Copy, K: Packer<A> + Indexer<A>>()
     ensures { (k : K) → OthersLeaveRefs (tools_of (K.packs k) (K.pack_fails k) (K.indexes k)
         (K.index_fails k)) }
@@ -143,7 +146,7 @@ pub fn others_leave_refs<A: Allocator + Copy, K: Packer<A> + Indexer<A>>()
     servers_grow::<A>();
 }
 
-/// An event that is refused leaves the server and the client's repository as they were.
+/// An event that is refused leaves the server and the client's repository unchanged.
 pub fn refusals_leave_both_ends<A: Allocator + Copy, K: Packer<A> + Indexer<A>>()
     ensures { (k : K) → RefusalsLeaveBothEnds (tools_of (K.packs k) (K.pack_fails k) (K.indexes k)
         (K.index_fails k)) }
@@ -153,8 +156,8 @@ pub fn refusals_leave_both_ends<A: Allocator + Copy, K: Packer<A> + Indexer<A>>(
     servers_grow::<A>();
 }
 
-/// An honest run keeps all that is promised, with no premise left: no bytes were forged before it, none of its events
-/// forges any, and packer and indexer are faithful.
+/// An honest run keeps all promises, with no premise left. No bytes were forged before it, none of
+/// its events forges any, and packer and indexer are faithful.
 pub fn honest_runs_keep_all<A: Allocator + Copy, K: Faithful<A>>(tools: &K)
     ensures { HonestRunsKeepAll {A = A} (tools_of (K.packs tools.now) (K.pack_fails tools.now)
         (K.indexes tools.now) (K.index_fails tools.now)) }
@@ -162,23 +165,23 @@ pub fn honest_runs_keep_all<A: Allocator + Copy, K: Faithful<A>>(tools: &K)
     faithful_lose_nothing::<A, K>(tools);
 }
 
-/// Each step leaves both ends whole: the server misses no object, and each ref of the client is connected. The premise
-/// is the order of lists alone, which the definition of a step leaves open.
-pub fn ends_stay_whole<A: Allocator + Copy, K: Packer<A> + Indexer<A>>()
-    ensures { (k : K) → EndsStayWhole (tools_of (K.packs k) (K.pack_fails k) (K.indexes k)
+/// Each step leaves both ends whole: the server misses no object, and each ref of the client is
+/// connected. The only premise is the order of lists, which the definition of a step leaves open.
+pub fn ends_stay_connected<A: Allocator + Copy, K: Packer<A> + Indexer<A>>()
+    ensures { (k : K) → EndsStayConnected (tools_of (K.packs k) (K.pack_fails k) (K.indexes k)
         (K.index_fails k)) }
 {
     taking_only_grows::<A, K>();
     refusals_change_nothing::<A>();
     servers_grow::<A>();
     closed_stays::<A>();
-    whole_stays::<A>();
-    settling_stays_whole::<A>();
-    setting_stays_whole::<A>();
+    connected_repo_stays::<A>();
+    settling_stays_connected::<A>();
+    setting_stays_connected::<A>();
 }
 
-/// A world as it begins is sound. From a sound world whose ends are whole each run keeps its promises, and leads to
-/// such a world.
+/// A new world is sound. From a sound world whose ends are whole each run keeps its promises, and
+/// leads to such a world.
 pub fn runs_keep_promises<A: Allocator + Copy, K: Packer<A> + Indexer<A>>()
     ensures begins { (k : K) → NewWorldsAreSound (tools_of (K.packs k) (K.pack_fails k) (K.indexes k)
         (K.index_fails k)) }
@@ -186,11 +189,12 @@ pub fn runs_keep_promises<A: Allocator + Copy, K: Packer<A> + Indexer<A>>()
         (K.index_fails k)) }
 {
     steps_keep::<A, K>();
-    ends_stay_whole::<A, K>();
+    ends_stay_connected::<A, K>();
 }
 
-/// A fetch completes: a session that just began can settle after at most N + 2 rounds, and each ref then moves that may.
-/// In a round each reply arrives whole, and nothing is refused. N is how many ids the session's tips reach.
+/// A fetch completes: a session that just began can settle after at most N + 2 rounds, if its tips
+/// reach N ids. Then each ref that may move does. In a round each reply arrives whole, and nothing
+/// is refused.
 pub fn fetches_complete<A: Allocator + Copy, K: Packer<A> + Indexer<A>>()
     ensures { (k : K) → FetchesComplete (tools_of (K.packs k) (K.pack_fails k) (K.indexes k)
         (K.index_fails k)) }
@@ -202,8 +206,8 @@ pub fn fetches_complete<A: Allocator + Copy, K: Packer<A> + Indexer<A>>()
     reached_are_counted::<A>();
 }
 
-/// Only limits and want of memory refuse an event of a round, if no bytes were forged, and packer and indexer are
-/// faithful. So a fetch that does not complete met one of these.
+/// Only limits and lack of memory refuse an event of a round, if no bytes were forged, and packer
+/// and indexer are faithful. So a fetch that does not complete met one of these.
 pub fn only_limits_refuse<A: Allocator + Copy, K: Packer<A> + Indexer<A>>()
     ensures { (k : K) → OnlyLimitsRefuse (tools_of (K.packs k) (K.pack_fails k) (K.indexes k)
         (K.index_fails k)) }

@@ -21,7 +21,7 @@ use gsession::{ClientFault, Session};
 use std::alloc::Allocator;
 use std::marker::Model;
 
-/// A request that was sent.
+/// A sent request.
 #[derive(Drop)]
 pub(crate) struct Sent<A: Allocator + Copy> {
     request: Request<A>,
@@ -36,7 +36,7 @@ impl<A: Allocator + Copy> Model for Sent<A> {
     ghost view = { λ sent. asked_by_request sent.request };
 }
 
-/// A reply that is kept, and the request that it answers.
+/// A kept reply, and its request.
 #[derive(Drop)]
 pub(crate) struct KeptReply<A: Allocator + Copy> {
     request: Request<A>,
@@ -81,14 +81,14 @@ impl<A: Allocator + Copy> Model for Parts<A> {
     } };
 }
 
-// Whether the session is answered after a fault.
+// Whether the session has its answer after a fault.
 fn mark_after<A: Allocator + Copy>(fault: &ClientFault<A>, mark: bool) -> bool
     ensures { result ≡ mark_after fault.now mark }
 {
     if fault.ends_session() { false } else { mark }
 }
 
-// The outcome of a fault; one that ends the session leaves none that is answered.
+// Returns the outcome of a fault. A fault that ends the session clears the mark of its answer.
 fn refuse<A: Allocator + Copy>(fault: ClientFault<A>, mark: &mut bool) -> Outcome
     ensures outcome { result ≡ outcome.Fault (code_of fault) }
     ensures mark { mark.new ≡ mark_after fault mark.old }
@@ -97,14 +97,14 @@ fn refuse<A: Allocator + Copy>(fault: ClientFault<A>, mark: &mut bool) -> Outcom
     Outcome::Fault { code: fault.code() }
 }
 
-// The request at this position.
+// Returns the request at this index.
 fn sent_at<A: Allocator + Copy>(sent: &Vec<Sent<A>, A>, number: usize) -> Option<&Sent<A>>
     ensures { option_copied result ≡ slice_get sent.now.items number }
 {
     sent.get(number)
 }
 
-// The kept reply at this position.
+// Returns the kept reply at this index.
 fn kept_at<A: Allocator + Copy>(kept: &Vec<KeptReply<A>, A>, number: usize) -> Option<&KeptReply<A>>
     ensures { option_copied result ≡ slice_get kept.now.items number }
 {

@@ -9,7 +9,7 @@ const BASE: u64 = 65_521;
 // The number of bytes between two reductions.
 const PART: usize = 5_552;
 
-/// The Adler-32 of bytes that come in pieces: `new`, an `update` for each piece, and `sum`.
+/// The Adler-32 of bytes in pieces: `new`, an `update` for each piece, and `sum`.
 #[derive(Clone, Copy, Debug)]
 pub struct Adler32 {
     low: u32,
@@ -17,7 +17,7 @@ pub struct Adler32 {
 }
 
 impl Adler32 {
-    /// The checksum of no bytes.
+    /// Returns the checksum of the empty sequence.
     pub fn new() -> Adler32
         ensures { HasAdlerOf result [] }
     {
@@ -50,7 +50,7 @@ impl Adler32 {
         self.high = (high % BASE) as u32;
     }
 
-    /// The Adler-32 of the bytes that were added, one piece after the other.
+    /// Returns the Adler-32 of all added bytes.
     pub fn sum(&self) -> u32
         ensures { (m : List ℕ) → HasAdlerOf self.now m → result ≡ adler32 m }
     {
@@ -58,7 +58,7 @@ impl Adler32 {
     }
 }
 
-/// The Adler-32 of the bytes.
+/// Returns the Adler-32 of the bytes.
 pub fn adler32_of(bytes: &[u8]) -> u32
     ensures { result ≡ adler32 bytes.now }
 {

@@ -5,14 +5,14 @@ ghost use Rattle.gzlib.specs.Crc.{crc32, next_register, register_after, HasCrcOf
 
 use crate::crc_tables::{after_1, after_2, after_3, after_4, after_5, after_6, after_7, after_8};
 
-/// The CRC-32 of bytes that come in pieces: `new`, an `update` for each piece, and `sum`.
+/// The CRC-32 of bytes in pieces: `new`, an `update` for each piece, and `sum`.
 #[derive(Clone, Copy, Debug)]
 pub struct Crc32 {
     register: u32,
 }
 
 impl Crc32 {
-    /// The checksum of no bytes.
+    /// Returns the checksum of the empty sequence.
     pub fn new() -> Crc32
         ensures { HasCrcOf result [] }
     {
@@ -32,7 +32,7 @@ impl Crc32 {
         self.register = next_few(register, rest);
     }
 
-    /// The CRC-32 of the bytes that were added, one piece after the other.
+    /// Returns the CRC-32 of all added bytes.
     pub fn sum(&self) -> u32
         ensures { (m : List ℕ) → HasCrcOf self.now m → result ≡ crc32 m }
     {
@@ -40,7 +40,8 @@ impl Crc32 {
     }
 }
 
-// The register after eight more bytes. The first four meet those of the register.
+// Returns the register after eight more bytes. The first four are combined with those of the
+// register.
 fn next_eight(register: u32, bytes: &[u8; 8]) -> u32
     ensures { result ≡ register_after register bytes.now }
 {
@@ -51,7 +52,7 @@ fn next_eight(register: u32, bytes: &[u8; 8]) -> u32
     first ^ after_4(bytes[4]) ^ after_3(bytes[5]) ^ after_2(bytes[6]) ^ after_1(bytes[7])
 }
 
-// The register after more bytes, one after the other.
+// Returns the register after more bytes, processed one by one.
 fn next_few(register: u32, bytes: &[u8]) -> u32
     ensures { result ≡ register_after register bytes.now }
 {
@@ -62,7 +63,7 @@ fn next_few(register: u32, bytes: &[u8]) -> u32
     register
 }
 
-// The register after one more byte.
+// Returns the register after one more byte.
 fn next_register(register: u32, byte: u8) -> u32
     ensures { result ≡ next_register register byte }
 {
@@ -75,7 +76,7 @@ fn low_byte(register: u32) -> u8
     (register & 0xff) as u8
 }
 
-/// The CRC-32 of the bytes.
+/// Returns the CRC-32 of the bytes.
 pub fn crc32_of(bytes: &[u8]) -> u32
     ensures { result ≡ crc32 bytes.now }
 {

@@ -1,6 +1,6 @@
-//! What a byte of the register of CRC-32 has become after some more bytes.
+//! Tables of the effect of a CRC-32 register byte after more bytes.
 //!
-//! Each table has 256 rows, a row for each value of the byte.
+//! Each table has 256 rows, one for each value of the byte.
 
 ghost use Rattle.std.specs.Prelude.{◌≡◌};
 ghost use Rattle.gzlib.specs.steps.CrcTables.{after_bytes};

@@ -3,35 +3,35 @@
 //!
 //! # Proved
 //!
-//! - [`crc32_of`] and [`Crc32`] give the CRC-32 of the bytes, and [`adler32_of`] and [`Adler32`]
-//!   their Adler-32, also where the bytes come in pieces.
-//! - [`Inflater::inflate`] appends at most `most` bytes. The Adler-32 of those is the four bytes
-//!   with which the stream ends, and the stream lies within the bytes. At a fault the body is as it
-//!   was. [`Inflater::inflate_front`] appends at most `count` bytes.
+//! - [`crc32_of`] and [`Crc32`] return the CRC-32 of the bytes, and [`adler32_of`] and [`Adler32`]
+//!   their Adler-32, even for bytes in pieces.
+//! - [`Inflater::inflate`] appends at most `most` bytes. Their Adler-32 is in the last four bytes
+//!   of the stream, and the stream is within the bytes. On failure the body is unchanged.
+//!   [`Inflater::inflate_front`] appends at most `count` bytes.
 //! - [`put_stored`] appends exactly the stream of stored blocks that `specs/Stored.antt` defines.
-//! - [`Deflater::deflate`] appends a header, some bytes as blocks, and the Adler-32 of the bytes. At
-//!   a fault `out` is as it was.
-//! - No call panics, overflows or reads out of bounds, and each returns, for any bytes.
+//! - [`Deflater::deflate`] appends a header, some bytes as blocks, and the Adler-32 of the bytes.
+//!   On failure `out` is unchanged.
+//! - No call panics, overflows or reads out of bounds, and every call returns, for any bytes.
 //!
 //! # Only tested
 //!
-//! - Inflating is RFC 1951's function: the program `gitcases` has streams right and wrong, and
-//!   `examples/with-git.sh` has packs that Git made.
-//! - Deflated bytes inflate to the same bytes: `gitcases` inflates them here, and
-//!   `examples/with-git.sh` by Git.
-//! - By hand: of streams that were changed, this crate and zlib took the same ones. A header may name
-//!   any window up to 32 KiB. A code may be incomplete only if it has one symbol, of one bit; and
-//!   there may be no code of distances.
+//! - Inflating conforms to RFC 1951: the program `gitcases` tests correct and wrong streams, and
+//!   `examples/with-git.sh` tests packs made by Git.
+//! - Deflated bytes inflate to the same bytes: `gitcases` inflates them with this crate, and
+//!   `examples/with-git.sh` with Git.
+//! - By hand: this crate and zlib accepted the same altered streams. A header may name any window
+//!   up to 32 KiB. A code may be incomplete only if it has one symbol, of one bit. The distance
+//!   code may be empty.
 //!
 //! # What the contracts do not rule out
 //!
-//! No contract says that inflating is RFC 1951's function, or that what is deflated inflates to the
-//! same bytes. The contracts do not say which fault comes: an inflater could refuse a good stream.
-//! Deflated blocks could be larger than need be. [`Inflater::inflate_front`] could append fewer bytes
-//! than the text has.
+//! No contract says that inflating conforms to RFC 1951, or that deflated bytes inflate to the same
+//! bytes. The contracts do not say which fault is returned: an inflater could refuse a good stream.
+//! Deflated blocks could be larger than necessary. [`Inflater::inflate_front`] could append fewer
+//! bytes than the text has.
 //!
-//! Any call that allocates may fail with out of memory; the contracts do not say when. They say
-//! nothing of time, or of how much memory a call takes.
+//! Any call that allocates may fail if out of memory; the contracts do not say when. They do not
+//! cover time or memory use.
 //!
 //! # Stands on
 //!

@@ -7,11 +7,11 @@ use ggraph::{Order, PlainPack, load};
 use gpkt::{Sink, Source};
 use std::alloc::Allocator;
 
-/// Fetches by refspecs from a server (gitprotocol-v2(5)) into the client's repository whose text is given, and answers
-/// that repository.
+/// Fetches by refspecs from a server (gitprotocol-v2(5)) into the client's repository whose text is
+/// `text`, and returns that repository.
 ///
-/// It fails with `Text` where the text is that of no repository, and with `Fetch` where a ref is not connected or the
-/// conversation fails. HEAD is dropped.
+/// Fails with `Text` if the text is not that of a repository, and with `Fetch` if a ref is not
+/// connected or the conversation fails. HEAD is dropped.
 pub fn fetch_into<A: Allocator + Copy, S: Source, W: Sink>(
     alloc: A,
     text: &[u8],

@@ -1,10 +1,10 @@
-//! The code that pages show: a server and a client in a few lines each (README), and a packer and an indexer
-//! (`docs/PACKERS.md`).
+//! The code of the documentation: a server and a client in a few lines each (README), and a packer
+//! and an indexer (`docs/PACKERS.md`).
 //!
 //! # Proved
 //!
-//! Each call is safe and ends. After [`fetch_records`] each ref of the repository is connected. The contracts of the
-//! calls below say the rest.
+//! Each call is safe and ends. After [`fetch_records`] each ref of the repository is connected. The
+//! other promises are the contracts of the calls below.
 //!
 //! # What the contracts do not rule out
 //!
@@ -12,7 +12,8 @@
 //!
 //! # Stands on
 //!
-//! `gserve` and `gclient` for the conversations, `ggraph` for repositories and packs, `gcmd` for one type of all faults.
+//! `gserve` and `gclient` for the conversations, `ggraph` for repositories and packs, `gcmd` for
+//! one type of all faults.
 #![tactic(auto)]
 
 mod client;

@@ -1,7 +1,7 @@
 //! A packer and an indexer of another kind of pack, and a fetch over them.
 
 ghost use Rattle.std.specs.Prelude.{⊤};
-ghost use Rattle.gclientrepo.specs.Repos.{IsWhole};
+ghost use Rattle.gclientrepo.specs.Repos.{IsConnectedRepo};
 
 use gclient::{FetchFault, Fetched, Repo, Spec, fetch_over};
 use gcmd::PackLimit;
@@ -14,7 +14,8 @@ use std::alloc::Allocator;
 /// The bytes of a record: a letter, and an id of SHA-1.
 const RECORD: usize = 21;
 
-/// Packs of records. A record `c` or `t` begins a commit or a tag with its id, and `p` adds a parent to it.
+/// Packs of records. A record `c` or `t` begins a commit or a tag with its id, and `p` adds a
+/// parent to it.
 #[derive(Clone, Copy, Drop)]
 pub struct Records;
 
@@ -76,16 +77,17 @@ impl<A: Allocator + Copy> Indexer<A> for Records {
     }
 }
 
-/// Fetches by refspecs from a server that sends such packs. Whatever it sends, the repository is whole afterwards.
+/// Fetches by refspecs from a server that sends such packs. The repository is connected afterwards,
+/// whatever the server sends.
 ///
-/// It fails as `fetch_over` does. The refs are then as they were.
+/// Fails as `fetch_over` does. The refs are then unchanged.
 pub fn fetch_records<A: Allocator + Copy, S: Source, W: Sink>(
     repo: &mut Repo<A>,
     specs: &[Spec<A>],
     source: &mut S,
     sink: &mut W,
 ) -> Result<Fetched<A>, FetchFault<A>>
-    ensures { IsWhole repo.new }
+    ensures { IsConnectedRepo repo.new }
 {
     let limit = PackLimit::default();
     fetch_over(repo, source, sink, &Records, specs, limit, Ends::Plain)

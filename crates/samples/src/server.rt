@@ -7,9 +7,11 @@ use gpkt::{Sink, Source};
 use gserve::{OnePack, Served, Server, serve};
 use std::alloc::Allocator;
 
-/// Serves one connection of the repository whose text is given (gitprotocol-v2(5)), and answers how it ended.
+/// Serves one connection of the repository whose text is `text` (gitprotocol-v2(5)), and returns
+/// how it ended.
 ///
-/// It fails with `Text` or `Build` where the text is that of no repository that can be served; nothing is read then.
+/// Fails with `Text` or `Build` if the text is not that of a repository that can be served; nothing
+/// is read then.
 pub fn serve_text<A: Allocator + Copy, S: Source, W: Sink>(
     alloc: A,
     text: &[u8],

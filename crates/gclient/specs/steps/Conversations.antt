@@ -3,7 +3,7 @@ use Rattle.std.specs.Prelude.{◌≡◌, List, Option, None, Result, Ok, Err}
 use Rattle.gname.specs.declared.formats.Format.{Format}
 use Rattle.gname.specs.Names.{Name}
 use Rattle.gpkt.specs.Sending.{Input, Output, IsUnread, IsUnwritten, IsUp, Passes}
-use Rattle.gpkt.specs.LineReading.{ReadsLines}
+use Rattle.gpkt.specs.PacketReading.{ReadsPackets}
 use Rattle.gpkt.specs.Packets.{Packet}
 use Rattle.ggrammar.specs.Capabilities.{Capability}
 use Rattle.gobject.specs.Packs.{Indexes, IndexFails}
@@ -20,7 +20,7 @@ use Rattle.gsession.specs.declared.taken.Settled.{Settled}
 use Rattle.gsession.specs.declared.taken.Taken.{Taken}
 use Rattle.gsession.specs.declared.fault.ClientFault.TheVariants as client
 use Rattle.gclient.specs.Conversations.{Start, Advertises, Converses, Fails, FailsToSend, HasAsked, IsLeft}
-use Rattle.gclient.specs.Conversations.{RefusesAdvert, begun, request_bytes, start_for}
+use Rattle.gclient.specs.Conversations.{RefusesAdvert, begin_session, request_bytes, start_for}
 use Rattle.gclient.specs.Turns.{AsksNext, ClientState, IsTurn, Refuses, Turn}
 use Rattle.gclient.specs.declared.fault.FetchFault.{FetchFault}
 use Rattle.gclient.specs.declared.fault.FetchFault.TheVariants as fetch
@@ -30,7 +30,7 @@ abbrev pub HearsServer : {A : Type 0} → Format → SessionState A → Input �
     → Result (Unit {0}) (FetchFault A) → Type 0
 HearsServer format old input new (Ok done) =
     (packets : List Packet) × (capabilities : List Capability) × Advertises format packets capabilities
-    × ReadsLines input.read packets × (new ≡ record old { offers_unborn = tells_unborn capabilities }) × IsUp input
+    × ReadsPackets input.read packets × (new ≡ record old { offers_unborn = tells_unborn capabilities }) × IsUp input
 HearsServer format old input new (Err (fetch.Client (client.Message cause))) = RefusesAdvert format input cause
 HearsServer format old input new (Err _) = ⊥
 
@@ -75,7 +75,7 @@ module _ {A : Type 0} (indexes : Indexes A) (index_fails : IndexFails) where
   pub record HasTurned (old : ClientState A) (input : Input) (output : Output) (new : ClientState A) : Type 0 where
     pub turn : Turn
     pub is_turn : IsTurn indexes index_fails old turn new
-    pub lines : ReadsLines input.read turn.reply
+    pub lines : ReadsPackets input.read turn.reply
     pub passed : Passes output (request_bytes old.repo.graph.format turn.asked)
     pub up : IsUp input
 
@@ -120,4 +120,4 @@ start_with session repo =
 
 -- the session has begun on the repository, and nothing was asked
 abbrev pub HasBegun : {A : Type 0} → SessionState A → RepoState A → Type 0
-HasBegun session repo = session ≡ begun (start_with session repo)
+HasBegun session repo = session ≡ begin_session (start_with session repo)

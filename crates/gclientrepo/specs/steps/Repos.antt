@@ -3,14 +3,14 @@
 use Rattle.std.specs.Prelude.{◌⊎◌, List, ℕ, ◌+◌, ◌<◌, All, Contains, length, take}
 use Rattle.gname.specs.Ids.{Id}
 use Rattle.gobject.specs.declared.node.Entry.{Entry}
-use Rattle.gdag.specs.Reach.{IsFull}
+use Rattle.gdag.specs.Reach.{IsConnected}
 use Rattle.grefs.specs.RefLists.{RefList}
 
 -- the ids before the position are connected, and the id at it is not
 pub record IsFirstLost {A : Type 0} (g : List (Entry A)) (ids : List Id) (place : ℕ) : Type 0 where
   pub inside : place < length ids
-  pub held : All (IsFull g) (take place ids)
-  pub lost : ¬ (All (IsFull g) (take (place + 1) ids))
+  pub held : All (IsConnected g) (take place ids)
+  pub lost : ¬ (All (IsConnected g) (take (place + 1) ids))
 
 -- each ref is one of the others, or stands at one of the ids
 abbrev pub ComeFrom : RefList → List Id → RefList → Type 0

@@ -2,7 +2,7 @@
 use Rattle.std.specs.Prelude.{ℕ, List, Result, Ok, Err}
 use Rattle.gpkt.specs.Packets.{Packet}
 use Rattle.gpkt.specs.declared.device.Down.{Down}
-use Rattle.gpkt.specs.declared.fault.LineFault.{LineFault}
+use Rattle.gpkt.specs.declared.fault.PacketFault.{PacketFault}
 use Rattle.gpkt.specs.Sending.{Input, Output, Sends}
 use Rattle.gcmd.specs.Outputs.{FailsAtWrite}
 use Rattle.gcmd.specs.steps.Outputs.{IsPut}
@@ -17,14 +17,14 @@ chunk = 512
 -- ---- its steps, by how reading ended, or the sink's failure
 
 -- the packets are shown
-abbrev pub ShowsEach : Input → Output → Result (Result (Unit {0}) LineFault) Down → Type 0
+abbrev pub ShowsEach : Input → Output → Result (Result (Unit {0}) PacketFault) Down → Type 0
 ShowsEach input output (Ok ended) =
     (lines : List Packet) × ReadsEach input lines ended × IsPut output (Ok tt) (shown_lines lines)
 ShowsEach input output (Err down) =
     (lines : List Packet) × ReadsSome input lines × FailsAtWrite output (shown_lines lines)
 
 -- and passed on
-abbrev pub HasPassed : Input → Output → Result (Result (Unit {0}) LineFault) Down → Type 0
+abbrev pub HasPassed : Input → Output → Result (Result (Unit {0}) PacketFault) Down → Type 0
 HasPassed input output (Ok ended) =
     (lines : List Packet) × ReadsEach input lines ended × Sends output (shown_lines lines)
 HasPassed input output (Err down) = ShowsSome input output

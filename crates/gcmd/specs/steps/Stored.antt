@@ -7,19 +7,19 @@ use Rattle.glockfile.specs.declared.storage.StorageFault.{StorageFault}
 use Rattle.gclient.specs.declared.fetched.Fetched.{Fetched}
 use Rattle.gcmd.specs.Fetching.{Reports}
 use Rattle.gcmd.specs.Printing.{fault_line}
-use Rattle.gcmd.specs.Programs.{Outcome, Prints}
+use Rattle.gcmd.specs.Programs.{ProgramOutcome, Prints}
 use Rattle.gcmd.specs.Stored.{IsReplaced, Stored, storage_fault}
 use Rattle.gcmd.specs.declared.fault.ProgramFault.TheVariants as program
 
 -- the file is replaced and then that is reported; or it is not replaced, and nothing is
-abbrev pub StoresAndReports : {A : Type 0} → Bytes → Bytes → Fetched A → Stored → Output → Outcome A → Type 0
+abbrev pub StoresAndReports : {A : Type 0} → Bytes → Bytes → Fetched A → Stored → Output → ProgramOutcome A → Type 0
 StoresAndReports {A} old text fetched stored report outcome =
     (IsReplaced old text stored (Ok tt) × Holds stored.new text × Reports fetched report outcome)
     ⊎ ((fault : StorageFault) × IsReplaced old text stored (Err fault) × IsUnwritten report
     × (outcome ≡ Err (storage_fault fault)))
 
 -- how a program ends after its report, where that went to the sink of its errors
-abbrev pub ExitsNext : {A : Type 0} → Outcome A → Output → ℕ → Type 0
+abbrev pub ExitsNext : {A : Type 0} → ProgramOutcome A → Output → ℕ → Type 0
 ExitsNext (Ok done) errors status = IsUnwritten errors × (status ≡ 0)
 ExitsNext (Err program.WriteFailed) errors status = IsUnwritten errors × (status ≡ 1)
 ExitsNext (Err fault) errors status = Prints errors (fault_line fault) × (status ≡ 1)

@@ -12,18 +12,18 @@ use Rattle.ggrammar.specs.declared.fault.Why.{Why}
 use Rattle.ggrammar.specs.declared.message.Step.{Step}
 use Rattle.ggrammar.specs.declared.message.Step.TheVariants as step
 use Rattle.gfetchreply.specs.FetchReplies.{Reading, State, next_place, payload_brings, place_of}
-use Rattle.gfetchreply.specs.FetchReplies.{Place, Start, Acking, AfterNak, AfterReady, BeforePack, InPack, Over}
+use Rattle.gfetchreply.specs.FetchReplies.{Point, Start, Acking, AfterNak, AfterReady, BeforePack, InPack, Over}
 use Rattle.gfetchreply.specs.FetchReplies.{ReplyForm, Acknowledgments, Nak, Readiness, Packfile, Ack, reply_form}
 use Rattle.gfetchreply.specs.FetchReplies.{ack_texts, acks_of, band_payloads, data_in, data_of, first_place, is_ready}
 use Rattle.gfetchreply.specs.Values.{Acks}
-use Rattle.gfetchreply.specs.declared.sections.Place as coded
-use Rattle.gfetchreply.specs.declared.sections.Place.TheVariants as place
+use Rattle.gfetchreply.specs.declared.sections.Point as coded
+use Rattle.gfetchreply.specs.declared.sections.Point.TheVariants as place
 use Rattle.gfetchreply.specs.declared.sections.Sections.{Sections}
 
 -- where the next packet stands, the acknowledged ids, whether `ready` came, and how many packets and bytes of the
 -- pack came
 pub record Kept : Type 0 where
-  pub place : Place
+  pub place : Point
   pub acks : Acks
   pub ready : Bool
   pub band_count : ℕ
@@ -63,7 +63,7 @@ abbrev pub id_list : Option Id → List Id
 id_list None = []
 id_list (Some id) = id ∷ []
 
-abbrev pub with_text : Place → Kept → ReplyForm → Kept
+abbrev pub with_text : Point → Kept → ReplyForm → Kept
 with_text Start kept Acknowledgments = record kept { place = Acking }
 with_text Acking kept Nak = record kept { place = AfterNak }
 with_text Acking kept Readiness = record kept { place = AfterReady; ready = true }
@@ -77,7 +77,7 @@ with_text place kept form = kept
 abbrev pub with_band : Kept → ℕ → Kept
 with_band kept more = record kept { band_count = kept.band_count + 1; byte_count = kept.byte_count + more }
 
-abbrev pub with_payload : Place → Kept → Bytes → Kept
+abbrev pub with_payload : Point → Kept → Bytes → Kept
 with_payload InPack kept payload = with_band kept (length (data_in (band_form payload)))
 with_payload Over kept payload = kept
 with_payload place kept payload = with_text place kept (reply_form (text payload))
@@ -87,22 +87,22 @@ with_packet kept (Data payload) = with_payload kept.place kept payload
 with_packet kept packet = record kept { place = next_place kept.place packet }
 
 -- what the next packet brings of the pack
-abbrev pub data_at : Place → Bytes → Bytes
+abbrev pub data_at : Point → Bytes → Bytes
 data_at InPack payload = data_in (band_form payload)
 data_at place payload = []
 
-abbrev pub data_there : Place → Packet → Bytes
+abbrev pub data_there : Point → Packet → Bytes
 data_there place (Data payload) = data_at place payload
 data_there place _ = []
 
 -- whether it brings something that takes memory
-abbrev pub brings_there : Bool → Place → Packet → Bool
+abbrev pub brings_there : Bool → Point → Packet → Bool
 brings_there refuses place (Data payload) = payload_brings refuses place payload
 brings_there refuses place _ = false
 
 -- ---- what is kept, without where it lies in memory
 
-abbrev pub place_in : coded.Place → Place
+abbrev pub place_in : coded.Point → Point
 place_in place.Start = Start
 place_in place.Acking = Acking
 place_in place.AfterNak = AfterNak

@@ -16,8 +16,8 @@ use Rattle.ggraph.specs.declared.fault.LoadFault.TheVariants.{Memory, Text, Pare
 use Rattle.ggraph.specs.declared.text.Order.{Order}
 use Rattle.ggraph.specs.declared.text.Order.TheVariants.{Any, ParentsFirst}
 use Rattle.ggraph.specs.declared.text.reading.Reading.{Reading}
-use Rattle.ggraph.specs.declared.text.reading.Stage.{Stage}
-use Rattle.ggraph.specs.declared.text.reading.Stage.TheVariants.{First, Nodes, Refs, Last, Done}
+use Rattle.ggraph.specs.declared.text.reading.TextStage.{TextStage}
+use Rattle.ggraph.specs.declared.text.reading.TextStage.TheVariants.{First, Nodes, Refs, Last, Done}
 
 -- what a line stands for
 pub data Item (A : Type 0) : Type 0 where
@@ -52,7 +52,7 @@ nothing_read =
     record { stage = First; graph = record { format = Sha1; entries = [] }; refs = []; head = head_is.None }
 
 -- a ref or HEAD may come
-abbrev pub RefMayCome : Stage → Type 0
+abbrev pub RefMayCome : TextStage → Type 0
 RefMayCome stage = (stage ≡ Nodes) ⊎ (stage ≡ Refs)
 
 -- which item may come next

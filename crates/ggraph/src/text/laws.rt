@@ -1,10 +1,11 @@
-//! The laws that reading a repository text rests on.
+//! Laws for reading a repository text.
 
 ghost use Rattle.ggraph.specs.steps.TextLaws.{TextLaws};
 
 use gname::laws;
 
-/// The laws of ids and names. The call does nothing: its contract gives them to its callers.
+/// The laws of ids and names. The call does nothing, and its contract gives the laws to its
+/// callers.
 pub(crate) fn text_laws()
     ensures { TextLaws }
 {

@@ -15,7 +15,7 @@ use gobject::Kind;
 use grefs::{Head, Target};
 use std::alloc::{AllocError, Allocator};
 
-/// The format of a text's ids, which its first line says.
+/// Returns the format of a text's ids, as its first line names it.
 pub(crate) fn format_of(line: &[u8]) -> Option<Format>
     ensures { MatchOption result
         (((format : Format) → line.now ≡ first_line format → ⊥))
@@ -30,21 +30,21 @@ pub(crate) fn format_of(line: &[u8]) -> Option<Format>
     }
 }
 
-/// The line of a node: its kind, and the text of its ids, which follows the letter.
+/// A node's line: its kind, and the text of its ids after the letter.
 #[derive(Clone, Copy)]
 pub(crate) struct NodeLine<'a> {
     pub kind: Kind,
     pub ids: &'a [u8],
 }
 
-/// The line of a ref: its id, and its name, which nobody has judged yet.
+/// A ref's line: its id, and its name, which is not checked yet.
 #[derive(Clone, Copy)]
-pub(crate) struct RefLine<'a> {
+pub(crate) struct RawRef<'a> {
     pub id: Oid,
     pub name: &'a [u8],
 }
 
-/// The parts of a node's line.
+/// Returns the parts of a node's line.
 pub(crate) fn node_parts(line: &[u8]) -> Option<NodeLine<'_>>
     ensures { MatchOption result (IsNoNode line.now)
         (λ node. line.now ≡ letter node.kind ∷ node.ids.now) }
@@ -60,8 +60,8 @@ pub(crate) fn node_parts(line: &[u8]) -> Option<NodeLine<'_>>
     None
 }
 
-/// The parts of a ref's line, after its first word.
-pub(crate) fn ref_parts(format: Format, text: &[u8]) -> Option<RefLine<'_>>
+/// Returns the parts of a ref's line, after its first word.
+pub(crate) fn ref_parts(format: Format, text: &[u8]) -> Option<RawRef<'_>>
     ensures { MatchOption result (BeginsWithNoRefId format text.now) (λ it.
         (text.now ≡ id_text it.id ++ (codes " " ++ it.name.now)) × IsIdOf format it.id) }
 {
@@ -74,11 +74,11 @@ pub(crate) fn ref_parts(format: Format, text: &[u8]) -> Option<RefLine<'_>>
         return None;
     };
     let id = first.0;
-    Some(RefLine { id, name })
+    Some(RawRef { id, name })
 }
 
-/// What HEAD stands at by a line, if it is that of HEAD. It fails where out of memory for the name
-/// of the ref that HEAD is on.
+/// Returns the HEAD of a line, if it is a line of HEAD. Fails only if out of memory for the name of
+/// the ref that HEAD is on.
 pub(crate) fn head_of<A: Allocator + Copy>(
     alloc: A,
     format: Format,
@@ -101,7 +101,7 @@ pub(crate) fn head_of<A: Allocator + Copy>(
     Ok(None)
 }
 
-// HEAD at the id whose digits these are.
+// Returns HEAD, detached at the id with these digits.
 fn head_at<A: Allocator + Copy>(format: Format, digits: &[u8]) -> Option<Head<A>>
     ensures { MatchOption result (IsNoIdText format digits.now)
         (λ head. IsHeadAt format digits.now head) }
@@ -120,7 +120,7 @@ fn head_at<A: Allocator + Copy>(format: Format, digits: &[u8]) -> Option<Head<A>
     }
 }
 
-// HEAD on the ref with this name.
+// Returns HEAD on the ref with this name.
 fn head_on<A: Allocator + Copy>(alloc: A, text: &[u8]) -> Result<Option<Head<A>>, AllocError>
     ensures { MatchResult result
         (λ found. MatchOption found (¬ (IsBelowRefs text.now)) (λ head. IsHeadOn text.now head))

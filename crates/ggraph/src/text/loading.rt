@@ -9,26 +9,26 @@ ghost use Rattle.ggraph.specs.RepositoryText.{IsLoadable, repository_text};
 use crate::fault::LoadFault;
 use crate::text::laws::text_laws;
 use crate::text::parts::Room;
-use crate::text::reading::{Reading, Stage};
+use crate::text::reading::{Reading, TextStage};
 use crate::text::{Order, Repository};
 use gdag::{Graph, MAX_NODES};
 use grefs::{Head, Refs};
 use memchr::{memchr, memchr_iter};
 use std::alloc::Allocator;
 
-// How many bytes at the front of a text say how many nodes are expected of it.
+// The number of bytes at the front of a text from which the number of its nodes is estimated.
 const SAMPLE: usize = 65_536;
 
-// The fewest bytes of a node's line: a letter, a space, the forty digits of an id, and an LF.
+// The minimum length of a node's line: a letter, a space, the forty digits of an id, and an LF.
 const SHORTEST_NODE: usize = 43;
 
-/// Reads the text that keeps a repository, whose first line says the format of its ids.
+/// Reads the text of a repository. Its first line names the format of its ids.
 ///
-/// It fails with `Text` at the first line that is not as the format says, at a line past a limit, or
-/// where the text ends early, and under `Order::ParentsFirst` with `ParentLater` at the first line
-/// that names a parent which is on no earlier line; of both with the one at the earlier line, and at
-/// one line with `Text`. It fails with `Memory` only where out of memory for what a right line
-/// says: for a node, a ref, or a HEAD on a ref.
+/// Fails with `Text` at the first line without the right form, at a line that exceeds a limit, or
+/// if the text ends early. Under `Order::ParentsFirst`, fails with `ParentLater` at the first line
+/// with a parent that is on no earlier line. If both apply, the fault is the one at the earlier
+/// line, or `Text` at the same line. Fails with `Memory` only if out of memory for the contents of
+/// a right line: a node, a ref, or a HEAD on a ref.
 pub fn load<A: Allocator + Copy>(
     alloc: A,
     text: &[u8],
@@ -47,11 +47,11 @@ pub fn load<A: Allocator + Copy>(
     let mut rest = text;
     let mut number = 1;
     while let Some(pair) = split_line(rest) {
-        reading.take(&mut room, order, pair.0, number)?;
+        reading.take_line(&mut room, order, pair.0, number)?;
         rest = pair.1;
         number += 1;
     }
-    if !rest.is_empty() || reading.stage != Stage::Done {
+    if !rest.is_empty() || reading.stage != TextStage::Done {
         return Err(LoadFault::Text { line: number });
     }
     Ok(Repository {
@@ -61,7 +61,8 @@ pub fn load<A: Allocator + Copy>(
     })
 }
 
-// How many nodes the text has, if it goes on as it begins. There are never more than its length, or a graph, allows.
+// Estimates the number of nodes from the front of the text. The estimate is at most the number that
+// the text's length, or a graph, allows.
 fn expected_nodes(text: &[u8]) -> usize
     ensures { result ≤ max_nodes }
 {
@@ -71,7 +72,7 @@ fn expected_nodes(text: &[u8]) -> usize
     expected.min(text.len() / SHORTEST_NODE).min(MAX_NODES)
 }
 
-// The first line, without its LF, and what follows the LF.
+// Returns the first line, without its LF, and the text after the LF.
 fn split_line(text: &[u8]) -> Option<(&[u8], &[u8])>
     ensures { MatchOption result (IsInLine text.now) (λ pair.
         (text.now ≡ line pair.0.now ++ pair.1.now) × IsInLine pair.0.now) }

@@ -14,7 +14,7 @@ use gname::{Format, NameFault, Oid, RefName};
 use gobject::MAX_PARENTS;
 use std::alloc::{AllocError, Allocator};
 
-/// An id at the front of a text, its digits there, and what follows them.
+/// An id at the front of a text, its digits there, and the text after them.
 #[derive(Clone, Copy)]
 pub(crate) struct FrontId<'a> {
     pub id: Oid,
@@ -22,7 +22,7 @@ pub(crate) struct FrontId<'a> {
     pub rest: &'a [u8],
 }
 
-/// The id of the format whose digits are at the front, and what follows them.
+/// Returns the id of the format whose digits are at the front, and the text after them.
 pub(crate) fn take_id(format: Format, text: &[u8]) -> Option<(Oid, &[u8])>
     ensures { MatchOption result (BeginsWithNoId format text.now) (λ pair.
         (text.now ≡ id_text pair.0 ++ pair.1.now) × IsIdOf format pair.0) }
@@ -33,7 +33,7 @@ pub(crate) fn take_id(format: Format, text: &[u8]) -> Option<(Oid, &[u8])>
     }
 }
 
-// The id of the format whose digits are at the front.
+// Returns the id of the format whose digits are at the front.
 fn front_id(format: Format, text: &[u8]) -> Option<FrontId<'_>>
     ensures { MatchOption result (BeginsWithNoId format text.now) (λ found.
         (text.now ≡ id_text found.id ++ found.rest.now) × (found.digits.now ≡ id_text found.id)
@@ -65,7 +65,7 @@ fn is_lower(digits: &[u8]) -> bool
     digits.iter().all(|digit| !digit.is_ascii_uppercase())
 }
 
-/// The id at the front after a space.
+/// Returns the id at the front after a space.
 pub(crate) fn take_spaced(format: Format, text: &[u8]) -> Option<FrontId<'_>>
     ensures { MatchOption result (BeginsWithNoSpacedId format text.now) (λ found.
         (text.now ≡ codes " " ++ (id_text found.id ++ found.rest.now))
@@ -75,13 +75,14 @@ pub(crate) fn take_spaced(format: Format, text: &[u8]) -> Option<FrontId<'_>>
     front_id(format, text.strip_prefix(b" ")?)
 }
 
-// The parent at the front after a space, and what follows it. Most parents are on one of the lines before.
+// Returns the parent at the front after a space, and the text after it. Most parents are on one of
+// the previous lines.
 fn take_parent<'t>(format: Format, recent: &Recent<'_>, text: &'t [u8]) -> Option<(Oid, &'t [u8])>
     ensures { MatchOption result (BeginsWithNoSpacedId format text.now) (λ pair.
         (text.now ≡ codes " " ++ (id_text pair.0 ++ pair.1.now)) × IsIdOf format pair.0) }
 {
     let text = text.strip_prefix(b" ")?;
-    if let Some(found) = recent.take(text) {
+    if let Some(found) = recent.take_recent(text) {
         if found.0.format() == format {
             return Some(found);
         }
@@ -89,8 +90,8 @@ fn take_parent<'t>(format: Format, recent: &Recent<'_>, text: &'t [u8]) -> Optio
     take_id(format, text)
 }
 
-/// What all lines of a text share: room for the ids of a node's parents, and in the graph for so many nodes, and the
-/// ids that were read last.
+/// The state that all lines of a text share: room for a node's parents, the number of expected
+/// nodes, and the ids that were read last.
 #[derive(Drop)]
 pub(crate) struct Room<'a> {
     ids: [Oid; MAX_PARENTS],
@@ -99,7 +100,7 @@ pub(crate) struct Room<'a> {
 }
 
 impl<'a> Room<'a> {
-    /// Room for a text of which so many nodes are expected. The ids say nothing yet.
+    /// Returns the state for a text with `nodes` expected nodes. The ids have no meaning yet.
     pub(crate) fn new(nodes: usize) -> Room<'a> {
         let blank = Oid::from_hex(&[b'0'; 40]).unwrap();
         Room {
@@ -109,7 +110,8 @@ impl<'a> Room<'a> {
         }
     }
 
-    /// The ids of a node's parents, a space before each. `None` where the text is not such ids alone.
+    /// Returns the ids of a node's parents, a space before each. Returns `None` if the text has any
+    /// other content.
     pub(crate) fn read(&mut self, format: Format, text: &[u8]) -> Option<&[Oid]>
         ensures { MatchOption result (IsNoParents format text.now) (λ ids.
             (text.now ≡ ids_text ids.now) × All (IsIdOf format) ids.now
@@ -120,7 +122,7 @@ impl<'a> Room<'a> {
     }
 }
 
-// Reads the ids of a node's parents into the front of the array, and answers how many they are.
+// Reads the ids of a node's parents into the front of the array, and returns their number.
 fn read_parents(
     format: Format,
     recent: &Recent<'_>,
@@ -149,7 +151,7 @@ fn read_parents(
     Some(count)
 }
 
-/// The name, if it is one below `refs/`. It fails where out of memory for such a name.
+/// Returns the name, if it is one below `refs/`. Fails only if out of memory for such a name.
 pub(crate) fn name_of<A: Allocator + Copy>(
     alloc: A,
     text: &[u8],

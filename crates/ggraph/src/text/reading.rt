@@ -1,4 +1,4 @@
-//! A repository text, read so far.
+//! The state of reading a repository text.
 
 ghost use Rattle.std.specs.Prelude.{◌≡◌, ◌++◌, ◌∷◌, [], IfErr, OnOk, IsTrue, ◌↔◌, All, codes};
 ghost use Rattle.gname.specs.Ids.{IsIdOf};
@@ -11,7 +11,7 @@ ghost use Rattle.ggraph.specs.steps.Reading.{RefusesEntry, RefusesRef, with_entr
 use crate::fault::LoadFault;
 use crate::text::Order;
 use crate::text::laws::text_laws;
-use crate::text::lines::{NodeLine, RefLine, format_of, head_of, node_parts, ref_parts};
+use crate::text::lines::{NodeLine, RawRef, format_of, head_of, node_parts, ref_parts};
 use crate::text::parts::{Room, name_of, take_spaced};
 use gdag::{Graph, MAX_NODES};
 use gname::{Format, Oid};
@@ -19,9 +19,9 @@ use gobject::{Entry, Kind, MAX_PARENTS, Node, Parents};
 use grefs::{Head, MAX_REFS, Refs};
 use std::alloc::Allocator;
 
-/// What the next line may be.
+/// The kinds of lines that are allowed next.
 #[derive(Clone, Copy, Debug, PartialEq, Eq)]
-pub(crate) enum Stage {
+pub(crate) enum TextStage {
     /// The first line.
     First,
     /// A node, a ref or HEAD.
@@ -30,14 +30,14 @@ pub(crate) enum Stage {
     Refs,
     /// The last line.
     Last,
-    /// None.
+    /// No line.
     Done,
 }
 
-/// What the lines so far say.
+/// The contents of the lines so far.
 #[derive(Drop)]
 pub(crate) struct Reading<A: Allocator + Copy> {
-    pub stage: Stage,
+    pub stage: TextStage,
     pub graph: Graph<A>,
     pub refs: Refs<A>,
     pub head: Head<A>,
@@ -48,20 +48,20 @@ impl<A: Allocator + Copy> Reading<A> {
     ghost use Rattle.ggraph.specs.steps.NoSuchPart.{IsNoNode, IsNoRef};
     ghost use Rattle.ggraph.specs.declared.text.Order.{Order};
 
-    /// No line was read. It takes no memory.
+    /// Returns the state before the first line. It does not allocate.
     pub(crate) fn new(alloc: A) -> Reading<A>
         ensures { result ≡ nothing_read }
     {
         Reading {
-            stage: Stage::First,
+            stage: TextStage::First,
             graph: Graph::new(alloc),
             refs: Refs::new(alloc),
             head: Head::None,
         }
     }
 
-    /// Takes the next line, of this number in the text. Its parents are read in the room.
-    pub(crate) fn take<'a>(
+    /// Takes the next line, with its number in the text. It reads the node's parents into the room.
+    pub(crate) fn take_line<'a>(
         &mut self,
         room: &mut Room<'a>,
         order: Order,
@@ -72,27 +72,27 @@ impl<A: Allocator + Copy> Reading<A> {
         ensures refused { IfErr result (RefusesLine order self.old line.now number) }
     {
         match self.stage {
-            Stage::First => self.take_first(room.nodes, line, number),
-            Stage::Nodes => match node_parts(line) {
+            TextStage::First => self.take_first(room.nodes, line, number),
+            TextStage::Nodes => match node_parts(line) {
                 Some(node) => self.take_node(room, order, node, number),
                 None => self.take_ref(line, number),
             },
-            Stage::Refs => self.take_ref(line, number),
-            Stage::Last => self.take_last(line, number),
-            Stage::Done => Err(LoadFault::Text { line: number }),
+            TextStage::Refs => self.take_ref(line, number),
+            TextStage::Last => self.take_last(line, number),
+            TextStage::Done => Err(LoadFault::Text { line: number }),
         }
     }
 
-    // Takes the first line, and makes room for the nodes that are expected.
+    // Takes the first line, and reserves memory for the expected nodes.
     fn take_first(&mut self, nodes: usize, line: &[u8], number: usize) -> Result<(), LoadFault>
-        requires { self.old.stage ≡ Stage.First }
+        requires { self.old.stage ≡ TextStage.First }
         ensures ok { ((order : Order) → OnOk result (ComesNext order self.old line.now self.new)) }
         ensures refused { ((order : Order)
             → IfErr result (RefusesLine order self.old line.now number)) }
     {
         match format_of(line) {
             Some(format) => {
-                self.stage = Stage::Nodes;
+                self.stage = TextStage::Nodes;
                 self.graph = Graph::new_in(self.graph.allocator(), format);
                 self.graph.make_room(nodes);
                 Ok(())
@@ -102,7 +102,7 @@ impl<A: Allocator + Copy> Reading<A> {
     }
 
     fn take_last(&mut self, line: &[u8], number: usize) -> Result<(), LoadFault>
-        requires { self.old.stage ≡ Stage.Last }
+        requires { self.old.stage ≡ TextStage.Last }
         ensures ok { ((order : Order) → OnOk result (ComesNext order self.old line.now self.new)) }
         ensures refused { ((order : Order)
             → IfErr result (RefusesLine order self.old line.now number)) }
@@ -110,11 +110,11 @@ impl<A: Allocator + Copy> Reading<A> {
         if line != b"end".as_slice() {
             return Err(LoadFault::Text { line: number });
         }
-        self.stage = Stage::Done;
+        self.stage = TextStage::Done;
         Ok(())
     }
 
-    // Takes the line of a node.
+    // Takes a node's line.
     fn take_node<'a>(
         &mut self,
         room: &mut Room<'a>,
@@ -122,7 +122,7 @@ impl<A: Allocator + Copy> Reading<A> {
         line: NodeLine<'a>,
         number: usize,
     ) -> Result<(), LoadFault>
-        requires { self.old.stage ≡ Stage.Nodes }
+        requires { self.old.stage ≡ TextStage.Nodes }
         ensures ok { OnOk result
             (ComesNext order self.old (letter line.entry.kind ∷ line.entry.ids.now) self.new) }
         ensures refused { IfErr result
@@ -150,7 +150,7 @@ impl<A: Allocator + Copy> Reading<A> {
     // Takes the line of a ref or of HEAD.
     fn take_ref(&mut self, line: &[u8], number: usize) -> Result<(), LoadFault>
         requires due { RefMayCome self.old.stage }
-        requires no_node { self.old.stage ≡ Stage.Nodes → IsNoNode line.now }
+        requires no_node { self.old.stage ≡ TextStage.Nodes → IsNoNode line.now }
         ensures ok { ((order : Order) → OnOk result (ComesNext order self.old line.now self.new)) }
         ensures refused { ((order : Order)
             → IfErr result (RefusesLine order self.old line.now number)) }
@@ -164,14 +164,14 @@ impl<A: Allocator + Copy> Reading<A> {
         let Some(found) = ref_parts(format, text) else {
             return Err(LoadFault::Text { line: number });
         };
-        self.stage = Stage::Refs;
+        self.stage = TextStage::Refs;
         let alloc = self.graph.allocator();
         add_ref(&mut self.refs, alloc, format, found, number)
     }
 
     fn take_head(&mut self, line: &[u8], number: usize) -> Result<(), LoadFault>
         requires due { RefMayCome self.old.stage }
-        requires no_node { self.old.stage ≡ Stage.Nodes → IsNoNode line.now }
+        requires no_node { self.old.stage ≡ TextStage.Nodes → IsNoNode line.now }
         requires no_ref { IsNoRef line.now }
         ensures ok { ((order : Order) → OnOk result (ComesNext order self.old line.now self.new)) }
         ensures refused { ((order : Order)
@@ -180,7 +180,7 @@ impl<A: Allocator + Copy> Reading<A> {
         match head_of(self.graph.allocator(), self.graph.format(), line)? {
             Some(head) => {
                 self.head = head;
-                self.stage = Stage::Last;
+                self.stage = TextStage::Last;
                 Ok(())
             }
             None => Err(LoadFault::Text { line: number }),
@@ -188,7 +188,7 @@ impl<A: Allocator + Copy> Reading<A> {
     }
 }
 
-// The node of a line, whose parents stand in the room.
+// The node of a line, whose parents are in the room.
 #[derive(Clone, Copy)]
 struct NewNode<'a> {
     kind: Kind,
@@ -196,7 +196,7 @@ struct NewNode<'a> {
     parents: &'a [Oid],
 }
 
-// Adds the node of a line to the graph. Memory is asked for last.
+// Adds the node of a line to the graph. It allocates last.
 fn add_node<A: Allocator + Copy>(
     graph: &mut Graph<A>,
     order: Order,
@@ -238,12 +238,12 @@ fn is_shaped(kind: Kind, parents: &[Oid]) -> bool
     }
 }
 
-// Adds the ref of a line to the refs. Memory is asked for last.
+// Adds the ref of a line to the refs. It allocates last.
 fn add_ref<A: Allocator + Copy>(
     refs: &mut Refs<A>,
     alloc: A,
     format: Format,
-    line: RefLine<'_>,
+    line: RawRef<'_>,
     number: usize,
 ) -> Result<(), LoadFault>
     requires id { IsIdOf format line.id }

@@ -6,8 +6,8 @@ ghost use Rattle.gname.specs.Ids.{id_text};
 use gname::Oid;
 use std::marker::Model;
 
-/// The ids of the two nodes that were read last, with their digits in the text. A node's parents are often among them,
-/// and then need no decoding. Where no node was read there are no digits.
+/// The ids of the last two nodes, with their digits in the text. A node's parents are often among
+/// them, and then need no decoding. If no node was read, there are no digits.
 #[derive(Drop)]
 pub(crate) struct Recent<'a> {
     last: Oid,
@@ -29,7 +29,7 @@ impl<'a> Model for Recent<'a> {
 }
 
 impl<'a> Recent<'a> {
-    /// No node was read. The id says nothing.
+    /// Returns the state before any node. The id has no meaning.
     pub(crate) fn new(blank: Oid) -> Recent<'a> {
         Recent {
             last: blank,
@@ -39,7 +39,7 @@ impl<'a> Recent<'a> {
         }
     }
 
-    /// Keeps the id of the node that was read, whose digits these are.
+    /// Stores the id of the last node, with its digits.
     pub(crate) fn keep(&mut self, digits: &'a [u8], id: Oid)
         requires { digits.now ≡ id_text id }
     {
@@ -49,8 +49,8 @@ impl<'a> Recent<'a> {
         self.last_digits = digits;
     }
 
-    /// The one of the ids that is at the front of the text, and what follows it.
-    pub(crate) fn take<'t>(&self, text: &'t [u8]) -> Option<(Oid, &'t [u8])>
+    /// Returns the recent id at the front of the text, and the text after it.
+    pub(crate) fn take_recent<'t>(&self, text: &'t [u8]) -> Option<(Oid, &'t [u8])>
         ensures { IfSome result (λ pair. text.now ≡ id_text pair.0 ++ pair.1.now) }
     {
         if let Some(rest) = after(self.last_digits, text) {
@@ -63,7 +63,7 @@ impl<'a> Recent<'a> {
     }
 }
 
-// What follows the digits, if there are some and the text begins with them.
+// Returns the text after the digits, if there are digits and the text begins with them.
 fn after<'t>(digits: &[u8], text: &'t [u8]) -> Option<&'t [u8]>
     ensures { IfSome result (λ rest. (digits.now ≢ []) × (text.now ≡ digits.now ++ rest.now)) }
 {

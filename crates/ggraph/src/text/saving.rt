@@ -17,10 +17,10 @@ use gobject::Entry;
 use grefs::{Head, Refs};
 use std::alloc::{AllocError, Allocator};
 
-/// Writes the one text that keeps these, which `load` reads back under `Order::Any`.
+/// Writes the one text of this repository, which `load` reads back under `Order::Any`.
 ///
-/// It fails with `OtherFormat` with the first id at which a ref stands, in name order, or else HEAD,
-/// that has another format than the graph; else with `Memory` where out of memory.
+/// Fails with `OtherFormat` and the first id with another format than the graph. The refs are
+/// checked in name order, and HEAD last. Otherwise fails only with `Memory`.
 pub fn save<A: Allocator + Copy>(
     alloc: A,
     graph: &Graph<A>,
@@ -38,11 +38,11 @@ pub fn save<A: Allocator + Copy>(
     if let Some(id) = other_id(graph.format(), refs.as_slice(), head) {
         return Err(SaveFault::OtherFormat { id });
     }
-    let text = written(alloc, graph, refs, head)?;
+    let text = text_of_repository(alloc, graph, refs, head)?;
     Ok(text)
 }
 
-// The first id at which a ref stands, or else HEAD, that is not of the format.
+// Returns the first id without the format, of the refs and then of HEAD.
 fn other_id<A: Allocator + Copy>(
     format: Format,
     refs: &[(RefName<A>, Oid)],
@@ -57,7 +57,7 @@ fn other_id<A: Allocator + Copy>(
     }
 }
 
-// The first id at which a ref stands that is not of the format.
+// Returns the first id of a ref that does not have the format.
 fn other_ref<A: Allocator + Copy>(format: Format, refs: &[(RefName<A>, Oid)]) -> Option<Oid>
     ensures { MatchOption result (All (IsIdOf format) (ref_ids refs.now))
         (IsFirstOther format (ref_ids refs.now)) }
@@ -70,7 +70,7 @@ fn other_ref<A: Allocator + Copy>(format: Format, refs: &[(RefName<A>, Oid)]) ->
     None
 }
 
-// The id at which HEAD stands, if it is not of the format.
+// Returns the id of HEAD, if it does not have the format.
 fn other_head<A: Allocator + Copy>(format: Format, head: &Head<A>) -> Option<Oid>
     ensures { MatchOption result (All (IsIdOf format) (head_ids head.now))
         (IsFirstOther format (head_ids head.now)) }
@@ -81,14 +81,14 @@ fn other_head<A: Allocator + Copy>(format: Format, head: &Head<A>) -> Option<Oid
     }
 }
 
-// Whether the id is of the format.
+// Whether the id has the format.
 fn is_of(format: Format, id: &Oid) -> bool
     ensures { IsTrue result ↔ IsIdOf format id.now }
 {
     id.format() == format
 }
 
-// The line that says the format of the ids.
+// Returns the line that names the format of the ids.
 fn line_of(format: Format) -> &'static [u8]
     ensures { result.now ≡ line (first_line format) }
 {
@@ -98,7 +98,7 @@ fn line_of(format: Format) -> &'static [u8]
     }
 }
 
-fn written<A: Allocator + Copy>(
+fn text_of_repository<A: Allocator + Copy>(
     alloc: A,
     graph: &Graph<A>,
     refs: &Refs<A>,

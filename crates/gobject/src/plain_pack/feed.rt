@@ -1,4 +1,4 @@
-//! A plain pack that is read in pieces.
+//! Reading a plain pack in pieces.
 
 ghost use Rattle.std.specs.Prelude.{[], ◌++◌, ◌∷◌, ℕ, List, MatchResult};
 ghost use Rattle.gobject.specs.PlainPackText.{IsPack, IndexRefuses};
@@ -14,8 +14,8 @@ use gname::laws::id_texts_are_digits;
 use std::alloc::Allocator;
 use std::mem;
 
-/// What is kept of a plain pack that is read in pieces: the entries so far, and the bytes of a part
-/// that has not ended.
+/// The state of a plain pack that is read in pieces: the entries so far, and the bytes of an
+/// unfinished part.
 #[derive(Drop)]
 pub struct PlainFeed<A: Allocator + Copy> {
     lines: Lines<A>,
@@ -23,7 +23,7 @@ pub struct PlainFeed<A: Allocator + Copy> {
 }
 
 impl<A: Allocator + Copy> PlainFeed<A> {
-    /// Nothing was fed yet. It takes no memory.
+    /// Returns a feed to which nothing was fed. It does not allocate.
     #[tactic(auto, using(crate::proofs::PlainPackFeed::fed_new))]
     pub fn new(alloc: A) -> PlainFeed<A>
         ensures { Fed result [] }
@@ -34,7 +34,7 @@ impl<A: Allocator + Copy> PlainFeed<A> {
         }
     }
 
-    /// Keeps some bytes of a part that does not end with them.
+    /// Stores some bytes of a part that does not end with them.
     #[tactic(auto, using(crate::proofs::PlainPackFeed::fed_keep, crate::proofs::PlainPackFeed::bad_line_kept))]
     fn keep(&mut self, text: &[u8]) -> Result<(), IndexFault>
         requires { IsPart text.now }
@@ -54,15 +54,15 @@ impl<A: Allocator + Copy> PlainFeed<A> {
         ensures { Feeds self.old self.new result (text.now ++ separator_byte separator ∷ []) }
     {
         if self.part.is_empty() {
-            return self.lines.take(text, separator);
+            return self.lines.take_part(text, separator);
         }
         self.keep(text)?;
         let part = mem::replace(&mut self.part, ArrayVec::new());
-        self.lines.take(part.as_slice(), separator)
+        self.lines.take_part(part.as_slice(), separator)
     }
 
-    /// Reads the next piece. It fails with `Bad` at the first line that is wrong, and with `Memory`
-    /// where there is none for an entry; the feed is then of no use.
+    /// Reads the next piece. Fails with `Bad` at the first line that is wrong, and with `Memory` if
+    /// there is no memory for an entry. After a failure the feed can't be used further.
     pub fn feed(&mut self, piece: &[u8]) -> Result<(), IndexFault>
         ensures { Feeds self.old self.new result piece.now }
     {
@@ -74,7 +74,7 @@ impl<A: Allocator + Copy> PlainFeed<A> {
         self.keep(rest)
     }
 
-    /// The entries, if what was fed is a whole pack; else it fails with `Bad`.
+    /// Returns the entries if a whole pack was fed. Otherwise fails with `Bad`.
     #[tactic(auto, using(crate::proofs::PlainPackFeed::fed_finish))]
     pub fn finish(self) -> Result<Vec<Entry<A>, A>, IndexFault>
         ensures { MatchResult result

@@ -15,14 +15,14 @@ use memchr::memchr2;
 use std::alloc::{AllocError, Allocator};
 use std::mem;
 
-/// What ends a part.
+/// The byte that ends a part.
 #[derive(Clone, Copy)]
 pub enum Separator {
     Space,
     LineFeed,
 }
 
-/// The part that comes next.
+/// The expected next part.
 #[derive(Drop)]
 pub enum Next<A: Allocator + Copy> {
     /// The header.
@@ -33,13 +33,13 @@ pub enum Next<A: Allocator + Copy> {
     Id(Kind),
     /// One more parent of this entry.
     Parent(Entry<A>),
-    /// How many entries there are.
+    /// The number of entries.
     Count,
     /// No part: the pack has ended.
     Nothing,
 }
 
-/// The first part of a text, what ends it, and what follows.
+/// Returns the first part of a text, its separator, and the rest.
 pub fn split_part(text: &[u8]) -> Option<(&[u8], Separator, &[u8])>
     ensures { MatchOption result (IsPart text.now)
         (λ parts. SplitsPart text.now parts.0.now parts.1 parts.2.now) }
@@ -53,7 +53,7 @@ pub fn split_part(text: &[u8]) -> Option<(&[u8], Separator, &[u8])>
     Some((&text[..end], separator, &text[end + 1..]))
 }
 
-/// The format of an id with as many digits as the part.
+/// Returns the format of an id with as many digits as the part.
 fn format_of(part: &[u8]) -> Format
     ensures { result ≡ format_of_digits (length part.now) }
 {
@@ -64,7 +64,7 @@ fn format_of(part: &[u8]) -> Format
     }
 }
 
-/// The id of a part.
+/// Returns the id that a part spells.
 #[tactic(auto, using(crate::proofs::PlainPackLines::no_id_of_fault, crate::proofs::PlainPackLines::id_text_of_read))]
 fn id_of(part: &[u8]) -> Option<Oid>
     ensures { MatchOption result (NoId part.now) (IsIdText part.now) }
@@ -78,7 +78,7 @@ fn id_of(part: &[u8]) -> Option<Oid>
     }
 }
 
-/// What follows the header.
+/// Returns the next part after the header.
 fn after_header<A: Allocator + Copy>(part: &[u8], separator: Separator) -> Option<Next<A>>
     ensures { ((list : List (Entry A)) → MatchOption result
         (NeverLeads {A = A} Next.Header list part.now separator)
@@ -90,7 +90,7 @@ fn after_header<A: Allocator + Copy>(part: &[u8], separator: Separator) -> Optio
     }
 }
 
-/// What follows the first word of a line.
+/// Returns the next part after the first word of a line.
 fn after_word<A: Allocator + Copy>(part: &[u8], separator: Separator) -> Option<Next<A>>
     ensures { ((list : List (Entry A)) → MatchOption result
         (NeverLeads {A = A} Next.Word list part.now separator)
@@ -112,7 +112,7 @@ fn after_word<A: Allocator + Copy>(part: &[u8], separator: Separator) -> Option<
     }
 }
 
-/// Whether a part is the count of entries.
+/// Whether a part is the number of entries.
 fn is_count(part: &[u8], count: usize) -> bool
     ensures { IsTrue result ↔ (part.now ≡ decimal count) }
 {
@@ -120,7 +120,7 @@ fn is_count(part: &[u8], count: usize) -> bool
     part == digits.format(count).as_bytes()
 }
 
-/// An entry without parents. It takes no memory.
+/// Returns an entry without parents. It does not allocate.
 fn new_entry<A: Allocator + Copy>(alloc: A, kind: Kind, id: Oid) -> Entry<A>
     ensures { result ≡ entry_of id (node_of kind []) }
 {
@@ -131,7 +131,7 @@ fn new_entry<A: Allocator + Copy>(alloc: A, kind: Kind, id: Oid) -> Entry<A>
     }
 }
 
-/// The entry with one more parent.
+/// Returns the entry with one more parent.
 fn push_parent<A: Allocator + Copy>(mut entry: Entry<A>, id: Oid) -> Result<Entry<A>, AllocError>
     ensures { IfOk result (λ longer. longer ≡ with_parent entry id) }
 {
@@ -139,7 +139,8 @@ fn push_parent<A: Allocator + Copy>(mut entry: Entry<A>, id: Oid) -> Result<Entr
     Ok(entry)
 }
 
-/// What follows an id of an entry: one more parent, or, at the end of its line, another line.
+/// Returns the next part after an id of an entry: one more parent, or, at the end of its line,
+/// another line.
 fn after_id<A: Allocator + Copy>(
     entries: &mut Vec<Entry<A>, A>,
     entry: Entry<A>,
@@ -158,7 +159,7 @@ fn after_id<A: Allocator + Copy>(
     }
 }
 
-/// What follows a part, `None` where the part may not stand there.
+/// Returns the next part after a part, or `None` if the part is not allowed here.
 fn after_part<A: Allocator + Copy>(
     alloc: A,
     entries: &mut Vec<Entry<A>, A>,
@@ -198,7 +199,7 @@ fn after_part<A: Allocator + Copy>(
     }
 }
 
-/// The lines read so far, and the part that comes next.
+/// The lines read so far, and the expected next part.
 #[derive(Drop)]
 pub struct Lines<A: Allocator + Copy> {
     alloc: A,
@@ -207,7 +208,7 @@ pub struct Lines<A: Allocator + Copy> {
 }
 
 impl<A: Allocator + Copy> Lines<A> {
-    /// Nothing is read. It takes no memory.
+    /// Returns the state in which nothing was read. It does not allocate.
     pub fn new(alloc: A) -> Lines<A>
         ensures next { result.next ≡ Next.Header }
         ensures entries { result.entries.items ≡ [] }
@@ -219,7 +220,7 @@ impl<A: Allocator + Copy> Lines<A> {
         }
     }
 
-    /// The number of the line that the next part stands in, counted from 1.
+    /// Returns the number of the line of the next part, counted from 1.
     fn line(&self) -> usize
         ensures { result ≡ line_number self.now.next (length self.now.entries.items) }
     {
@@ -230,7 +231,7 @@ impl<A: Allocator + Copy> Lines<A> {
         }
     }
 
-    /// The fault of a part that may not come next.
+    /// Returns the fault of a part that is not allowed next.
     pub fn bad_line(&self) -> IndexFault
         ensures { result ≡ IndexFault.Bad (line_number self.now.next
             (length self.now.entries.items)) }
@@ -238,9 +239,10 @@ impl<A: Allocator + Copy> Lines<A> {
         IndexFault::Bad { line: self.line() }
     }
 
-    /// Reads a part and what ends it. It fails with `Bad` where the part may not come next, and
-    /// with `Memory` where there is none for an entry; the lines are then of no use.
-    pub fn take(&mut self, part: &[u8], separator: Separator) -> Result<(), IndexFault>
+    /// Reads a part and its separator. Fails with `Bad` if the part is not allowed next, and with
+    /// `Memory` if there is no memory for an entry. After a failure the lines can't be used
+    /// further.
+    pub fn take_part(&mut self, part: &[u8], separator: Separator) -> Result<(), IndexFault>
         ensures { Reads self.old self.new result part.now separator }
     {
         // Laws.
@@ -256,14 +258,15 @@ impl<A: Allocator + Copy> Lines<A> {
         }
     }
 
-    /// Whether the pack has ended, and this part has no byte.
+    /// Whether the pack has ended, and this part is empty.
     fn has_ended(&self, part: &[u8]) -> bool
         ensures { IsTrue result ↔ ((self.now.next ≡ Next.Nothing) × (part.now ≡ [])) }
     {
         matches!(self.next, Next::Nothing) && part.is_empty()
     }
 
-    /// The entries, if the pack has ended, and no byte of a part comes after; else a `Bad` fault.
+    /// Returns the entries if the pack has ended and the unfinished part is empty. Otherwise fails
+    /// with `Bad`.
     #[tactic(auto, using(crate::proofs::PlainPackReading::pack_is_read, crate::proofs::PlainPackReading::bad_line_at_end))]
     pub fn finish(self, part: &[u8]) -> Result<Vec<Entry<A>, A>, IndexFault>
         ensures { Finishes self result part.now }

@@ -1,4 +1,4 @@
-//! Writing a plain pack: its length is known before memory is taken.
+//! Writing a plain pack. Its length is computed before memory is allocated.
 
 ghost use Rattle.std.specs.Prelude.{◌≡◌, ◌≤◌, ◌++◌, ◌∷◌, [], length, IsTrue, ◌↔◌, OnOk, MatchResult, IfOk};
 ghost use Rattle.gname.specs.Limits.{max_pack};
@@ -12,7 +12,7 @@ use gname::{MAX_PACK, Oid};
 use itoa::Buffer;
 use std::alloc::{AllocError, Allocator};
 
-/// The room that is left after an id and the space before it.
+/// Returns the room that is left after an id and the space before it.
 fn room_after_id(room: usize, id: &Oid) -> Option<usize>
     ensures { Leaves room result (length (ids_text (id.now ∷ []))) }
 {
@@ -22,7 +22,7 @@ fn room_after_id(room: usize, id: &Oid) -> Option<usize>
     room.checked_sub(id.format().id_text_length() + 1)
 }
 
-/// The room that is left after ids, a space before each.
+/// Returns the room that is left after ids, a space before each.
 fn room_after_ids(room: usize, ids: &[Oid]) -> Option<usize>
     ensures { Leaves room result (length (ids_text ids.now)) }
 {
@@ -33,7 +33,7 @@ fn room_after_ids(room: usize, ids: &[Oid]) -> Option<usize>
     Some(left)
 }
 
-/// The room that is left after the line of an entry.
+/// Returns the room that is left after the line of an entry.
 fn room_after_node<A: Allocator + Copy>(room: usize, entry: &Entry<A>) -> Option<usize>
     ensures { Leaves room result (length (line (node_text entry.now))) }
 {
@@ -42,7 +42,7 @@ fn room_after_node<A: Allocator + Copy>(room: usize, entry: &Entry<A>) -> Option
     room_after_ids(left, entry.node.parents.as_slice())
 }
 
-/// The room that is left after the lines of some entries.
+/// Returns the room that is left after the lines of some entries.
 fn room_after_nodes<A: Allocator + Copy>(room: usize, entries: &[Entry<A>]) -> Option<usize>
     ensures { Leaves room result (length (nodes_text entries.now)) }
 {
@@ -91,7 +91,7 @@ fn put_end<A: Allocator + Copy>(text: &mut Vec<u8, A>, count: usize) -> Result<(
     Ok(())
 }
 
-/// Writes the text of the pack of some entries, however long it is.
+/// Writes the text of the pack of some entries, with any length.
 #[tactic(auto, using(crate::proofs::PlainPackWriting::pack_text_is))]
 fn put_pack<A: Allocator + Copy>(alloc: A, entries: &[Entry<A>]) -> Result<Vec<u8, A>, AllocError>
     ensures { IfOk result (λ pack. pack.items ≡ pack_text entries.now) }
@@ -103,8 +103,8 @@ fn put_pack<A: Allocator + Copy>(alloc: A, entries: &[Entry<A>]) -> Result<Vec<u
     Ok(text)
 }
 
-/// Writes the pack of some entries. It fails with `TooLarge`, before it takes memory, where the
-/// pack has more than `MAX_PACK` bytes, and else with `Memory`.
+/// Writes the pack of some entries. Fails with `TooLarge`, before it allocates, if the pack has
+/// more than `MAX_PACK` bytes. Otherwise fails only with `Memory`.
 pub fn write<A: Allocator + Copy>(alloc: A, entries: &[Entry<A>]) -> Result<Vec<u8, A>, PackFault>
     ensures packed { MatchResult result (λ pack. pack.items ≡ pack_text entries.now)
         (PackRefuses (pack_text entries.now)) }

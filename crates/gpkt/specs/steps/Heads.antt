@@ -4,8 +4,8 @@ use Rattle.std.specs.Prelude.{Option, Some, None, option_map, Result, Ok, Err}
 use Rattle.std.specs.Io.KnownBytes.{Consumes, IsAtEnd}
 use Rattle.gpkt.specs.declared.head.Head.{Head}
 use Rattle.gpkt.specs.declared.head.Head.TheVariants as head
-use Rattle.gpkt.specs.declared.fault.LineFault.{LineFault}
-use Rattle.gpkt.specs.declared.fault.LineFault.TheVariants.{BadDigits, Reserved, TooLong, Truncated, Io, Failed, Memory}
+use Rattle.gpkt.specs.declared.fault.PacketFault.{PacketFault}
+use Rattle.gpkt.specs.declared.fault.PacketFault.TheVariants.{BadDigits, Reserved, TooLong, Truncated, Io, Failed, Memory}
 use Rattle.gpkt.specs.Change.{Change}
 use Rattle.gpkt.specs.Packets.{Packet, Data, Flush, Delim, ResponseEnd, digit_count, max_packet, max_payload, number_of}
 use Rattle.gpkt.specs.Packets.{Bytes, flush_len, delim_len, response_end_len, reserved_len}
@@ -30,7 +30,7 @@ packet_in buffer head.Delim = Delim
 packet_in buffer head.ResponseEnd = ResponseEnd
 
 -- the result of a read whose payload stands at the front of the buffer
-abbrev pub read_in : Bytes → Result (Option Head) LineFault → Result (Option Packet) LineFault
+abbrev pub read_in : Bytes → Result (Option Head) PacketFault → Result (Option Packet) PacketFault
 read_in buffer (Ok found) = Ok (option_map (packet_in buffer) found)
 read_in buffer (Err fault) = Err fault
 
@@ -39,7 +39,7 @@ abbrev pub Announces : Bytes → Head → Type 0
 Announces digits found = (number_of digits ≡ Some (announced_of found)) × (payload_len found ≤ max_payload)
 
 -- what four digits announce, or why they announce nothing
-abbrev pub Classifies : Bytes → Result Head LineFault → Type 0
+abbrev pub Classifies : Bytes → Result Head PacketFault → Type 0
 Classifies digits (Ok found) = Announces digits found
 Classifies digits (Err BadDigits) = number_of digits ≡ None
 Classifies digits (Err Reserved) = number_of digits ≡ Some reserved_len
@@ -56,7 +56,7 @@ EndsBelow bytes limit =
     (taken : Bytes) × Consumes bytes.old bytes.new taken × (length taken < limit) × IsAtEnd bytes.new
 
 -- known bytes lose the digits, which are classified so
-abbrev pub ConsumesDigits : Change → Result Head LineFault → Type 0
+abbrev pub ConsumesDigits : Change → Result Head PacketFault → Type 0
 ConsumesDigits bytes result =
     (digits : Bytes) × Consumes bytes.old bytes.new digits × (length digits ≡ digit_count) × Classifies digits result
 
@@ -67,7 +67,7 @@ EndsInDigits bytes =
     × IsAtEnd bytes.new
 
 -- the digits are read
-abbrev pub ReadsHead : Change → Result (Option Head) LineFault → Type 0
+abbrev pub ReadsHead : Change → Result (Option Head) PacketFault → Type 0
 ReadsHead bytes (Ok (Some found)) = ConsumesDigits bytes (Ok found)
 ReadsHead bytes (Ok None) = Consumes bytes.old bytes.new [] × IsAtEnd bytes.new
 ReadsHead bytes (Err Truncated) = EndsInDigits bytes
@@ -75,20 +75,20 @@ ReadsHead bytes (Err Io) = ConsumesBelow bytes digit_count
 ReadsHead bytes (Err fault) = ConsumesDigits bytes (Err fault)
 
 -- the payload is read
-abbrev pub ReadsPayload : Change → Result Unit LineFault → Bytes → Type 0
+abbrev pub ReadsPayload : Change → Result Unit PacketFault → Bytes → Type 0
 ReadsPayload bytes (Ok done) payload = Consumes bytes.old bytes.new payload
 ReadsPayload bytes (Err Truncated) payload = EndsBelow bytes (length payload)
 ReadsPayload bytes (Err Io) payload = ConsumesBelow bytes (length payload)
 ReadsPayload bytes (Err _) payload = ⊥
 
 -- the source failed
-abbrev pub is_io : {A : Type 0} → Result A LineFault → Bool
+abbrev pub is_io : {A : Type 0} → Result A PacketFault → Bool
 is_io (Ok value) = false
 is_io (Err Io) = true
 is_io (Err _) = false
 
 -- the faults that come of reading a packet's bytes
-abbrev pub IsNewFault : LineFault → Type 0
+abbrev pub IsNewFault : PacketFault → Type 0
 IsNewFault Failed = ⊥
 IsNewFault Memory = ⊥
 IsNewFault _ = Unit {0}

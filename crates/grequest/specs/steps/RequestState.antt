@@ -12,7 +12,7 @@ use Rattle.grequest.specs.Arguments.{capability_form, LsArgument, KnownLsFlag, R
 use Rattle.grequest.specs.Arguments.{UnknownLsArgument, ls_argument, FetchArgument, KnownFetchFlag, Want, Have}
 use Rattle.grequest.specs.Arguments.{UnknownFetchArgument, fetch_argument}
 use Rattle.grequest.specs.Asked.{LsRefsAsked, FetchAsked, Asked, Empty, Ls, Fetches, ls_with, fetch_with}
-use Rattle.grequest.specs.RequestLines.{Place, First, InCapabilities, InArguments, asked_by_command}
+use Rattle.grequest.specs.RequestLines.{RequestPlace, First, InCapabilities, InArguments, asked_by_command}
 use Rattle.grequest.specs.Requests.{State, state_of, text_brings}
 use Rattle.grequest.specs.declared.command.Command.TheVariants.{LsRefs, Fetch}
 use Rattle.grequest.specs.declared.section.Section.{Section}
@@ -64,12 +64,12 @@ with_argument format state line =
 
 -- ---- a packet
 
-abbrev pub with_text : Format → Place → State → Bytes → State
+abbrev pub with_text : Format → RequestPlace → State → Bytes → State
 with_text format First state line = with_command format state (command_form line)
 with_text format (InCapabilities command) state line = with_capability state (capability_form line)
 with_text format (InArguments command) state line = with_argument format state line
 
-abbrev pub with_delim : Place → State → State
+abbrev pub with_delim : RequestPlace → State → State
 with_delim (InCapabilities command) state = record state { place = InArguments command }
 with_delim _ state = state
 
@@ -81,7 +81,7 @@ with_packet format state _ = state
 -- ---- places
 
 -- a request without a command is at its first packet
-abbrev pub place_in : Section → Asked → Place
+abbrev pub place_in : Section → Asked → RequestPlace
 place_in section Empty = First
 place_in Capabilities (Ls asked) = InCapabilities LsRefs
 place_in Capabilities (Fetches asked) = InCapabilities Fetch
@@ -113,6 +113,6 @@ CarriesWord (Agent value) = is_word_value value ≡ true
 CarriesWord _ = Unit {0}
 
 -- a packet at this place brings something to keep
-abbrev pub packet_brings : Place → Packet → Bool
+abbrev pub packet_brings : RequestPlace → Packet → Bool
 packet_brings place (Data payload) = text_brings place (text payload)
 packet_brings place _ = false

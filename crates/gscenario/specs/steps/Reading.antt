@@ -1,7 +1,7 @@
 -- The steps of reading a scenario, word by word.
 use Rattle.std.specs.Prelude.{◌≡◌, ⊤, ℕ, List, [], ◌∷◌, Option, Result, MatchOption, MatchResult}
 use Rattle.gscenario.specs.ScenarioText.{AreArguments, command_of, words_of}
-use Rattle.gscenario.specs.declared.command.Command.{Command}
+use Rattle.gscenario.specs.declared.command.EventWord.{EventWord}
 use Rattle.gscenario.specs.declared.event.Event.{Event}
 
 -- the words of what follows a word: nothing, or a space and a text
@@ -10,15 +10,15 @@ words_after [] = []
 words_after (space ∷ text) = words_of text
 
 -- the words are no arguments of the command
-abbrev pub NoArguments : Type 0 → Command → List (List ℕ) → Type 0
+abbrev pub NoArguments : Type 0 → EventWord → List (List ℕ) → Type 0
 NoArguments A command words = (event : Event A) → command ≡ command_of event → ¬ (AreArguments event words)
 
 -- they are the arguments of an event of the command
-abbrev pub HasArguments : {A : Type 0} → Command → List (List ℕ) → Event A → Type 0
+abbrev pub HasArguments : {A : Type 0} → EventWord → List (List ℕ) → Event A → Type 0
 HasArguments command words event = (command ≡ command_of event) × AreArguments event words
 
 -- what reading the arguments of a command answers: an event; or that there is none; or out of memory
-abbrev pub ReadsArguments : {A E : Type 0} → Command → List (List ℕ) → Result (Option (Event A)) E → Type 0
+abbrev pub ReadsArguments : {A E : Type 0} → EventWord → List (List ℕ) → Result (Option (Event A)) E → Type 0
 ReadsArguments {A} command words result =
     MatchResult result
     (λ found. MatchOption found (NoArguments A command words) (HasArguments command words))

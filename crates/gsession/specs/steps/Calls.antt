@@ -15,7 +15,7 @@ use Rattle.gobject.specs.declared.node.Entry.{Entry}
 use Rattle.gobject.specs.Packs.{Indexes, IndexFails}
 use Rattle.gdag.specs.Levels.{is_in}
 use Rattle.gdag.specs.declared.fault.GraphFault.TheVariants as graph
-use Rattle.grefspec.specs.Refspecs.{Refspec}
+use Rattle.grefs.specs.Refspecs.{Refspec}
 use Rattle.gclientrepo.specs.declared.ask.Ask.{Ask}
 use Rattle.gclientrepo.specs.declared.fault.RepoFault.TheVariants as repo
 use Rattle.gclientrepo.specs.Repos.{RepoState}

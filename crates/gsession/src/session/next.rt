@@ -10,7 +10,7 @@ use crate::requests::{batch_size, blank_request, objects_request, refs_request};
 use crate::session::{Session, set_pending};
 use crate::stage::Stage;
 use gclientrepo::Repo;
-use ggraph::graph_laws::{offers_are_exact, places_are_nodes};
+use ggraph::graph_laws::{offers_are_exact, positions_are_nodes};
 use ggraph::{GraphFault, Offers};
 use gname::Oid;
 use gname::laws::ids_have_one_format;
@@ -26,7 +26,8 @@ impl<A: Allocator + Copy> Session<A> {
     ghost use Rattle.gsession.specs.Sessions.{after_fault, no_memory};
     ghost use Rattle.gsession.specs.steps.Calls.{FitsBatch};
 
-    /// Whether a request is due: none waits for its reply, and refs or objects are to be asked for.
+    /// Whether a request is to be made next: none waits for its reply, and refs or objects are
+    /// still needed.
     pub fn is_due(&self) -> bool
         ensures { result ≡ is_due self.now.stage self.now.pending }
     {
@@ -39,12 +40,13 @@ impl<A: Allocator + Copy> Session<A> {
         }
     }
 
-    /// The next request, which then waits for its reply: for refs at first, then for objects. A request for objects
-    /// names as haves the common ids, and a batch of ids that it did not name before; without a batch the client is
-    /// done, also where both together would be more than 4,096.
+    /// Makes the next request, which then waits for its reply. The first is for refs, later ones
+    /// for objects. The haves of a request for objects are the common ids, and a batch of ids that
+    /// it did not name before. Without a batch the client is done, also if both together would be
+    /// more than 4,096.
     ///
-    /// It fails with `NoOpenRequest` where none is due, and nothing changes then; and where out of memory, and the
-    /// session is over then.
+    /// Fails with `NoOpenRequest` if no request is to be made, and nothing changes then. Fails if
+    /// out of memory, and the session is over then.
     pub fn request(&mut self, repo: &Repo<A>) -> Result<Request<A>, ClientFault<A>>
         ensures requests { MatchResult result
             (λ request. Requests self.old repo.now.graph.entries self.new
@@ -55,10 +57,11 @@ impl<A: Allocator + Copy> Session<A> {
         self.request_on(repo, &mut None)
     }
 
-    /// The next request, as [`Session::request`] makes it, by a walk that goes on where it was: `offers` has what the
-    /// requests before left of it. Without that it begins anew. So all requests of a session over one graph walk once.
+    /// Makes the next request, as [`Session::request`] does, by continuing a walk. `offers` has the
+    /// walk of the requests before; without it the walk begins anew. So all requests of a session
+    /// over one graph walk once.
     ///
-    /// It fails as `request` does.
+    /// Fails as `request` does.
     pub fn request_on(
         &mut self,
         repo: &Repo<A>,
@@ -79,7 +82,7 @@ impl<A: Allocator + Copy> Session<A> {
         }
     }
 
-    // Makes the next request, where one is due. A fault does not end the session yet.
+    // Makes the next request, if there is one to make. A fault does not end the session yet.
     fn make_request(
         &mut self,
         repo: &Repo<A>,
@@ -163,7 +166,8 @@ impl<A: Allocator + Copy> Session<A> {
         Ok(copy)
     }
 
-    // The ids that the next request offers. It did not offer them before, and has room for them beside the common ids.
+    // Returns the ids that the next request offers. They were not offered before, and fit beside
+    // the common ids.
     fn batch(
         &self,
         repo: &Repo<A>,
@@ -180,7 +184,7 @@ impl<A: Allocator + Copy> Session<A> {
     {
         // Laws.
         offers_are_exact::<A>();
-        places_are_nodes::<A>();
+        positions_are_nodes::<A>();
         ids_have_one_format();
         repo.laws();
         let mut walk = self.offers_on(repo, offers)?;
@@ -197,7 +201,7 @@ impl<A: Allocator + Copy> Session<A> {
         }
     }
 
-    // What the requests before left of the walk, or a new one. It fails with `Memory` alone.
+    // Returns the walk of the requests before, or a new one. Fails only with `Memory`.
     fn offers_on(
         &self,
         repo: &Repo<A>,
@@ -214,7 +218,7 @@ impl<A: Allocator + Copy> Session<A> {
         }
     }
 
-    // A request for objects waits for its reply, and its batch was offered.
+    // Keeps a request for objects until its reply, and its batch as offered.
     fn keep_request(&mut self, request: Request<A>, batch: &[Oid]) -> Result<(), AllocError>
         requires stage { self.old.stage ≡ Stage.Fetching }
         requires pending { self.old.pending ≡ None }

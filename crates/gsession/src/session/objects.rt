@@ -1,4 +1,4 @@
-//! How a session takes the reply to fetch.
+//! Taking the reply to fetch.
 
 ghost use Rattle.std.specs.Prelude.{◌≡◌, ◌++◌, false, All, Contains, MatchOption, MatchResult, OnOk, length};
 ghost use Rattle.gpkt.specs.Change.{change_of};
@@ -14,7 +14,7 @@ use gfetchreply::{FetchHead, FetchReading, read_fetch_reply_into_in};
 use ggraph::Indexer;
 use ggraph::graph_laws::distinct_are_once;
 use gname::Oid;
-use gpkt::{LineReader, Source};
+use gpkt::{PacketReader, Source};
 use grequest::Request;
 use std::alloc::Allocator;
 
@@ -29,19 +29,21 @@ impl<A: Allocator + Copy> Session<A> {
     ghost use Rattle.gsession.specs.steps.Calls.{AnswersRead, AnswersReply, FitsHead, IsAcksFault, IsStrangeAck, MayHaveFed};
     ghost use Rattle.gsession.specs.TakingReplies.{Awaits, AwaitsObjects, HasPack, TakesReply, after_acks, reading_for};
 
-    /// Takes the reply to a request for objects, and nothing after it. Its pack goes to the indexer as it comes. Once
-    /// the reply was read to its end, each acknowledged id must be one of the request's haves, and is common from then
-    /// on; and all objects of the pack come to the repository, or none.
+    /// Takes the reply to a request for objects, and reads nothing after it. Feeds its pack to the
+    /// indexer as it arrives. After the reply is read, each acknowledged id must be one of the
+    /// request's haves, and is common from then on. All objects of the pack are added to the
+    /// repository, or none.
     ///
-    /// It fails with `NoOpenRequest` where no such reply is due, and nothing is read then. Else the session is over,
-    /// and the repository as before: with `Message` where the reply is refused, out of memory only at an
-    /// acknowledged id; with `StrangeAck`; with `Index` where the indexer refused the pack; and with `Repo` where the
-    /// graph refuses its objects, or it is out of memory, which is reported only where the indexer took the pack. The
-    /// first of these is reported; for a reply without a pack nothing of the indexer's.
+    /// Fails with `NoOpenRequest` if no such reply is awaited, and nothing is read then. After any
+    /// other fault the session is over, and the repository unchanged. Fails with `Message` if the
+    /// reply is refused, out of memory only at an acknowledged id; with `StrangeAck`; with `Index`
+    /// if the indexer refused the pack. Fails with `Repo` if the graph refuses its objects, or if
+    /// out of memory, which is reported only if the indexer took the pack. The first of these is
+    /// reported; a reply without a pack has no fault of the indexer.
     pub fn take_reply<S: Source, K: Indexer<A>, B: Allocator + Copy>(
         &mut self,
         repo: &mut Repo<A>,
-        reader: &mut LineReader<S, B>,
+        reader: &mut PacketReader<S, B>,
         indexer: &K,
     ) -> Result<Taken, ClientFault<A>>
         ensures takes { TakesReply (K.indexes indexer.now) (K.index_fails indexer.now) self.old
@@ -57,11 +59,11 @@ impl<A: Allocator + Copy> Session<A> {
         }
     }
 
-    // Takes the reply to fetch, where it is due. A fault does not end the session yet.
+    // Takes the reply to fetch, if it is awaited. A fault does not end the session yet.
     fn read_objects<S: Source, K: Indexer<A>, B: Allocator + Copy>(
         &mut self,
         repo: &mut Repo<A>,
-        reader: &mut LineReader<S, B>,
+        reader: &mut PacketReader<S, B>,
         indexer: &K,
     ) -> Result<Taken, ClientFault<A>>
         ensures takes { AnswersReply (K.indexes indexer.now) (K.index_fails indexer.now) self.old
@@ -70,7 +72,7 @@ impl<A: Allocator + Copy> Session<A> {
         ensures reader { LeavesReplies S.is_down reader.old reader.new result }
         ensures loans { S.loans reader.new.source ≡ S.loans reader.old.source }
     {
-        let Some(reading) = self.reading() else {
+        let Some(reading) = self.reply_reading() else {
             return Err(ClientFault::NoOpenRequest);
         };
         let alloc = self.allocator();
@@ -81,8 +83,8 @@ impl<A: Allocator + Copy> Session<A> {
         }
     }
 
-    // How the reply that is due is read, where it is one to fetch.
-    fn reading(&self) -> Option<FetchReading>
+    // Returns how to read the awaited reply, if it is one to fetch.
+    fn reply_reading(&self) -> Option<FetchReading>
         ensures { MatchOption result
             (¬ (AwaitsObjects self.now))
             (λ reading. (asked : FetchAsked) × Awaits self.now asked
@@ -99,7 +101,7 @@ impl<A: Allocator + Copy> Session<A> {
         }
     }
 
-    // Takes what a reply says.
+    // Takes the content of a reply.
     fn take_head<K: Indexer<A>>(
         &mut self,
         repo: &mut Repo<A>,
@@ -183,7 +185,7 @@ impl<A: Allocator + Copy> Session<A> {
         }
     }
 
-    // The haves of the request for objects that waits.
+    // Returns the haves of the request for objects that waits.
     fn open_haves(&self) -> &[Oid]
         ensures { (asked : FetchAsked) → Awaits self.now asked → result.now ≡ asked.haves }
     {

@@ -1,4 +1,4 @@
-//! How a session takes the reply to ls-refs.
+//! Taking the reply to ls-refs.
 
 ghost use Rattle.std.specs.Prelude.{◌≡◌, ◌≤◌, List, All, MatchBool, MatchResult, IfOk, None, length};
 ghost use Rattle.gobject.specs.declared.node.Entry.{Entry};
@@ -15,7 +15,7 @@ use gclientrepo::{Asks, Repo};
 use ggrammar::{MessageFault, Why};
 use glsreply::{LsReply, read_ls_reply_in};
 use gname::Oid;
-use gpkt::{LineReader, Source};
+use gpkt::{PacketReader, Source};
 use grequest::{MAX_WANTS, Request};
 use std::alloc::Allocator;
 
@@ -27,17 +27,19 @@ impl<A: Allocator + Copy> Session<A> {
     ghost use Rattle.gsession.specs.steps.Calls.{AnswersLs, AnswersRefs, FindsAsks};
     ghost use Rattle.gsession.specs.TakingRefs.{AwaitsRefs, IsRefsFault, TakesLines, TakesLs, with_refs};
 
-    /// Takes the reply to ls-refs, and nothing after it: what is asked for, which of its objects are wanted, and the
-    /// target of an unborn `HEAD`. An ask is for the ref to which a refspec takes a name; of several asks for one ref
-    /// the first counts. Wanted is each asked id that is not connected.
+    /// Takes the reply to ls-refs, and reads nothing after it. Keeps the asks and their wanted
+    /// objects, and returns the target of an unborn `HEAD`. An ask is for the ref to which a
+    /// refspec maps a name. If several asks are for one ref, the first counts. Each asked id that
+    /// is not connected is wanted.
     ///
-    /// It fails with `NoOpenRequest` where no such reply is due, and nothing is read then. Else the session is over:
-    /// with `Message` where the reply is refused, or, at its last packet, where a ref that is asked for can't have
-    /// its name; with `TooManyWants` over 1,024; and where out of memory, but not where a ref can't have its name.
+    /// Fails with `NoOpenRequest` if no such reply is awaited, and nothing is read then. After any
+    /// other fault the session is over. Fails with `Message` if the reply is refused, or, at its
+    /// last packet, if a requested ref can't have its name. Fails with `TooManyWants` for more than
+    /// 1,024, and if out of memory, but not if a ref can't have its name.
     pub fn take_ls<S: Source, B: Allocator + Copy>(
         &mut self,
         repo: &Repo<A>,
-        reader: &mut LineReader<S, B>,
+        reader: &mut PacketReader<S, B>,
     ) -> Result<LsTaken<A>, ClientFault<A>>
         ensures takes { TakesLs self.old repo.now.graph.entries
             (change_of S.remaining reader.old.source reader.new.source) self.new result }
@@ -50,11 +52,11 @@ impl<A: Allocator + Copy> Session<A> {
         }
     }
 
-    // Takes the reply to ls-refs, where it is due. A fault does not end the session yet.
+    // Takes the reply to ls-refs, if it is awaited. A fault does not end the session yet.
     fn read_refs<S: Source, B: Allocator + Copy>(
         &mut self,
         repo: &Repo<A>,
-        reader: &mut LineReader<S, B>,
+        reader: &mut PacketReader<S, B>,
     ) -> Result<LsTaken<A>, ClientFault<A>>
         ensures takes { AnswersLs self.old repo.now.graph.entries
             (change_of S.remaining reader.old.source reader.new.source) self.new result }
@@ -91,13 +93,13 @@ impl<A: Allocator + Copy> Session<A> {
         ensures { AnswersRefs self.old repo.now.graph.entries reply.now self.new result }
     {
         if !are_named(self.refspecs.as_slice(), reply) {
-            return Err(self.misnamed(reply));
+            return Err(self.misnamed_fault(reply));
         }
         let asks = asked_of(self.allocator(), self.refspecs.as_slice(), reply)?;
         self.take_asked(repo, reply, asks)
     }
 
-    // Takes what is asked for of the refs of a reply.
+    // Takes the asks for the refs of a reply.
     fn take_asked(
         &mut self,
         repo: &Repo<A>,
@@ -109,7 +111,7 @@ impl<A: Allocator + Copy> Session<A> {
         requires ids { All (λ ask. IsIdOf self.old.format ask.id) asks }
         ensures { AnswersRefs self.old repo.now.graph.entries reply.now self.new result }
     {
-        match self.wanted(repo, reply, &asks) {
+        match self.find_wants(repo, reply, &asks) {
             Ok((wants, taken)) => {
                 self.keep_wants(asks, wants);
                 Ok(taken)
@@ -118,8 +120,8 @@ impl<A: Allocator + Copy> Session<A> {
         }
     }
 
-    // What is wanted for the asks, and what comes of the reply.
-    fn wanted(
+    // Returns the wants of the asks, and the result for the reply.
+    fn find_wants(
         &self,
         repo: &Repo<A>,
         reply: &LsReply<A>,
@@ -146,7 +148,7 @@ impl<A: Allocator + Copy> Session<A> {
         Ok((wants, taken))
     }
 
-    // Keeps what is asked for and what is wanted.
+    // Keeps the asks and the wants.
     fn keep_wants(&mut self, asks: Asks<A>, wants: Vec<Oid, A>)
         requires waits { AwaitsRefs self.old }
         requires ids { All (IsIdOf self.old.format) wants.items }
@@ -164,8 +166,8 @@ impl<A: Allocator + Copy> Session<A> {
         self.wants = wants;
     }
 
-    // That a ref which is asked for can't have its name, as is reported at the reply's last packet.
-    fn misnamed(&self, reply: &LsReply<A>) -> ClientFault<A>
+    // Returns the fault of a requested ref that can't have its name, at the reply's last packet.
+    fn misnamed_fault(&self, reply: &LsReply<A>) -> ClientFault<A>
         requires { ¬ (AreNamed {A = A} (asks_by_all self.now.refspecs reply.now.lines)) }
         ensures { (g : List (Entry A)) → IsRefsFault self.now g reply.now result }
     {
@@ -176,7 +178,7 @@ impl<A: Allocator + Copy> Session<A> {
     }
 }
 
-// Objects are fetched where some are wanted.
+// Returns the next stage: objects are fetched if some are wanted.
 fn stage_for(wants: &[Oid]) -> Stage
     ensures { result ≡ stage_for wants.now }
 {

@@ -26,9 +26,9 @@ calls_left Listens steps = 0
 calls_left Done steps = 0
 
 -- 1 where more may come, and 0 once it has stopped
-abbrev pub unstopped : Option Stop → ℕ
-unstopped None = 1
-unstopped (Some why) = 0
+abbrev pub count_unstopped : Option Stop → ℕ
+count_unstopped None = 1
+count_unstopped (Some why) = 0
 
 module _ {C A : Type 0} (turn : C → Turn) (left : C → Left) where
   abbrev pub reading_left : Connection C A → ℕ
@@ -41,7 +41,7 @@ module _ {C A : Type 0} (turn : C → Turn) (left : C → Left) where
   -- twice the turns that are left, and one more where more may come
   abbrev pub turns_left : Connection C A → ℕ
   turns_left connection =
-      (left connection.conversation).turns + (left connection.conversation).turns + unstopped connection.stopped
+      (left connection.conversation).turns + (left connection.conversation).turns + count_unstopped connection.stopped
 
 -- it is the same turn, or fewer are left
 abbrev pub IsLater : {C : Type 0} → (C → Turn) → (C → Left) → C → C → Type 0

@@ -9,7 +9,7 @@ use Rattle.grequest.specs.Asked.{LsRefsAsked}
 use Rattle.ganswer.specs.Servers.{Server}
 use Rattle.gclient.specs.declared.fault.FetchFault.{FetchFault}
 use Rattle.gcmd.specs.Printing.{fault_line}
-use Rattle.gcmd.specs.Programs.{Outcome}
+use Rattle.gcmd.specs.Programs.{ProgramOutcome}
 use Rattle.gcmd.specs.declared.fault.ProgramFault.{ProgramFault}
 use Rattle.gcmd.specs.declared.fault.ProgramFault.TheVariants as program
 use Rattle.gtcp.specs.Sockets.{FitPrefixes, IsServed, RefusesPrefixes, asked_for}
@@ -30,7 +30,7 @@ PrintsSoFar errors faults true = PrintsNone errors faults ⊎ Passes errors (fau
 PrintsSoFar errors faults false = SendsSome errors (fault_lines faults)
 
 -- what telling of a connection does: its fault is printed where there is one, and all before could be printed
-abbrev pub Tells : {A : Type 0} → Outcome A → Bool → Bool → Output → Type 0
+abbrev pub Tells : {A : Type 0} → ProgramOutcome A → Bool → Bool → Output → Type 0
 Tells (Ok done) could can errors = IsUnwritten errors × (can ≡ could)
 Tells (Err fault) false can errors = IsUnwritten errors × (can ≡ false)
 Tells (Err fault) true true errors = Sends errors (fault_line fault)
@@ -40,7 +40,7 @@ module _ {A : Type 0} (server : Server A) (packs : Packs A) (fails : PackFails A
   -- so many connections are served so far, and their faults are printed, where it is known
   -- whether the sink of the faults is well still
   pub record ServesSoFar (errors : Output) (is_up : Bool) (connections : ℕ) : Type 0 where
-    pub outcomes : List (Outcome A)
+    pub outcomes : List (ProgramOutcome A)
     pub each : All (IsServed server packs fails path ends) outcomes
     pub prints : PrintsSoFar errors (faults_of outcomes) is_up
     pub count : length outcomes ≡ connections

@@ -10,13 +10,13 @@ use Rattle.gobject.specs.Packs.{Indexes, IndexFails, PackFails, Packs}
 use Rattle.gclientrepo.specs.Repos.{RepoState}
 use Rattle.grequest.specs.Asked.{LsRefsAsked}
 use Rattle.ganswer.specs.Servers.{Server}
+use Rattle.gserve.specs.GitConnections.{ServesGit}
+use Rattle.gserve.specs.declared.git_transport.GitEnd.{GitEnd}
 use Rattle.gclient.specs.Conversations.{Start}
 use Rattle.gclient.specs.declared.fault.FetchFault.{FetchFault}
 use Rattle.gclient.specs.declared.fetched.Fetched.{Fetched}
-use Rattle.gconnect.specs.GitConnections.{ServesGit}
-use Rattle.gconnect.specs.GitFetches.{FetchesGit}
-use Rattle.gconnect.specs.Listings.{ListsGit}
-use Rattle.gconnect.specs.declared.serving.GitEnd.{GitEnd}
+use Rattle.gclient.specs.GitFetches.{FetchesGit}
+use Rattle.gclient.specs.Listings.{ListsGit}
 
 -- ---- a reader and a writer
 

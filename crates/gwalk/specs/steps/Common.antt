@@ -5,16 +5,16 @@ use Rattle.std.specs.List.{filter_map}
 use Rattle.std.specs.Option.{option_map}
 use Rattle.gname.specs.Ids.{Id}
 use Rattle.gobject.specs.declared.node.Entry.{Entry}
-use Rattle.gobject.specs.Objects.{node_at, place_of}
+use Rattle.gobject.specs.Objects.{node_at, position_of}
 
 -- the ids at some positions, in order
 abbrev pub ids_at : {A : Type 0} → List (Entry A) → List ℕ → List Id
-ids_at g numbers = filter_map (λ number. option_map (λ entry. entry.id) (slice_get g number)) numbers
+ids_at g numbers = filter_map (λ position. option_map (λ entry. entry.id) (slice_get g position)) numbers
 
 -- what a walk looks for, by look-ups: a mark at the position of each id that is held, and the others
 pub record AreGoals {A : Type 0} (g : List (Entry A)) (ids : List Id) (marks : List Bool)
     (absent : List Id) : Type 0 where
   pub long : length marks ≡ length g
-  pub marked : (a : Id) (p : ℕ) → place_of g a ≡ Some p →
+  pub marked : (a : Id) (p : ℕ) → position_of g a ≡ Some p →
       (slice_index_or marks p false ≡ true) ↔ Contains ids a
   pub others : (a : Id) → Contains absent a ↔ (Contains ids a × (node_at g a ≡ None))

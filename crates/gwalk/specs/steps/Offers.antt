@@ -2,7 +2,7 @@
 use Rattle.std.specs.Prelude.{◌≡◌, ◌↔◌, ℕ, Bool, true, false, List, ◌++◌, slice_index_or, All, Contains, Some}
 use Rattle.gname.specs.Ids.{Id}
 use Rattle.gobject.specs.declared.node.Entry.{Entry}
-use Rattle.gobject.specs.Objects.{place_of}
+use Rattle.gobject.specs.Objects.{position_of}
 use Rattle.gdag.specs.Offer.{IsOffer, MayBeOffered}
 use Rattle.gwalk.specs.Offers.{IsUnderway}
 use Rattle.gwalk.specs.declared.offer.Tour.{Tour}
@@ -10,7 +10,7 @@ use Rattle.gwalk.specs.declared.offer.Tour.{Tour}
 -- the marked ids are these
 abbrev pub HasMarks : {A : Type 0} → List (Entry A) → List Id → List Bool → Type 0
 HasMarks g ids marks =
-    (a : Id) (place : ℕ) → place_of g a ≡ Some place → (slice_index_or marks place false ≡ true) ↔ Contains ids a
+    (a : Id) (position : ℕ) → position_of g a ≡ Some position → (slice_index_or marks position false ≡ true) ↔ Contains ids a
 
 -- the list is the offer, and the tour goes on where it was: once the list is sent, it may offer none of the ids that it
 -- has taken up

@@ -2,7 +2,7 @@
 use Rattle.std.specs.Prelude.{◌≡◌, ◌⊎◌, ◌↔◌, ℕ, Bool, true, false, Some, List, length, Contains, slice_index_or}
 use Rattle.gname.specs.Ids.{Id}
 use Rattle.gobject.specs.declared.node.Entry.{Entry}
-use Rattle.gobject.specs.Objects.{place_of}
+use Rattle.gobject.specs.Objects.{position_of}
 use Rattle.gdag.specs.Peeling.{IsTagOf, Tags, PeelsTo}
 
 -- the id is a tag on the chain that begins at the tip
@@ -16,9 +16,9 @@ pub record IsTagFrom {A : Type 0} (g : List (Entry A)) (tip a : Id) : Type 0 whe
 pub record LeadsToMarked {A : Type 0} (g : List (Entry A)) (marks : List Bool) (a : Id) : Type 0 where
   pub commit : Id
   pub peels : PeelsTo g a commit
-  pub place : ℕ
-  pub is_at : place_of g commit ≡ Some place
-  pub marked : slice_index_or marks place false ≡ true
+  pub position : ℕ
+  pub is_at : position_of g commit ≡ Some position
+  pub marked : slice_index_or marks position false ≡ true
 
 -- the id is a tag on the chain from one of the tips, which leads to a marked commit
 pub record IsTagAmong {A : Type 0} (g : List (Entry A)) (marks : List Bool) (tips : List Id) (a : Id) : Type 0 where
@@ -31,6 +31,6 @@ pub record IsTagAmong {A : Type 0} (g : List (Entry A)) (marks : List Bool) (tip
 pub record AreTagged {A : Type 0} (g : List (Entry A)) (new : List Bool) (tips : List Id)
     (marks : List Bool) : Type 0 where
   pub long : length marks ≡ length g
-  pub each : (place : ℕ) (a : Id) → place_of g a ≡ Some place →
-      (slice_index_or marks place false ≡ true) ↔
-      ((slice_index_or new place false ≡ true) ⊎ IsTagAmong g new tips a)
+  pub each : (position : ℕ) (a : Id) → position_of g a ≡ Some position →
+      (slice_index_or marks position false ≡ true) ↔
+      ((slice_index_or new position false ≡ true) ⊎ IsTagAmong g new tips a)

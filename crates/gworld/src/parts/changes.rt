@@ -20,7 +20,7 @@ use gobject::{Entry, Node};
 use std::alloc::{AllocError, Allocator};
 
 impl<A: Allocator + Copy> Parts<A> {
-    /// An object comes to the server.
+    /// Adds an object to the server.
     pub(crate) fn add_at_server(&mut self, entry: &Entry<A>) -> Result<Outcome, AllocError>
         ensures { MatchResult result
             (λ outcome. AddsAtServer self.old entry.now outcome self.new)
@@ -33,7 +33,7 @@ impl<A: Allocator + Copy> Parts<A> {
         Ok(self.add_agreed(copy))
     }
 
-    // An object comes to the server, with which the client agrees.
+    // Adds an object to the server, with which the client agrees.
     fn add_agreed(&mut self, entry: Entry<A>) -> Outcome
         requires { AgreesWith self.old.repo.graph.entries entry }
         ensures { AddsAtServer self.old entry result self.new }
@@ -44,7 +44,7 @@ impl<A: Allocator + Copy> Parts<A> {
         }
     }
 
-    /// A ref of the server is set.
+    /// Sets a ref of the server.
     pub(crate) fn set_at_server(
         &mut self,
         name: &RefName<A>,
@@ -61,7 +61,7 @@ impl<A: Allocator + Copy> Parts<A> {
         }
     }
 
-    /// An object comes to the client.
+    /// Adds an object to the client.
     pub(crate) fn add_at_client(&mut self, entry: &Entry<A>) -> Result<Outcome, AllocError>
         ensures { MatchResult result
             (λ outcome. AddsAtClient self.old entry.now outcome self.new)
@@ -74,7 +74,7 @@ impl<A: Allocator + Copy> Parts<A> {
         Ok(self.add_agreed_locally(copy))
     }
 
-    // An object comes to the client, with which the server agrees.
+    // Adds an object to the client, with which the server agrees.
     fn add_agreed_locally(&mut self, entry: Entry<A>) -> Outcome
         requires { AgreesWith self.old.server.graph.entries entry }
         ensures { AddsAtClient self.old entry result self.new }
@@ -87,7 +87,7 @@ impl<A: Allocator + Copy> Parts<A> {
         }
     }
 
-    /// A ref of the client is set.
+    /// Sets a ref of the client.
     pub(crate) fn set_at_client(
         &mut self,
         name: &RefName<A>,
@@ -105,7 +105,7 @@ impl<A: Allocator + Copy> Parts<A> {
     }
 }
 
-/// Whether the graph holds the id with no object but this one.
+/// Whether the graph holds the id with no other object.
 pub(super) fn agrees<A: Allocator + Copy>(graph: &Graph<A>, id: &Oid, node: &Node<A>) -> bool
     ensures { MatchBool result (AgreesWith graph.now.entries (entry_of id.now node.now))
         (Disagrees graph.now.entries (entry_of id.now node.now)) }
@@ -116,14 +116,14 @@ pub(super) fn agrees<A: Allocator + Copy>(graph: &Graph<A>, id: &Oid, node: &Nod
     }
 }
 
-// The outcome where the server refuses a change.
+// Returns the outcome if the server refuses a change.
 fn refuse_build<A: Allocator + Copy>(fault: BuildFault<A>) -> Outcome
     ensures { result ≡ outcome.Fault (build_fault_row fault).0 }
 {
     Outcome::Fault { code: fault.code() }
 }
 
-// The outcome where the client's repository refuses a change.
+// Returns the outcome if the client's repository refuses a change.
 fn refuse_local<A: Allocator + Copy>(fault: RepoFault<A>) -> Outcome
     ensures { result ≡ outcome.Fault (repo_fault_row fault).0 }
 {

@@ -1,9 +1,9 @@
-//! Replies that come.
+//! Delivery of replies.
 
 ghost use Rattle.std.specs.Prelude.{◌≡◌, ◌↔◌, MatchResult, slice_get, IsSome, IsTrue, IfOk, Some};
 ghost use Rattle.gworld.specs.Taking.{IsPackTaken};
 ghost use Rattle.gworld.specs.steps.Bringing.{BringsTo};
-ghost use Rattle.gworld.specs.Events.{Delivers, Forges, waiting};
+ghost use Rattle.gworld.specs.Events.{Delivers, Forges, waiting_session};
 ghost use Rattle.gworld.specs.Worlds.{reply_bytes};
 
 use super::{KeptReply, Parts, kept_at};
@@ -13,18 +13,18 @@ use crate::outcome::Outcome;
 use gclientrepo::Repo;
 use ggrammar::Ends;
 use ggraph::Indexer;
-use gpkt::LineWriter;
+use gpkt::PacketWriter;
 use gpkt::memory::VecSink;
 use gserve::write_reply;
 use gsession::Session;
 use std::alloc::{AllocError, Allocator};
 
 impl<A: Allocator + Copy> KeptReply<A> {
-    // The bytes of the reply.
+    // Returns the bytes of the reply.
     fn bytes(&self, alloc: A) -> Result<Vec<u8, A>, AllocError>
         ensures { IfOk result (λ bytes. bytes.items ≡ reply_bytes self.now.reply) }
     {
-        let mut writer = LineWriter::new(VecSink::new(alloc));
+        let mut writer = PacketWriter::new(VecSink::new(alloc));
         let written = write_reply(&self.reply, Ends::Plain, &mut writer);
         let sink = writer.into_inner();
         match written {
@@ -33,11 +33,11 @@ impl<A: Allocator + Copy> KeptReply<A> {
         }
     }
 
-    // Whether the reply answers a request that is equal to the one that waits.
+    // Whether the reply is for a request that equals the open one.
     fn answers_open(&self, session: &Session<A>) -> bool
         ensures { IsTrue result ↔ (session.now.pending ≡ Some self.now.asked) }
     {
-        match session.pending() {
+        match session.open_request() {
             Some(request) => self.request.asks_as(request),
             None => false,
         }
@@ -45,7 +45,8 @@ impl<A: Allocator + Copy> KeptReply<A> {
 }
 
 impl<A: Allocator + Copy> Parts<A> {
-    /// So many bytes of a kept reply come as the reply to the request that waits: all, where there are fewer.
+    /// Delivers `count` bytes of a kept reply as the reply to the open request, or all if there are
+    /// fewer.
     pub(crate) fn deliver<K: Indexer<A>>(
         &mut self,
         number: usize,
@@ -54,9 +55,9 @@ impl<A: Allocator + Copy> Parts<A> {
     ) -> Result<Outcome, AllocError>
         ensures { MatchResult result
             (λ outcome. Delivers (K.indexes indexer.now) (K.index_fails indexer.now) self.old
-            (slice_get self.old.kept number) count (waiting self.old.session) outcome self.new)
+            (slice_get self.old.kept number) count (waiting_session self.old.session) outcome self.new)
             (λ _. (self.new ≡ self.old)
-            × IsSome (slice_get self.old.kept number) × IsSome (waiting self.old.session)) }
+            × IsSome (slice_get self.old.kept number) × IsSome (waiting_session self.old.session)) }
     {
         match kept_at(&self.kept, number) {
             None => Ok(Outcome::Fault { code: NO_SUCH }),
@@ -72,7 +73,7 @@ impl<A: Allocator + Copy> Parts<A> {
         }
     }
 
-    /// Forged bytes come.
+    /// Delivers forged bytes.
     pub(crate) fn forge<K: Indexer<A>>(
         &mut self,
         bytes: &[u8],
@@ -80,8 +81,8 @@ impl<A: Allocator + Copy> Parts<A> {
     ) -> Result<Outcome, AllocError>
         ensures { MatchResult result
             (λ outcome. Forges (K.indexes indexer.now) (K.index_fails indexer.now) self.old
-            bytes.now (waiting self.old.session) outcome self.new)
-            (λ _. (self.new ≡ self.old) × IsSome (waiting self.old.session)) }
+            bytes.now (waiting_session self.old.session) outcome self.new)
+            (λ _. (self.new ≡ self.old) × IsSome (waiting_session self.old.session)) }
     {
         match &mut self.session {
             None => {
@@ -107,14 +108,14 @@ impl<A: Allocator + Copy> Parts<A> {
     }
 }
 
-// A kept reply that comes, and how many of its bytes do.
+// A kept reply to deliver, and how many of its bytes.
 #[derive(Drop)]
 struct Coming<'a, A: Allocator + Copy> {
     kept: &'a KeptReply<A>,
     count: usize,
 }
 
-// A kept reply comes to the session.
+// Delivers a kept reply to the session.
 fn bring<A: Allocator + Copy, K: Indexer<A>>(
     coming: Coming<'_, A>,
     session: &mut Session<A>,
@@ -129,7 +130,7 @@ fn bring<A: Allocator + Copy, K: Indexer<A>>(
         (λ _. (session.new ≡ session.old) × (repo.new ≡ repo.old) × (mark.new ≡ mark.old)
         × IsSome session.old.pending) }
 {
-    if session.pending().is_none() {
+    if session.open_request().is_none() {
         return Ok(Outcome::Fault {
             code: NO_OPEN_REQUEST,
         });

@@ -1,9 +1,9 @@
-//! What an event does.
+//! The effects of events.
 
 ghost use Rattle.std.specs.Prelude.{◌≡◌, ◌≢◌, ◌≤◌, [], MatchResult, length, vec_capacity, vec_len};
 ghost use Rattle.gworld.specs.Promises.{Promises};
 ghost use Rattle.gworld.specs.Runs.{NeedsMemory, RunWith, RunsFront, outcomes_before};
-ghost use Rattle.gworld.specs.Sound.{AreEndsWhole, IsSound};
+ghost use Rattle.gworld.specs.Sound.{AreEndsConnected, IsSound};
 ghost use Rattle.gworld.specs.Events.{Step};
 ghost use Rattle.gworld.specs.Worlds.{tools_of};
 
@@ -16,7 +16,7 @@ use gscenario::Event;
 use std::alloc::{AllocError, Allocator};
 
 impl<A: Allocator + Copy> Parts<A> {
-    /// Does what the event does.
+    /// Does what the event describes.
     pub(crate) fn happen<K: Packer<A> + Indexer<A>>(
         &mut self,
         event: &Event<A>,
@@ -45,9 +45,9 @@ impl<A: Allocator + Copy> Parts<A> {
         }
     }
 
-    /// A law: what is true of the two ends, and of the session.
+    /// A law: the properties of the two ends, and of the session.
     pub(crate) fn laws(&self)
-        ensures { AreEndsWhole self.now }
+        ensures { AreEndsConnected self.now }
     {
         self.server.laws();
         self.repo.laws();
@@ -56,7 +56,8 @@ impl<A: Allocator + Copy> Parts<A> {
         }
     }
 
-    /// Does one event: from a sound world it leads to a sound world, and keeps the promises of its step.
+    /// Does one event. It leads from a sound world to a sound world, and keeps the promises of its
+    /// step.
     pub(crate) fn step<K: Packer<A> + Indexer<A>>(
         &mut self,
         event: &Event<A>,
@@ -82,7 +83,7 @@ impl<A: Allocator + Copy> Parts<A> {
         Ok(outcome)
     }
 
-    // No outcomes yet, with room for those of the events.
+    // Returns an empty list of outcomes, with room for those of the events.
     fn no_outcomes(&self, events: &[Event<A>]) -> Result<Vec<Outcome, A>, RunFault<A>>
         ensures { MatchResult result
             (λ outcomes. (outcomes.items ≡ []) × (vec_len outcomes ≡ 0)
@@ -98,8 +99,8 @@ impl<A: Allocator + Copy> Parts<A> {
         }
     }
 
-    /// Does events, one after the other. The memory of their outcomes is taken before the first.
-    pub(crate) fn run<K: Packer<A> + Indexer<A>>(
+    /// Does events, one after the other. Takes the memory of their outcomes before the first.
+    pub(crate) fn run_events<K: Packer<A> + Indexer<A>>(
         &mut self,
         events: &[Event<A>],
         tools: &K,

@@ -1,4 +1,4 @@
-//! The server at work.
+//! The server's work.
 
 ghost use Rattle.std.specs.Prelude.{◌≡◌, ◌≢◌, ◌∷◌, ◌++◌, [], IfOk, IsSome, MatchResult, length, slice_get};
 ghost use Rattle.ganswer.specs.Answers.{reply_of};
@@ -20,7 +20,7 @@ use gserve::{End, serve};
 use std::alloc::{AllocError, Allocator};
 
 impl<A: Allocator + Copy> Parts<A> {
-    /// The server talks to a stranger, who sends these bytes.
+    /// Holds the server's conversation with a stranger, who sends these bytes.
     pub(crate) fn hear_stranger<K: Packer<A>>(
         &mut self,
         bytes: &[u8],
@@ -33,7 +33,7 @@ impl<A: Allocator + Copy> Parts<A> {
         talk(&self.server, packer, bytes, self.repo.graph().allocator())
     }
 
-    /// The server answers a request that was sent, and the reply is kept.
+    /// Replies to a sent request as the server, and keeps the reply.
     pub(crate) fn serve<K: Packer<A>>(
         &mut self,
         number: usize,
@@ -55,7 +55,7 @@ impl<A: Allocator + Copy> Parts<A> {
     }
 }
 
-// Keeps a reply, with a copy of the request that it answers.
+// Keeps a reply, with a copy of its request.
 fn keep<A: Allocator + Copy>(
     alloc: A,
     kept: &mut Vec<KeptReply<A>, A>,
@@ -74,14 +74,14 @@ fn keep<A: Allocator + Copy>(
     Ok(Outcome::Served { reply: number })
 }
 
-// The outcome of a request that is refused.
+// Returns the outcome of a request that is refused.
 fn refuse_request(fault: ServeFault) -> Outcome
     ensures { result ≡ outcome.Fault (serve_fault_row fault).code }
 {
     Outcome::Fault { code: fault.code() }
 }
 
-// What comes of a conversation with a client that sends these bytes.
+// Returns the outcome of a conversation with a client that sends these bytes.
 fn talk<A: Allocator + Copy, K: Packer<A>>(
     server: &Server<A>,
     packer: &K,
@@ -97,11 +97,12 @@ fn talk<A: Allocator + Copy, K: Packer<A>>(
     let mut sink = VecSink::new(alloc);
     let mut packer = OnePack::new(packer);
     let served = serve(server, &mut packer, Ends::Plain, &mut source, &mut sink);
-    let written = sink.written().len();
+    let written = sink.written_bytes().len();
     stranger_outcome(written, served.end)
 }
 
-// How a conversation ended, and how much was written in it. A write fails only out of memory.
+// Returns how a conversation ended, and how much was written in it. A write fails only if out of
+// memory.
 fn stranger_outcome(written: usize, ended: End) -> Result<Outcome, AllocError>
     ensures { MatchResult result
         (λ told. (told ≡ stranger_outcome written ended) × (ended ≢ End.WriteFailed))

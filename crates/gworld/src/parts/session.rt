@@ -5,7 +5,7 @@ ghost use Rattle.gfetchreply.specs.Values.{default_limit};
 ghost use Rattle.gdag.specs.declared.fault.GraphFault.TheVariants as graph;
 ghost use Rattle.gclientrepo.specs.declared.fault.RepoFault.TheVariants as repo;
 ghost use Rattle.ggrammar.specs.declared.ends.Ends.TheVariants.{Plain};
-ghost use Rattle.ganswer.specs.Adverts.{advertised};
+ghost use Rattle.ganswer.specs.Adverts.{advertisement};
 ghost use Rattle.gsession.specs.Sessions.{Begins, Hears, IsBegun, SessionState};
 ghost use Rattle.gsession.specs.declared.fault.ClientFault.TheVariants as client;
 ghost use Rattle.gscenario.specs.declared.event.Event.TheVariants as Event;
@@ -14,17 +14,17 @@ ghost use Rattle.gworld.specs.Events.{AsksNext, BeginsSession, Restarts, Settles
 
 use super::{Parts, Sent, refuse};
 use crate::fault::NO_OPEN_REQUEST;
-use crate::incoming::refused;
+use crate::incoming::outcome_of_fault;
 use crate::outcome::Outcome;
 use gclientrepo::RefUpdate;
 use gfetchreply::PackLimit;
 use ggrammar::Ends;
-use grefspec::Spec;
+use grefs::Spec;
 use gsession::{ClientFault, Session, Settled};
 use std::alloc::{AllocError, Allocator};
 
 impl<A: Allocator + Copy> Parts<A> {
-    /// Begins a session, which replaces any other; the old one stays where that fails.
+    /// Begins a session, which replaces any other. If that fails, the old one stays.
     pub(crate) fn begin(&mut self, specs: &[Spec<A>]) -> Outcome
         ensures { BeginsSession self.old specs.now result self.new }
     {
@@ -34,16 +34,16 @@ impl<A: Allocator + Copy> Parts<A> {
                 self.answered = false;
                 Outcome::Done
             }
-            Err(fault) => refused(fault),
+            Err(fault) => outcome_of_fault(fault),
         }
     }
 
-    // A new session, which has heard the server.
+    // Returns a new session, which has heard the server.
     fn new_session(&self, specs: &[Spec<A>]) -> Result<Session<A>, ClientFault<A>>
         ensures { MatchResult result
             (λ session. (begun : SessionState A)
             × Begins self.now.repo specs.now default_limit Plain (Ok begun)
-            × Hears begun (advertised self.now.server.graph.format) session (Ok tt))
+            × Hears begun (advertisement self.now.server.graph.format) session (Ok tt))
             (λ fault. Begins self.now.repo specs.now default_limit Plain (Err fault)) }
     {
         let alloc = self.repo.graph().allocator();
@@ -60,11 +60,11 @@ impl<A: Allocator + Copy> Parts<A> {
         }
     }
 
-    // A session that has just begun hears the server.
+    // Passes the server's advertisement to a session that has just begun.
     fn introduce(&self, session: &mut Session<A>) -> Result<(), ClientFault<A>>
         requires { IsBegun session.old }
         ensures { MatchResult result
-            (λ _. Hears session.old (advertised self.now.server.graph.format) session.new (Ok tt))
+            (λ _. Hears session.old (advertisement self.now.server.graph.format) session.new (Ok tt))
             (λ fault. fault ≡ client.Repo (repo.Graph graph.Memory)) }
     {
         match self.server.advert() {
@@ -73,8 +73,8 @@ impl<A: Allocator + Copy> Parts<A> {
         }
     }
 
-    /// Makes the session's next request, and keeps it as sent. It looks first whether one may be asked for, and then
-    /// makes room.
+    /// Makes the session's next request, and keeps it as sent. It first checks whether a request
+    /// may be made, and then makes room.
     pub(crate) fn ask(&mut self) -> Result<Outcome, AllocError>
         ensures { MatchResult result
             (λ outcome. AsksNext self.old self.old.session outcome self.new)
@@ -103,7 +103,7 @@ impl<A: Allocator + Copy> Parts<A> {
         }
     }
 
-    /// The session settles what it asked for.
+    /// Settles the asks of the session.
     pub(crate) fn settle(&mut self) -> Outcome
         ensures { SettlesRefs self.old self.old.session result self.new }
     {
@@ -131,14 +131,15 @@ impl<A: Allocator + Copy> Parts<A> {
     }
 }
 
-// The outcome where refs were settled.
+// Returns the outcome of settled refs.
 fn settled_outcome<A: Allocator + Copy>(settled: Settled<A>) -> Outcome
     ensures { result ≡ settled_outcome settled.updates.items }
 {
     count_updates(&settled)
 }
 
-// How many refs moved, stood at their ids already, and stayed because the move would have been no fast-forward.
+// Returns how many refs moved, how many had their ids already, and how many did not move because it
+// was not a fast-forward.
 fn count_updates<A: Allocator + Copy>(settled: &Settled<A>) -> Outcome
     ensures { result ≡ settled_outcome settled.now.updates.items }
 {

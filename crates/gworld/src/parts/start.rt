@@ -1,4 +1,4 @@
-//! How a world begins.
+//! The start of a world.
 
 ghost use Rattle.std.specs.Prelude.{◌≡◌, ◌≢◌, ◌<◌, length, MatchBool, MatchOption, MatchResult};
 ghost use Rattle.gdag.specs.Reach.{Agree};
@@ -12,12 +12,13 @@ use crate::fault::WorldFault;
 use ganswer::Server;
 use gclientrepo::Repo;
 use ggraph::Graph;
-use ggraph::graph_laws::places_are_nodes;
+use ggraph::graph_laws::positions_are_nodes;
 use gname::Oid;
 use std::alloc::Allocator;
 
 impl<A: Allocator + Copy> Parts<A> {
-    /// A world of this server and this client, which has just begun; or why there is none. It takes no memory.
+    /// Returns a new world of this server and this client, or the reason why there is none.
+    /// Allocates nothing.
     pub(crate) fn new(server: Server<A>, repo: Repo<A>) -> Result<Parts<A>, WorldFault>
         ensures { MatchResult result
             (λ parts. (parts ≡ new_world server repo) × CanStart server repo)
@@ -29,7 +30,7 @@ impl<A: Allocator + Copy> Parts<A> {
         }
     }
 
-    // A world that has just begun.
+    // Returns a new world.
     fn between(server: Server<A>, repo: Repo<A>) -> Parts<A>
         ensures { result ≡ new_world server repo }
     {
@@ -45,14 +46,14 @@ impl<A: Allocator + Copy> Parts<A> {
         }
     }
 
-    /// The client's repository.
+    /// Returns the client's repository.
     pub(crate) fn client(&self) -> &Repo<A>
         ensures { result.now ≡ self.now.repo }
     {
         &self.repo
     }
 
-    /// The server.
+    /// Returns the server.
     pub(crate) fn server(&self) -> &Server<A>
         ensures { result.now ≡ self.now.server }
     {
@@ -60,7 +61,7 @@ impl<A: Allocator + Copy> Parts<A> {
     }
 }
 
-// Why no world can begin between them, if none can.
+// Returns why no world can begin between them, if none can.
 fn why_not<A: Allocator + Copy>(server: &Server<A>, repo: &Repo<A>) -> Option<WorldFault>
     ensures { MatchOption result (CanStart server.now repo.now) (CannotStart server.now repo.now) }
 {
@@ -81,13 +82,13 @@ fn have_one_format<A: Allocator + Copy>(server: &Server<A>, repo: &Repo<A>) -> b
     repo.format() == server.graph().format()
 }
 
-// Of the server's ids, in store order, the first that the client holds with another object.
+// Returns the first of the server's ids, in store order, that the client holds with another object.
 fn first_disagreement<A: Allocator + Copy>(server: &Graph<A>, client: &Graph<A>) -> Option<Oid>
     ensures { MatchOption result (Agree server.now.entries client.now.entries)
         (IsFirstDisagreement server.now.entries client.now.entries) }
 {
     // Laws.
-    places_are_nodes::<A>();
+    positions_are_nodes::<A>();
     for place in 0..server.len() {
         if let Some(id) = disagreement_at(server, client, place) {
             return Some(id);
@@ -96,7 +97,7 @@ fn first_disagreement<A: Allocator + Copy>(server: &Graph<A>, client: &Graph<A>)
     None
 }
 
-// The id at a position of the server's graph, if the client holds it with another object.
+// Returns the id at an index of the server's graph, if the client holds it with another object.
 fn disagreement_at<A: Allocator + Copy>(
     server: &Graph<A>,
     client: &Graph<A>,

@@ -2,4 +2,4 @@ use Rattle.ganswer.proofs.FitLemmas.{fetch_answers_fit}
 use Rattle.ganswer.proofs.laws.fetch_answers_fit.Goals as goal
 
 pub returns : goal.returns
-returns g c = λ packer. fetch_answers_fit c.places_are_nodes.ensures (g.K.Packer.packs packer)
+returns g c = λ packer. fetch_answers_fit c.positions_are_nodes.ensures (g.K.Packer.packs packer)

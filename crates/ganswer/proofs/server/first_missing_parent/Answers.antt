@@ -1,7 +1,7 @@
 use Rattle.std.proofs.Common.{◌≤◌, length, arith}
 use Rattle.std.proofs.lemmas.List.{take_all}
 use Rattle.gdag.specs.Graphs.{Holds}
-use Rattle.ganswer.proofs.ServerLemmas.{closed_by_places, first_of_all, parents_more}
+use Rattle.ganswer.proofs.ServerLemmas.{closed_by_positions, first_of_all, parents_more}
 use Rattle.ganswer.proofs.server.first_missing_parent.Goals as goal
 
 pub returns-in-Some : goal.returns-in-Some
@@ -17,4 +17,4 @@ pub returns : goal.returns
 returns g c =
     let entries = c.args.graph.now.entries in
     let past : length entries ≤ c.loop-place.place = omega (arith, c.loop-place-test.false, c.len-place-end.ensures.len) in
-    closed_by_places entries c.places_are_nodes.ensures c.len-place-end.ensures.graph.differ (rw (take_all c.loop-place.place entries past) at c.loop-place.invariant)
+    closed_by_positions entries c.positions_are_nodes.ensures c.len-place-end.ensures.graph.differ (rw (take_all c.loop-place.place entries past) at c.loop-place.invariant)

@@ -3,9 +3,9 @@ use Rattle.std.proofs.lemmas.Bool.{false≢true}
 use Rattle.std.proofs.lemmas.List.{length-map, take_all}
 use Rattle.std.specs.Map.{values_of}
 use Rattle.gdag.specs.Graphs.{Holds}
-use Rattle.gdag.specs.Reach.{IsFull}
+use Rattle.gdag.specs.Reach.{IsConnected}
 use Rattle.grefs.specs.RefLists.{RefList}
-use Rattle.gclientrepo.proofs.RepoLemmas.{full_ref, lost_ref}
+use Rattle.gclientrepo.proofs.RepoLemmas.{connected_ref, lost_ref}
 use Rattle.gclientrepo.proofs.opening.first_absent.Goals as goal
 
 pub returns-then-not-contains : goal.returns-then-not-contains
@@ -30,8 +30,8 @@ loop-place-preserved g c =
     subst (λ (l : RefList). place < length l) c.as_slice-pairs.ensures.refs c.loop-place-test.true in
     let held : Holds entries ref.1 =
     subst (λ (r : List ℕ × List ℕ). Holds entries r.1) (sym c.index-pairs-place.is) (c.contains.ensures.0 c.if-not-contains.false) in
-    full_ref entries refs place ref inside (rw (← c.as_slice-pairs.ensures.refs) (sym c.index-pairs-place.is)) c.loop-place.invariant
-    ((c.closed_is_full.ensures entries).0 (c.ordered_is_closed.ensures entries c.laws.ensures.differ c.requires) ref.1 held)
+    connected_ref entries refs place ref inside (rw (← c.as_slice-pairs.ensures.refs) (sym c.index-pairs-place.is)) c.loop-place.invariant
+    ((c.closed_is_connected.ensures entries).0 (c.ordered_is_closed.ensures entries c.laws.ensures.differ c.requires) ref.1 held)
 
 pub returns : goal.returns
 returns g c =

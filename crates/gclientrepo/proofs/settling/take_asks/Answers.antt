@@ -1,7 +1,7 @@
 use Rattle.std.proofs.Common.{◌≡◌, ℕ, ◌<◌, length, subst, ◌+◌, ◌++◌, ◌∷◌, [], take, ap, ◌∙◌}
 use Rattle.std.proofs.lemmas.List.{take_more}
 use Rattle.std.proofs.lemmas.Option.{get_or_from_slice_get}
-use Rattle.gclientrepo.specs.Asks.{aimed}
+use Rattle.gclientrepo.specs.Asks.{ask_of_aim}
 use Rattle.gclientrepo.specs.declared.ask.Ask.{Ask}
 use Rattle.gclientrepo.proofs.SettlingLemmas.{settles_none, settles_more, differ_before, cannot_settle}
 use Rattle.gclientrepo.proofs.settling.take_asks.Goals as goal
@@ -13,7 +13,7 @@ pub loop-place-preserved : goal.loop-place-preserved
 loop-place-preserved g c =
     let asks = c.args.asks.now in
     let place = c.loop-place.place in
-    let ask : Ask g.row.A.Denot = aimed (c.aim.result.0.now, c.aim.result.1.now) in
+    let ask : Ask g.row.A.Denot = ask_of_aim (c.aim.result.0.now, c.aim.result.1.now) in
     let inside : place < length asks = subst (λ (n : ℕ). place < n) c.len-place-end.ensures.count c.loop-place-test.true in
     let is = get_or_from_slice_get asks place ask ask c.aim.ensures in
     let next : take (place + 1) asks ≡ take place asks ++ ask ∷ [] =
@@ -26,7 +26,7 @@ pub take_ask-requires : goal.take_ask-requires
 take_ask-requires g c =
     let asks = c.args.asks.now in
     let place = c.loop-place.place in
-    let ask : Ask g.row.A.Denot = aimed (c.aim.result.0.now, c.aim.result.1.now) in
+    let ask : Ask g.row.A.Denot = ask_of_aim (c.aim.result.0.now, c.aim.result.1.now) in
     let inside : place < length asks = subst (λ (n : ℕ). place < n) c.len-place-end.ensures.count c.loop-place-test.true in
     let is = get_or_from_slice_get asks place ask ask c.aim.ensures in
     λ cannot. c.requires.can

@@ -1,7 +1,7 @@
 use Rattle.std.proofs.Common.{inr, refl, sym, ◌∙◌}
 use Rattle.std.proofs.lemmas.Bool.{false≢true}
 use Rattle.std.proofs.lemmas.Result.{err_from_is_err_and}
-use Rattle.gcmd.proofs.FetchLemmas.{names_client, refuses_unsafe}
+use Rattle.gcmd.proofs.FetchLemmas.{names_client, refuses_unconnected}
 use Rattle.gcmd.proofs.client_file.open_client.Goals as goal
 
 pub returns-in_err-new : goal.returns-in_err-new
@@ -10,7 +10,7 @@ returns-in_err-new g c =
     let it = c.in_ok-repository.repository in
     let loaded = c.in_ok-repository.ensures.ok in
     rw p.1
-    (refuses_unsafe c.args.file.now it.graph it.refs it.head loaded.0 loaded.1 c.in_err-new.field-0.0 p.0
+    (refuses_unconnected c.args.file.now it.graph it.refs it.head loaded.0 loaded.1 c.in_err-new.field-0.0 p.0
     (c.is_none.ensures.0 c.if-is_none.true) c.in_err-new.ensures.opens p.2)
 
 pub returns-in_ok-new : goal.returns-in_ok-new

@@ -1,8 +1,8 @@
 use Rattle.std.proofs.Common.{◌<◌, ℕ, List, length, Err, sym, subst, arith}
 use Rattle.std.specs.Prelude.{string_bytes}
 use Rattle.std.proofs.lemmas.Result.{err_from_is_err_and}
-use Rattle.grefspec.specs.Refspecs.{IsSpec, Reads}
-use Rattle.grefspec.specs.declared.fault.SpecFault.{SpecFault}
+use Rattle.grefs.specs.Refspecs.{IsSpec, Reads}
+use Rattle.grefs.specs.declared.refspec.fault.SpecFault.{SpecFault}
 use Rattle.gcmd.proofs.ReportLemmas.{refuses_specs, refuses_word, specs_more}
 use Rattle.gcmd.proofs.client_file.read_specs.Goals as goal
 

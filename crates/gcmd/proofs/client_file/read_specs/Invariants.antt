@@ -1,7 +1,7 @@
 use Rattle.std.proofs.Common.{take, map}
 use Rattle.std.specs.List.{AllZip}
 use Rattle.std.specs.Prelude.{string_bytes}
-use Rattle.grefspec.specs.Refspecs.{IsSpec}
+use Rattle.grefs.specs.Refspecs.{IsSpec}
 use Rattle.gcmd.proofs.client_file.read_specs.Given as goal
 
 abbrev pub invariant-loop-word : goal.invariant-loop-word

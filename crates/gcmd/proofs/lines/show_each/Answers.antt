@@ -1,6 +1,6 @@
 use Rattle.std.proofs.Common.{subst, ◌∙◌}
 use Rattle.gpkt.specs.Packets.{packet_of}
-use Rattle.gpkt.specs.LineReading.{HasRead}
+use Rattle.gpkt.specs.PacketReading.{HasRead}
 use Rattle.gcmd.proofs.LinesLemmas.{IsShowing-next, ShowsEach-end, ShowsEach-failed}
 use Rattle.ggrammar.proofs.ReadingLemmas.{read_some, read_none}
 use Rattle.gcmd.proofs.lines.show_each.Goals as goal

@@ -7,11 +7,11 @@ use Rattle.gfetchreply.proofs.WritingLemmas.{ids_next}
 use Rattle.gfetchreply.proofs.write.write_ids.Goals as goal
 
 pub loop-id-init : goal.loop-id-init
-loop-id-init g c = c.writes_lines.ensures.starts c.args.writer.now (map ack_packet c.args.ids.now)
+loop-id-init g c = c.writes_packets.ensures.starts c.args.writer.now (map ack_packet c.args.ids.now)
 
 pub returns-in_err-write_id : goal.returns-in_err-write_id
 returns-in_err-write_id g c =
-    let law = c.writes_lines.ensures in
+    let law = c.writes_packets.ensures in
     law.part _ _ _ (map ack_packet c.args.ids.now)
     (law.fails _ _ _ _ _ _ _ _ _ c.loop-id.invariant
     (ids_next c.args.ids.now c.loop-id.id-index c.id-item.result c.loop-id-test.true c.id-item.is)
@@ -19,7 +19,7 @@ returns-in_err-write_id g c =
 
 pub loop-id-preserved : goal.loop-id-preserved
 loop-id-preserved g c =
-    c.writes_lines.ensures.goes_on _ _ _ _ _ _ _ c.loop-id.invariant
+    c.writes_packets.ensures.goes_on _ _ _ _ _ _ _ c.loop-id.invariant
     (ids_next c.args.ids.now c.loop-id.id-index c.id-item.result c.loop-id-test.true c.id-item.is)
     c.in_ok-write_id.ensures
 

@@ -16,12 +16,12 @@ loop-piece-init g c =
       size = ap chunks_size same ∙ c.in_pieces-piece-items.ensures.size;
       coming = subst
           (λ (xs : List ℕ). IsWriting g.W.Sink.contents g.W.Sink.passed_on g.W.Sink.is_down g.W.Sink.loans start start (map data_packet (pieces pack)) (map data_packet (pieces xs)))
-          (sym (ap chunks_rest same ∙ c.in_pieces-piece-items.ensures.rest)) (c.writes_lines.ensures.starts start (map data_packet (pieces pack)));
+          (sym (ap chunks_rest same ∙ c.in_pieces-piece-items.ensures.rest)) (c.writes_packets.ensures.starts start (map data_packet (pieces pack)));
     }
 
 pub returns-in_err-put_band : goal.returns-in_err-put_band
 returns-in_err-put_band g c =
-    let law = c.writes_lines.ensures in
+    let law = c.writes_packets.ensures in
     let all = map data_packet (pieces c.args.pack.now) in
     let rest = chunks_rest c.loop-piece.piece-iterator in
     let after = chunks_rest c.next.new.self in
@@ -37,7 +37,7 @@ returns-in_err-put_band g c =
 
 pub loop-piece-preserved : goal.loop-piece-preserved
 loop-piece-preserved g c =
-    let law = c.writes_lines.ensures in
+    let law = c.writes_packets.ensures in
     let all = map data_packet (pieces c.args.pack.now) in
     let rest = chunks_rest c.loop-piece.piece-iterator in
     let after = chunks_rest c.next.new.self in

@@ -6,18 +6,18 @@ use Rattle.gfetchreply.proofs.write.write_ready.Goals as goal
 
 pub returns-in_err-text : goal.returns-in_err-text
 returns-in_err-text g c =
-    heading_fails c.writes_lines.ensures heading_packet _ c.in_err-text.ensures (omega arith) c.from_residual.ensures.1
+    heading_fails c.writes_packets.ensures heading_packet _ c.in_err-text.ensures (omega arith) c.from_residual.ensures.1
 
 pub returns-in_err-write_ids : goal.returns-in_err-write_ids
 returns-in_err-write_ids g c =
-    let law = c.writes_lines.ensures in
+    let law = c.writes_packets.ensures in
     law.fails _ _ _ _ _ _ _ _ _ (headed law heading_packet _ c.in_ok-text.ensures (omega arith))
     (append_assoc (map ack_packet c.args.ids.now) _ _)
     c.in_err-write_ids.ensures c.from_residual-in_err-write_ids.ensures.1
 
 pub returns-in_err-text-2 : goal.returns-in_err-text-2
 returns-in_err-text-2 g c =
-    let law = c.writes_lines.ensures in
+    let law = c.writes_packets.ensures in
     let ready = c.in_err-text-2.ensures in
     law.fails _ _ _ _ _ (ready_packet ∷ []) _ _ _
     (law.after_part _ _ _ _ _ _ _ (headed law heading_packet _ c.in_ok-text.ensures (omega arith))
@@ -28,7 +28,7 @@ returns-in_err-text-2 g c =
 
 pub returns-in_err-delim : goal.returns-in_err-delim
 returns-in_err-delim g c =
-    let law = c.writes_lines.ensures in
+    let law = c.writes_packets.ensures in
     let ready = c.in_ok-text-2.ensures in
     let delim = c.in_err-delim.ensures in
     law.fails _ _ _ _ _ (Delim ∷ []) _ _ _
@@ -41,7 +41,7 @@ returns-in_err-delim g c =
 
 pub returns : goal.returns
 returns g c =
-    let law = c.writes_lines.ensures in
+    let law = c.writes_packets.ensures in
     let ready = c.in_ok-text-2.ensures in
     let delim = c.in_ok-delim.ensures in
     law.ends _ _ _ _ _ _

@@ -1,5 +1,5 @@
 use Rattle.std.proofs.Common.{◌∙◌, ap, refl, subst, Ok, arith}
-use Rattle.gpkt.specs.LineReading.{Reads, HasRead, read_of}
+use Rattle.gpkt.specs.PacketReading.{Reads, HasRead, read_of}
 use Rattle.ggrammar.specs.declared.fault.Why.TheVariants.{Line, Ended}
 use Rattle.ggrammar.proofs.ReadingLemmas.{read_some, read_none, reason_after, takes_as, not_failed, still_well}
 use Rattle.ggrammar.proofs.ReadingLemmas.{nothing_yet, refused_there, goes_on, ends_there}
@@ -27,19 +27,19 @@ returns-in-Ok-Whole-clause-read g c =
     let all = c.loop-frame.invariant in
     let is = read_some _ _ _ c.in-Ok-Some.is c.in-Ok-Some.field-0-is in
     ends_there _ _ _ _ _ _ _ _ _ _ _ all.0 (subst (Reads _) is c.next.follows.holds-at-none.bytes)
-    (takes_as g.M.Message.holds g.M.Message.left _ _ _ _ _ _ _ _ _ all.1 all.2 c.take.ensures.takes
+    (takes_as g.M.Message.holds g.M.Message.left _ _ _ _ _ _ _ _ _ all.1 all.2 c.accept_packet.ensures.takes
     (c.in-Ok-Whole.is ∙ ap (λ x. Ok x) c.in-Ok-Whole.field-0-is) all.0.lines all.0.goes all.0.held)
 
-pub returns-in-Err-take-clause-read : goal.returns-in-Err-take-clause-read
-returns-in-Err-take-clause-read g c =
+pub returns-in-Err-accept_packet-clause-read : goal.returns-in-Err-accept_packet-clause-read
+returns-in-Err-accept_packet-clause-read g c =
     let all = c.loop-frame.invariant in
     let is = read_some _ _ _ c.in-Ok-Some.is c.in-Ok-Some.field-0-is in
     let taken =
-    takes_as g.M.Message.holds g.M.Message.left _ _ _ _ _ _ _ _ _ all.1 all.2 c.take.ensures.takes c.in-Err-take.is
+    takes_as g.M.Message.holds g.M.Message.left _ _ _ _ _ _ _ _ _ all.1 all.2 c.accept_packet.ensures.takes c.in-Err-accept_packet.is
     all.0.lines all.0.goes all.0.held in
-    refused_there _ _ _ _ (c.laws.ensures.endings _) _ _ _ _ _ _ c.in-Err-take.why all.0 taken.1
+    refused_there _ _ _ _ (c.laws.ensures.endings _) _ _ _ _ _ _ c.in-Err-accept_packet.why all.0 taken.1
     (reason_after (g.M.Message.judge c.args.message.now) (g.M.Message.brings c.args.message.now) all.0.lines _ _
-    c.in-Err-take.why (subst (Reads _) is c.next.follows.holds-at-none.bytes) taken.0)
+    c.in-Err-accept_packet.why (subst (Reads _) is c.next.follows.holds-at-none.bytes) taken.0)
 
 pub loop-frame-preserved : goal.loop-frame-preserved
 loop-frame-preserved g c =
@@ -47,10 +47,10 @@ loop-frame-preserved g c =
     let is = read_some _ _ _ c.in-Ok-Some.is c.in-Ok-Some.field-0-is in
     let read = subst (HasRead g.S.Source.remaining g.S.Source.is_down g.S.Source.loans _ _) is c.next.follows.holds-at-none in (
       goes_on _ (g.M.Message.brings c.args.message.now) _ g.M.Message.left _ _ _ _ _ _ _ all.0 read.bytes
-          (takes_as g.M.Message.holds g.M.Message.left _ _ _ _ _ _ _ _ _ all.1 all.2 c.take.ensures.takes
+          (takes_as g.M.Message.holds g.M.Message.left _ _ _ _ _ _ _ _ _ all.1 all.2 c.accept_packet.ensures.takes
           (c.in-Ok-Open.is ∙ ap (λ x. Ok x) c.in-Ok-Open.field-0-is) all.0.lines all.0.goes all.0.held),
-      c.take.ensures.judge ∙ all.1,
-      c.take.ensures.brings ∙ all.2,
+      c.accept_packet.ensures.judge ∙ all.1,
+      c.accept_packet.ensures.brings ∙ all.2,
       c.next.follows.holds-at-none.loans ∙ all.3,
       still_well _ _ _ _ _ _ read ∙ all.4,
       (λ failed. not_failed _ _ _ _ _ _ read (all.4 ∙ failed)),

@@ -1,5 +1,5 @@
 use Rattle.std.proofs.Common.{suc, take, drop}
-use Rattle.ggraph.proofs.SafeLemmas.{split_there}
+use Rattle.ggraph.proofs.ConnectedRefsLemmas.{split_there}
 use Rattle.ggraph.proofs.laws.parents_first_is_ordered.Goals as goal
 
 pub returns : goal.returns

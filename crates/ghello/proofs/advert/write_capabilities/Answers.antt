@@ -4,9 +4,9 @@ use Rattle.ghello.proofs.advert.write_capabilities.Goals as goal
 pub returns-in_err-write : goal.returns-in_err-write
 returns-in_err-write g c =
     let next = packets_from c.args.capabilities.now c.loop-kept.kept-index c.kept-item.result c.loop-kept-test.true c.kept-item.is in
-    c.writes_lines.ensures.part _ _ _ _ (c.writes_lines.ensures.fails _ _ _ _ _ _ _ _ _ c.loop-kept.invariant next c.in_err-write.ensures c.from_residual.ensures.1)
+    c.writes_packets.ensures.part _ _ _ _ (c.writes_packets.ensures.fails _ _ _ _ _ _ _ _ _ c.loop-kept.invariant next c.in_err-write.ensures c.from_residual.ensures.1)
 
 pub loop-kept-preserved : goal.loop-kept-preserved
 loop-kept-preserved g c =
     let next = packets_from c.args.capabilities.now c.loop-kept.kept-index c.kept-item.result c.loop-kept-test.true c.kept-item.is in
-    c.writes_lines.ensures.goes_on _ _ _ _ _ _ _ c.loop-kept.invariant next c.in_ok-write.ensures
+    c.writes_packets.ensures.goes_on _ _ _ _ _ _ _ c.loop-kept.invariant next c.in_ok-write.ensures

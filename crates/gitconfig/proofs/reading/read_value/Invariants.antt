@@ -1,12 +1,12 @@
 use Rattle.std.proofs.Common.{◌≡◌, ℕ, ◌≤◌, false, List, ◌++◌, length}
-use Rattle.gitconfig.specs.Values.{HasPieces, marked}
+use Rattle.gitconfig.specs.Values.{HasPieces, mark_pieces}
 use Rattle.gitconfig.specs.declared.pieces.Piece.{Piece}
 use Rattle.gitconfig.specs.steps.Readings.{IsValueSoFar}
 use Rattle.gitconfig.proofs.reading.read_value.Given as goal
 
 abbrev pub invariant-loop-piece : goal.invariant-loop-piece
 invariant-loop-piece g l =
-    (done : List Piece) × IsValueSoFar (marked done) l.value
+    (done : List Piece) × IsValueSoFar (mark_pieces done) l.value
     × ((more : List Piece) (after : List ℕ) → HasPieces l.value.is_quoted l.rest more after
     → HasPieces false l.text (done ++ more) after)
     × (length l.rest ≤ length l.text)

@@ -13,4 +13,4 @@ pub returns-clause-cases : goal.returns-clause-cases
 returns-clause-cases c =
     let f = c.in-Some.ensures.cases in
     let s = c.in-Some-split_sparse.ensures.cases in
-    copy_read c.args.command c.args.bytes.now c.in-Some.after.now f.0 c.in-Some.offset f.1 f.2 c.in-Some-split_sparse.number c.copied-size.result s.0 c.in-Some-split_sparse.rest.now c.requires s.1 s.2 c.copied-size.ensures
+    copy_read c.args.command c.args.bytes.now c.in-Some.after.now f.0 c.in-Some.offset f.1 f.2 c.in-Some-split_sparse.number c.copy_size-size.result s.0 c.in-Some-split_sparse.rest.now c.requires s.1 s.2 c.copy_size-size.ensures

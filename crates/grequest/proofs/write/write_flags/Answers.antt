@@ -12,11 +12,11 @@ returns-in_err-write_flag g c =
     let next =
     flags_next g.F.Flag.number c.args.flags.now c.args.table.now c.loop-flag.flag-index c.loop-flag-item.result c.as_bytes.result.now _ c.loop-flag-test.true c.loop-flag-item.is
     c.as_bytes.ensures.value (ap (λ at. slice_index_or c.args.flags.now at false) c.number.ensures.number) in
-    c.writes_lines.ensures.part _ _ _ _ (c.writes_lines.ensures.fails _ _ _ _ _ _ _ _ _ c.loop-flag.invariant next c.in_err-write_flag.ensures c.from_residual.ensures.1)
+    c.writes_packets.ensures.part _ _ _ _ (c.writes_packets.ensures.fails _ _ _ _ _ _ _ _ _ c.loop-flag.invariant next c.in_err-write_flag.ensures c.from_residual.ensures.1)
 
 pub loop-flag-preserved : goal.loop-flag-preserved
 loop-flag-preserved g c =
     let next =
     flags_next g.F.Flag.number c.args.flags.now c.args.table.now c.loop-flag.flag-index c.loop-flag-item.result c.as_bytes.result.now _ c.loop-flag-test.true c.loop-flag-item.is
     c.as_bytes.ensures.value (ap (λ at. slice_index_or c.args.flags.now at false) c.number.ensures.number) in
-    c.writes_lines.ensures.after_part _ _ _ _ _ _ _ c.loop-flag.invariant next c.in_ok-write_flag.ensures
+    c.writes_packets.ensures.after_part _ _ _ _ _ _ _ c.loop-flag.invariant next c.in_ok-write_flag.ensures

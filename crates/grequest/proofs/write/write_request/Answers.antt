@@ -5,4 +5,4 @@ use Rattle.grequest.proofs.write.write_request.Goals as goal
 pub returns-in-Empty-clause-lines : goal.returns-in-Empty-clause-lines
 unfolding canonical_request
 returns-in-Empty-clause-lines g c =
-    rw c.in-Empty.is (c.writes_lines.ensures.line _ _ _ Flush c.flush_pkt.ensures.written c.flush_pkt.ensures.fits)
+    rw c.in-Empty.is (c.writes_packets.ensures.line _ _ _ Flush c.flush_pkt.ensures.written c.flush_pkt.ensures.fits)

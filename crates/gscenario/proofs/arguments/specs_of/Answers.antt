@@ -1,4 +1,4 @@
-use Rattle.grefspec.specs.Refspecs.{IsSpec}
+use Rattle.grefs.specs.Refspecs.{IsSpec}
 use Rattle.gscenario.specs.steps.Reading.{words_after}
 use Rattle.gscenario.proofs.ArgumentLemmas.{bad_spec, reads_more, reads_wrong}
 use Rattle.gscenario.proofs.arguments.specs_of.Goals as goal

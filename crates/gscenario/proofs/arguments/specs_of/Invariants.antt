@@ -1,5 +1,5 @@
 use Rattle.std.proofs.Common.{length}
-use Rattle.grefspec.specs.Refspecs.{IsSpec}
+use Rattle.grefs.specs.Refspecs.{IsSpec}
 use Rattle.gscenario.specs.steps.Reading.{words_after}
 use Rattle.gscenario.proofs.ArgumentLemmas.{ReadsEach}
 use Rattle.gscenario.proofs.arguments.specs_of.Given as goal

@@ -1,5 +1,5 @@
 use Rattle.std.proofs.Common.{List, ◌∷◌, [], ◌++◌, ap₂, sym, ◌∙◌}
-use Rattle.grefspec.specs.Refspecs.{Refspec}
+use Rattle.grefs.specs.Refspecs.{Refspec}
 use Rattle.gdag.proofs.Growing.{take_one}
 use Rattle.gsession.proofs.session.copy_specs.Goals as goal
 

@@ -3,7 +3,7 @@ use Rattle.ggrammar.specs.declared.ends.Ends.TheVariants.{Plain}
 use Rattle.gpkt.specs.Sending.{input_of, output_of}
 use Rattle.gsession.specs.declared.options.PackOptions.{PackOptions}
 use Rattle.gclient.specs.Conversations.{start_for}
-use Rattle.gconnect.specs.GitFetches.{FetchesGit}
+use Rattle.gclient.specs.GitFetches.{FetchesGit}
 use Rattle.gcmd.specs.Fetching.{plain_index_fails, plain_indexes}
 use Rattle.gtcp.proofs.PairLemmas.{fetched_as_client}
 use Rattle.gtcp.proofs.pair.fetch_as_client.Goals as goal

@@ -1,4 +1,4 @@
-use Rattle.gtopowalk.proofs.Rising.{any_one}
+use Rattle.gwalk.proofs.Rising.{any_one}
 use Rattle.gwalk.proofs.common.reaches.Goals as goal
 use Rattle.std.proofs.Common.{◌∷◌, []}
 

@@ -33,14 +33,14 @@ returns-then-len-n g c =
 pub id_at-requires : goal.id_at-requires
 id_at-requires g c =
     let w = c.loop-at.invariant.1 c.requires.0 c.requires.1 c.requires.2 c.requires.3 in
-    let inside = w.2.has_met.inside c.loop-at.at c.index-number.result.now (omega arith) in
-    omega (arith, inside, c.index-number.ensures)
+    let inside = w.2.has_met.inside c.loop-at.at c.index-position.result.now (omega arith) in
+    omega (arith, inside, c.index-position.ensures)
 
 pub parents-requires : goal.parents-requires
 parents-requires g c =
     let w = c.loop-at.invariant.1 c.requires.0 c.requires.1 c.requires.2 c.requires.3 in
-    let inside = w.2.has_met.inside c.loop-at.at c.index-number.result.now (omega arith) in
-    omega (arith, inside, c.index-number.ensures)
+    let inside = w.2.has_met.inside c.loop-at.at c.index-position.result.now (omega arith) in
+    omega (arith, inside, c.index-position.ensures)
 
 pub meet_all-requires-clause-has : goal.meet_all-requires-clause-has
 meet_all-requires-clause-has g c =
@@ -56,7 +56,7 @@ pub loop-at-preserved : goal.loop-at-preserved
 loop-at-preserved g c =
     let h = c.args.graph.now.entries in
     let list = c.loop-at.list.items in
-    let number = c.index-number.result.now in
+    let position = c.index-position.result.now in
     let small : length c.if-is_untold.list.items ≤ c.args.n =
     elim c.if-is_untold.branch [
       | then-is_untold+in_ok-push w ↦
@@ -72,11 +72,11 @@ loop-at-preserved g c =
       λ tips front0 back0 begun.
           let now = c.loop-at.invariant.1 tips front0 back0 begun in
           let n = next h tips now.0 now.1 c.loop-at.tour.walk.marks.items c.loop-at.tour.walk.met.items
-          c.loop-at.tour.walk.lost c.loop-at.tour.walk.parents c.loop-at.at now.2 number (omega arith)
-          c.index-number.ensures in
-          let lent = lent_parents h n.id number c.parents.result.now n.place c.parents.ensures in
+          c.loop-at.tour.walk.lost c.loop-at.tour.walk.parents c.loop-at.at now.2 position (omega arith)
+          c.index-position.ensures in
+          let lent = lent_parents h n.id position c.parents.result.now n.position c.parents.ensures in
           let under = goes h tips now.0 now.1 c.loop-at.tour.walk.marks.items c.loop-at.tour.walk.met.items
-          c.loop-at.tour.walk.lost c.loop-at.tour.walk.parents c.loop-at.at now.2 number n c.parents.result.now lent
+          c.loop-at.tour.walk.lost c.loop-at.tour.walk.parents c.loop-at.at now.2 position n c.parents.result.now lent
           _ _ _ _ (c.in_ok-meet_all.ensures (now.0 ++ now.1) (now.2).has_met) in
           let front = now.0 ++ (n.mid ++ n.id ∷ []) in
           let back = n.rest ++ new_ids (now.0 ++ now.1) c.parents.result.now in (
@@ -85,22 +85,22 @@ loop-at-preserved g c =
             under,
             elim c.if-is_untold.branch [
               | then-is_untold+in_ok-push w ↦
-                  let id = id_taken h n.id w.id_at.result.now number n.place w.id_at.ensures in
+                  let id = id_taken h n.id w.id_at.result.now position n.position w.id_at.ensures in
                   let grown : c.if-is_untold.list.items ≡ list ++ w.id_at.result.now ∷ [] =
                   cc (w.in_ok-push.ensures.items) in
                   λ commons reached others levels are marks none.
                   grown ∙ ap (λ x. list ++ x ∷ []) id
-                  ∙ offers_next h tips reached others now.0 now.1 list number n
+                  ∙ offers_next h tips reached others now.0 now.1 list position n
                   (now.3 commons reached others levels are marks none)
-                  (untold_is h commons reached others levels c.args.known.now c.args.sent.now are marks n.id number
-                  n.place ∙ sym c.is_untold.ensures ∙ w.if-is_untold.true)
+                  (untold_is h commons reached others levels c.args.known.now c.args.sent.now are marks n.id position
+                  n.position ∙ sym c.is_untold.ensures ∙ w.if-is_untold.true)
               | else-is_untold w ↦
                   let kept : c.if-is_untold.list.items ≡ list = cc in
                   λ commons reached others levels are marks none.
-                  kept ∙ skips_next h tips reached others now.0 now.1 list number n
+                  kept ∙ skips_next h tips reached others now.0 now.1 list position n
                   (now.3 commons reached others levels are marks none)
-                  (untold_is h commons reached others levels c.args.known.now c.args.sent.now are marks n.id number
-                  n.place ∙ sym c.is_untold.ensures ∙ w.if-is_untold.false)
+                  (untold_is h commons reached others levels c.args.known.now c.args.sent.now are marks n.id position
+                  n.position ∙ sym c.is_untold.ensures ∙ w.if-is_untold.false)
             ],
           ),
     )

@@ -1,7 +1,7 @@
 use Rattle.std.proofs.Common.{◌≡◌, ◌++◌, drop}
-use Rattle.gwalk.specs.Walks.{marked}
+use Rattle.gwalk.specs.Walks.{marked_entries}
 use Rattle.gwalk.proofs.sending.entries_at.Given as goal
 
-abbrev pub invariant-loop-place : goal.invariant-loop-place
-invariant-loop-place g l =
-    l.list.items ++ marked (drop l.place l.graph.entries) (drop l.place l.marks) ≡ marked l.graph.entries l.marks
+abbrev pub invariant-loop-position : goal.invariant-loop-position
+invariant-loop-position g l =
+    l.list.items ++ marked_entries (drop l.position l.graph.entries) (drop l.position l.marks) ≡ marked_entries l.graph.entries l.marks

@@ -1,6 +1,6 @@
 use Rattle.std.proofs.Common.{arith}
 use Rattle.gdag.proofs.PeelLemmas.{peel_long}
-use Rattle.gtopowalk.proofs.Places.{is_none}
+use Rattle.gwalk.proofs.Positions.{is_none}
 use Rattle.gwalk.proofs.Tagging.{none_held, passed_none, passes_tag, passes_all}
 use Rattle.gwalk.proofs.sending.mark_chain.Goals as goal
 
@@ -15,7 +15,7 @@ returns-in_default-clause-each g c =
 
 pub loop-step-preserved : goal.loop-step-preserved
 loop-step-preserved g c =
-    passes_tag c.args.graph.now.entries c.args.id.now c.args.marks.now.items c.loop-step.marks.items c.loop-step._step c.loop-step.at c.loop-step.invariant c.in-Some.tag.number c.in-Some.tag.named c.in-Some.ensures.found.0 c.in-Some.ensures.found.1
+    passes_tag c.args.graph.now.entries c.args.id.now c.args.marks.now.items c.loop-step.marks.items c.loop-step._step c.loop-step.at c.loop-step.invariant c.in-Some.tag.position c.in-Some.tag.named c.in-Some.ensures.found.0 c.in-Some.ensures.found.1
 
 pub returns-clause-each : goal.returns-clause-each
 returns-clause-each g c =

@@ -1,5 +1,5 @@
 use Rattle.std.proofs.Common.{◌≡◌, ◌∙◌, List, ℕ, false, subst, sym, refl}
-use Rattle.ggrammar.specs.MessageBytes.{known}
+use Rattle.ggrammar.specs.MessageBytes.{known_bytes}
 use Rattle.gsession.specs.TakingReplies.{TakesReply}
 use Rattle.gworld.specs.Taking.{TakesObjects}
 use Rattle.gworld.specs.declared.outcome.Outcome.{Outcome}
@@ -17,7 +17,7 @@ returns g c =
     let left = c.take_reply-result.new.reader.source in
     let same : c.with_buffer-reader.result.source ≡ c.args.bytes.now =
     c.with_buffer-reader.ensures.source ∙ c.new.ensures in
-    let takes = subst (λ (b : List ℕ). TakesReply indexes index_fails s repo (known b left) after moved
+    let takes = subst (λ (b : List ℕ). TakesReply indexes index_fails s repo (known_bytes b left) after moved
     c.take_reply-result.result) same c.take_reply-result.ensures.takes in
     subst (λ (o : Outcome). TakesObjects indexes index_fails s repo c.args.bytes.now o after moved)
     (sym c.objects_outcome.ensures)

@@ -1,6 +1,6 @@
 use Rattle.gworld.specs.Worlds.{tools_of}
 use Rattle.gworld.proofs.Starting.{starts_soundly}
-use Rattle.gworld.proofs.Whole.{runs_keep}
+use Rattle.gworld.proofs.Connected.{runs_keep}
 use Rattle.gworld.proofs.laws.runs_keep_promises.Goals as goal
 
 pub returns : goal.returns
@@ -8,5 +8,5 @@ returns g c = record {
   begins = λ k. starts_soundly (tools_of (g.K.Packer.packs k) (g.K.Packer.pack_fails k) (g.K.Indexer.indexes k)
       (g.K.Indexer.index_fails k));
   keeps = λ k. runs_keep (tools_of (g.K.Packer.packs k) (g.K.Packer.pack_fails k) (g.K.Indexer.indexes k)
-      (g.K.Indexer.index_fails k)) (c.steps_keep.ensures k) (c.ends_stay_whole.ensures k);
+      (g.K.Indexer.index_fails k)) (c.steps_keep.ensures k) (c.ends_stay_connected.ensures k);
 }

@@ -15,6 +15,6 @@ pub unwrap-requires : goal.unwrap-requires
 unwrap-requires g c =
     let haves = c.args.asked.now.asked.haves in
     let few : length haves ≤ 4096 = c.laws.ensures.few_haves in
-    let fits = commons_fit c.places_are_nodes.ensures c.args.self.now.graph c.graph.ensures.server.graph haves few in
+    let fits = commons_fit c.positions_are_nodes.ensures c.args.self.now.graph c.graph.ensures.server.graph haves few in
     let format = rw c.graph.ensures.graph at c.format.ensures in
     made c.format.result c.in_ok-ids.ids.items c.from_ids.result (ap₂ acks_fault format c.in_ok-ids.ensures.ids ∙ fits) c.from_ids.ensures

@@ -1,11 +1,11 @@
 use Rattle.std.proofs.Common.{refl}
-use Rattle.ganswer.specs.Servers.{HoldsHead, IsServer, served}
+use Rattle.ganswer.specs.Servers.{HoldsHead, IsServer, server_of}
 use Rattle.ganswer.proofs.server.Server.with_refs.Goals as goal
 
 pub invariant_of-result : goal.invariant_of-result
 invariant_of-result g c =
     let holds : HoldsHead c.args.graph.entries c.args.head = c.holds_head.ensures.0 c.if-not-holds_head.false in
-    let is : IsServer (served c.args.graph c.args.refs c.args.head) = record {
+    let is : IsServer (server_of c.args.graph c.args.refs c.args.head) = record {
       graph = c.laws.ensures;
       refs = c.laws-2.ensures;
       closed = c.requires.closed;
@@ -18,7 +18,7 @@ invariant_of-result g c =
 pub returns : goal.returns
 returns g c =
     let holds : HoldsHead c.args.graph.entries c.args.head = c.holds_head.ensures.0 c.if-not-holds_head.false in
-    let is : IsServer (served c.args.graph c.args.refs c.args.head) = record {
+    let is : IsServer (server_of c.args.graph c.args.refs c.args.head) = record {
       graph = c.laws.ensures;
       refs = c.laws-2.ensures;
       closed = c.requires.closed;

@@ -20,7 +20,7 @@ returns-in-Some g c =
 pub returns-in-None : goal.returns-in-None
 returns-in-None g c =
     λ lines shows.
-    let law = c.writes_lines.ensures in
+    let law = c.writes_packets.ensures in
     let none = subst (λ (r : RefList). ShowsLines c.args.self.now c.args.asked.now r lines) (ap head_ref (sym c.in-None.ensures)) shows in
     let same = one_list c.args.self.now c.args.asked.now c.peels_to_one.ensures [] lines [] none (shows_none c.args.self.now c.args.asked.now) in
     subst (λ (l : List RefLine). IsWriting g.W.Sink.contents g.W.Sink.passed_on g.W.Sink.is_down g.W.Sink.loans c.args.writer.now c.args.writer.now (map ref_packet l) []) (sym same)

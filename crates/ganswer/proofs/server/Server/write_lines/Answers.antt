@@ -7,7 +7,7 @@ use Rattle.ganswer.proofs.server.Server.write_lines.Goals as goal
 pub returns-in_err-write_head : goal.returns-in_err-write_head
 returns-in_err-write_head g c =
     λ lines shows.
-    let law = c.writes_lines.ensures in
+    let law = c.writes_packets.ensures in
     let server = c.args.self.now in
     let parts = split server c.args.asked.now (head_ref (head_id server.head server.refs)) server.refs lines shows in
     let all = lines_and_ending c.args.ends lines in
@@ -17,7 +17,7 @@ returns-in_err-write_head g c =
 pub returns-in_err-write_refs : goal.returns-in_err-write_refs
 returns-in_err-write_refs g c =
     λ lines shows.
-    let law = c.writes_lines.ensures in
+    let law = c.writes_packets.ensures in
     let server = c.args.self.now in
     let parts = split server c.args.asked.now (head_ref (head_id server.head server.refs)) server.refs lines shows in
     let all = lines_and_ending c.args.ends lines in
@@ -29,7 +29,7 @@ returns-in_err-write_refs g c =
 pub returns : goal.returns
 returns g c =
     λ lines shows.
-    let law = c.writes_lines.ensures in
+    let law = c.writes_packets.ensures in
     let server = c.args.self.now in
     let parts = split server c.args.asked.now (head_ref (head_id server.head server.refs)) server.refs lines shows in
     let all = lines_and_ending c.args.ends lines in

@@ -7,7 +7,7 @@ use Rattle.ganswer.proofs.server.Server.write_ls_answer.Goals as goal
 pub returns-in_err-write_unborn : goal.returns-in_err-write_unborn
 returns-in_err-write_unborn g c =
     λ reply answers.
-    let law = c.writes_lines.ensures in
+    let law = c.writes_packets.ensures in
     let all = canonical_reply c.args.ends reply in
     let unborn = option_copied c.unborn.result in
     law.fails _ _ _ all all (unborn_packets unborn) (lines_and_ending c.args.ends reply.lines) _ _ (law.starts _ all)
@@ -16,7 +16,7 @@ returns-in_err-write_unborn g c =
 pub returns : goal.returns
 returns g c =
     λ reply answers.
-    let law = c.writes_lines.ensures in
+    let law = c.writes_packets.ensures in
     let all = canonical_reply c.args.ends reply in
     let unborn = option_copied c.unborn.result in
     law.ends _ _ _ all (lines_and_ending c.args.ends reply.lines) _

@@ -12,7 +12,7 @@ use Rattle.ganswer.proofs.LsLemmas.{one_list, shows_none, next_line}
 use Rattle.ganswer.proofs.server.Server.write_refs.Goals as goal
 
 pub loop-place-init : goal.loop-place-init
-loop-place-init g c = λ lines shows. (lines, shows, c.writes_lines.ensures.starts c.args.writer.now (map ref_packet lines))
+loop-place-init g c = λ lines shows. (lines, shows, c.writes_packets.ensures.starts c.args.writer.now (map ref_packet lines))
 
 pub line-line-requires : goal.line-line-requires
 line-line-requires g c =
@@ -23,7 +23,7 @@ line-line-requires g c =
 pub returns-in_err-write_line : goal.returns-in_err-write_line
 returns-in_err-write_line g c =
     λ lines shows.
-    let law = c.writes_lines.ensures in
+    let law = c.writes_packets.ensures in
     let now = c.loop-place.invariant lines shows in
     let line = line_list (option_copied c.as_ref.result) in
     let next = next_line c.args.self.now c.args.asked.now c.peels_to_one.ensures c.as_slice-reference-items.result.now (c.as_slice-reference-items.ensures.refs ∙ c.refs.ensures.refs) c.loop-place.place
@@ -34,7 +34,7 @@ returns-in_err-write_line g c =
 pub loop-place-preserved : goal.loop-place-preserved
 loop-place-preserved g c =
     λ lines shows.
-    let law = c.writes_lines.ensures in
+    let law = c.writes_packets.ensures in
     let now = c.loop-place.invariant lines shows in
     let line = line_list (option_copied c.as_ref.result) in
     let next = next_line c.args.self.now c.args.asked.now c.peels_to_one.ensures c.as_slice-reference-items.result.now (c.as_slice-reference-items.ensures.refs ∙ c.refs.ensures.refs) c.loop-place.place

@@ -2,7 +2,7 @@ use Rattle.std.proofs.Common.{List, ap, subst, sym}
 use Rattle.gclientrepo.specs.Asks.{asked_ids}
 use Rattle.gclientrepo.specs.Changes.{NeedsWalk}
 use Rattle.gclientrepo.specs.Repos.{RepoState}
-use Rattle.gclientrepo.proofs.RepoLemmas.{absent_misses, all_full, needs_walk, with_reason}
+use Rattle.gclientrepo.proofs.RepoLemmas.{absent_misses, all_connected, needs_walk, with_reason}
 use Rattle.gclientrepo.proofs.repo.Repo.missing_of.Goals as goal
 
 pub returns-in-Some-clause-answer : goal.returns-in-Some-clause-answer
@@ -12,7 +12,7 @@ returns-in-Some-clause-answer g c =
 
 pub returns-then-is_ordered-clause-answer : goal.returns-then-is_ordered-clause-answer
 returns-then-is_ordered-clause-answer g c =
-    rw (← c.self.view_is) (all_full c.ordered_is_closed.ensures c.closed_is_full.ensures c.self.inside.graph.entries
+    rw (← c.self.view_is) (all_connected c.ordered_is_closed.ensures c.closed_is_connected.ensures c.self.inside.graph.entries
     c.is_ordered.ensures.graph.differ c.is_ordered.result c.is_ordered.ensures.ordered c.if-is_ordered.true
     (asked_ids c.args.asks.now) c.in_default.ensures)
 

@@ -1,7 +1,7 @@
 use Rattle.std.proofs.Common.{◌≡◌, ◌∙◌, ap}
 use Rattle.gclientrepo.specs.Asks.{asked_ids}
 use Rattle.gclientrepo.specs.Repos.{RepoState}
-use Rattle.gclientrepo.proofs.KeepingWhole.{come_from}
+use Rattle.gclientrepo.proofs.KeepingConnected.{come_from}
 use Rattle.gclientrepo.proofs.repo.Repo.move_refs.Goals as goal
 
 pub install-requires-clause-from : goal.install-requires-clause-from

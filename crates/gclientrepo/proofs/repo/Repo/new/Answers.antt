@@ -1,6 +1,6 @@
 use Rattle.std.proofs.Common.{inr}
 use Rattle.std.proofs.lemmas.Result.{err_from_is_err_and}
-use Rattle.gclientrepo.proofs.RepoLemmas.{unsafe_named}
+use Rattle.gclientrepo.proofs.RepoLemmas.{unconnected_named}
 use Rattle.gclientrepo.proofs.repo.Repo.new.Goals as goal
 
 pub returns-in_err-place-clause-opens : goal.returns-in_err-place-clause-opens
@@ -10,7 +10,7 @@ returns-in_err-place-clause-opens g c =
 
 pub returns-in-Some-clause-opens : goal.returns-in-Some-clause-opens
 returns-in-Some-clause-opens g c =
-    unsafe_named c.args.graph.entries c.args.refs c.in-Some.place c.into_name.result
+    unconnected_named c.args.graph.entries c.args.refs c.in-Some.place c.into_name.result
     (rw c.in-Some.is at c.in_ok-place.ensures.place) c.into_name.ensures
 
 pub invariant_of-result : goal.invariant_of-result

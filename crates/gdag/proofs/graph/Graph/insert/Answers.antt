@@ -1,6 +1,6 @@
 use Rattle.std.proofs.Common.{[], ◌∷◌, arith}
 use Rattle.std.proofs.lemmas.Grind.{common_steps}
-use Rattle.gdag.proofs.Growing.{comes_held, comes_grows, grows_keeps, keeps_reaching, keeps_full}
+use Rattle.gdag.proofs.Growing.{comes_held, comes_grows, grows_keeps, keeps_reaching, keeps_connected}
 use Rattle.gdag.proofs.Sharing.{comes_only, adds_only_parents}
 use Rattle.gdag.proofs.graph.Graph.insert.Goals as goal
 
@@ -23,5 +23,5 @@ returns-clause-keeps g c = grows_keeps _ _ (comes_grows _ _ _ _ (returns-clause-
 pub returns-clause-reaches : goal.returns-clause-reaches
 returns-clause-reaches g c = keeps_reaching c.args.self.now.entries c.if-is_new.self.entries (returns-clause-keeps g c)
 
-pub returns-clause-full : goal.returns-clause-full
-returns-clause-full g c = keeps_full c.args.self.now.entries c.if-is_new.self.entries (returns-clause-keeps g c)
+pub returns-clause-connected : goal.returns-clause-connected
+returns-clause-connected g c = keeps_connected c.args.self.now.entries c.if-is_new.self.entries (returns-clause-keeps g c)

@@ -5,7 +5,7 @@ use Rattle.gobject.specs.Objects.{node_at}
 use Rattle.gname.specs.declared.formats.Format.{Format}
 use Rattle.gdag.specs.Graphs.{IsGraph, IsOrdered}
 use Rattle.gdag.specs.Insert.{ComesIn, IsCause, Inserts}
-use Rattle.gdag.proofs.Growing.{take_one, inserts_more, inserts_grows, inserts_held, grows_keeps, grows_length, keeps_reaching, keeps_full, cut_off, cut_back_again, refused}
+use Rattle.gdag.proofs.Growing.{take_one, inserts_more, inserts_grows, inserts_held, grows_keeps, grows_length, keeps_reaching, keeps_connected, cut_off, cut_back_again, refused}
 use Rattle.gdag.proofs.Sharing.{adds_only, adds_only_parents}
 use Rattle.gdag.proofs.graph.Graph.insert_all.Goals as goal
 
@@ -61,9 +61,9 @@ pub returns-in-Err-clause-reaches : goal.returns-in-Err-clause-reaches
 returns-in-Err-clause-reaches g c =
     keeps_reaching c.args.self.now.entries c.cut_back.new.self.entries (returns-in-Err-clause-keeps g c)
 
-pub returns-in-Err-clause-full : goal.returns-in-Err-clause-full
-returns-in-Err-clause-full g c =
-    keeps_full c.args.self.now.entries c.cut_back.new.self.entries (returns-in-Err-clause-keeps g c)
+pub returns-in-Err-clause-connected : goal.returns-in-Err-clause-connected
+returns-in-Err-clause-connected g c =
+    keeps_connected c.args.self.now.entries c.cut_back.new.self.entries (returns-in-Err-clause-keeps g c)
 
 pub returns-in-Err-clause-graph : goal.returns-in-Err-clause-graph
 returns-in-Err-clause-graph g c = subst IsGraph (sym (returns-in-Err-clause-adds g c).0) c.len-before.ensures.graph
@@ -119,5 +119,5 @@ pub returns-clause-reaches : goal.returns-clause-reaches
 returns-clause-reaches g c =
     keeps_reaching c.args.self.now.entries c.loop-entry.self.entries (returns-clause-keeps g c)
 
-pub returns-clause-full : goal.returns-clause-full
-returns-clause-full g c = keeps_full c.args.self.now.entries c.loop-entry.self.entries (returns-clause-keeps g c)
+pub returns-clause-connected : goal.returns-clause-connected
+returns-clause-connected g c = keeps_connected c.args.self.now.entries c.loop-entry.self.entries (returns-clause-keeps g c)

@@ -1,9 +1,9 @@
 use Rattle.std.proofs.Common.{◌≡◌, [], Bool, true, false, not, rules, refl}
 use Rattle.std.proofs.lemmas.Result.{err_from_is_err_and}
 use denote.Enum.Bare.{same_true}
-use Rattle.ggraph.specs.contracts.text.reading.Stage.{the_type}
+use Rattle.ggraph.specs.contracts.text.reading.TextStage.{the_type}
 use Rattle.ggraph.specs.declared.fault.LoadFault.TheVariants.{Text}
-use Rattle.ggraph.specs.declared.text.reading.Stage.TheVariants.{Done}
+use Rattle.ggraph.specs.declared.text.reading.TextStage.TheVariants.{Done}
 use Rattle.ggraph.proofs.text.loading.load.Goals.{then-not-is_empty-via-then-not-is_empty, then-not-is_empty-via-else-not-is_empty+then-ne}
 use Rattle.ggraph.proofs.LoadLemmas.{progress_more, progress_done}
 use Rattle.ggraph.proofs.Stopping.{accepts_err, accepts_ok, stops_early, stops_refused}
@@ -17,7 +17,7 @@ not_false false h = cc
 
 pub loop-pair-preserved : goal.loop-pair-preserved
 loop-pair-preserved g c =
-    progress_more c.args.order c.args.text.now c.loop-pair.rest.now c.in-Some.pair.0.now c.in-Some.pair.1.now c.loop-pair.reading c.take.new.self c.loop-pair.number c.loop-pair.invariant c.in-Some.ensures.0 c.in_ok-take.ensures.ok
+    progress_more c.args.order c.args.text.now c.loop-pair.rest.now c.in-Some.pair.0.now c.in-Some.pair.1.now c.loop-pair.reading c.take_line.new.self c.loop-pair.number c.loop-pair.invariant c.in-Some.ensures.0 c.in_ok-take_line.ensures.ok
 
 pub returns-clause-ok : goal.returns-clause-ok
 returns-clause-ok g c =
@@ -32,16 +32,16 @@ returns-clause-accepts g c =
     let whole = whole_read c.args.order c.args.text.now read.0 c.loop-pair.reading.graph c.loop-pair.reading.refs c.loop-pair.reading.head read.1 in
     accepts_ok c.text_laws.ensures c.args.order c.args.text.now (record { graph = c.loop-pair.reading.graph; refs = c.loop-pair.reading.refs; head = c.loop-pair.reading.head }) whole.0 whole.1
 
-pub returns-in_err-take-clause-refused : goal.returns-in_err-take-clause-refused
-returns-in_err-take-clause-refused g c =
+pub returns-in_err-take_line-clause-refused : goal.returns-in_err-take_line-clause-refused
+returns-in_err-take_line-clause-refused g c =
     let p = err_from_is_err_and c.from_residual.result c.from_residual.ensures.1 in
-    rw (p.1, p.2) (stops_refused c.text_laws.ensures c.args.order c.args.text.now c.loop-pair.rest.now c.in-Some.pair.0.now c.in-Some.pair.1.now c.loop-pair.reading c.loop-pair.number c.in_err-take.field-0.0 c.loop-pair.invariant c.in-Some.ensures.0 c.in-Some.ensures.1 c.in_err-take.ensures.refused)
+    rw (p.1, p.2) (stops_refused c.text_laws.ensures c.args.order c.args.text.now c.loop-pair.rest.now c.in-Some.pair.0.now c.in-Some.pair.1.now c.loop-pair.reading c.loop-pair.number c.in_err-take_line.field-0.0 c.loop-pair.invariant c.in-Some.ensures.0 c.in-Some.ensures.1 c.in_err-take_line.ensures.refused)
 
-pub returns-in_err-take-clause-accepts : goal.returns-in_err-take-clause-accepts
-returns-in_err-take-clause-accepts g c =
+pub returns-in_err-take_line-clause-accepts : goal.returns-in_err-take_line-clause-accepts
+returns-in_err-take_line-clause-accepts g c =
     let p = err_from_is_err_and c.from_residual.result c.from_residual.ensures.1 in
-    let stops = stops_refused c.text_laws.ensures c.args.order c.args.text.now c.loop-pair.rest.now c.in-Some.pair.0.now c.in-Some.pair.1.now c.loop-pair.reading c.loop-pair.number c.in_err-take.field-0.0 c.loop-pair.invariant c.in-Some.ensures.0 c.in-Some.ensures.1 c.in_err-take.ensures.refused in
-    rw (p.1, p.2) (accepts_err c.text_laws.ensures c.args.order c.args.text.now c.in_err-take.field-0.0 stops)
+    let stops = stops_refused c.text_laws.ensures c.args.order c.args.text.now c.loop-pair.rest.now c.in-Some.pair.0.now c.in-Some.pair.1.now c.loop-pair.reading c.loop-pair.number c.in_err-take_line.field-0.0 c.loop-pair.invariant c.in-Some.ensures.0 c.in-Some.ensures.1 c.in_err-take_line.ensures.refused in
+    rw (p.1, p.2) (accepts_err c.text_laws.ensures c.args.order c.args.text.now c.in_err-take_line.field-0.0 stops)
 
 early : (g : Over) (c : goal.Joined-reading-2 g) → c.loop-pair.rest.now ≡ [] → c.loop-pair.reading.stage ≡ Done → ⊥
 early g c none done =

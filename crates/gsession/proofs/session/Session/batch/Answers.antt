@@ -63,7 +63,7 @@ returns-then-len-clause-fits g c =
     let room : length c.self.inside.commons.items + length offer ≤ max_haves = omega (arith, few) in
     let fits = subst (λ (s : SessionState g.row.A.Denot). length s.commons + length offer ≤ max_haves) c.self.view_is
     room in
-    offer_fits c.offers_are_exact.ensures c.places_are_nodes.ensures c.ids_have_one_format.ensures c.args.self.now
+    offer_fits c.offers_are_exact.ensures c.positions_are_nodes.ensures c.ids_have_one_format.ensures c.args.self.now
     c.args.repo.now.graph _ offer (subst IsSession c.self.view_is c.self.invariant.0) c.laws.ensures.graph
     answers.0 fits
 

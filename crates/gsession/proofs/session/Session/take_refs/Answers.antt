@@ -1,13 +1,13 @@
 use Rattle.std.proofs.Common.{◌≡◌, List, ap, refl, subst, sym, ◌∙◌}
 use Rattle.std.proofs.lemmas.Bool.{false≢true}
-use Rattle.grefspec.specs.Refspecs.{Refspec}
+use Rattle.grefs.specs.Refspecs.{Refspec}
 use Rattle.gsession.specs.Asking.{AreNamed, asks_by_all}
 use Rattle.gsession.specs.Sessions.{SessionState}
 use Rattle.gsession.specs.steps.Calls.{FindsAsks}
 use Rattle.gsession.proofs.session.Session.take_refs.Goals as goal
 
-pub misnamed-requires : goal.misnamed-requires
-misnamed-requires g c = λ named.
+pub misnamed_fault-requires : goal.misnamed_fault-requires
+misnamed_fault-requires g c = λ named.
     let specs : c.as_slice.result.now ≡ c.args.self.now.refspecs =
     c.as_slice.ensures.value ∙ ap (λ (s : SessionState g.row.A.Denot). s.refspecs) c.self.view_is in
     false≢true (sym c.if-not-are_named.true
@@ -15,7 +15,7 @@ misnamed-requires g c = λ named.
     AreNamed {A = g.row.A.Denot} (asks_by_all l c.args.reply.now.lines)) (sym specs) named))
 
 pub returns-then-not-are_named : goal.returns-then-not-are_named
-returns-then-not-are_named g c = (c.misnamed.ensures c.args.repo.now.graph.entries, refl)
+returns-then-not-are_named g c = (c.misnamed_fault.ensures c.args.repo.now.graph.entries, refl)
 
 pub take_asked-requires-clause-asked : goal.take_asked-requires-clause-asked
 take_asked-requires-clause-asked g c =

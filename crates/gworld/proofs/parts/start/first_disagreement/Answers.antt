@@ -17,5 +17,5 @@ pub returns : goal.returns
 returns g c =
     let past : length c.args.server.now.entries ≤ c.loop-place.place =
     omega (arith, c.loop-place-test.false, c.len-place-end.ensures.len) in
-    graphs_agree c.places_are_nodes.ensures c.args.server.now.entries c.args.client.now.entries c.loop-place.place past
+    graphs_agree c.positions_are_nodes.ensures c.args.server.now.entries c.args.client.now.entries c.loop-place.place past
     c.len-place-end.ensures.graph.differ c.loop-place.invariant

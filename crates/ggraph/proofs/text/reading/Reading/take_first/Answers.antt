@@ -1,7 +1,7 @@
 use Rattle.std.proofs.Common.{◌∙◌, ap}
 use Rattle.gdag.specs.Graphs.{History}
 use Rattle.ggraph.specs.declared.text.reading.Reading.{Reading}
-use Rattle.ggraph.specs.declared.text.reading.Stage.TheVariants.{Nodes}
+use Rattle.ggraph.specs.declared.text.reading.TextStage.TheVariants.{Nodes}
 use Rattle.ggraph.specs.steps.Reading.{begins}
 use Rattle.ggraph.proofs.text.reading.Reading.take_first.Goals as goal
 

@@ -14,8 +14,8 @@ kept part moved bytes is lent = append-nil part.items ∙ sym (ap (λ (v : Array
 pub returns-then-is_empty : goal.returns-then-is_empty
 returns-then-is_empty g c =
     let none : c.args.self.now.part.items ≡ [] = nil-of_empty c.args.self.now.part.items (sym c.is_empty.ensures ∙ c.if-is_empty.true) in
-    feeds_part c.args.self.now (record { lines = c.take.new.self; part = c.args.self.now.part }) c.args.text.now c.args.text.now c.args.separator c.take.result c.requires
-    (ap (λ (part : List ℕ). part ++ c.args.text.now) none) none c.take.ensures
+    feeds_part c.args.self.now (record { lines = c.take_part.new.self; part = c.args.self.now.part }) c.args.text.now c.args.text.now c.args.separator c.take_part.result c.requires
+    (ap (λ (part : List ℕ). part ++ c.args.text.now) none) none c.take_part.ensures
 
 pub returns-in_err-keep : goal.returns-in_err-keep
 returns-in_err-keep g c =
@@ -26,5 +26,5 @@ pub returns : goal.returns
 returns g c =
     let whole : c.keep.new.self.part.items ++ [] ≡ c.as_slice.result.now = kept c.keep.new.self.part c.replace-part.result c.as_slice.result.now c.replace-part.ensures.value c.as_slice.ensures.value in
     let none : c.replace-part.new.dest.items ≡ [] = ap (λ (v : ArrayVec ℕ). v.items) c.replace-part.ensures.after ∙ c.new.ensures in
-    feeds_then c.args.self.now c.keep.new.self (record { lines = c.take-2.new.self; part = c.replace-part.new.dest }) c.args.text.now (separator_byte c.args.separator ∷ []) c.take-2.result c.in_ok-keep.ensures
-    (feeds_part c.keep.new.self (record { lines = c.take-2.new.self; part = c.replace-part.new.dest }) [] c.as_slice.result.now c.args.separator c.take-2.result IsPart-nil whole none c.take-2.ensures)
+    feeds_then c.args.self.now c.keep.new.self (record { lines = c.take_part-2.new.self; part = c.replace-part.new.dest }) c.args.text.now (separator_byte c.args.separator ∷ []) c.take_part-2.result c.in_ok-keep.ensures
+    (feeds_part c.keep.new.self (record { lines = c.take_part-2.new.self; part = c.replace-part.new.dest }) [] c.as_slice.result.now c.args.separator c.take_part-2.result IsPart-nil whole none c.take_part-2.ensures)

@@ -1,0 +1,98 @@
+//! Facts at the limits: a graph of as many objects as possible, and a pack of as many bytes as
+//! possible.
+
+use crate::told::{fault_words, told_at};
+use case_text::{Fact, Trouble, number_of};
+use ggraph::{Entry, Graph, Indexer, Kind, Node, PackFault, Packer, Parents, PlainPack};
+use gname::{Format, Oid};
+use std::alloc::Global;
+
+// The maximum number of parents of a commit.
+const MOST_PARENTS: usize = 64;
+
+/// Returns the result of adding this many commits to a graph, or of packing this many.
+pub(crate) fn answer(alloc: Global, fact: &Fact<'_>) -> Result<String, Trouble> {
+    let mut words = fact.text.split(|byte| *byte == b' ');
+    let count = number_of(words.next().unwrap_or(b""));
+    let parents = number_of(words.next().unwrap_or(b""));
+    match fact.word {
+        "grown" => grow_graph(alloc, fact.format, count),
+        _ => pack_size(
+            alloc,
+            wide_commits(alloc, fact.format, count, parents)?.as_slice(),
+        ),
+    }
+}
+
+// Adds commits to a graph, one by one. Returns how many it then has, or the first fault and how
+// many it had before.
+fn grow_graph(alloc: Global, format: Format, count: usize) -> Result<String, Trouble> {
+    let mut graph = Graph::new_in(alloc, format);
+    for number in 0..count {
+        let commit = commit(alloc, format, number, 0)?;
+        if let Err(fault) = graph.insert(commit) {
+            return told_at(alloc, fault.code(), fault.name(), "after", graph.len());
+        }
+    }
+    let count = graph.len();
+    Ok(format!(in alloc; "ok {count}")?)
+}
+
+// Returns how many bytes the pack of the commits has, if it can be read again.
+fn pack_size(alloc: Global, commits: &[Entry]) -> Result<String, Trouble> {
+    let pack = match PlainPack.pack(alloc, commits) {
+        Ok(pack) => pack,
+        Err(PackFault::TooLarge) => return fault_words(alloc, 65, "TooLarge"),
+        Err(fault) => return fault_words(alloc, fault.code(), fault.name()),
+    };
+    let length = pack.len();
+    match PlainPack.index(alloc, pack.as_slice()) {
+        Ok(read) if read.len() == commits.len() => Ok(format!(in alloc; "ok {length}")?),
+        Ok(_) => Ok(String::from_str(alloc, "another list")?),
+        Err(fault) => fault_words(alloc, fault.code(), fault.name()),
+    }
+}
+
+// Returns `count` commits with the most parents possible, and one with `parents` parents.
+fn wide_commits(
+    alloc: Global,
+    format: Format,
+    count: usize,
+    parents: usize,
+) -> Result<Vec<Entry>, Trouble> {
+    let mut commits = Vec::new(alloc);
+    for number in 0..count {
+        commits.push(commit(alloc, format, number, MOST_PARENTS)?)?;
+    }
+    commits.push(commit(alloc, format, count, parents)?)?;
+    Ok(commits)
+}
+
+// Returns the commit of this number, whose parents have the numbers after it.
+fn commit(alloc: Global, format: Format, number: usize, count: usize) -> Result<Entry, Trouble> {
+    let mut parents = Parents::new(alloc);
+    for place in 1..=count {
+        parents.push(id_of_number(format, number.wrapping_add(place))?)?;
+    }
+    Ok(Entry {
+        id: id_of_number(format, number)?,
+        node: Node {
+            kind: Kind::Commit,
+            parents,
+        },
+    })
+}
+
+// Returns the id of this number.
+fn id_of_number(format: Format, number: usize) -> Result<Oid, Trouble> {
+    let mut bytes = [0; 32];
+    bytes[..8].copy_from_slice(&number.to_be_bytes());
+    let length = match format {
+        Format::Sha1 => 20,
+        Format::Sha256 => 32,
+    };
+    match Oid::from_bytes(&bytes[..length]) {
+        Some(id) => Ok(id),
+        None => Err(Trouble::NoId),
+    }
+}

@@ -1,0 +1,68 @@
+//! The files of a launch: they record each call on the system's files.
+
+use crate::journal::Journal;
+use std::fs::{Metadata, OpenFile, Permissions};
+use std::io;
+use std::io::{Read, Seek, SeekFrom, Write};
+
+// The maximum number of bytes in one write.
+const MOST_TAKEN: usize = 16;
+
+/// One of the system's files, with the name under which it was opened.
+#[derive(Drop)]
+pub(crate) struct NotedFile<'a, F> {
+    pub(crate) file: F,
+    pub(crate) name: String,
+    pub(crate) journal: &'a Journal<'a>,
+}
+
+impl<F: Read> Read for NotedFile<'_, F> {
+    fn read(&mut self, buf: &mut [u8]) -> io::Result<usize> {
+        self.file.read(buf)
+    }
+}
+
+// A write takes a few bytes at a time.
+impl<F: Write> Write for NotedFile<'_, F> {
+    fn write(&mut self, buf: &[u8]) -> io::Result<usize> {
+        self.journal.note_file("write", self.name.as_str())?;
+        let count = buf.len().min(MOST_TAKEN);
+        self.file.write(&buf[..count])
+    }
+
+    fn flush(&mut self) -> io::Result<()> {
+        self.file.flush()
+    }
+}
+
+impl<F: Seek> Seek for NotedFile<'_, F> {
+    fn seek(&mut self, to: SeekFrom) -> io::Result<u64> {
+        self.file.seek(to)
+    }
+}
+
+impl<F: OpenFile> OpenFile for NotedFile<'_, F> {
+    fn metadata(&self) -> io::Result<Metadata> {
+        self.file.metadata()
+    }
+
+    fn set_len(&self, size: u64) -> io::Result<()> {
+        self.journal.note_file("cut", self.name.as_str())?;
+        self.file.set_len(size)
+    }
+
+    fn sync_all(&self) -> io::Result<()> {
+        self.journal.note_file("sync", self.name.as_str())?;
+        self.file.sync_all()
+    }
+
+    fn sync_data(&self) -> io::Result<()> {
+        self.journal.note_file("sync data", self.name.as_str())?;
+        self.file.sync_data()
+    }
+
+    fn set_permissions(&self, perm: Permissions) -> io::Result<()> {
+        self.journal.note_file("mode", self.name.as_str())?;
+        self.file.set_permissions(perm)
+    }
+}

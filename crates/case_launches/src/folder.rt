@@ -1,0 +1,67 @@
+//! The folder in which a program runs.
+
+use crate::system::System;
+use case_text::{Found, Script, Trouble};
+use std::fs::Permissions;
+use std::os::unix::fs::{PermissionsExt, symlink};
+use std::{env, fs};
+
+/// Its name.
+pub(crate) const FOLDER: &str = "launch";
+
+/// The permissions with which everything can be read and removed.
+const ALL: u32 = 0o700;
+
+/// Makes the folder anew, and enters it.
+pub(crate) fn enter<R: System>(rt: &R) -> Result<(), Trouble> {
+    let _ = fs::remove_dir_all(rt, FOLDER);
+    fs::create_dir(rt, FOLDER)?;
+    Ok(env::set_current_dir(rt, FOLDER)?)
+}
+
+/// Leaves the folder, and removes it with its contents.
+pub(crate) fn leave<R: System>(rt: &R) -> Result<(), Trouble> {
+    env::set_current_dir(rt, "..")?;
+    Ok(fs::remove_dir_all(rt, FOLDER)?)
+}
+
+/// Makes the items that a program finds there.
+pub(crate) fn fill<R: System>(
+    rt: &R,
+    script: &Script<'_>,
+    found: &[Found<'_>],
+) -> Result<(), Trouble> {
+    for one in found {
+        match one {
+            Found::File { name, text } => fs::write(rt, *name, script.text(text)?)?,
+            Found::Folder { name } => fs::create_dir(rt, *name)?,
+            Found::Link { name, target } => symlink(rt, *target, *name)?,
+            Found::Mode { name, mode } => set_mode(rt, name, *mode)?,
+        }
+    }
+    Ok(())
+}
+
+/// Makes everything readable and removable.
+pub(crate) fn unlock<R: System>(rt: &R, found: &[Found<'_>]) -> Result<(), Trouble> {
+    for one in found {
+        if let Found::Mode { name, mode: _ } = one {
+            let _ = set_mode(rt, name, ALL);
+        }
+    }
+    Ok(())
+}
+
+fn set_mode<R: System>(rt: &R, name: &str, mode: u32) -> Result<(), Trouble> {
+    Ok(fs::set_permissions(rt, name, Permissions::from_mode(mode))?)
+}
+
+/// Whether permissions do not apply to this process, such as to one of the superuser.
+pub(crate) fn passes_permissions<R: System>(rt: &R) -> Result<bool, Trouble> {
+    let name = "probe";
+    fs::write(rt, name, "")?;
+    set_mode(rt, name, 0)?;
+    let can_read = fs::read(rt, name).is_ok();
+    fs::remove_file(rt, name)?;
+    Ok(can_read)
+}

@@ -1,0 +1,251 @@
+//! The runtime of a launch: its own arguments, standard streams and clock, and the system's files.
+
+use crate::file::NotedFile;
+use crate::journal::Journal;
+use crate::peers::Peers;
+use crate::plan::Plan;
+use crate::system::System;
+use std::alloc::{AllocError, Allocator, Global};
+use std::cell::RefCell;
+use std::env::FillError;
+use std::fmt::Display;
+use std::fs::{Metadata, OpenOptions, Permissions};
+use std::io;
+use std::io::{BufRead, ErrorKind, Lines, Write};
+use std::path::PathBuf;
+use std::rt::{Clock, Env, Files};
+use std::time::Duration;
+
+/// The runtime of a program.
+#[derive(Drop)]
+pub(crate) struct Host<'a, R> {
+    pub(crate) rt: &'a R,
+    plan: &'a Plan<'a>,
+    pub(crate) journal: &'a Journal<'a>,
+    pub(crate) peers: &'a Peers<'a>,
+    output: RefCell<Vec<u8>>,
+}
+
+impl<'a, R: System> Host<'a, R> {
+    /// Returns the runtime of a program that follows the plan.
+    pub(crate) fn new(
+        rt: &'a R,
+        plan: &'a Plan<'a>,
+        journal: &'a Journal<'a>,
+        peers: &'a Peers<'a>,
+    ) -> Host<'a, R> {
+        Host {
+            rt,
+            plan,
+            journal,
+            peers,
+            output: RefCell::new(Vec::new(rt.alloc())),
+        }
+    }
+
+    /// Returns all bytes written to standard output.
+    pub(crate) fn written_bytes(&self) -> Result<Vec<u8>, AllocError> {
+        match self.output.try_borrow() {
+            Ok(output) => Vec::from_slice(self.rt.alloc(), output.as_slice()),
+            Err(_) => Ok(Vec::new(self.rt.alloc())),
+        }
+    }
+
+    fn keep(&self, bytes: &[u8]) -> io::Result<()> {
+        match self.output.try_borrow_mut() {
+            Ok(mut output) => Ok(output.extend_from_slice(bytes)?),
+            Err(_) => Err(io::Error::from(ErrorKind::Other)),
+        }
+    }
+
+    // Connects the clients once the whole output is a line with the port of the program's listener.
+    fn greet(&self) -> io::Result<()> {
+        let written = self.written_bytes()?;
+        match listening_port(written.as_slice()) {
+            Some(port) => self.peers.visit(self.rt, port),
+            None => Ok(()),
+        }
+    }
+}
+
+// Returns the port in the line that a server shows.
+fn listening_port(output: &[u8]) -> Option<u16> {
+    let line = std::str::from_utf8(output).ok()?;
+    let digits = line.strip_prefix("listening ")?.strip_suffix("\n")?;
+    digits.parse::<u16>().ok()
+}
+
+impl<R: System> Alloc for Host<'_, R> {
+    type A = Global;
+
+    fn alloc(&self) -> Global {
+        self.rt.alloc()
+    }
+}
+
+impl<R: System> Env for Host<'_, R> {
+    fn arg(&self, i: usize, buf: &mut [u8]) -> Result<usize, FillError> {
+        let Some(word) = self.plan.words.get(i) else {
+            return Err(FillError::NotPresent);
+        };
+        let bytes = word.as_bytes();
+        if bytes.len() > buf.len() {
+            return Err(FillError::TooLong);
+        }
+        buf[..bytes.len()].copy_from_slice(bytes);
+        Ok(bytes.len())
+    }
+
+    fn var(&self, _name: &str, _buf: &mut [u8]) -> Result<usize, FillError> {
+        Err(FillError::NotPresent)
+    }
+
+    fn var_at(&self, _i: usize, _buf: &mut [u8]) -> Result<usize, FillError> {
+        Err(FillError::NotPresent)
+    }
+}
+
+impl<'a, R: System> Input for Host<'a, R> {
+    type Reader = &'a [u8];
+
+    fn read_line<A: Allocator + Clone>(&self, buf: &mut String<A>) -> io::Result<usize> {
+        let mut reader = self.plan.input.as_slice();
+        reader.read_line(buf)
+    }
+
+    fn lines<A: Allocator>(&self, alloc: A) -> Lines<&'a [u8], A> {
+        self.plan.input.as_slice().lines(alloc)
+    }
+
+    fn reader(&self) -> &'a [u8] {
+        self.plan.input.as_slice()
+    }
+}
+
+// Standard output.
+impl<R: System> Print for Host<'_, R> {
+    fn print<D: Display + Drop>(&self, value: D) -> io::Result<()> {
+        let text = format!(in self.rt.alloc(); "{value}")?;
+        self.write_all(text.as_bytes())
+    }
+
+    fn println<D: Display + Drop>(&self, value: D) -> io::Result<()> {
+        let text = format!(in self.rt.alloc(); "{value}\n")?;
+        self.write_all(text.as_bytes())
+    }
+
+    fn write_all(&self, bytes: &[u8]) -> io::Result<()> {
+        self.journal.note_once("out")?;
+        self.keep(bytes)?;
+        self.greet()
+    }
+}
+
+// The clock always returns the same time.
+impl<R: System> Clock for Host<'_, R> {
+    fn monotonic(&self) -> io::Result<Duration> {
+        Ok(Duration::ZERO)
+    }
+
+    fn since_1970(&self) -> io::Result<Duration> {
+        Ok(Duration::ZERO)
+    }
+}
+
+impl<'a, R: System> Files for Host<'a, R> {
+    type File = NotedFile<'a, R::File>;
+
+    type Dir = R::Dir;
+
+    fn open_file(&self, how: &OpenOptions, path: &str) -> io::Result<NotedFile<'a, R::File>> {
+        let step = if how.asks_create_new() {
+            "create"
+        } else if how.asks_write() {
+            "open"
+        } else {
+            "read"
+        };
+        self.journal.note_file(step, path)?;
+        Ok(NotedFile {
+            file: self.rt.open_file(how, path)?,
+            name: String::from_str(self.rt.alloc(), path)?,
+            journal: self.journal,
+        })
+    }
+
+    fn open_dir(&self, path: &str) -> io::Result<R::Dir> {
+        self.rt.open_dir(path)
+    }
+
+    fn metadata(&self, path: &str) -> io::Result<Metadata> {
+        self.rt.metadata(path)
+    }
+
+    fn symlink_metadata(&self, path: &str) -> io::Result<Metadata> {
+        self.rt.symlink_metadata(path)
+    }
+
+    fn copy(&self, from: &str, to: &str) -> io::Result<u64> {
+        self.journal.note_file("copy", from)?;
+        self.rt.copy(from, to)
+    }
+
+    fn rename(&self, from: &str, to: &str) -> io::Result<()> {
+        self.journal.note_file("rename", from)?;
+        self.rt.rename(from, to)
+    }
+
+    fn remove_file(&self, path: &str) -> io::Result<()> {
+        self.journal.note_file("remove", path)?;
+        self.rt.remove_file(path)
+    }
+
+    fn create_dir(&self, path: &str) -> io::Result<()> {
+        self.rt.create_dir(path)
+    }
+
+    fn remove_dir(&self, path: &str) -> io::Result<()> {
+        self.rt.remove_dir(path)
+    }
+
+    fn remove_dir_all<B: Allocator>(&self, alloc: B, path: &str) -> io::Result<()> {
+        self.rt.remove_dir_all(alloc, path)
+    }
+
+    fn canonicalize<B: Allocator>(&self, alloc: B, path: &str) -> io::Result<PathBuf<B>> {
+        self.rt.canonicalize(alloc, path)
+    }
+
+    fn set_permissions(&self, path: &str, perm: Permissions) -> io::Result<()> {
+        self.rt.set_permissions(path, perm)
+    }
+}
+
+/// Standard error.
+#[derive(Drop)]
+pub(crate) struct Errors<'a> {
+    journal: &'a Journal<'a>,
+    pub(crate) written: Vec<u8>,
+}
+
+impl<'a> Errors<'a> {
+    /// Returns an empty one.
+    pub(crate) fn new(alloc: Global, journal: &'a Journal<'a>) -> Errors<'a> {
+        Errors {
+            journal,
+            written: Vec::new(alloc),
+        }
+    }
+}
+
+impl Write for Errors<'_> {
+    fn write(&mut self, buf: &[u8]) -> io::Result<usize> {
+        self.journal.note_once("err")?;
+        self.written.extend_from_slice(buf)?;
+        Ok(buf.len())
+    }
+
+    fn flush(&mut self) -> io::Result<()> {
+        Ok(())
+    }
+}

@@ -1,0 +1,88 @@
+//! The steps of the program, and the step that fails.
+
+use std::alloc::{AllocError, Global};
+use std::cell::RefCell;
+use std::io;
+use std::io::ErrorKind;
+
+/// The steps so far, separated by commas.
+#[derive(Drop)]
+pub(crate) struct Journal<'a> {
+    alloc: Global,
+    // The absolute name of the folder in which the program runs.
+    folder: String,
+    // The step that fails, if there is one.
+    failing: Option<&'a str>,
+    steps: RefCell<String>,
+}
+
+impl<'a> Journal<'a> {
+    /// Returns the journal of a program in this folder, without steps yet. The step `failing`
+    /// fails.
+    pub(crate) fn new(alloc: Global, folder: String, failing: Option<&'a str>) -> Journal<'a> {
+        Journal {
+            alloc,
+            folder,
+            failing,
+            steps: RefCell::new(String::new(alloc)),
+        }
+    }
+
+    /// Records a step. Fails if the step is the one to fail.
+    pub(crate) fn note(&self, step: &str) -> io::Result<()> {
+        if let Ok(mut steps) = self.steps.try_borrow_mut() {
+            add_step(&mut steps, step)?;
+        }
+        self.permit(step)
+    }
+
+    /// Records a step, unless it is the last one already. Fails if the step is the one to fail.
+    pub(crate) fn note_once(&self, step: &str) -> io::Result<()> {
+        if self.is_last(step) {
+            return self.permit(step);
+        }
+        self.note(step)
+    }
+
+    /// Records a step on a file, unless it is the last one already. Fails if the step is the one to
+    /// fail.
+    pub(crate) fn note_file(&self, step: &str, path: &str) -> io::Result<()> {
+        let name = match path.strip_prefix(self.folder.as_str()) {
+            Some("") => ".",
+            Some(name) => name.trim_start_matches('/'),
+            None => path,
+        };
+        let line = format!(in self.alloc; "{step} {name}")?;
+        self.note_once(line.as_str())
+    }
+
+    /// Returns all steps.
+    pub(crate) fn text(&self) -> Result<String, AllocError> {
+        match self.steps.try_borrow() {
+            Ok(steps) => String::from_str(self.alloc, steps.as_str()),
+            Err(_) => Ok(String::new(self.alloc)),
+        }
+    }
+
+    fn is_last(&self, step: &str) -> bool {
+        match self.steps.try_borrow() {
+            Ok(steps) => steps.as_str().rsplit(", ").next() == Some(step),
+            Err(_) => false,
+        }
+    }
+
+    fn permit(&self, step: &str) -> io::Result<()> {
+        if self.failing == Some(step) {
+            Err(io::Error::from(ErrorKind::PermissionDenied))
+        } else {
+            Ok(())
+        }
+    }
+}
+
+fn add_step(steps: &mut String, step: &str) -> Result<(), AllocError> {
+    if !steps.is_empty() {
+        steps.push_str(", ")?;
+    }
+    steps.push_str(step)
+}

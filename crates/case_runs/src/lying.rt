@@ -1,0 +1,230 @@
+//! Runs with a packer or an indexer that is not the plain one. No program of `gcmd` has another, so
+//! the rest of its work is here: reading the file, printing a fault, writing the file, and the
+//! report of a fetch. The client's repository at the end is shown, too.
+
+use crate::connected::{hello_of, outcome_of_served, serve_connection};
+use crate::files::{client_of, server_of};
+use crate::handed::Handed;
+use crate::program::{Devices, Job, Ran, limit_of, ran_without_file};
+use crate::report::report_of;
+use case_text::{Liar, Program, Trouble};
+use gclient::{FetchFault, Fetched, GitFetch, PackOptions, Repo, fetch_git, fetch_over};
+use gcmd::{ProgramFault, Spec, cmd_failed, finish, send_text};
+use ggraph::{Head, Indexer, SaveFault, save};
+use gpkt::{Sink, Source};
+use gserve::{ExchangeEnd, OnePack, serve, serve_one};
+use std::alloc::Allocator;
+
+/// Serves one request, or a connection, from a repository's text. Returns the exit status.
+pub(crate) fn serve_with<A: Allocator + Copy, I: Source, O: Sink, R: Sink, E: Sink>(
+    job: &Job<'_, '_, '_, A>,
+    liar: Liar,
+    devices: &mut Devices<I, O, R, E>,
+) -> u8 {
+    let packer = tools_of(job, liar);
+    if job.command.program == Program::Serve {
+        return serve_connection(job, &packer, devices);
+    }
+    let outcome = if job.command.program == Program::Upload {
+        answer_all(job, &packer, &mut devices.input, &mut devices.output)
+    } else {
+        answer_one(job, &packer, &mut devices.input, &mut devices.output)
+    };
+    finish(outcome, &mut devices.errors)
+}
+
+/// Returns the packer or the indexer of a job.
+pub(crate) fn tools_of<'i, 'm, A: Allocator + Copy>(
+    job: &Job<'_, 'i, 'm, A>,
+    liar: Liar,
+) -> Handed<'i, 'm> {
+    Handed {
+        liar,
+        format: job.command.format,
+        input: job.input,
+        watch: job.watch,
+    }
+}
+
+fn answer_all<A: Allocator + Copy, I: Source, O: Sink>(
+    job: &Job<'_, '_, '_, A>,
+    packer: &Handed<'_, '_>,
+    input: &mut I,
+    output: &mut O,
+) -> Result<(), ProgramFault<A>> {
+    let server = server_of(job.memory, job.file)?;
+    let mut packer = OnePack::new(packer);
+    outcome_of_served(serve(&server, &mut packer, job.command.ends, input, output))
+}
+
+fn answer_one<A: Allocator + Copy, I: Source, O: Sink>(
+    job: &Job<'_, '_, '_, A>,
+    packer: &Handed<'_, '_>,
+    input: &mut I,
+    output: &mut O,
+) -> Result<(), ProgramFault<A>> {
+    let server = server_of(job.memory, job.file)?;
+    let mut packer = OnePack::new(packer);
+    outcome_of_exchange(serve_one(&server, &mut packer, job.command.ends, input, output))
+}
+
+fn outcome_of_exchange<A: Allocator + Copy>(ended: ExchangeEnd) -> Result<(), ProgramFault<A>> {
+    match ended {
+        ExchangeEnd::Answered | ExchangeEnd::Closed | ExchangeEnd::Ended => Ok(()),
+        ExchangeEnd::Refused(fault) => Err(ProgramFault::Request(fault)),
+        ExchangeEnd::WriteFailed => Err(ProgramFault::WriteFailed),
+    }
+}
+
+/// Fetches into a repository's text, and returns the result.
+pub(crate) fn fetch_with<A: Allocator + Copy, K, I: Source, O: Sink, R: Sink, E: Sink>(
+    job: &Job<'_, '_, '_, A>,
+    indexer: &K,
+    specs: &[Spec<A>],
+    devices: &mut Devices<I, O, R, E>,
+) -> Result<Ran, Trouble>
+where
+    K: Indexer<A>,
+{
+    match client_of(job.memory, job.file) {
+        Ok(mut repo) => fetch_into(job, &mut repo, indexer, specs, devices),
+        Err(fault) => Ok(end_with_fault(job, fault, &mut devices.errors)),
+    }
+}
+
+fn fetch_into<A: Allocator + Copy, K, I: Source, O: Sink, R: Sink, E: Sink>(
+    job: &Job<'_, '_, '_, A>,
+    repo: &mut Repo<A>,
+    indexer: &K,
+    specs: &[Spec<A>],
+    devices: &mut Devices<I, O, R, E>,
+) -> Result<Ran, Trouble>
+where
+    K: Indexer<A>,
+{
+    let fetched = converse(
+        job,
+        repo,
+        indexer,
+        specs,
+        (&mut devices.input, &mut devices.output),
+    );
+    end_fetch(
+        job,
+        &*repo,
+        fetched,
+        &mut devices.report,
+        &mut devices.errors,
+    )
+}
+
+/// Ends a fetch as its program does: makes the new text of the file and reports, or prints the
+/// fault.
+pub fn end_fetch<A: Allocator + Copy, R: Sink, E: Sink>(
+    job: &Job<'_, '_, '_, A>,
+    repo: &Repo<A>,
+    fetched: Result<Fetched<A>, FetchFault<A>>,
+    report: &mut R,
+    errors: &mut E,
+) -> Result<Ran, Trouble> {
+    match fetched {
+        Ok(fetched) => conclude(job, repo, &fetched, report, errors),
+        Err(fault) => give_up(job, repo, fault, errors),
+    }
+}
+
+// Fetches, starting at the first line of a connection, if it has one.
+fn converse<A: Allocator + Copy, K: Indexer<A>, I: Source, O: Sink>(
+    job: &Job<'_, '_, '_, A>,
+    repo: &mut Repo<A>,
+    indexer: &K,
+    specs: &[Spec<A>],
+    (input, output): (&mut I, &mut O),
+) -> Result<Fetched<A>, FetchFault<A>> {
+    let limit = limit_of(job.command.limit);
+    let ends = job.command.ends;
+    if !job.command.has_hello() {
+        return fetch_over(repo, input, output, indexer, specs, limit, ends);
+    }
+    let hello = hello_of(job)?;
+    let fetch = GitFetch {
+        hello: &hello,
+        specs,
+        limit,
+        ends,
+        options: PackOptions::default(),
+    };
+    fetch_git(repo, input, output, indexer, &fetch)
+}
+
+/// Ends a run with a fault, and prints the fault.
+pub fn end_with_fault<A: Allocator + Copy, E: Sink>(
+    job: &Job<'_, '_, '_, A>,
+    fault: ProgramFault<A>,
+    errors: &mut E,
+) -> Ran {
+    let status = cmd_failed(fault, errors);
+    ran_without_file(job, status)
+}
+
+// Ends a fetch with a fault. The file is unchanged, and the repository is shown as it is.
+fn give_up<A: Allocator + Copy, E: Sink>(
+    job: &Job<'_, '_, '_, A>,
+    repo: &Repo<A>,
+    fault: FetchFault<A>,
+    errors: &mut E,
+) -> Result<Ran, Trouble> {
+    let mut ran = end_with_fault(job, ProgramFault::Fetch(fault), errors);
+    ran.state = Some(state_of(job, repo)?);
+    Ok(ran)
+}
+
+// Ends a fetch that settled the refs: makes the new text of the file, and reports. If no memory is
+// left for the text, the local refs have moved, and the file is unchanged.
+fn conclude<A: Allocator + Copy, R: Sink, E: Sink>(
+    job: &Job<'_, '_, '_, A>,
+    repo: &Repo<A>,
+    fetched: &Fetched<A>,
+    report: &mut R,
+    errors: &mut E,
+) -> Result<Ran, Trouble> {
+    match text_of(job.memory, repo) {
+        Ok(text) => {
+            let status = tell(job, fetched, report, errors)?;
+            let mut ran = ran_without_file(job, status);
+            ran.file = Some(Vec::from_slice(job.alloc, text.as_slice())?);
+            ran.state = Some(state_of(job, repo)?);
+            Ok(ran)
+        }
+        Err(_) => Ok(end_with_fault(job, ProgramFault::Memory, errors)),
+    }
+}
+
+// Reports, and returns the exit status.
+fn tell<A: Allocator + Copy, R: Sink, E: Sink>(
+    job: &Job<'_, '_, '_, A>,
+    fetched: &Fetched<A>,
+    report: &mut R,
+    errors: &mut E,
+) -> Result<u8, Trouble> {
+    let text = report_of(job.alloc, fetched)?;
+    let outcome: Result<(), ProgramFault<A>> = send_text(text.as_slice(), report);
+    Ok(finish(outcome, errors))
+}
+
+fn text_of<A: Allocator + Copy>(memory: A, repo: &Repo<A>) -> Result<Vec<u8, A>, SaveFault> {
+    save(memory, repo.graph(), repo.refs(), &Head::None)
+}
+
+// Returns the text of the repository as it is, in memory that does not end. Refuses no allocation
+// from now on.
+fn state_of<A: Allocator + Copy>(
+    job: &Job<'_, '_, '_, A>,
+    repo: &Repo<A>,
+) -> Result<Vec<u8>, Trouble> {
+    job.scarce.refuse(0);
+    match text_of(job.memory, repo) {
+        Ok(text) => Ok(Vec::from_slice(job.alloc, text.as_slice())?),
+        Err(_) => Err(Trouble::Memory),
+    }
+}

@@ -1,0 +1,198 @@
+//! The command lines in cases.
+
+use crate::liars::Liar;
+use crate::trouble::Trouble;
+use ggrammar::Ends;
+use gname::{Format, MAX_PACK};
+use std::alloc::Allocator;
+
+/// A program.
+#[derive(Clone, Copy, PartialEq, Eq)]
+pub enum Program {
+    Ls,
+    Upload,
+    Fetch,
+    Check,
+    Lines,
+    Simulate,
+    /// A served connection, starting at its first line.
+    Serve,
+    /// A listing of a server's refs.
+    List,
+}
+
+impl Program {
+    /// Whether it reads the client's messages.
+    pub fn reads_client(self) -> bool {
+        match self {
+            Program::Ls | Program::Upload | Program::Lines | Program::Serve => true,
+            Program::Fetch | Program::Check | Program::Simulate | Program::List => false,
+        }
+    }
+
+    /// Whether it refuses a request by a line to the client.
+    pub fn serves(self) -> bool {
+        match self {
+            Program::Ls | Program::Upload | Program::Serve => true,
+            Program::Fetch | Program::Check | Program::Lines | Program::Simulate | Program::List =>
+                false,
+        }
+    }
+
+    /// Whether its replies may end with a response-end packet.
+    pub fn has_ends(self) -> bool {
+        match self {
+            Program::Upload | Program::Fetch | Program::Serve => true,
+            Program::Ls | Program::Check | Program::Lines | Program::Simulate | Program::List =>
+                false,
+        }
+    }
+
+    /// Whether it has a report.
+    pub fn reports(self) -> bool {
+        match self {
+            Program::Fetch | Program::List => true,
+            Program::Ls
+            | Program::Upload
+            | Program::Check
+            | Program::Lines
+            | Program::Simulate
+            | Program::Serve => false,
+        }
+    }
+
+    /// Whether each packet that it reads is a message.
+    pub fn reads_lines(self) -> bool {
+        match self {
+            Program::Lines => true,
+            Program::Ls
+            | Program::Upload
+            | Program::Fetch
+            | Program::Check
+            | Program::Simulate
+            | Program::Serve
+            | Program::List => false,
+        }
+    }
+}
+
+/// A program and its arguments, and the format of the ids.
+#[derive(Clone, Copy)]
+pub struct Invocation<'a> {
+    pub program: Program,
+    /// The name of the repository's text; empty if there is none.
+    pub repository: &'a str,
+    /// The host and the path in the first line of a client's connection, or the served path. Empty
+    /// if no connection has such a line.
+    pub host: &'a str,
+    pub path: &'a str,
+    /// The refspecs, or the prefixes. For a simulation, the names of its client's text and of its
+    /// scenario.
+    pub specs: &'a str,
+    /// The maximum size of a pack in bytes.
+    pub limit: usize,
+    pub ends: Ends,
+    pub format: Format,
+    /// The packer or the indexer, if it is not the plain one.
+    pub liar: Option<Liar>,
+    /// The texts of a simulation's client and of its scenario; empty if there are none.
+    pub client: &'a [u8],
+    pub scenario: &'a [u8],
+}
+
+impl Invocation<'_> {
+    /// Whether the client's first packet is the first line of a connection.
+    pub fn has_hello(&self) -> bool {
+        !self.path.is_empty()
+    }
+}
+
+/// Reads a command line. The packer and the indexer are the plain ones.
+pub fn command_of(line: &str, format: Format) -> Result<Invocation<'_>, Trouble> {
+    let (name, words) = first_of(line);
+    let words = after(words, "--stdio-server ");
+    let words = after(words, "--stdio ");
+    let (host, words) = option_of(words, "--host ");
+    let (path, words) = option_of(words, "--path ");
+    let program = program_of(name, !host.is_empty())?;
+    let (ends, words) = match words.strip_prefix("--response-end ") {
+        Some(words) => (Ends::Response, words),
+        None => (Ends::Plain, words),
+    };
+    let (limit, words) = limit_of(words)?;
+    let (repository, specs) = match program {
+        Program::List => ("", words),
+        _ => first_of(words),
+    };
+    Ok(Invocation {
+        program,
+        repository,
+        host,
+        path,
+        specs,
+        limit,
+        ends,
+        format,
+        liar: None,
+        client: b"",
+        scenario: b"",
+    })
+}
+
+fn program_of(name: &str, has_host: bool) -> Result<Program, Trouble> {
+    match name {
+        "ls" if has_host => Ok(Program::List),
+        "serve" => Ok(Program::Serve),
+        "ls" => Ok(Program::Ls),
+        "upload" => Ok(Program::Upload),
+        "fetch" => Ok(Program::Fetch),
+        "check" => Ok(Program::Check),
+        "lines" => Ok(Program::Lines),
+        "simulate" => Ok(Program::Simulate),
+        _ => Err(Trouble::UnknownProgram),
+    }
+}
+
+fn limit_of(words: &str) -> Result<(usize, &str), Trouble> {
+    let Some(words) = words.strip_prefix("--limit ") else {
+        return Ok((MAX_PACK, words));
+    };
+    let (number, words) = first_of(words);
+    match number.parse::<usize>() {
+        Ok(limit) => Ok((limit, words)),
+        Err(_) => Err(Trouble::BadLimit),
+    }
+}
+
+/// Returns the first word, and the text after it.
+pub fn first_of(words: &str) -> (&str, &str) {
+    match words.split_once(' ') {
+        Some((first, rest)) => (first, rest),
+        None => (words, ""),
+    }
+}
+
+/// Returns the words of a text, each in its own memory.
+pub fn words_of<A: Allocator + Copy>(memory: A, text: &str) -> Result<Vec<String<A>, A>, Trouble> {
+    let mut words = Vec::new(memory);
+    for word in text.split(' ') {
+        words.push(String::from_str(memory, word)?)?;
+    }
+    Ok(words)
+}
+
+// Returns the value of the option, if it is first, and the text after it.
+fn option_of<'a>(words: &'a str, option: &'static str) -> (&'a str, &'a str) {
+    match words.strip_prefix(option) {
+        Some(words) => first_of(words),
+        None => ("", words),
+    }
+}
+
+// Returns the text after the option, if it is first.
+fn after<'a>(words: &'a str, option: &'static str) -> &'a str {
+    match words.strip_prefix(option) {
+        Some(rest) => rest,
+        None => words,
+    }
+}

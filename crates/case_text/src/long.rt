@@ -1,0 +1,107 @@
+//! Long texts: a chain of commits as a repository or as a pack, each commit the parent of the one
+//! before it.
+//!
+//! `long 2000` makes the repository `2000`. Its commits are numbered from 1 and follow their
+//! parents. Its one ref, `refs/heads/main`, is the first commit. In `2000-late` each commit
+//! precedes its parent. `pack-2000` is the pack of `2000`.
+
+use crate::spell::{add_number, number_of};
+use crate::trouble::Trouble;
+use gname::Format;
+use std::alloc::Global;
+
+/// Returns the text of this name.
+pub(crate) fn long_text(alloc: Global, name: &str, format: Format) -> Result<Vec<u8>, Trouble> {
+    let count = number_of(name.as_bytes());
+    let mut text = Vec::new(alloc);
+    if name.starts_with("pack-") {
+        add_pack(alloc, count, format, &mut text)?;
+    } else {
+        add_repository(alloc, count, format, name.ends_with("-late"), &mut text)?;
+    }
+    Ok(text)
+}
+
+fn add_pack(
+    alloc: Global,
+    count: usize,
+    format: Format,
+    text: &mut Vec<u8>,
+) -> Result<(), Trouble> {
+    text.extend_from_slice(b"GPK1\n")?;
+    add_chain(alloc, count, format, text)?;
+    let end = format!(in alloc; "end {count}\n")?;
+    text.extend_from_slice(end.as_bytes())?;
+    Ok(())
+}
+
+fn add_repository(
+    alloc: Global,
+    count: usize,
+    format: Format,
+    is_late: bool,
+    text: &mut Vec<u8>,
+) -> Result<(), Trouble> {
+    let head: &[u8] = match format {
+        Format::Sha1 => b"gitv2 1\n",
+        Format::Sha256 => b"gitv2 2 sha256\n",
+    };
+    text.extend_from_slice(head)?;
+    if is_late {
+        add_late_chain(alloc, count, format, text)?;
+    } else {
+        add_chain(alloc, count, format, text)?;
+    }
+    text.extend_from_slice(b"r ")?;
+    add_id(alloc, 1, format, text)?;
+    text.extend_from_slice(b" refs/heads/main\nh none\nend\n")?;
+    Ok(())
+}
+
+// Appends the commits, each after its parent.
+fn add_chain(
+    alloc: Global,
+    count: usize,
+    format: Format,
+    text: &mut Vec<u8>,
+) -> Result<(), Trouble> {
+    for place in 0..count {
+        add_commit(alloc, count.saturating_sub(place), count, format, text)?;
+    }
+    Ok(())
+}
+
+// Appends the commits, each before its parent.
+fn add_late_chain(
+    alloc: Global,
+    count: usize,
+    format: Format,
+    text: &mut Vec<u8>,
+) -> Result<(), Trouble> {
+    for number in 1..=count {
+        add_commit(alloc, number, count, format, text)?;
+    }
+    Ok(())
+}
+
+// Appends the commit of a number; the last has no parent.
+fn add_commit(
+    alloc: Global,
+    number: usize,
+    count: usize,
+    format: Format,
+    text: &mut Vec<u8>,
+) -> Result<(), Trouble> {
+    text.extend_from_slice(b"c ")?;
+    add_id(alloc, number, format, text)?;
+    if number < count {
+        text.push(b' ')?;
+        add_id(alloc, number.saturating_add(1), format, text)?;
+    }
+    text.push(b'\n')?;
+    Ok(())
+}
+
+fn add_id(alloc: Global, number: usize, format: Format, text: &mut Vec<u8>) -> Result<(), Trouble> {
+    add_number(alloc, format.id_text_length(), number, text)
+}

@@ -1,0 +1,83 @@
+//! Packets, from the lines of a case.
+
+use crate::case::Who;
+use crate::trouble::Trouble;
+use std::alloc::Global;
+
+/// The maximum number of side-band bytes in one packet.
+const MAX_ON_BAND: usize = 65_515;
+
+/// Returns the speaker and the message of a line that begins with this word.
+pub(crate) fn read_said(
+    alloc: Global,
+    word: &str,
+    bytes: &[u8],
+) -> Result<Option<(Who, Vec<u8>)>, Trouble> {
+    let (who, form) = match word.as_bytes() {
+        [b'C', form] => (Who::Client, *form),
+        [b'S', form] => (Who::Server, *form),
+        [b'|'] => (Who::Output, b'|'),
+        [b'!'] => (Who::Errors, b'|'),
+        b"report" => (Who::Report, b'|'),
+        _ => return Ok(None),
+    };
+    let written = match form {
+        b':' => text_line(alloc, bytes)?,
+        b'.' => packet(alloc, b"", bytes, b"")?,
+        b'1' => packet(alloc, b"\x01", bytes, b"")?,
+        b'2' => packet(alloc, b"\x02", bytes, b"")?,
+        b'3' => packet(alloc, b"\x03", bytes, b"")?,
+        b'=' => join_lines(alloc, bytes, b"")?,
+        b'|' => join_lines(alloc, bytes, b"\n")?,
+        _ => return Ok(None),
+    };
+    Ok(Some((who, written)))
+}
+
+/// Returns a packet of side band 1 with as many of these bytes as it can hold, and the remaining
+/// bytes.
+pub(crate) fn full_packet(alloc: Global, bytes: &[u8]) -> Result<(Vec<u8>, &[u8]), Trouble> {
+    let (part, rest) = bytes.split_at(bytes.len().min(MAX_ON_BAND));
+    Ok((packet(alloc, b"\x01", part, b"")?, rest))
+}
+
+/// Returns a mark, or the packet of a text and a line feed.
+pub fn text_line(alloc: Global, text: &[u8]) -> Result<Vec<u8>, Trouble> {
+    match text {
+        b"0000" | b"0001" | b"0002" => join_lines(alloc, text, b""),
+        _ => packet(alloc, b"", text, b"\n"),
+    }
+}
+
+/// Returns the packet of three parts. One that is too long has a length field of all `f`.
+pub fn packet(alloc: Global, first: &[u8], text: &[u8], last: &[u8]) -> Result<Vec<u8>, Trouble> {
+    let len = first
+        .len()
+        .saturating_add(text.len())
+        .saturating_add(last.len())
+        .saturating_add(4);
+    let mut bytes = Vec::new(alloc);
+    for shift in [12u32, 8, 4, 0] {
+        bytes.push(hex_digit(len.min(0xffff) >> shift))?;
+    }
+    bytes.extend_from_slice(first)?;
+    bytes.extend_from_slice(text)?;
+    bytes.extend_from_slice(last)?;
+    Ok(bytes)
+}
+
+// Returns the last hexadecimal digit of a number.
+fn hex_digit(number: usize) -> u8 {
+    let digits = b"0123456789abcdef";
+    match digits.get(number % 16) {
+        Some(digit) => *digit,
+        None => b'0',
+    }
+}
+
+fn join_lines(alloc: Global, text: &[u8], last: &[u8]) -> Result<Vec<u8>, Trouble> {
+    let mut bytes = Vec::new(alloc);
+    bytes.extend_from_slice(text)?;
+    bytes.extend_from_slice(last)?;
+    Ok(bytes)
+}

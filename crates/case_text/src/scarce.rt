@@ -1,0 +1,66 @@
+//! An allocator that refuses one allocation, or none, and passes each other call to the inner
+//! allocator.
+//!
+//! It is proved that it is an allocator: each of its blocks belongs to the inner allocator, and is
+//! returned to it. It is only tested which allocation it refuses.
+
+use std::alloc::{AllocError, Allocator};
+use std::cell::Cell;
+
+/// An allocator that counts allocations down, and refuses the one at which the count ends.
+pub struct Scarce<A: Allocator> {
+    inner: A,
+    countdown: Cell<u64>,
+}
+
+impl<A: Allocator> Scarce<A> {
+    /// Returns an allocator over this one. It refuses nothing yet.
+    pub fn new(inner: A) -> Scarce<A> {
+        Scarce {
+            inner,
+            countdown: Cell::new(0),
+        }
+    }
+
+    /// Refuses one allocation: the next for 1, the second for 2, and so on. It fails with
+    /// [`AllocError`], and the inner allocator is not asked. For 0 it refuses none.
+    pub fn refuse(&self, number: u64) {
+        self.countdown.set(number);
+    }
+
+    /// Whether the allocation to refuse is still in the future.
+    pub fn is_due(&self) -> bool {
+        self.countdown.get() != 0
+    }
+}
+
+impl<A: Allocator> Drop for Scarce<A> {
+    fn drop(self) {
+        let Self {
+            inner: _,
+            countdown: _,
+        } = self;
+    }
+}
+
+// Counts an allocation, and returns whether it is the one to refuse.
+fn ends_now(countdown: &Cell<u64>) -> bool {
+    let left = countdown.get();
+    countdown.set(left.saturating_sub(1));
+    left == 1
+}
+
+unsafe impl<A: Allocator> Allocator for Scarce<A> {
+    ghost dealloc_token = { λ heap ty ptr. A.dealloc_token heap.inner ty ptr };
+
+    fn allocate(&self, size: usize, align: usize) -> Result<*mut u8, AllocError> {
+        if ends_now(&self.countdown) {
+            return Err(AllocError);
+        }
+        self.inner.allocate(size, align)
+    }
+
+    unsafe fn deallocate(&self, ptr: *mut u8, size: usize, align: usize) {
+        self.inner.deallocate(ptr, size, align);
+    }
+}

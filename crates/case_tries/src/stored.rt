@@ -1,0 +1,204 @@
+//! A fetch into a stored file that fails or stops at one of its calls, and the check of its result.
+
+use crate::judge::{Row, fault_of, is_memory_fault};
+use case_runs::{
+    Devices, Hindrance, Job, Mishap, Reader, Stored, Watch, Writer, fetch_into_stored,
+};
+use case_text::{Program, Scarce, Trouble};
+use std::alloc::Global;
+
+const FILE_FAILED: &[u8] = b"gitv2: fault 95 File\n";
+
+/// The calls of a fetch before it sends anything to the server: it locks the file and reads it.
+const OPENING_CALLS: usize = 2;
+
+/// The limits of a fetch into a stored file.
+#[derive(Clone, Copy)]
+pub(crate) struct Hindered {
+    pub(crate) mishap: Mishap,
+    pub(crate) errors: Hindrance,
+    pub(crate) refused: u64,
+}
+
+impl Hindered {
+    pub(crate) const FREE: Hindered = Hindered {
+        mishap: Mishap::None,
+        errors: Hindrance::NONE,
+        refused: 0,
+    };
+}
+
+/// The result of a fetch into a stored file.
+#[derive(Drop)]
+pub(crate) struct Fetched {
+    stored: Stored,
+    output: Writer,
+    // The report, and the line of a fault.
+    errors: Writer,
+    // Whether nothing was read.
+    is_unread: bool,
+}
+
+impl Fetched {
+    pub(crate) fn calls(&self) -> usize {
+        self.stored.file.calls()
+    }
+
+    /// Whether the allocation to refuse was reached.
+    pub(crate) fn was_refused(&self) -> bool {
+        self.stored.was_refused
+    }
+
+    /// Whether standard error failed.
+    pub(crate) fn has_failed(&self) -> bool {
+        self.errors.has_failed()
+    }
+
+    pub(crate) fn printed_bytes(&self) -> &[u8] {
+        self.errors.written_bytes()
+    }
+
+    // Whether nothing was sent to the server, and nothing read from it.
+    fn is_silent(&self) -> bool {
+        self.is_unread && self.output.written_bytes().is_empty()
+    }
+
+    // Whether just this was printed, with this status.
+    fn ends_with(&self, status: u8, printed: &[u8]) -> bool {
+        self.stored.status == status && self.errors.written_bytes() == printed
+    }
+}
+
+/// Whether a row is a fetch into a file, by its program.
+pub(crate) fn has_stored_file(row: &Row<'_>) -> bool {
+    let command = row.command;
+    command.program == Program::Fetch && !command.has_hello() && command.liar.is_none()
+}
+
+/// Fetches into a stored file that has the row's text.
+pub(crate) fn fetch_stored(
+    alloc: Global,
+    row: &Row<'_>,
+    hindered: Hindered,
+) -> Result<Fetched, Trouble> {
+    let memory = Scarce::new(alloc);
+    let watch = Watch::new();
+    let job = Job {
+        alloc,
+        memory: &memory,
+        scarce: &memory,
+        watch: &watch,
+        command: row.command,
+        file: row.file,
+        input: row.talk.input.as_slice(),
+        refused: hindered.refused,
+    };
+    let mut devices = Devices {
+        input: Reader::new(job.input, Hindrance::NONE, job.watch),
+        output: Writer::new(alloc, Hindrance::NONE),
+        report: Writer::new(alloc, Hindrance::NONE),
+        errors: Writer::new(alloc, hindered.errors),
+    };
+    let stored = fetch_into_stored(&job, hindered.mishap, &mut devices)?;
+    let is_unread = devices.input.bytes_left() == job.input.len();
+    let Devices {
+        input: _,
+        output,
+        report: _,
+        errors,
+    } = devices;
+    Ok(Fetched {
+        stored,
+        output,
+        errors,
+        is_unread,
+    })
+}
+
+/// Whether a fetch without a mishap had the expected results: the new text, if there is one, and
+/// then the report.
+pub(crate) fn is_stored(row: &Row<'_>, fetched: &Fetched) -> bool {
+    let talk = &row.talk;
+    let status = !talk.errors.is_empty() as u8;
+    let printed = fetched.errors.written_bytes();
+    fetched.stored.status == status
+        && fetched.output.written_bytes() == talk.output.as_slice()
+        && printed.strip_prefix(talk.report.as_slice()) == Some(talk.errors.as_slice())
+        && has_new_text(row, fetched)
+        && !fetched.stored.file.is_locked()
+}
+
+/// Whether a fetch had the expected results if its file fails or stops at a call, of `calls`
+/// without a mishap.
+pub(crate) fn is_failed(row: &Row<'_>, fetched: &Fetched, mishap: Mishap, calls: usize) -> bool {
+    let (call, stops) = match mishap {
+        Mishap::Fails(call) => (call, false),
+        Mishap::Stops(call) | Mishap::StopsAfter(call) => (call, true),
+        Mishap::None | Mishap::Locked => (1, false),
+    };
+    // The last call of a fetch that writes nothing removes the lockfile, and returns nothing.
+    let is_unlock = call == calls && !has_change(row);
+    let is_ended = if is_unlock {
+        is_ended_as_due(row, fetched)
+    } else {
+        fetched.ends_with(1, FILE_FAILED)
+    };
+    let is_silent = call > OPENING_CALLS || fetched.is_silent();
+    let may_be_locked = stops || is_unlock || mishap == Mishap::Locked;
+    is_ended
+        && is_silent
+        && is_whole(row, fetched)
+        && (may_be_locked || !fetched.stored.file.is_locked())
+}
+
+// Whether a fetch that writes nothing ended as the row says.
+fn is_ended_as_due(row: &Row<'_>, fetched: &Fetched) -> bool {
+    let printed = fetched.errors.written_bytes();
+    (fetched.stored.status == 1) != row.talk.errors.is_empty()
+        && printed.strip_prefix(row.talk.report.as_slice()) == Some(row.talk.errors.as_slice())
+}
+
+/// Whether a fetch had the expected results if an allocation is refused, or standard error fails.
+/// The status says so, and a part of the report is printed only after the new text.
+pub(crate) fn is_cut_short(row: &Row<'_>, fetched: &Fetched) -> bool {
+    let printed = fetched.errors.written_bytes();
+    let is_memory = is_memory_fault(fault_of(printed));
+    let is_report = !row.talk.report.is_empty() && row.talk.report.starts_with(printed);
+    let is_printed = if is_memory {
+        true
+    } else {
+        fetched.has_failed() && (is_report || row.talk.errors.starts_with(printed))
+    };
+    let is_after = is_memory || printed.is_empty() || !is_report || has_new_text(row, fetched);
+    fetched.stored.status == 1
+        && is_printed
+        && is_after
+        && is_whole(row, fetched)
+        && !fetched.stored.file.is_locked()
+}
+
+// Whether the file changes without a mishap.
+fn has_change(row: &Row<'_>) -> bool {
+    match row.new_file {
+        Some(text) => text != row.file,
+        None => false,
+    }
+}
+
+// Whether the file has had the old text, or the old text and then the whole new one.
+fn is_whole(row: &Row<'_>, fetched: &Fetched) -> bool {
+    match fetched.stored.file.states() {
+        [old] => old.as_slice() == row.file,
+        [old, new] => {
+            old.as_slice() == row.file && has_change(row) && Some(new.as_slice()) == row.new_file
+        }
+        _ => false,
+    }
+}
+
+// Whether the file has its expected text without a mishap, and was replaced only if that is another
+// text.
+fn has_new_text(row: &Row<'_>, fetched: &Fetched) -> bool {
+    let states = if has_change(row) { 2 } else { 1 };
+    is_whole(row, fetched) && fetched.stored.file.states().len() == states
+}

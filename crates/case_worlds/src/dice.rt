@@ -1,0 +1,28 @@
+//! Numbers that look random, the same for each run.
+
+/// Numbers from a seed.
+#[derive(Drop)]
+pub(crate) struct Dice {
+    state: usize,
+}
+
+impl Dice {
+    /// Starts at this seed.
+    pub(crate) fn new(seed: usize) -> Dice {
+        Dice { state: seed }
+    }
+
+    /// Returns the next number below this one, or 0 if it is 0.
+    pub(crate) fn roll(&mut self, sides: usize) -> usize {
+        self.state = self
+            .state
+            .wrapping_mul(6_364_136_223_846_793_005)
+            .wrapping_add(1_442_695_040_888_963_407);
+        (self.state >> 33).checked_rem(sides).unwrap_or(0)
+    }
+
+    /// Returns `true` once in `sides` times on average.
+    pub(crate) fn is_one_of(&mut self, sides: usize) -> bool {
+        self.roll(sides) == 0
+    }
+}

@@ -1,0 +1,205 @@
+//! Random replies that no server sent, requests of strangers, and objects.
+
+use crate::dice::Dice;
+use case_text::{packet, text_line};
+use gname::Format;
+use std::alloc::{AllocError, Global};
+
+/// Makes them of some ids.
+#[derive(Drop)]
+pub(crate) struct Forger {
+    pub(crate) alloc: Global,
+    pub(crate) format: Format,
+    pub(crate) dice: Dice,
+    /// The ids of objects.
+    pub(crate) ids: Vec<String>,
+    /// Whether the client knows the refs of the server, so that it waits for objects.
+    pub(crate) awaits_objects: bool,
+}
+
+impl Forger {
+    /// Appends one of the ids.
+    pub(crate) fn add_id(&mut self, text: &mut String) -> Result<(), AllocError> {
+        let place = self.dice.roll(self.ids.len());
+        match self.ids.get(place) {
+            Some(id) => text.push_str(id.as_str()),
+            None => Ok(()),
+        }
+    }
+
+    /// Appends an object, as a line of a pack.
+    pub(crate) fn add_entry(&mut self, text: &mut String) -> Result<(), AllocError> {
+        let is_tag = self.dice.is_one_of(5);
+        let count = if is_tag { 1 } else { self.dice.roll(3) };
+        text.push(if is_tag { 't' } else { 'c' })?;
+        for _ in 0..=count {
+            text.push(' ')?;
+            self.add_id(text)?;
+        }
+        Ok(())
+    }
+
+    /// Appends a reply, which mostly has the awaited form.
+    pub(crate) fn add_reply(&mut self, bytes: &mut Vec<u8>) -> Result<(), AllocError> {
+        if self.dice.is_one_of(8) {
+            self.add_noise(bytes)?;
+        } else if self.awaits_objects {
+            self.add_reply_of_objects(bytes)?;
+        } else {
+            self.add_reply_of_refs(bytes)?;
+        }
+        self.spoil(bytes);
+        Ok(())
+    }
+
+    fn add_reply_of_refs(&mut self, bytes: &mut Vec<u8>) -> Result<(), AllocError> {
+        let mut line = String::new(self.alloc);
+        self.add_ref(&mut line)?;
+        self.add_lines(&[line.as_str(), "0000"], bytes)
+    }
+
+    // Appends an id, and the name of a ref.
+    fn add_ref(&mut self, line: &mut String) -> Result<(), AllocError> {
+        self.add_id(line)?;
+        let name = if self.dice.is_one_of(3) {
+            " refs/heads/x"
+        } else {
+            " refs/heads/main"
+        };
+        line.push_str(name)
+    }
+
+    fn add_reply_of_objects(&mut self, bytes: &mut Vec<u8>) -> Result<(), AllocError> {
+        match self.dice.roll(4) {
+            0 => self.add_pack(bytes)?,
+            1 => self.add_answer(bytes)?,
+            _ => {
+                self.add_lines(&["acknowledgments", "ready", "0001"], bytes)?;
+                self.add_pack(bytes)?;
+            }
+        }
+        self.add_lines(&["0000"], bytes)
+    }
+
+    // Appends an acknowledgment, or the line that there is none.
+    fn add_answer(&mut self, bytes: &mut Vec<u8>) -> Result<(), AllocError> {
+        self.add_lines(&["acknowledgments"], bytes)?;
+        if self.dice.is_one_of(2) {
+            self.add_lines(&["NAK"], bytes)
+        } else {
+            self.add_named("ACK ", bytes)
+        }
+    }
+
+    // Appends a pack, in its channel.
+    fn add_pack(&mut self, bytes: &mut Vec<u8>) -> Result<(), AllocError> {
+        let mut pack = String::new(self.alloc);
+        self.add_objects(&mut pack)?;
+        self.add_lines(&["packfile"], bytes)?;
+        match packet(self.alloc, b"\x01", pack.as_bytes(), b"") {
+            Ok(piece) => bytes.extend_from_slice(piece.as_slice()),
+            Err(_) => Err(AllocError),
+        }
+    }
+
+    // Appends the text of a pack.
+    fn add_objects(&mut self, pack: &mut String) -> Result<(), AllocError> {
+        let count = self.dice.roll(5);
+        pack.push_str("GPK1\n")?;
+        for _ in 0..count {
+            self.add_entry(pack)?;
+            pack.push('\n')?;
+        }
+        write!(pack, "end {count}\n")
+    }
+
+    /// Appends a stranger's request.
+    pub(crate) fn add_request(&mut self, bytes: &mut Vec<u8>) -> Result<(), AllocError> {
+        match self.dice.roll(3) {
+            0 => self.add_noise(bytes)?,
+            1 => self.add_request_of_refs(bytes)?,
+            _ => self.add_request_of_objects(bytes)?,
+        }
+        self.spoil(bytes);
+        Ok(())
+    }
+
+    fn add_request_of_refs(&mut self, bytes: &mut Vec<u8>) -> Result<(), AllocError> {
+        self.add_command("command=ls-refs", bytes)?;
+        self.add_lines(&["peel", "symrefs", "0000", "0000"], bytes)
+    }
+
+    fn add_request_of_objects(&mut self, bytes: &mut Vec<u8>) -> Result<(), AllocError> {
+        self.add_command("command=fetch", bytes)?;
+        self.add_named("want ", bytes)?;
+        if self.dice.is_one_of(2) {
+            self.add_named("have ", bytes)?;
+        }
+        if self.dice.is_one_of(2) {
+            self.add_lines(&["done"], bytes)?;
+        }
+        self.add_lines(&["0000", "0000"], bytes)
+    }
+
+    fn add_command(&self, command: &str, bytes: &mut Vec<u8>) -> Result<(), AllocError> {
+        match self.format {
+            Format::Sha1 => self.add_lines(&[command, "0001"], bytes),
+            Format::Sha256 => self.add_lines(&[command, "object-format=sha256", "0001"], bytes),
+        }
+    }
+
+    // Appends a word and an id.
+    fn add_named(&mut self, word: &str, bytes: &mut Vec<u8>) -> Result<(), AllocError> {
+        let mut line = String::from_str(self.alloc, word)?;
+        self.add_id(&mut line)?;
+        self.add_lines(&[line.as_str()], bytes)
+    }
+
+    // Appends packets of lines, and marks.
+    fn add_lines(&self, lines: &[&str], bytes: &mut Vec<u8>) -> Result<(), AllocError> {
+        for line in lines {
+            self.add_packet(line, bytes)?;
+        }
+        Ok(())
+    }
+
+    fn add_packet(&self, line: &str, bytes: &mut Vec<u8>) -> Result<(), AllocError> {
+        match text_line(self.alloc, line.as_bytes()) {
+            Ok(line) => bytes.extend_from_slice(line.as_slice()),
+            Err(_) => Err(AllocError),
+        }
+    }
+
+    fn add_noise(&mut self, bytes: &mut Vec<u8>) -> Result<(), AllocError> {
+        for _ in 0..self.dice.roll(40) {
+            bytes.push(self.byte())?;
+        }
+        Ok(())
+    }
+
+    fn byte(&mut self) -> u8 {
+        let bits = [1u8, 2, 4, 8, 16, 32, 64, 128];
+        let mut byte = 0u8;
+        for bit in bits {
+            if self.dice.is_one_of(2) {
+                byte |= bit;
+            }
+        }
+        byte
+    }
+
+    // Changes a byte, or cuts the end off, of one in six.
+    fn spoil(&mut self, bytes: &mut Vec<u8>) {
+        let place = self.dice.roll(bytes.len());
+        match self.dice.roll(12) {
+            0 => bytes.truncate(place),
+            1 => {
+                let changed = self.byte();
+                if let Some(byte) = bytes.get_mut(place) {
+                    *byte = changed;
+                }
+            }
+            _ => {}
+        }
+    }
+}

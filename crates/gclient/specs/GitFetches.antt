@@ -1,0 +1,19 @@
+-- A client's conversation over the `git://` transport: the first line, and then what a conversation is without it
+-- (gitprotocol-pack(5), "Git Transport").
+use Rattle.std.specs.Prelude.{◌≡◌, ◌⊎◌, Result, Err}
+use Rattle.gpkt.specs.Sending.{Input, Output}
+use Rattle.ghello.specs.Hello.{Hello}
+use Rattle.gobject.specs.Packs.{Indexes, IndexFails}
+use Rattle.gclientrepo.specs.Repos.{RepoState}
+use Rattle.gclient.specs.Conversations.{FetchesOver, Start}
+use Rattle.gclient.specs.declared.fault.FetchFault.{FetchFault}
+use Rattle.gclient.specs.declared.fault.FetchFault.TheVariants as fetch
+use Rattle.gclient.specs.declared.fetched.Fetched.{Fetched}
+use Rattle.gclient.specs.Greetings.{CannotGreet, HasGreeted}
+
+module _ {A : Type 0} (indexes : Indexes A) (index_fails : IndexFails) (start : Start A) (hello : Hello) where
+  -- what a conversation answers, and what it did
+  abbrev pub FetchesGit : Input → Output → RepoState A → Result (Fetched A) (FetchFault A) → Type 0
+  FetchesGit input output new result =
+      HasGreeted hello output (λ rest. FetchesOver indexes index_fails start input rest new result)
+      ⊎ (CannotGreet hello input output × (result ≡ Err fetch.WriteFailed) × (new ≡ start.repo))

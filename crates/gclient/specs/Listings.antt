@@ -1,0 +1,117 @@
+-- Listing the refs of a server: what is read, and what is written for it (gitprotocol-v2(5), "ls-refs").
+use Rattle.std.specs.Prelude.{◌≡◌, ◌⊎◌, false, List, ◌++◌, Option, Some, Result, Ok, Err}
+use Rattle.gname.specs.declared.formats.Format.{Format}
+use Rattle.gpkt.specs.PacketReading.{ReadsPackets}
+use Rattle.gpkt.specs.Packets.{Bytes, Packet}
+use Rattle.gpkt.specs.Sending.{Input, Output, IsUnread, IsUnwritten, IsUp, Passes, SendsAndFails}
+use Rattle.ggrammar.specs.Capabilities.{Capability}
+use Rattle.ggrammar.specs.MessageReading.{IsReadFailure, ReadsRefused}
+use Rattle.ggrammar.specs.declared.ends.Ends.TheVariants.{Plain}
+use Rattle.ggrammar.specs.declared.fault.MessageFault.{MessageFault}
+use Rattle.ghello.specs.Adverts as advert
+use Rattle.ghello.specs.Hello.{Hello}
+use Rattle.ghello.specs.Offers.{check_fault}
+use Rattle.glsreply.specs.LsReplies as ls
+use Rattle.grequest.specs.declared.flag.LsRefsFlag.TheVariants.{Unborn}
+use Rattle.grequest.specs.Asked.{LsRefsAsked, Empty, Ls, ls_with}
+use Rattle.gsession.specs.Sessions.{tells_unborn}
+use Rattle.gsession.specs.declared.fault.ClientFault.TheVariants as client
+use Rattle.gclient.specs.Conversations.{Advertises, FailsToSend, IsLeft, RefusesToRead, request_bytes}
+use Rattle.gpkt.specs.Sending.{rest_of}
+use Rattle.gclient.specs.declared.fault.FetchFault.{FetchFault}
+use Rattle.gclient.specs.declared.fault.FetchFault.TheVariants as fetch
+use Rattle.gclient.specs.Greetings.{CannotGreet, HasGreeted}
+
+-- ---- what is written
+
+-- what is asked: for an unborn HEAD too exactly where the server offers to report it
+abbrev pub asked_of : List Capability → LsRefsAsked → LsRefsAsked
+asked_of capabilities asked = ls_with asked Unborn (tells_unborn capabilities)
+
+-- the request
+abbrev pub asking_bytes : Format → List Capability → LsRefsAsked → Bytes
+asking_bytes format capabilities asked = request_bytes format (Ls (asked_of capabilities asked))
+
+-- the lone flush that ends the conversation
+abbrev pub ending_bytes : Format → Bytes
+ending_bytes format = request_bytes format Empty
+
+-- ---- what is read
+
+-- The advertisement of a server with which a client of this format can go on is read, and then this holds of the rest
+-- of the input. There is one such format at most: the one that the advertisement names.
+pub record HasHeard (input : Input) (format : Format) (capabilities : List Capability) (Rest : Input → Type 0)
+    : Type 0 where
+  pub packets : List Packet
+  pub advertises : Advertises format packets capabilities
+  pub between : Option Bytes
+  pub read : ReadsPackets (record { old = input.read.old; new = between }) packets
+  pub rest : Rest (rest_of input between)
+
+-- an advertisement is read, and a client of no format can go on with the server
+pub record FitsNone (input : Input) (cause : MessageFault) : Type 0 where
+  pub packets : List Packet
+  pub capabilities : List Capability
+  pub lines : ReadsPackets input.read packets
+  pub says : advert.Says packets capabilities
+  pub why : (format : Format) → check_fault format capabilities ≡ Some cause.why
+  pub frame : cause.frame ≡ 0
+  pub up : IsUp input
+
+-- the reply in this format is read, and nothing after it
+pub record ReadsReply (format : Format) (input : Input) (reply : ls.LsReply) : Type 0 where
+  pub packets : List Packet
+  pub lines : ReadsPackets input.read packets
+  pub says : ls.Says format Plain packets reply
+  pub up : IsUp input
+
+-- the reply is refused as it is read, at the first packet that does not fit; the fault is the source's exactly where
+-- that is down
+pub record RefusesReply (format : Format) (input : Input) (cause : MessageFault) : Type 0 where
+  pub front : List Packet
+  pub refused : ReadsRefused (ls.judge format Plain) ls.brings front input.read cause
+  pub source : IsReadFailure false input.is_down cause.why
+
+-- ---- after the first line
+
+module _ (asked : LsRefsAsked) where
+  -- the advertisement and the reply are read, and the request and the lone flush are passed on
+  pub record HasListed (input : Input) (output : Output) (reply : ls.LsReply) : Type 0 where
+    pub format : Format
+    pub capabilities : List Capability
+    pub read : HasHeard input format capabilities (λ rest. ReadsReply format rest reply)
+    pub passed : Passes output (asking_bytes format capabilities asked ++ ending_bytes format)
+
+  -- Why nothing is listed. Each fault comes where all went well before it.
+  pub data FailsToList {A : Type 0} (input : Input) (output : Output) : FetchFault A → Type 0 where
+    -- out of memory for the reader's buffer, and nothing is read
+    no_buffer : IsUnread input → IsUnwritten output → FailsToList input output fetch.NoBuffer
+    -- the advertisement is refused as it is read, or a client can't go on with the server
+    cannot_hear : (cause : MessageFault) → RefusesToRead input cause ⊎ FitsNone input cause → IsUnwritten output
+        → FailsToList input output (fetch.Client (client.Message cause))
+    -- the request can't be written, or not be passed on
+    cannot_ask : (format : Format) (capabilities : List Capability) → HasHeard input format capabilities IsLeft
+        → FailsToSend output (asking_bytes format capabilities asked) → FailsToList input output fetch.WriteFailed
+    -- the reply is refused
+    cannot_take : (format : Format) (capabilities : List Capability) (cause : MessageFault)
+        → HasHeard input format capabilities (λ rest. RefusesReply format rest cause)
+        → Passes output (asking_bytes format capabilities asked)
+        → FailsToList input output (fetch.Client (client.Message cause))
+    -- it is taken, and the lone flush can't be written, or not be passed on
+    cannot_end : (format : Format) (capabilities : List Capability) (reply : ls.LsReply)
+        → HasHeard input format capabilities (λ rest. ReadsReply format rest reply)
+        → SendsAndFails output (asking_bytes format capabilities asked) (ending_bytes format)
+        → FailsToList input output fetch.WriteFailed
+
+  -- what listing answers, and what it did
+  abbrev pub Lists : {A : Type 0} → Input → Output → Result ls.LsReply (FetchFault A) → Type 0
+  Lists input output (Ok reply) = HasListed input output reply
+  Lists input output (Err fault) = FailsToList input output fault
+
+  -- ---- the whole
+
+  -- the same with the first line before it
+  abbrev pub ListsGit : {A : Type 0} → Hello → Input → Output → Result ls.LsReply (FetchFault A) → Type 0
+  ListsGit hello input output result =
+      HasGreeted hello output (λ rest. Lists input rest result)
+      ⊎ (CannotGreet hello input output × (result ≡ Err fetch.WriteFailed))

@@ -1,0 +1,83 @@
+//! A client's conversation over the `git://` transport, starting at its first line.
+
+ghost use Rattle.std.specs.Prelude.{◌≡◌, ◌≤◌, ◌+◌, ℕ, IfOk, OnErr};
+ghost use Rattle.gpkt.specs.Sending.{input_of, output_of};
+ghost use Rattle.gdag.specs.Reach.{Grows};
+ghost use Rattle.gdag.specs.Walks.{CountsReached};
+ghost use Rattle.gclientrepo.specs.Repos.{IsConnectedRepo};
+ghost use Rattle.gclientrepo.specs.Settling.{Settles};
+ghost use Rattle.gsession.specs.Sessions.{tips_of};
+ghost use Rattle.gclient.specs.Conversations.{start_for};
+ghost use Rattle.gclient.specs.GitFetches.{FetchesGit};
+
+use crate::conversation::fetch_over_with;
+use crate::fault::FetchFault;
+use crate::fetched::Fetched;
+use crate::greeting::greet;
+use gclientrepo::Repo;
+use gfetchreply::PackLimit;
+use ggrammar::Ends;
+use ggraph::Indexer;
+use ghello::Hello;
+use gpkt::{Sink, Source};
+use grefs::Spec;
+use gsession::{FetchPlan, PackOptions};
+use std::alloc::Allocator;
+
+/// The parameters of a fetch over a `git://` connection.
+#[derive(Clone, Copy)]
+pub struct GitFetch<'a, A: Allocator + Copy> {
+    /// The first line, which names the requested path.
+    pub hello: &'a Hello<A>,
+    /// The refspecs, at most 16. If several lead to one local ref, the first counts.
+    pub specs: &'a [Spec<A>],
+    /// The maximum size of a pack in bytes.
+    pub limit: PackLimit,
+    /// How each reply ends.
+    pub ends: Ends,
+    /// The options with which packs are requested.
+    pub options: PackOptions,
+}
+
+/// Fetches by refspecs from a server (gitprotocol-pack(5), "Git Transport"). Writes the first line,
+/// which names the requested path, flushes it, and continues as [`fetch_over_with`].
+///
+/// Fails with 27 if the first line can't be sent; then nothing is read, and the repository is
+/// unchanged. Otherwise fails as `fetch_over_with` does. After every fault the refs are unchanged,
+/// and the graph has only gained objects.
+pub fn fetch_git<S: Source, W: Sink, A: Allocator + Copy, K: Indexer<A>>(
+    repo: &mut Repo<A>,
+    source: &mut S,
+    sink: &mut W,
+    indexer: &K,
+    fetch: &GitFetch<'_, A>,
+) -> Result<Fetched<A>, FetchFault<A>>
+    ensures fetches { FetchesGit (K.indexes indexer.now) (K.index_fails indexer.now)
+        (start_for repo.old fetch.now.specs.now fetch.now.limit fetch.now.ends fetch.now.options)
+        fetch.now.hello.now
+        (input_of S.remaining S.is_down source.old source.new)
+        (output_of W.contents W.passed_on W.is_down sink.old sink.new) repo.new result }
+    ensures settled { IfOk result (λ fetched. Settles repo.new.graph.entries repo.old.refs
+        fetched.settled.asks fetched.settled.updates.items repo.new.refs) }
+    ensures refs { OnErr result (repo.new.refs ≡ repo.old.refs) }
+    ensures grows { Grows repo.old.graph.entries repo.new.graph.entries }
+    ensures connected_refs { IsConnectedRepo repo.new }
+    ensures bound { IfOk result (λ fetched. (held parents : ℕ)
+        → CountsReached repo.old.graph.entries (tips_of repo.old) held parents
+        → fetched.requests ≤ held + 1) }
+    ensures source_loans { S.loans source.new ≡ S.loans source.old }
+    ensures sink_loans { W.loans sink.new ≡ W.loans sink.old }
+{
+    // Laws.
+    repo.laws();
+    let plan = FetchPlan {
+        specs: fetch.specs,
+        limit: fetch.limit,
+        ends: fetch.ends,
+        options: fetch.options,
+    };
+    match greet(fetch.hello, sink) {
+        Ok(()) => fetch_over_with(repo, source, sink, indexer, &plan),
+        Err(_) => Err(FetchFault::WriteFailed),
+    }
+}

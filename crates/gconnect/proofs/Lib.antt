@@ -1,2 +1,0 @@
-mod ErrorLemmas
-mod ListingLemmas

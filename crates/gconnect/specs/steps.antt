@@ -1,2 +1,0 @@
--- The steps: what only private functions and proofs speak of.
-pub mod Listings

@@ -1,0 +1,17 @@
+//! Other names for items of this library.
+
+ghost use Rattle.std.specs.Prelude.{◌≡◌};
+ghost use Rattle.gobject.specs.Objects.{position_of};
+
+use crate::graph::Graph;
+use gname::Oid;
+use std::alloc::Allocator;
+
+impl<A: Allocator + Copy> Graph<A> {
+    /// [`Graph::position`] by another name.
+    pub fn number(&self, id: &Oid) -> Option<usize>
+        ensures { result ≡ position_of self.now.entries id.now }
+    {
+        self.position(id)
+    }
+}

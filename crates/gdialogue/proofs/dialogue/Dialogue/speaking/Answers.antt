@@ -1,7 +1,0 @@
-use Rattle.gdialogue.proofs.Steps.{opens_with}
-use Rattle.gdialogue.proofs.dialogue.Dialogue.speaking.Goals as goal
-
-pub returns-clause-holds : goal.returns-clause-holds
-returns-clause-holds g c =
-    opens_with g.S.Side.judge g.S.Side.brings g.S.Side.opens g.S.Side.answers g.S.Side.refuses g.M.Message.judge g.M.Message.brings g.M.Message.holds g.M.Message.left g.R.Reply.may
-    c.args.side c.args.reply

@@ -1,0 +1,3 @@
+//! Other names for items of this library.
+
+pub use crate::fault::MessageFault as MsgFault;

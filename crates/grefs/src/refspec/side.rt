@@ -1,0 +1,80 @@
+//! The sides of a refspec.
+
+ghost use Rattle.std.specs.Prelude.{◌≡◌, ◌<◌, ◌↔◌, ◌++◌, IsTrue, MatchOption, length};
+ghost use Rattle.gname.specs.Names.{IsRefName, Owns, max_name, name_fault};
+ghost use Rattle.grefs.specs.RefLists.{IsBelowRefs};
+ghost use Rattle.grefs.specs.Refspecs.{IsStem};
+
+use arrayvec::ArrayVec;
+use gname::laws::names_are_clean;
+use gname::{MAX_NAME, NameFault, RefName};
+use std::alloc::Allocator;
+
+/// Whether a text is a ref name.
+pub(crate) fn is_name(text: &[u8]) -> bool
+    ensures { IsTrue result ↔ IsRefName text.now }
+{
+    RefName::check(text).is_ok()
+}
+
+/// Whether a text is a ref name below `refs/`.
+pub(crate) fn is_below_refs(text: &[u8]) -> bool
+    ensures { IsTrue result ↔ IsBelowRefs text.now }
+{
+    text.starts_with(b"refs/") && is_name(text)
+}
+
+/// Whether a text may precede the `*` of a pattern.
+pub(crate) fn is_stem(text: &[u8]) -> bool
+    ensures { IsTrue result ↔ IsStem text.now }
+{
+    // Laws.
+    names_are_clean();
+    match join(text, b"x") {
+        Some(name) => text.ends_with(b"/") && is_below_refs(name.as_slice()),
+        None => false,
+    }
+}
+
+/// Returns the two texts joined, or `None` if they have more than `MAX_NAME` bytes.
+pub(crate) fn join(front: &[u8], back: &[u8]) -> Option<ArrayVec<u8, MAX_NAME>>
+    ensures { MatchOption result (max_name < length (front.now ++ back.now))
+        (λ text. text.items ≡ front.now ++ back.now) }
+{
+    let mut text = ArrayVec::new();
+    if text.try_extend_from_slice(front).is_err() {
+        return None;
+    }
+    if text.try_extend_from_slice(back).is_err() {
+        return None;
+    }
+    Some(text)
+}
+
+/// Whether the two texts joined are a ref name.
+pub(crate) fn are_name(front: &[u8], back: &[u8]) -> bool
+    ensures { IsTrue result ↔ IsRefName (front.now ++ back.now) }
+{
+    // Laws.
+    names_are_clean();
+    match join(front, back) {
+        Some(text) => is_name(text.as_slice()),
+        None => false,
+    }
+}
+
+/// Returns the ref name of the two texts joined.
+///
+/// Fails with the first fault of the joined text.
+pub(crate) fn name_of<A: Allocator + Copy>(
+    alloc: A,
+    front: &[u8],
+    back: &[u8],
+) -> Result<RefName<A>, NameFault>
+    ensures { Owns name_fault (front.now ++ back.now) result }
+{
+    match join(front, back) {
+        Some(text) => RefName::new(alloc, text.as_slice()),
+        None => Err(NameFault::TooLong),
+    }
+}

@@ -1,0 +1,168 @@
+//! Refspecs, and what they do with the names of refs.
+
+ghost use Rattle.std.specs.Prelude.{◌≡◌, ◌↔◌, IfOk, IfSome, IsTrue, MatchResult, true};
+ghost use Rattle.gname.specs.Names.{IsRefName, head_name};
+ghost use Rattle.grefs.specs.RefLists.{IsBelowRefs};
+ghost use Rattle.grefs.specs.declared.refspec.fault.SpecFault.TheVariants.{Memory};
+ghost use Rattle.grefs.specs.Refspecs.{AreSides, FindsDestination, IsRefspec, IsSpec, Reads, destination_of, matches};
+
+use crate::refspec::fault::SpecFault;
+use crate::refspec::parse::read_spec;
+use crate::refspec::side::{are_name, name_of};
+use gname::laws::names_are_clean;
+use gname::{HEAD, NameFault, Prefix, RefName};
+use std::alloc::{AllocError, Allocator, Global};
+use std::marker::Model;
+
+/// A refspec: a source and a destination. Each is a ref name, or both are patterns, whose `*`
+/// matches the rest of a name.
+#[derive(Debug, Drop)]
+pub struct Spec<A: Allocator + Copy = Global> {
+    forced: bool,
+    pattern: bool,
+    // For a pattern, the part before its `*`.
+    source: Prefix<A>,
+    destination: Prefix<A>,
+}
+
+impl<A: Allocator + Copy> Model for Spec<A> {
+    ghost use Rattle.grefs.specs.Refspecs.{Refspec, AreSides};
+
+    ghost Value = { Refspec };
+
+    ghost view = { λ it. record { forced = it.forced; pattern = it.pattern; source = it.source; destination = it.destination } };
+
+    ghost invariant = { λ it. AreSides it.pattern it.source it.destination };
+}
+
+impl<A: Allocator + Copy> Spec<A> {
+    /// Reads a refspec: an optional `+`, a source, a `:` and a destination. Either the source is a
+    /// ref name and the destination is one that begins with `refs/`. Or both end in `/*`, and each
+    /// is a ref name that begins with `refs/` if `x` replaces the `*`.
+    ///
+    /// Fails with `BadSpec` if the text is not a refspec. Fails with `Memory` only if it is one.
+    pub fn parse(alloc: A, text: &[u8]) -> Result<Spec<A>, SpecFault>
+        ensures { Reads (IsSpec text.now) result }
+    {
+        read_spec(alloc, text)
+    }
+
+    /// Returns the refspec with these sides.
+    pub(crate) fn of_sides(
+        alloc: A,
+        forced: bool,
+        pattern: bool,
+        source: &[u8],
+        destination: &[u8],
+    ) -> Result<Spec<A>, SpecFault>
+        requires { AreSides pattern source.now destination.now }
+        ensures { MatchResult result
+            (λ spec. spec ≡ record {
+              forced = forced;
+              pattern = pattern;
+              source = source.now;
+              destination = destination.now;
+            }) (λ fault. fault ≡ Memory) }
+    {
+        let Ok(source) = Prefix::new(alloc, source) else {
+            return Err(SpecFault::Memory);
+        };
+        let Ok(destination) = Prefix::new(alloc, destination) else {
+            return Err(SpecFault::Memory);
+        };
+        Ok(Spec {
+            forced,
+            pattern,
+            source,
+            destination,
+        })
+    }
+
+    /// Returns the same refspec in another allocator. Fails only if out of memory.
+    pub fn copy_in<B: Allocator + Copy>(&self, alloc: B) -> Result<Spec<B>, SpecFault>
+        ensures { MatchResult result (λ copy. copy ≡ self.now) (λ fault. fault ≡ Memory) }
+    {
+        Spec::of_sides(
+            alloc,
+            self.forced,
+            self.pattern,
+            self.source.as_bytes(),
+            self.destination.as_bytes(),
+        )
+    }
+
+    /// Whether it forces updates, so that an update need not be a fast-forward: it has a `+`.
+    pub fn is_forced(&self) -> bool
+        ensures forced { result ≡ self.now.forced }
+        ensures spec { IsRefspec self.now }
+    {
+        self.forced
+    }
+
+    /// Whether the source is `HEAD`.
+    pub fn is_head(&self) -> bool
+        ensures { IsTrue result ↔ (self.now.source ≡ head_name) }
+    {
+        self.source.as_bytes() == HEAD.as_slice()
+    }
+
+    /// Returns the prefix of all names that the source matches: the source, or the part before the
+    /// `*` of a pattern.
+    pub fn prefix(&self) -> &Prefix<A>
+        ensures { result.now ≡ self.now.source }
+    {
+        &self.source
+    }
+
+    /// Whether the source matches a name. A source that is a name matches only that name. A pattern
+    /// matches each name that begins with the part before its `*`, and has at least one more byte.
+    pub fn matches<B: Allocator + Copy>(&self, name: &RefName<B>) -> bool
+        ensures { result ≡ matches self.now name.now }
+    {
+        let name = name.as_bytes();
+        let source = self.source.as_bytes();
+        if self.pattern {
+            name.starts_with(source) && source.len() < name.len()
+        } else {
+            name == source
+        }
+    }
+
+    /// Whether it can map a name to its destination: the destination is a ref name, or the source
+    /// does not match the name. It does not allocate.
+    pub fn can_take<B: Allocator + Copy>(&self, name: &RefName<B>) -> bool
+        ensures { IsTrue result ↔ (matches self.now name.now ≡ true
+            → IsRefName (destination_of self.now name.now)) }
+    {
+        // Laws.
+        names_are_clean();
+        if !self.matches(name) {
+            return true;
+        }
+        let rest = &name.as_bytes()[self.source.as_bytes().len()..];
+        are_name(self.destination.as_bytes(), rest)
+    }
+
+    /// Returns the destination of a name. For a pattern, the rest of the name replaces the `*`.
+    /// Returns `None` if the source does not match the name. A destination is below `refs/`.
+    ///
+    /// Fails with the destination's first fault as a ref name. Fails with `Memory` only if it is a
+    /// ref name.
+    pub fn destination<B: Allocator + Copy, C: Allocator + Copy>(
+        &self,
+        alloc: C,
+        name: &RefName<B>,
+    ) -> Result<Option<RefName<C>>, NameFault>
+        ensures finds { FindsDestination self.now name.now result }
+        ensures below { IfOk result (λ found. IfSome found IsBelowRefs) }
+    {
+        // Laws.
+        names_are_clean();
+        if !self.matches(name) {
+            return Ok(None);
+        }
+        let rest = &name.as_bytes()[self.source.as_bytes().len()..];
+        let destination = name_of(alloc, self.destination.as_bytes(), rest)?;
+        Ok(Some(destination))
+    }
+}

@@ -1,6 +1,0 @@
-use Rattle.std.proofs.Common.{inl, ◌++◌}
-use Rattle.grefspec.proofs.SpecLemmas.{too_long_name}
-use Rattle.grefspec.proofs.side.name_of.Goals as goal
-
-pub returns-in-None : goal.returns-in-None
-returns-in-None g c = inl (too_long_name (c.args.front.now ++ c.args.back.now) c.in-None.ensures)

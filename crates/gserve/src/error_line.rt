@@ -1,0 +1,48 @@
+//! An error packet (gitprotocol-pack(5), "error-line"), written and flushed.
+
+ghost use Rattle.std.specs.Prelude.{◌≡◌, ◌≤◌, false, length};
+ghost use Rattle.gpkt.specs.Sending.{output_of};
+ghost use Rattle.ggrammar.specs.Writing.{WritesPackets};
+ghost use Rattle.gserve.specs.Refusals.{max_err_text};
+ghost use Rattle.gserve.specs.steps.Connections.{PassesPackets};
+ghost use Rattle.gserve.specs.GitConnections.{error_packets};
+
+use ggrammar::laws::writes_packets;
+use gpkt::laws::writes_join;
+use gpkt::{PacketWriter, Sink, WriteFault};
+
+/// Writes an error packet with a text of at most 128 bytes, and flushes it.
+pub(crate) fn send_error<W: Sink>(text: &[u8], sink: &mut W) -> Result<(), WriteFault>
+    requires { length text.now ≤ max_err_text }
+    ensures sent { PassesPackets (output_of W.contents W.passed_on W.is_down sink.old sink.new)
+        result (error_packets text.now) }
+    ensures loans { W.loans sink.new ≡ W.loans sink.old }
+{
+    let mut writer = PacketWriter::new(sink);
+    let sent = send_to(text, &mut writer);
+    let _sink = writer.into_inner();
+    sent
+}
+
+fn send_to<W: Sink>(text: &[u8], writer: &mut PacketWriter<W>) -> Result<(), WriteFault>
+    requires well { writer.old.failed ≡ false }
+    requires short { length text.now ≤ max_err_text }
+    ensures sent { PassesPackets (output_of W.contents W.passed_on W.is_down writer.old.sink
+        writer.new.sink) result (error_packets text.now) }
+    ensures loans { W.loans writer.new.sink ≡ W.loans writer.old.sink }
+{
+    // Laws.
+    writes_join::<W>();
+    write_error(text, writer)?;
+    writer.push()
+}
+
+fn write_error<W: Sink>(text: &[u8], writer: &mut PacketWriter<W>) -> Result<(), WriteFault>
+    requires { length text.now ≤ max_err_text }
+    ensures { WritesPackets W.contents W.passed_on W.is_down W.loans writer.old writer.new result
+        (error_packets text.now) }
+{
+    // Laws.
+    writes_packets::<W>();
+    writer.text2(b"ERR ", text)
+}

@@ -1,0 +1,137 @@
+//! A served connection of the `git://` transport, starting at its first line.
+
+ghost use Rattle.std.specs.Prelude.{◌≡◌, ◌↔◌, IsTrue};
+ghost use Rattle.gpkt.specs.Sending.{input_of, output_of};
+ghost use Rattle.ganswer.specs.declared.one_pack.Packing.TheVariants.{Unasked};
+ghost use Rattle.gserve.specs.GitConnections.{Hears, ReportsGitPacking, ServesGit, elsewhere_packets};
+ghost use Rattle.gserve.specs.Refusals.{err_packets};
+ghost use Rattle.gserve.specs.steps.Connections.{PassesPackets};
+
+use crate::connection::{Served, serve};
+use crate::error_line::send_error;
+use crate::refusal::{MAX_ERR_TEXT, err_text};
+use ganswer::{OnePack, ServeFault, Server};
+use ggrammar::Ends;
+use ggraph::Packer;
+use ghello::{Hello, read_hello};
+use gpkt::{PacketBuffer, PacketReader, Sink, Source, WriteFault};
+use std::alloc::Allocator;
+
+/// A repository served at a path, as git-daemon(1) exports one.
+#[derive(Clone, Copy)]
+pub struct Export<'a, A: Allocator + Copy> {
+    /// The repository.
+    pub server: &'a Server<A>,
+    /// The path that a client has to ask for, byte for byte.
+    pub path: &'a [u8],
+    /// How each reply ends.
+    pub ends: Ends,
+}
+
+/// How a `git://` connection ended.
+#[derive(Debug, Drop)]
+pub enum GitEnd {
+    /// The client asked for the served path: the number of replies, and how the connection ended.
+    Served(Served),
+    /// The client asked for another path. Only the packet that says so was written, and it was
+    /// flushed.
+    Elsewhere,
+    /// The first line was refused, or could not be read, out of memory. Only the packet that
+    /// reports this was written, and it was flushed.
+    Refused(ServeFault),
+    /// 27: the sink failed at one of these packets. A prefix of it was written.
+    WriteFailed,
+}
+
+/// Serves one connection (gitprotocol-pack(5), "Git Transport"). Reads the client's first line, and
+/// continues as [`serve`] if it asks for the served path. Compares the path byte by byte, and
+/// ignores the host.
+///
+/// If the line asks for another path or is refused, an `ERR` packet replaces the advertisement, and
+/// nothing after the line is read. If it is out of memory before the line, nothing is read, and the
+/// packet says so.
+///
+/// The packer is asked only if the path is served. Its fault is reported as [`serve`] reports it.
+pub fn serve_git<S: Source, W: Sink, A: Allocator + Copy, K: Packer<A>>(
+    export: &Export<'_, A>,
+    packer: &mut OnePack<'_, K>,
+    source: &mut S,
+    sink: &mut W,
+) -> GitEnd
+    requires unasked { packer.old.answered ≡ Unasked }
+    ensures serves { ServesGit export.now.server.now (K.packs packer.old.packer)
+        (K.pack_fails packer.old.packer) export.now.path.now export.now.ends
+        (input_of S.remaining S.is_down source.old source.new)
+        (output_of W.contents W.passed_on W.is_down sink.old sink.new) result }
+    ensures packing { ReportsGitPacking result packer.new.answered }
+    ensures packer { packer.new.packer ≡ packer.old.packer }
+    ensures source_loans { S.loans source.new ≡ S.loans source.old }
+    ensures sink_loans { W.loans sink.new ≡ W.loans sink.old }
+{
+    match hear(source, export.server.graph().allocator()) {
+        Ok(hello) if asks_for(export.path, &hello) => {
+            GitEnd::Served(serve(export.server, packer, export.ends, source, sink))
+        }
+        Ok(_) => match send_away(sink) {
+            Ok(()) => GitEnd::Elsewhere,
+            Err(_) => GitEnd::WriteFailed,
+        },
+        Err(fault) => match report(&fault, sink) {
+            Ok(()) => GitEnd::Refused(fault),
+            Err(_) => GitEnd::WriteFailed,
+        },
+    }
+}
+
+/// Reads the first line of a connection (gitprotocol-pack(5), "Git Transport"), and nothing after
+/// it.
+///
+/// Fails with 28 if out of memory for the reader's buffer; nothing is read then. Fails with 20 to
+/// 25 if the packet is refused, 54 if the input ends before it, 41 or 42 if it has another form,
+/// and 53 if out of memory to keep it.
+pub fn hear<S: Source, A: Allocator + Copy>(
+    source: &mut S,
+    alloc: A,
+) -> Result<Hello<A>, ServeFault>
+    ensures hears { Hears (input_of S.remaining S.is_down source.old source.new) result }
+    ensures loans { S.loans source.new ≡ S.loans source.old }
+{
+    let buffer = match PacketBuffer::new(alloc) {
+        Ok(buffer) => buffer,
+        Err(fault) => return Err(ServeFault::Reader(fault)),
+    };
+    let mut reader = PacketReader::with_buffer(buffer, source);
+    let heard = read_hello(&mut reader, alloc);
+    let _source = reader.into_inner();
+    match heard {
+        Ok(hello) => Ok(hello),
+        Err(fault) => Err(ServeFault::Request(fault)),
+    }
+}
+
+// Whether the first line asks for the path.
+fn asks_for<A: Allocator + Copy>(path: &[u8], hello: &Hello<A>) -> bool
+    ensures { IsTrue result ↔ (hello.now.path ≡ path.now) }
+{
+    hello.path() == path
+}
+
+// Reports to the client that its repository is not served.
+fn send_away<W: Sink>(sink: &mut W) -> Result<(), WriteFault>
+    ensures sent { PassesPackets (output_of W.contents W.passed_on W.is_down sink.old sink.new)
+        result elsewhere_packets }
+    ensures loans { W.loans sink.new ≡ W.loans sink.old }
+{
+    send_error(b"upload-pack: no such repository", sink)
+}
+
+// Reports that the first line was refused. Allocates nothing.
+fn report<W: Sink>(fault: &ServeFault, sink: &mut W) -> Result<(), WriteFault>
+    ensures sent { PassesPackets (output_of W.contents W.passed_on W.is_down sink.old sink.new)
+        result (err_packets fault.now) }
+    ensures loans { W.loans sink.new ≡ W.loans sink.old }
+{
+    let mut text = [0; MAX_ERR_TEXT];
+    let len = err_text(fault, &mut text);
+    send_error(&text[..len], sink)
+}

@@ -1,0 +1,5 @@
+use Rattle.gtalk.proofs.Moves.{sends}
+use Rattle.gtalk.proofs.connection.Connection.note_sent.Goals as goal
+
+pub returns-clause-moves : goal.returns-clause-moves
+returns-clause-moves g c = λ received sent h. sends g.C.Conversation.holds c.args.self.now c.args.count _ received sent h

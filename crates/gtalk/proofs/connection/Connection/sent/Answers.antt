@@ -1,5 +1,0 @@
-use Rattle.gtalk.proofs.Moves.{sends}
-use Rattle.gtalk.proofs.connection.Connection.sent.Goals as goal
-
-pub returns-clause-moves : goal.returns-clause-moves
-returns-clause-moves g c = λ received sent h. sends g.C.Conversation.holds c.args.self.now c.args.count _ received sent h

@@ -1,6 +1,0 @@
-use Rattle.std.proofs.Common.{take}
-use Rattle.gtopowalk.specs.steps.Passes.{MarksAll}
-use Rattle.gtopowalk.proofs.marks.mark_all.Given as goal
-
-abbrev pub invariant-loop-id : goal.invariant-loop-id
-invariant-loop-id g l = MarksAll l.graph.entries (take l.id-index l.ids) l.initial.marks.items l.marks.items

@@ -1,8 +1,0 @@
-use Rattle.gtopowalk.proofs.TagChains.{IsMarkingChain}
-use Rattle.gtopowalk.proofs.tags.mark_chain.Given as goal
-
-abbrev pub invariant-loop-next : goal.invariant-loop-next
-invariant-loop-next g l = IsMarkingChain l.graph.entries l.start l.at l.initial.tagged.items l.tagged.items
-
-abbrev pub decreases-loop-next : goal.decreases-loop-next
-decreases-loop-next g l = l.at

@@ -1,9 +1,0 @@
-use Rattle.std.proofs.Common.{◌≡◌, length, take}
-use Rattle.gtopowalk.specs.steps.Passes.{MarksTags}
-use Rattle.gtopowalk.proofs.tags.tags_of.Given as goal
-
-abbrev pub invariant-loop-tip : goal.invariant-loop-tip
-invariant-loop-tip g l = record {
-  marks : MarksTags l.graph.entries (take l.tip-index l.tips) l.pass.wanted.items l.pass.known.items l.tagged.items;
-  long : length l.tagged.items ≡ length l.initial.tagged.items;
-}

@@ -1,0 +1,183 @@
+-- The steps of passes over a graph in which parents come first: positions of objects in store order, marks at
+-- positions, and what the marks say while a pass goes on and at its end.
+use Rattle.std.specs.Prelude.{◌≡◌, ◌⊎◌, ℕ, zero, suc, ◌+◌, ◌<◌, ◌≤◌, Bool, true, false, not, ◌&&◌, Some}
+use Rattle.std.specs.Prelude.{List, length, slice_index_or, All, Contains}
+use Rattle.std.specs.List.{Any}
+use Rattle.gname.specs.Ids.{Id}
+use Rattle.gobject.specs.declared.node.Entry.{Entry}
+use Rattle.gobject.specs.Objects.{position_of, IdsDiffer, IsShaped}
+use Rattle.gdag.specs.Graphs.{HasParent, IsOrdered, max_nodes}
+use Rattle.gdag.specs.Peeling.{IsTagOf, IsCommit, Tags}
+use Rattle.gdag.specs.Reach.{Reaches, SomeReaches}
+use Rattle.gdag.specs.Sending.{IsNew}
+
+-- ids, one after the other
+abbrev pub IdList : Type 0
+IdList = List Id
+
+-- `b` is a parent of `a`, and they stand at these positions
+pub record IsEdge {A : Type 0} (g : List (Entry A)) (p q : ℕ) : Type 0 where
+  pub child : Id
+  pub parent : Id
+  pub edge : HasParent g child parent
+  pub child_at : position_of g child ≡ Some p
+  pub parent_at : position_of g parent ≡ Some q
+
+-- the entries of a graph in which parents come first
+pub record IsInOrder {A : Type 0} (g : List (Entry A)) : Type 0 where
+  pub differ : IdsDiffer g
+  pub shaped : All (λ entry. IsShaped entry.node) g
+  pub few : length g ≤ max_nodes
+  pub ordered : IsOrdered g
+
+-- one of the ids stands at this position
+pub record IsPositionOf {A : Type 0} (g : List (Entry A)) (ids : IdList) (p : ℕ) : Type 0 where
+  pub id : Id
+  pub among : Contains ids id
+  pub at : position_of g id ≡ Some p
+
+-- one of the ids reaches the object at this position
+pub record IsReachedAt {A : Type 0} (g : List (Entry A)) (ids : IdList) (p : ℕ) : Type 0 where
+  pub id : Id
+  pub at : position_of g id ≡ Some p
+  pub reached : SomeReaches g ids id
+
+-- the object at this position reaches one of the ids
+pub record IsReachingAt {A : Type 0} (g : List (Entry A)) (ids : IdList) (p : ℕ) : Type 0 where
+  pub id : Id
+  pub at : position_of g id ≡ Some p
+  pub reaching : Any (Reaches g id) ids
+
+-- the object at this position is new
+pub record IsNewAt {A : Type 0} (g : List (Entry A)) (wants commons : IdList) (p : ℕ) : Type 0 where
+  pub id : Id
+  pub at : position_of g id ≡ Some p
+  pub new : IsNew g wants commons id
+
+-- ---- marks by position
+
+-- whether the position is marked; none is past the end
+abbrev pub is_marked : List Bool → ℕ → Bool
+is_marked marks p = slice_index_or marks p false
+
+abbrev pub IsMarked : List Bool → ℕ → Type 0
+IsMarked marks p = is_marked marks p ≡ true
+
+-- the positions of the ids are marked too, those that the marks go to
+pub record MarksAll {A : Type 0} (g : List (Entry A)) (ids : IdList) (old new : List Bool) : Type 0 where
+  pub long : length new ≡ length old
+  pub kept : (p : ℕ) → IsMarked old p → IsMarked new p
+  pub marked : (p : ℕ) → IsPositionOf g ids p → p < length old → IsMarked new p
+  pub only : (p : ℕ) → IsMarked new p → IsMarked old p ⊎ IsPositionOf g ids p
+
+-- wanted, and not known
+abbrev pub is_open : List Bool → List Bool → ℕ → Bool
+is_open wanted known p = is_marked wanted p && not (is_marked known p)
+
+-- what a position adds to a count
+abbrev pub one : Bool → ℕ
+one true = 1
+one false = 0
+
+-- how many positions below `n` are open
+unfoldable pub open_below : List Bool → List Bool → ℕ → ℕ
+open_below wanted known zero = 0
+open_below wanted known (suc n) = open_below wanted known n + one (is_open wanted known n)
+
+-- the count of the open positions below `next` is right; where it is not 0, a position comes next
+pub record IsCounted (wanted known : List Bool) (next pending : ℕ) : Type 0 where
+  pub long : length known ≡ length wanted
+  pub inside : next ≤ length wanted
+  pub count : pending ≡ open_below wanted known next
+  pub some : 0 < pending → 1 ≤ next
+
+-- ---- the pass down
+
+-- the pass has been at the positions from `next` on: the wants and the common ids are marked; a marked object is one
+-- that they reach; and the parents of a passed object are marked as it is, or are known
+pub record IsPassed {A : Type 0} (g : List (Entry A)) (wants commons : IdList)
+    (wanted known : List Bool) (next : ℕ) : Type 0 where
+  pub wants_in : (p : ℕ) → IsPositionOf g wants p → IsMarked wanted p
+  pub commons_in : (p : ℕ) → IsPositionOf g commons p → IsMarked known p
+  pub wanted_sound : (p : ℕ) → IsMarked wanted p → IsReachedAt g wants p
+  pub known_sound : (p : ℕ) → IsMarked known p → IsReachedAt g commons p
+  pub wanted_ahead : (p q : ℕ) → IsEdge g p q → next ≤ p → IsMarked wanted p → IsMarked wanted q ⊎ IsMarked known q
+  pub known_ahead : (p q : ℕ) → IsEdge g p q → next ≤ p → IsMarked known p → IsMarked known q
+
+-- the open positions are those of the new objects, and none is below `next`
+pub record IsDone {A : Type 0} (g : List (Entry A)) (wants commons : IdList)
+    (wanted known : List Bool) (next : ℕ) : Type 0 where
+  pub new : (p : ℕ) → is_open wanted known p ≡ true → IsNewAt g wants commons p
+  pub all : (p : ℕ) → IsNewAt g wants commons p → is_open wanted known p ≡ true
+  pub above : (p : ℕ) → is_open wanted known p ≡ true → next ≤ p
+
+-- ---- the pass up
+
+-- the position of one of the ids is marked
+pub record HasMarked {A : Type 0} (g : List (Entry A)) (ids : IdList) (marks : List Bool) : Type 0 where
+  pub position : ℕ
+  pub among : IsPositionOf g ids position
+  pub marked : IsMarked marks position
+
+-- of the positions below `n` those are marked whose objects reach one of the goals
+pub record MarksReaching {A : Type 0} (g : List (Entry A)) (goals : IdList) (n : ℕ) (marks : List Bool) : Type 0 where
+  pub sound : (p : ℕ) → IsMarked marks p → IsReachingAt g goals p
+  pub all : (p : ℕ) → p < n → IsReachingAt g goals p → IsMarked marks p
+
+-- ---- tags
+
+-- the object at this position is a commit
+pub record IsCommitAt {A : Type 0} (g : List (Entry A)) (p : ℕ) : Type 0 where
+  pub id : Id
+  pub at : position_of g id ≡ Some p
+  pub commit : IsCommit g id
+
+-- the object at the first position is a tag, and names the one at the second, an earlier one
+pub record IsTagAt {A : Type 0} (g : List (Entry A)) (p q : ℕ) : Type 0 where
+  pub id : Id
+  pub at : position_of g id ≡ Some p
+  pub named : Id
+  pub named_at : position_of g named ≡ Some q
+  pub tag : IsTagOf g id named
+  pub below : q < p
+
+-- tags lead from the object at the first position to the one at the second
+pub record IsLedTo {A : Type 0} (g : List (Entry A)) (p q : ℕ) : Type 0 where
+  pub id : Id
+  pub at : position_of g id ≡ Some p
+  pub end : Id
+  pub end_at : position_of g end ≡ Some q
+  pub steps : ℕ
+  pub leads : Tags g steps id end
+
+-- the chain of tags from the first position ends at the commit at the second
+pub record IsPeeledAt {A : Type 0} (g : List (Entry A)) (p q : ℕ) : Type 0 where
+  pub led : IsLedTo g p q
+  pub commit : IsCommitAt g q
+
+-- a tag on the chain from the first position stands at the second
+pub record IsOnChain {A : Type 0} (g : List (Entry A)) (p q : ℕ) : Type 0 where
+  pub led : IsLedTo g p q
+  pub next : Id
+  pub tag : IsTagOf g led.end next
+
+-- the tags on the chain from the position are marked too
+pub record MarksChain {A : Type 0} (g : List (Entry A)) (start : ℕ) (old new : List Bool) : Type 0 where
+  pub long : length new ≡ length old
+  pub kept : (p : ℕ) → IsMarked old p → IsMarked new p
+  pub marked : (p : ℕ) → IsOnChain g start p → IsMarked new p
+  pub only : (p : ℕ) → IsMarked new p → IsMarked old p ⊎ IsOnChain g start p
+
+-- a tag on the chain of one of the tips whose commit is open stands at this position
+pub record IsOpenTag {A : Type 0} (g : List (Entry A)) (tips : IdList) (wanted known : List Bool) (p : ℕ) : Type 0 where
+  pub start : ℕ
+  pub tip : IsPositionOf g tips start
+  pub chain : IsOnChain g start p
+  pub commit : ℕ
+  pub peeled : IsPeeledAt g start commit
+  pub open_there : is_open wanted known commit ≡ true
+
+-- the marks are at the tags of the tips' chains whose commit is open
+pub record MarksTags {A : Type 0} (g : List (Entry A)) (tips : IdList) (wanted known tagged : List Bool) : Type 0 where
+  pub marked : (p : ℕ) → IsOpenTag g tips wanted known p → IsMarked tagged p
+  pub only : (p : ℕ) → IsMarked tagged p → IsOpenTag g tips wanted known p

@@ -1,0 +1,16 @@
+//! Other names for items of this library.
+
+ghost use Rattle.std.specs.Prelude.{◌≡◌, slice_index_or, false};
+
+use crate::marks::ConnectedMarks;
+pub use crate::marks::{ConnectedMarks as FullMarks, mark_connected as mark_full};
+use std::alloc::Allocator;
+
+impl<A: Allocator + Copy> ConnectedMarks<A> {
+    /// [`ConnectedMarks::is_marked`] by another name.
+    pub fn marked(&self, position: usize) -> bool
+        ensures { result ≡ slice_index_or self.now position false }
+    {
+        self.is_marked(position)
+    }
+}

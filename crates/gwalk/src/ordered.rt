@@ -1,0 +1,11 @@
+//! Passes over a graph in which each object was inserted after all its parents. A pass goes once
+//! down or up the store, in its order, so a fetch costs what is new and not the whole history.
+
+mod down;
+mod marks;
+mod send;
+mod tags;
+mod up;
+
+pub use self::send::send_list;
+pub use self::up::{reaches, ready};
