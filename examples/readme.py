@@ -1,4 +1,6 @@
-"""Compares what the pages show with the repository. usage: readme.py PROGRAM...
+"""Compares what the pages show with the repository. usage: readme.py [PROGRAM...]
+
+With no program it compares the blocks of code alone.
 
 The pages are README.md, CONTRIBUTING.md and docs/*.md, and the examples of the manual pages docs/*.1.
 
@@ -218,17 +220,18 @@ def run_manual(programs):
 
 def main(programs):
     names = ["README.md", "CONTRIBUTING.md", *sorted(glob.glob("docs/*.md", root_dir=TOP))]
-    ran, wrong = run_manual(programs)
+    ran, wrong = run_manual(programs) if programs else (0, 0)
     blocks = 0
     for name in names:
         with open(f"{TOP}/{name}") as file:
             page = file.read()
-        count, missed = run_page(name, page, programs)
-        ran, wrong = ran + count, wrong + missed
+        if programs:
+            count, missed = run_page(name, page, programs)
+            ran, wrong = ran + count, wrong + missed
         count, missed = compare_blocks(name, page)
         blocks, wrong = blocks + count, wrong + missed
     print(f"pages: {ran} commands, {blocks} blocks of code, {wrong} wrong")
-    return 1 if wrong or not ran or not blocks else 0
+    return 1 if wrong or not blocks or (programs and not ran) else 0
 
 
 sys.exit(main([os.path.abspath(program) for program in sys.argv[1:]]))
