@@ -3,21 +3,21 @@
 ghost use Rattle.std.specs.Prelude.{◌≡◌, ◌≢◌, ◌++◌, ◌∷◌, ◌↔◌, [], All, IfSome, IsTrue, true};
 ghost use Rattle.gitconfig.specs.Bytes.{EndsLine, EndsValue, is_blank, is_name_byte, is_section_byte, is_space};
 
-/// Whether a byte is a space, a tab or a CR.
+/// Returns whether a byte is a space, a tab or a CR.
 pub(crate) fn is_blank(byte: u8) -> bool
     ensures { result ≡ is_blank byte }
 {
     byte == b' ' || byte == b'\t' || byte == b'\r'
 }
 
-/// Whether a byte is a blank or an LF.
+/// Returns whether a byte is a blank or an LF.
 pub(crate) fn is_space(byte: u8) -> bool
     ensures { result ≡ is_space byte }
 {
     is_blank(byte) || byte == b'\n'
 }
 
-// Whether a variable name can contain this byte.
+// Returns whether a variable name can contain this byte.
 #[tactic(auto, unfolding(crate::specs::Bytes::is_name_byte))]
 fn is_name_byte(byte: u8) -> bool
     ensures { result ≡ is_name_byte byte }
@@ -25,7 +25,7 @@ fn is_name_byte(byte: u8) -> bool
     byte.is_ascii_alphanumeric() || byte == b'-'
 }
 
-// Whether a section name can contain this byte.
+// Returns whether a section name can contain this byte.
 #[tactic(auto, unfolding(crate::specs::Bytes::is_section_byte))]
 fn is_section_byte(byte: u8) -> bool
     ensures { result ≡ is_section_byte byte }
@@ -33,7 +33,7 @@ fn is_section_byte(byte: u8) -> bool
     is_name_byte(byte) || byte == b'.'
 }
 
-/// Whether no bytes are left.
+/// Returns whether no bytes are left.
 pub(crate) fn is_over(text: &[u8]) -> bool
     ensures { IsTrue result ↔ (text.now ≡ []) }
 {
@@ -95,7 +95,7 @@ pub(crate) fn split_line(text: &[u8]) -> (&[u8], &[u8])
     }
 }
 
-/// Whether a line ends before this text.
+/// Returns whether a line ends before this text.
 pub(crate) fn ends_line(text: &[u8]) -> bool
     ensures { IsTrue result ↔ EndsLine text.now }
 {
@@ -105,7 +105,7 @@ pub(crate) fn ends_line(text: &[u8]) -> bool
     }
 }
 
-/// Whether a value ends before this text: its line ends, or a comment begins.
+/// Returns whether a value ends before this text: its line ends, or a comment begins.
 pub(crate) fn ends_value(text: &[u8]) -> bool
     ensures { IsTrue result ↔ EndsValue text.now }
 {

@@ -126,7 +126,7 @@ fn setting_in<A: Allocator + Copy>(
     })
 }
 
-// Whether a text begins with a letter.
+// Returns whether a text begins with a letter.
 fn begins_with_letter(text: &[u8]) -> bool
     ensures { IsTrue result ↔ BeginsWithLetter text.now }
 {

@@ -93,14 +93,14 @@ fn push_value<A: Allocator + Copy>(text: &mut Vec<u8, A>, value: &[u8]) -> Resul
     Ok(())
 }
 
-// Whether no byte of a value needs quotes or a backslash.
+// Returns whether no byte of a value needs quotes or a backslash.
 fn is_plain(value: &[u8]) -> bool
     ensures { IsTrue result ↔ All (λ b. is_special false b ≡ false) value.now }
 {
     value.iter().all(|byte| !is_special(*byte))
 }
 
-// Whether a byte needs quotes or a backslash.
+// Returns whether a byte needs quotes or a backslash.
 fn is_special(byte: u8) -> bool
     ensures { result ≡ is_special false byte }
 {

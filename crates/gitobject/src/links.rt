@@ -103,7 +103,7 @@ fn push_parents<A: Allocator + Copy>(
     }
 }
 
-// Whether there is more text, and it does not begin like a parent line.
+// Returns whether there is more text, and it does not begin like a parent line.
 fn goes_on(text: &[u8]) -> bool
     ensures { IsTrue result ↔ GoesOn text.now }
 {
@@ -142,7 +142,7 @@ pub fn tag_link(body: &[u8]) -> Option<Link>
     }
 }
 
-// Whether the text begins with the `tag` line.
+// Returns whether the text begins with the `tag` line.
 fn has_name(text: &[u8]) -> bool
     ensures { IsTrue result ↔ BeginsWithName text.now }
 {

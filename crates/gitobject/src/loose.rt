@@ -32,7 +32,7 @@ pub fn split_loose(text: &[u8]) -> Option<(ObjectType, &[u8])>
     }
 }
 
-// Whether the digits are `number` in decimal, without leading zeros.
+// Returns whether the digits are `number` in decimal, without leading zeros.
 fn is_decimal(digits: &[u8], number: usize) -> bool
     ensures { IsTrue result ↔ (digits.now ≡ decimal number) }
 {

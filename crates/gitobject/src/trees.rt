@@ -96,7 +96,7 @@ pub fn tree_links<A: Allocator + Copy>(alloc: A, body: &[u8]) -> Result<Vec<Link
     Ok(links)
 }
 
-// Whether no bytes are left.
+// Returns whether no bytes are left.
 fn is_over(text: &[u8]) -> bool
     ensures { IsTrue result ↔ (text.now ≡ []) }
 {

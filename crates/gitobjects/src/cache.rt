@@ -49,7 +49,7 @@ impl<A: Allocator + Copy> BaseCache<A> {
         }
     }
 
-    /// Whether the object that begins here is cached.
+    /// Returns whether the object that begins here is cached.
     pub(crate) fn holds(&self, spot: Spot) -> bool {
         self.get(spot).is_some()
     }

@@ -64,7 +64,7 @@ pub trait ObjectFiles {
         most: usize,
     ) -> Result<Option<Vec<u8, A>>, Cause>;
 
-    /// Whether there is a file with this path. Fails with `Open`.
+    /// Returns whether there is a file with this path. Fails with `Open`.
     fn exists(&self, path: &str) -> Result<bool, Cause>;
 
     /// Returns the canonical path of a folder: absolute, without symbolic links and dots. Returns

@@ -124,7 +124,7 @@ fn counts_of<A: Allocator + Copy>(alloc: A, table: &[u8]) -> Result<Option<Vec<u
     Ok(Some(counts))
 }
 
-// Whether a file of this length can hold the tables of `objects` objects.
+// Returns whether a file of this length can hold the tables of `objects` objects.
 fn is_long_enough(length: usize, objects: usize) -> bool {
     let lines = objects.saturating_mul(ID_BYTES + WORD + WORD);
     lines <= length.saturating_sub(TABLE_END + CHECKSUMS)

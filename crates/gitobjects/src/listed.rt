@@ -19,8 +19,8 @@ pub(crate) enum Listed {
 }
 
 impl Listed {
-    /// Whether the folder must be listed again, if its names last changed at this time. Returns
-    /// false if it was listed twice since.
+    /// Returns whether the folder must be listed again, if its names last changed at this time.
+    /// Returns false if it was listed twice since.
     pub(crate) fn is_stale(&self, now: Option<FolderTime>) -> bool
         ensures { IsTrue result ↔ (self.now ≢ Twice now) }
     {

@@ -20,7 +20,8 @@ impl LooseFolders {
         }
     }
 
-    /// Whether the folder of an object with this id exists, or `None` if it was not looked up.
+    /// Returns whether the folder of an object with this id exists, or `None` if it was not looked
+    /// up.
     pub(crate) fn get(&self, id: &Oid) -> Option<bool> {
         self.are_there[first_byte(id)]
     }

@@ -22,7 +22,7 @@ pub struct Object<A: Allocator + Copy> {
 }
 
 impl<A: Allocator + Copy> Object<A> {
-    /// Whether the object has this id. Its SHA-1 is computed.
+    /// Returns whether the object has this id. Its SHA-1 is computed.
     pub fn has_id(&self, id: &Oid) -> bool
         ensures { IsTrue result ↔ (id_of self.now.kind self.now.body.items ≡ id.now) }
     {
@@ -97,7 +97,7 @@ fn kind_in(text: &[u8]) -> Option<ObjectType>
     }
 }
 
-// Whether a text begins with the word.
+// Returns whether a text begins with the word.
 fn begins(word: &[u8], text: &[u8]) -> bool
     ensures { IsTrue result ↔ BeginsWith word.now text.now }
 {

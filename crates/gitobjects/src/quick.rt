@@ -59,7 +59,7 @@ impl<'f, F: ObjectFiles, A: Allocator + Copy> QuickReader<'f, F, A> {
         self.alloc
     }
 
-    /// Whether it finds the object with this id. Fails only if out of memory.
+    /// Returns whether it finds the object with this id. Fails only if out of memory.
     pub fn holds(&mut self, id: &Oid) -> Result<bool, AllocError> {
         for pack in self.packs.iter_mut() {
             if or_unknown(pack.holds(id))? == Some(true) {
@@ -69,7 +69,7 @@ impl<'f, F: ObjectFiles, A: Allocator + Copy> QuickReader<'f, F, A> {
         self.holds_loose(id)
     }
 
-    // Whether the object is loose.
+    // Returns whether the object is loose.
     fn holds_loose(&self, id: &Oid) -> Result<bool, AllocError> {
         for folder in &self.folders {
             let path = or_unknown(loose_path(self.alloc, folder.path.as_str(), id))?;

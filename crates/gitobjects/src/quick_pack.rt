@@ -92,7 +92,7 @@ fn open_both<F: ObjectFiles, A: Allocator + Copy>(
 }
 
 impl<P: OpenPack + Drop, A: Allocator + Copy> QuickPack<P, A> {
-    /// Whether the index has the object with this id. Fails with `Read` and `Memory`.
+    /// Returns whether the index has the object with this id. Fails with `Read` and `Memory`.
     pub(crate) fn holds(&mut self, id: &Oid) -> Result<bool, Cause> {
         Ok(self.index.find(id)?.is_some())
     }

@@ -173,8 +173,8 @@ impl<'f, F: ObjectFiles, A: Allocator + Copy> ObjectStore<'f, F, A> {
         }
     }
 
-    // Whether the folder of a loose object with this id existed. A folder that cannot be looked up
-    // counts as existing.
+    // Returns whether the folder of a loose object with this id existed. A folder that cannot be
+    // looked up counts as existing.
     fn has_folder(&self, id: &Oid, folders: &mut LooseFolders) -> Result<bool, StoreFault<A>> {
         if let Some(is_there) = folders.get(id) {
             return Ok(is_there);

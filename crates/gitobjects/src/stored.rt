@@ -71,12 +71,12 @@ fn read_bytes<H: Read, A: Allocator + Copy>(
     }
 }
 
-// Whether the error means that there is no such file.
+// Returns whether the error means that there is no such file.
 fn is_missing(kind: ErrorKind) -> bool {
     kind == ErrorKind::NotFound || kind == ErrorKind::NotADirectory
 }
 
-// Whether a path names something other than a file or a folder.
+// Returns whether a path names something other than a file or a folder.
 fn is_special<R: Files>(files: &R, path: &str) -> bool {
     match files.metadata(path) {
         Ok(metadata) => !metadata.is_file() && !metadata.is_dir(),

@@ -96,7 +96,7 @@ impl<P: OpenPack + Drop, A: Allocator + Copy> Window<P, A> {
         Ok(Vec::from_slice(self.alloc, bytes)?)
     }
 
-    // Whether the block of a pack that begins here is held.
+    // Returns whether the block of a pack that begins here is held.
     fn holds(&self, pack: usize, first: usize) -> bool {
         self.block_at(pack, first).is_some()
     }

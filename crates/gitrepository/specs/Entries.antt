@@ -1,4 +1,4 @@
--- The entries of a graph that objects have (gitglossary(7), "commit object", "tag object").
+-- The graph entries of objects (gitglossary(7), "commit object", "tag object").
 use Rattle.std.specs.Prelude.{◌≡◌, ◌⊎◌, ⊤, ℕ, List, [], ◌∷◌, Contains, Option, Some, map, slice_get}
 use Rattle.std.specs.Option.{option_map}
 use Rattle.gitcommitgraph.specs.Files.{Commit}
@@ -13,12 +13,11 @@ use Rattle.gobject.specs.declared.node.Kind.TheVariants as kinds
 use Rattle.gobject.specs.declared.node.Node.{Node}
 use Rattle.gobject.specs.declared.node.Entry.{Entry}
 
--- the node of a leaf: it has no parents
+-- the node of a tree or blob: a commit without parents
 abbrev pub leaf : {A : Type 0} → Node A
 leaf = node_of kinds.Commit []
 
--- The node of an object. A commit has its parents, in order, and a tag the object that it names. A
--- tree and a blob are leaves.
+-- the node of an object: a commit has its parents in order, a tag its target, and a tree or blob no parents
 abbrev pub IsNodeOf : {A : Type 0} → ObjectType → List ℕ → Node A → Type 0
 IsNodeOf types.Commit body node =
     (tree : Id) × (parents : List Id) × IsCommit body tree parents
@@ -29,7 +28,7 @@ IsNodeOf types.Tag body node =
 IsNodeOf types.Tree body node = node ≡ leaf
 IsNodeOf types.Blob body node = node ≡ leaf
 
--- an entry is that of an object: it has the object's id, and its node
+-- the entry describes an object: it has the id and the node of the object
 pub record IsOfObject {A : Type 0} (entry : Entry A) : Type 0 where
   pub kind : ObjectType
   pub body : List ℕ
@@ -40,8 +39,8 @@ pub record IsOfObject {A : Type 0} (entry : Entry A) : Type 0 where
 abbrev pub id_at : List Commit → ℕ → Option Id
 id_at commits position = option_map (λ commit. commit.id) (slice_get commits position)
 
--- An entry is that of a commit as a commit-graph says: it has the commit's id, and its parents are
--- the commits at the positions that the commit names, in order.
+-- The entry describes a commit of the commit-graph. Its parents are the commits at the parent positions that the
+-- commit-graph lists, in order.
 pub record IsOfCommit {A : Type 0} (commits : List Commit) (entry : Entry A) : Type 0 where
   pub commit : Commit
   pub parents : List Id
@@ -50,17 +49,17 @@ pub record IsOfCommit {A : Type 0} (commits : List Commit) (entry : Entry A) : T
   pub named : map (id_at commits) commit.parents ≡ map Some parents
   pub node : entry.node ≡ node_of kinds.Commit parents
 
--- an entry is that of an object, or of a commit as a commit-graph says
+-- the entry describes an object, or a commit of the commit-graph
 abbrev pub IsKnown : {A : Type 0} → List Commit → Entry A → Type 0
 IsKnown commits entry = IsOfObject entry ⊎ IsOfCommit commits entry
 
--- trees and blobs are leaves of a graph
+-- objects of this type are leaves of a graph: trees and blobs
 abbrev pub IsLeafType : ObjectType → Type 0
 IsLeafType types.Tree = ⊤
 IsLeafType types.Blob = ⊤
 IsLeafType _ = ⊥
 
--- an entry is the leaf of a tree or blob that a tag names, and the entries hold this tag
+-- the entry is a tree or blob that a tag names, and the entries include this tag
 pub record IsNamedLeaf {A : Type 0} (entries : List (Entry A)) (entry : Entry A) : Type 0 where
   pub kind : ObjectType
   pub tag : List ℕ
@@ -69,6 +68,6 @@ pub record IsNamedLeaf {A : Type 0} (entries : List (Entry A)) (entry : Entry A)
   pub node : entry.node ≡ leaf
   pub held : Holds entries (id_of types.Tag tag)
 
--- one of the entries that an indexer answers
+-- the entry describes an object, or is a tree or blob that a tag among the entries names
 abbrev pub IsRead : {A : Type 0} → List (Entry A) → Entry A → Type 0
 IsRead entries entry = IsOfObject entry ⊎ IsNamedLeaf entries entry

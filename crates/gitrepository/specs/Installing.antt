@@ -1,42 +1,42 @@
--- The files of a pack that is installed (gitrepository-layout(5), "objects/pack").
+-- Installing the files of a pack (gitrepository-layout(5), "objects/pack").
 use Rattle.std.specs.Prelude.{◌≡◌, ◌⊎◌, ⊤, ℕ, List, [], ◌∷◌, ◌++◌, Option, None, Some, Result, Ok, Err}
 
 abbrev pub Bytes : Type 0
 Bytes = List ℕ
 
--- a file comes to a folder under its name: a pack, or an index
+-- the arrival of a pack or of an index in a folder, under its final name
 pub data Arrival : Type 0 where
   PackComes : Bytes → Arrival
   IndexComes : Bytes → Arrival
 
--- the arrivals in a folder so far, and what was written to the temporary files
+-- the files that arrived in a folder so far, and the bytes of the temporary files
 pub record Folder : Type 0 where
   pub arrivals : List Arrival
   pub pack : Bytes
   pub index : Bytes
 
--- this holds of known folders before and after; they stay known, and unknown ones stay unknown
+-- A known folder stays known, and the predicate relates its states before and after the call. An unknown folder stays
+-- unknown.
 abbrev pub WhereKnown : Option Folder → Option Folder → (Folder → Folder → Type 0) → Type 0
 WhereKnown (Some before) (Some after) P = P before after
 WhereKnown None None P = ⊤
 WhereKnown _ _ P = ⊥
 
--- these files came, and no other
+-- exactly these files arrived, in order
 abbrev pub Comes : Folder → Folder → List Arrival → Type 0
 Comes before after files = after.arrivals ≡ before.arrivals ++ files
 
--- nothing came, or this file
+-- no file arrived, or only this file
 abbrev pub MayCome : Folder → Folder → Arrival → Type 0
 MayCome before after file = (after.arrivals ≡ before.arrivals) ⊎ Comes before after (file ∷ [])
 
--- nothing came; and if the call succeeded, the temporary files have these bytes
+-- No file arrived. If the call succeeded, the temporary files have these bytes.
 abbrev pub Writes : {E : Type 0} → Bytes → Bytes → Folder → Folder → Result (Unit {0}) E → Type 0
 Writes p i before after (Ok done) =
     (after.arrivals ≡ before.arrivals) × (after.pack ≡ p) × (after.index ≡ i)
 Writes p i before after (Err fault) = after.arrivals ≡ before.arrivals
 
--- A pack and its index came, the pack first. If the call failed, nothing came, or the pack alone,
--- or both.
+-- A pack arrived, and then its index. If the call failed, no file arrived, or only the pack, or both.
 abbrev pub Installs : {E : Type 0} → Bytes → Bytes → Folder → Folder → Result (Unit {0}) E → Type 0
 Installs p i before after (Ok done) = Comes before after (PackComes p ∷ IndexComes i ∷ [])
 Installs p i before after (Err fault) =

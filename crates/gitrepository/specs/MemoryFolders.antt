@@ -1,15 +1,15 @@
--- Folders in memory.
+-- Folders of packs in memory.
 use Rattle.gitrepository.specs.Installing.{Arrival, Folder, IndexComes, PackComes}
 use Rattle.gitrepository.specs.declared.folder.PackFileStage.{PackFileStage}
 use Rattle.gitrepository.specs.declared.memory_folder.PackFile.{PackFile}
 use Rattle.gitrepository.specs.declared.memory_folder.PackFile.TheVariants.{Index, Pack}
 
--- a file that came
+-- the arrival of a file of a pack
 abbrev pub file_of : {A : Type 0} → PackFile A → Arrival
 file_of (Pack bytes) = PackComes bytes.items
 file_of (Index bytes) = IndexComes bytes.items
 
--- what came to a folder, and how far this run is with a pack
+-- the files of a folder, and the stage of the pack that is being written
 pub record Held : Type 0 where
   pub folder : Folder
   pub stage : PackFileStage

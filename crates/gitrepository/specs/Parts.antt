@@ -1,4 +1,4 @@
--- A pack that goes out in parts (gitformat-pack(5)).
+-- A pack that is returned in parts (gitformat-pack(5)).
 use Rattle.std.specs.Prelude.{◌≡◌, ℕ, ◌+◌, ◌≤◌, Bool, true, false, IsTrue, List, [], ◌++◌, length, drop, take, Option, Some, None}
 use Rattle.gname.specs.Limits.{max_pack}
 use Rattle.sha1.specs.Sha1.{Holds}
@@ -6,12 +6,12 @@ use Rattle.gitpack.specs.Packs.{with_trailer}
 use Rattle.gitrepository.specs.Packs.{HasPut, IsWholePack}
 use Rattle.gitrepository.specs.declared.outgoing.Outgoing.{Outgoing}
 
--- what was made and not given
+-- the bytes that were built and not yet returned
 abbrev pub rest_of : {A : Type 0} → Outgoing A → List ℕ
 rest_of pack = drop pack.given pack.bytes.items
 
--- These bytes were given. With the rest of what was made they are the header and the entries that were put; or, once
--- it is over, a pack of as many entries as the header says.
+-- The bytes returned so far. Together with the remaining bytes, they are the header and the entries so far, or the
+-- whole pack once the trailer was built.
 pub record IsGoing {A : Type 0} (pack : Outgoing A) (given : List ℕ) : Type 0 where
   pub whole : IsTrue pack.is_whole
   pub text : List ℕ
@@ -19,10 +19,10 @@ pub record IsGoing {A : Type 0} (pack : Outgoing A) (given : List ℕ) : Type 0 
   pub going : pack.is_over ≡ false → Holds pack.sum text × (given ++ rest_of pack ≡ text)
   pub over : pack.is_over ≡ true → (pack.put ≡ pack.count) × (given ++ rest_of pack ≡ with_trailer text)
 
--- whatever was given before, it stays a beginning
+-- the bytes returned so far remain a prefix of the pack
 abbrev pub GoesOn : {A : Type 0} → Outgoing A → Outgoing A → Type 0
 GoesOn old new = (given : List ℕ) → IsGoing old given → IsGoing new given
 
--- nothing is left to be given
+-- the whole pack was returned
 abbrev pub IsGivenWhole : {A : Type 0} → Outgoing A → Type 0
 IsGivenWhole pack = IsTrue pack.is_over × (length pack.bytes.items ≤ pack.given)

@@ -20,12 +20,12 @@ use std::alloc::Allocator;
 use std::hash::BuildHasherDefault;
 use std::marker::Model;
 
-// The maximum memory for the ids that objects of a pack name, and for its commits and tags: 112
-// MiB. Deltas make many objects from few bytes.
+// The maximum memory for the named ids, commits and tags of a pack: 112 MiB. Without this limit, a
+// small pack of deltas could fill the memory.
 const MAX_KEPT: usize = 117_440_512;
 
-// The maximum memory for a named id, for a commit or tag, and for each of its parents. This
-// includes spare room in tables and the overhead of the allocator.
+// The memory counted for a named id, for a commit or tag, and for each parent. Spare table slots
+// and allocator overhead are included.
 const NEED_BYTES: usize = 56;
 
 const ENTRY_BYTES: usize = 96;
@@ -41,15 +41,15 @@ const PARENT_LINE: usize = 48;
 // entries.
 const MAX_LINKING: usize = 67_108_864;
 
-/// The known facts about the objects of an incoming pack. Contracts see the entries of its commits
-/// and tags.
+/// The facts known so far about the objects of an incoming pack. Contracts describe an `Arrival` by
+/// its graph entries.
 #[derive(Drop)]
 pub(crate) struct Arrival<A: Allocator + Copy> {
     alloc: A,
     entries: Vec<Entry<A>, A>,
-    // The types of the named objects.
+    // The expected types of the named objects, by id.
     needs: IndexMap<Oid, ObjectType, IdHasher, A>,
-    // The remaining number of bytes that may be kept.
+    // The remaining number of bytes of `MAX_KEPT`.
     room: usize,
     folders: LooseFolders,
     fault: Option<RepositoryFault<A>>,
@@ -80,7 +80,7 @@ impl<A: Allocator + Copy> Model for Arrival<A> {
 }
 
 impl<A: Allocator + Copy> Arrival<A> {
-    /// Returns an arrival without objects.
+    /// Returns an `Arrival` without objects.
     pub(crate) fn new(alloc: A) -> Arrival<A> {
         Arrival {
             alloc,
@@ -92,7 +92,7 @@ impl<A: Allocator + Copy> Arrival<A> {
         }
     }
 
-    /// Takes the fault of the refused object, or `None` if there is none.
+    /// Removes and returns the fault of the refused object, or `None` if no object was refused.
     pub(crate) fn take_fault(&mut self) -> Option<RepositoryFault<A>> {
         self.fault.take()
     }
@@ -102,8 +102,8 @@ impl<A: Allocator + Copy> Arrival<A> {
         self.fault = Some(fault);
     }
 
-    /// Returns the entries, once each named object is in the pack or in the store with the expected
-    /// type.
+    /// Checks that each named object is in the pack or in the store, with the expected type.
+    /// Returns the entries.
     pub(crate) fn into_entries<F: ObjectFiles>(
         self,
         reader: &mut ObjectReader<'_, F, A>,
@@ -125,7 +125,7 @@ impl<A: Allocator + Copy> Arrival<A> {
         Ok(entries)
     }
 
-    // Returns the place of an object in the store, or `None` if it is not there.
+    // Returns the location of an object in the store, or `None` if the store lacks the object.
     fn find<F: ObjectFiles>(
         &mut self,
         store: &ObjectStore<'_, F, A>,
@@ -134,7 +134,7 @@ impl<A: Allocator + Copy> Arrival<A> {
         store.find_in(id, &mut self.folders)
     }
 
-    // Records an object.
+    // Records an object, and the objects that it names.
     fn learn(
         &mut self,
         tips: &Tips<A>,
@@ -155,7 +155,7 @@ impl<A: Allocator + Copy> Arrival<A> {
         }
     }
 
-    // Adds the entry of a tag, then that of the tree or blob it names.
+    // Adds the entry of a tag, then the entry of the tree or blob that the tag names.
     fn learn_tag(&mut self, id: &Oid, body: &[u8]) -> Result<(), RepositoryFault<A>>
         requires { id_of types.Tag body.now ≡ id.now }
     {
@@ -166,7 +166,7 @@ impl<A: Allocator + Copy> Arrival<A> {
         }
     }
 
-    // Notes the objects that an object names. Fails with `TooLarge` if a commit, a tree or a tag
+    // Records the objects that an object names. Fails with `TooLarge` if a commit, a tree or a tag
     // has too many bytes, and with `Parents` if a commit has too many parents.
     fn need_links(
         &mut self,
@@ -187,7 +187,7 @@ impl<A: Allocator + Copy> Arrival<A> {
         }
     }
 
-    // Notes the objects that a commit or tag names, and the memory for the object itself.
+    // Records the objects that a commit or tag names, and counts the memory for the commit or tag.
     fn need_all(
         &mut self,
         id: &Oid,
@@ -205,7 +205,8 @@ impl<A: Allocator + Copy> Arrival<A> {
         Ok(())
     }
 
-    // Notes the objects of a tree one by one: a list of all would need more memory than the tree.
+    // Records the objects that a tree names, one by one. A list of them would need more memory than
+    // the tree.
     fn need_entries(&mut self, id: &Oid, body: &[u8]) -> Result<(), RepositoryFault<A>> {
         let mut rest = body;
         for _entry in 0..body.len() {
@@ -223,7 +224,7 @@ impl<A: Allocator + Copy> Arrival<A> {
         Ok(())
     }
 
-    // Notes a named object. Fails with `TooLarge` if there are too many.
+    // Records a named object. Fails with `TooLarge` if the pack names too many objects.
     fn need(&mut self, link: Link) -> Result<(), RepositoryFault<A>> {
         match self.needs.get(&link.id).copied() {
             Some(kind) if kind == link.kind => Ok(()),
@@ -236,7 +237,7 @@ impl<A: Allocator + Copy> Arrival<A> {
         }
     }
 
-    // Reserves `bytes` more bytes. Fails with `TooLarge` if too few remain.
+    // Counts `bytes` more bytes of memory. Fails with `TooLarge` if fewer bytes remain.
     fn take_room(&mut self, bytes: usize) -> Result<(), RepositoryFault<A>> {
         match self.room.checked_sub(bytes) {
             Some(room) => {
@@ -275,8 +276,8 @@ impl<A: Allocator + Copy> Arrival<A> {
     }
 }
 
-// Returns the memory for a commit or tag with `links` links. A tag may have a leaf. The first link
-// of a commit is its tree, which is not a parent.
+// Returns the memory for a commit or tag with `links` links. A tag may need a second entry, for a
+// tree or blob that it names. The first link of a commit is its tree, which is not a parent.
 fn bytes_of(kind: ObjectType, links: usize) -> usize {
     let (entries, parents) = match kind {
         ObjectType::Tag => (2 * ENTRY_BYTES, links),
@@ -285,12 +286,13 @@ fn bytes_of(kind: ObjectType, links: usize) -> usize {
     PARENT_BYTES.saturating_mul(parents).saturating_add(entries)
 }
 
-// Whether a commit has more parent lines than a graph allows. Its message does not count.
+// Returns whether a commit has more parent lines than a graph allows. Lines of the commit message
+// do not count.
 fn has_many_parents(commit: &[u8]) -> bool {
     (0..MAX_PARENTS.saturating_add(1)).all(|number| is_parent_line(commit, number))
 }
 
-// Whether line `number` after the tree line names a parent.
+// Returns whether line `number` after the tree line names a parent.
 fn is_parent_line(commit: &[u8], number: usize) -> bool {
     let start = number.saturating_mul(PARENT_LINE).saturating_add(TREE_LINE);
     match commit.get(start..) {
@@ -299,7 +301,8 @@ fn is_parent_line(commit: &[u8], number: usize) -> bool {
     }
 }
 
-// Returns the leaf of the tree or blob that a tag names, or `None` if it names a commit or a tag.
+// Returns the entry of the tree or blob that a tag names, or `None` if the tag names a commit or a
+// tag.
 fn named_leaf<A: Allocator + Copy>(alloc: A, tag: &[u8]) -> Option<Entry<A>>
     ensures { IfSome result (λ entry. (entries : List (Entry A))
         → Holds entries (id_of types.Tag tag.now) → IsRead entries entry) }
@@ -318,7 +321,7 @@ fn named_leaf<A: Allocator + Copy>(alloc: A, tag: &[u8]) -> Option<Entry<A>>
     }
 }
 
-// Whether a named object is in the pack or in the store, with the expected type.
+// Checks that a named object is in the pack or in the store, with the expected type.
 fn check_need<F: ObjectFiles, A: Allocator + Copy>(
     reader: &mut ObjectReader<'_, F, A>,
     pack: &IndexedPack<A>,
@@ -336,7 +339,7 @@ fn check_need<F: ObjectFiles, A: Allocator + Copy>(
 }
 
 impl<'a, 'r, 't, 'f, F: ObjectFiles, A: Allocator + Copy> Inspector<'a, 'r, 't, 'f, F, A> {
-    /// Returns a visitor that records the objects.
+    /// Returns a visitor that records the objects of a pack.
     pub(crate) fn new(
         arrival: &'a mut Arrival<A>,
         reader: &'r mut ObjectReader<'f, F, A>,
@@ -349,12 +352,12 @@ impl<'a, 'r, 't, 'f, F: ObjectFiles, A: Allocator + Copy> Inspector<'a, 'r, 't, 
         }
     }
 
-    /// Takes the fault of the refused object, or `None` if there is none.
+    /// Removes and returns the fault of the refused object, or `None` if no object was refused.
     pub(crate) fn take_fault(&mut self) -> Option<RepositoryFault<A>> {
         self.arrival.take_fault()
     }
 
-    // Compares an object with the one in the store, if there is one.
+    // Compares an object of the pack with the stored object of the same id, if there is one.
     fn compare(
         &mut self,
         id: &Oid,
@@ -372,7 +375,7 @@ impl<'a, 'r, 't, 'f, F: ObjectFiles, A: Allocator + Copy> Inspector<'a, 'r, 't, 
         }
     }
 
-    // Compares an object with the one in the store, and records it.
+    // Compares an object of the pack with the stored object of the same id, and records the object.
     fn inspect(&mut self, id: &Oid, kind: ObjectType, body: &[u8]) -> Result<(), RepositoryFault<A>>
         requires { id_of kind body.now ≡ id.now }
     {

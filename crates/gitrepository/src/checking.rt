@@ -15,23 +15,23 @@ use gname::Oid;
 use std::alloc::Allocator;
 use std::fs::Files;
 
-/// The counts of a repository.
+/// The numbers of refs and objects in a checked repository.
 #[derive(Clone, Copy, Debug, PartialEq, Eq, Drop)]
 pub struct Checked {
-    /// The number of its refs below `refs/`.
+    /// The number of refs below `refs/`.
     pub refs: usize,
-    /// The number of commits and tags that the refs and HEAD reach, and of trees and blobs that
+    /// The number of commits and tags that the refs and HEAD reach, plus the trees and blobs that
     /// refs and tags point to.
     pub nodes: usize,
-    /// The number of all objects that these reach, themselves included.
+    /// The number of all objects that the refs and HEAD reach.
     pub objects: u32,
 }
 
 /// Checks that every object that the refs and HEAD of a Git directory reach exists: commits, tags,
-/// trees and blobs. The id of each is computed. A malformed ref file is a fault, too. A
-/// commit-graph is not trusted.
+/// trees and blobs. The id of each object is recomputed. A malformed ref file is also a fault. The
+/// commit-graph is not used.
 ///
-/// The reader must read the same directory. It can be used again after any fault.
+/// The reader must read the same directory. The reader can be used again after any fault.
 ///
 /// Fails with `Ref` at the first malformed ref file, or at the first missing or refused object. The
 /// fault names the object and the ref. Refs are checked in the order of their names. Fails with
@@ -86,7 +86,7 @@ pub fn check_refs<F: ObjectFiles, A: Allocator + Copy>(
     }
 }
 
-// Checks the objects that HEAD reaches and no ref did.
+// Checks the objects that a detached HEAD reaches and no ref reaches.
 fn check_head<F: ObjectFiles, A: Allocator + Copy>(
     history: &mut History<'_, A>,
     gathering: &mut Gathering<'_, '_, F, A>,
@@ -100,7 +100,7 @@ fn check_head<F: ObjectFiles, A: Allocator + Copy>(
     }
 }
 
-// Checks the objects that a ref at this id reaches and no earlier ref did.
+// Checks the objects that this id reaches and no earlier ref reaches.
 fn check_ref<F: ObjectFiles, A: Allocator + Copy>(
     history: &mut History<'_, A>,
     gathering: &mut Gathering<'_, '_, F, A>,

@@ -18,10 +18,10 @@ const MAX_FILES: usize = 536_870_912;
 // The maximum size of the file `commit-graph-chain`: 1,024 lines.
 const MAX_CHAIN: usize = 41_984;
 
-/// Returns the commit-graph of a Git directory: the file `objects/info/commit-graph`. If that file
-/// is not read, it is the chain below `objects/info/commit-graphs`. The chain ends before the first
-/// file that is missing, too large or malformed. If `core.commitGraph` is off (git-config(1)), the
-/// commit-graph has no commits.
+/// Reads the commit-graph of a Git directory from the file `objects/info/commit-graph`. If that
+/// file cannot be used, the chain below `objects/info/commit-graphs` is read. The chain ends before
+/// the first file that is missing, too large or malformed. If `core.commitGraph` is off
+/// (git-config(1)), the commit-graph has no commits.
 ///
 /// Fails only if out of memory.
 pub fn read_commit_graph<F: ObjectFiles, A: Allocator + Copy>(
@@ -40,7 +40,7 @@ pub fn read_commit_graph<F: ObjectFiles, A: Allocator + Copy>(
     Ok(commits)
 }
 
-// Adds the files of the chain.
+// Adds the files of the commit-graph chain.
 fn add_chain<F: ObjectFiles, A: Allocator + Copy>(
     files: &F,
     alloc: A,
@@ -59,7 +59,8 @@ fn add_chain<F: ObjectFiles, A: Allocator + Copy>(
     Ok(())
 }
 
-// Returns the checksums of the files of the chain, lowest first; none if the chain is not read.
+// Returns the checksums of the files of the chain, lowest first. The list is empty if the chain
+// cannot be read.
 fn chain_of<F: ObjectFiles, A: Allocator + Copy>(
     files: &F,
     alloc: A,
@@ -72,7 +73,7 @@ fn chain_of<F: ObjectFiles, A: Allocator + Copy>(
     }
 }
 
-// Returns the path of a file of the chain.
+// Returns the path of the file with this checksum in the chain.
 fn graph_path<A: Allocator + Copy>(
     alloc: A,
     folder: &str,
@@ -84,7 +85,8 @@ fn graph_path<A: Allocator + Copy>(
     format!(in alloc; "{folder}/graph-{digits}.graph")
 }
 
-// Adds a file to a commit-graph, and returns its size, or `None` if it is not added.
+// Adds a file to a commit-graph. Returns the size of the file, or `None` if the file cannot be
+// used.
 fn add_file<F: ObjectFiles, A: Allocator + Copy>(
     files: &F,
     alloc: A,
@@ -103,7 +105,7 @@ fn add_file<F: ObjectFiles, A: Allocator + Copy>(
     }
 }
 
-// Returns the bytes of a file, or `None` if it is missing, too large or not read.
+// Returns the bytes of a file, or `None` if it is missing, too large or unreadable.
 fn read_file<F: ObjectFiles, A: Allocator + Copy>(
     files: &F,
     alloc: A,
@@ -118,7 +120,7 @@ fn read_file<F: ObjectFiles, A: Allocator + Copy>(
 }
 
 /// Returns the entry of this commit as the commit-graph lists it. Returns `None` if the
-/// commit-graph or the store lacks the commit, or it has too many parents for a node.
+/// commit-graph or the store lacks the commit, or if the commit has too many parents for a node.
 ///
 /// Fails only if out of memory.
 pub(crate) fn known_entry<F: ObjectFiles, A: Allocator + Copy>(
@@ -137,8 +139,8 @@ pub(crate) fn known_entry<F: ObjectFiles, A: Allocator + Copy>(
     }
 }
 
-// Returns the entry of the commit with this id at this position, or `None` if it has too many
-// parents for a node.
+// Returns the entry of the commit with this id at this position, or `None` if the commit has too
+// many parents for a node.
 fn entry_at<A: Allocator + Copy>(
     alloc: A,
     commits: &CommitGraph<A>,

@@ -1,4 +1,4 @@
-//! The entries of an outgoing pack: entries of stored packs are copied unchanged.
+//! The entries of an outgoing pack. Entries of stored packs are copied unchanged if possible.
 
 use crate::fates::{Fate, Fates};
 use crate::fault::RepositoryFault;
@@ -10,24 +10,24 @@ use gname::Oid;
 use gzlib::Deflater;
 use std::alloc::{AllocError, Allocator};
 
-/// How the objects of a pack were sent.
+/// The numbers of objects in a pack, by how they were sent.
 #[derive(Clone, Copy, Debug, PartialEq, Eq, Drop)]
 pub struct PackCounts {
-    /// The number of copied whole objects.
+    /// The number of whole objects copied from stored packs.
     pub whole: u32,
-    /// The number of copied deltas.
+    /// The number of deltas copied from stored packs.
     pub deltas: u32,
-    /// The number of loose objects, which were deflated again or sent as deltas.
+    /// The number of loose objects, which were deflated again or sent as new deltas.
     pub loose: u32,
-    /// The number of deltas whose base is not sent, and of broken entries whose objects are intact
-    /// elsewhere. These objects were deflated again or sent as deltas.
+    /// The number of stored entries that could not be copied: deltas whose base is not sent, and
+    /// broken entries. Their objects were deflated again or sent as new deltas.
     pub renewed: u32,
-    /// How many of the last two were sent as deltas.
+    /// The number of objects counted in `loose` or `renewed` that were sent as new deltas.
     pub made: u32,
 }
 
 impl PackCounts {
-    /// The counts without objects.
+    /// The counts of a pack without objects.
     pub(crate) const NONE: PackCounts = PackCounts {
         whole: 0,
         deltas: 0,
@@ -36,7 +36,7 @@ impl PackCounts {
         made: 0,
     };
 
-    /// Returns the total number of objects, saturating at the maximum.
+    /// Returns the total number of objects, saturating at `u32::MAX`.
     pub fn objects(&self) -> u32 {
         let copied = self.whole.saturating_add(self.deltas);
         copied
@@ -56,13 +56,13 @@ pub(crate) struct NextEntry<A: Allocator + Copy> {
 }
 
 impl<A: Allocator + Copy> NextEntry<A> {
-    /// Returns the stream.
+    /// Returns the zlib stream of the entry.
     pub(crate) fn stream(&self) -> &[u8] {
         self.bytes.as_slice().get(self.from..).unwrap_or(b"")
     }
 }
 
-// An object in a pack: its id, its place in the index, and its path.
+// An object in a pack: its id, its position in the pack index, and the hash of its path.
 #[derive(Clone, Copy, Drop)]
 struct Packed {
     id: Oid,
@@ -70,7 +70,8 @@ struct Packed {
     path: PathHash,
 }
 
-// An object to deflate again: its id, its path, and how many such objects were found before.
+// An object to deflate again: its id, the hash of its path, and the number of such objects found
+// before it.
 #[derive(Clone, Copy, Drop)]
 struct Anew {
     id: Oid,
@@ -78,15 +79,15 @@ struct Anew {
     number: usize,
 }
 
-// The progress through the packs: a pack, and how many of its entries were examined.
+// The progress through the packs: the number of a pack, and the number of its examined entries.
 #[derive(Clone, Copy, Drop)]
 struct Progress {
     pack: usize,
     number: usize,
 }
 
-/// The objects to send, entry by entry. Pack entries are first, in pack order, followed by objects
-/// that are deflated again.
+/// The objects to send, entry by entry. Copied pack entries are first, in pack order, followed by
+/// objects that are deflated again.
 #[derive(Drop)]
 pub(crate) struct Copying<A: Allocator + Copy> {
     alloc: A,
@@ -94,11 +95,11 @@ pub(crate) struct Copying<A: Allocator + Copy> {
     deflater: Deflater<A>,
     counts: PackCounts,
     progress: Progress,
-    // The position of each entry of the current pack, by its place in the index; 0 if it was not
-    // written.
+    // The new offset of each entry of the current pack, by its position in the pack index. The
+    // offset is 0 if the entry was not copied.
     starts: Vec<usize, A>,
-    // The objects to deflate again, how many were deflated, and the last ones. They are sorted once
-    // all packs were examined.
+    // The objects to deflate again, the number already deflated, and a window of the last ones. The
+    // objects are sorted once all packs were examined.
     anew: Vec<Anew, A>,
     renewed: usize,
     is_sorted: bool,
@@ -106,7 +107,7 @@ pub(crate) struct Copying<A: Allocator + Copy> {
 }
 
 impl<A: Allocator + Copy> Copying<A> {
-    /// Returns the objects to send, before the first entry.
+    /// Returns the objects to send, with no entry sent yet.
     pub(crate) fn new(alloc: A, fates: Fates<A>) -> Result<Copying<A>, AllocError> {
         Ok(Copying {
             alloc,
@@ -122,12 +123,13 @@ impl<A: Allocator + Copy> Copying<A> {
         })
     }
 
-    /// How the objects were sent so far.
+    /// Returns the counts of the objects sent so far.
     pub(crate) fn counts(&self) -> PackCounts {
         self.counts
     }
 
-    /// Returns the next entry, to be written at this position, or `None` if there are no more.
+    /// Returns the next entry, to be written at this offset of the pack, or `None` if no entries
+    /// remain.
     pub(crate) fn next<F: ObjectFiles>(
         &mut self,
         reader: &mut ObjectReader<'_, F, A>,
@@ -145,7 +147,7 @@ impl<A: Allocator + Copy> Copying<A> {
         self.next_anew(reader)
     }
 
-    // Returns the next entry of the pack, or `None` if it has no more entries.
+    // Returns the next entry to copy from the current pack, or `None` if no entries remain.
     fn next_of_pack<F: ObjectFiles>(
         &mut self,
         reader: &mut ObjectReader<'_, F, A>,
@@ -168,7 +170,8 @@ impl<A: Allocator + Copy> Copying<A> {
         Ok(None)
     }
 
-    // Returns the object of the entry with this number in a pack, if it is sent.
+    // Returns the object of the entry with this number in a pack, or `None` if the object is not
+    // sent.
     fn sent_at<F: ObjectFiles>(
         &self,
         reader: &ObjectReader<'_, F, A>,
@@ -183,8 +186,8 @@ impl<A: Allocator + Copy> Copying<A> {
         }
     }
 
-    // Returns an entry copied to this position, or `None` if it cannot be copied unchanged. Its
-    // object is then deflated again later.
+    // Copies an entry to this offset, or returns `None` if the entry cannot be copied unchanged.
+    // The object of such an entry is deflated again later.
     fn copy_entry<F: ObjectFiles>(
         &mut self,
         reader: &mut ObjectReader<'_, F, A>,
@@ -206,7 +209,7 @@ impl<A: Allocator + Copy> Copying<A> {
         Ok(Some(self.reuse_entry(form, entry)))
     }
 
-    // Adds a pack object to those that are deflated again.
+    // Adds a packed object to the objects to deflate again.
     fn renew(&mut self, object: Packed) -> Result<(), RepositoryFault<A>> {
         self.counts.renewed = self.counts.renewed.saturating_add(1);
         self.add_anew(&object.id, object.path)
@@ -221,7 +224,7 @@ impl<A: Allocator + Copy> Copying<A> {
         Ok(())
     }
 
-    // Returns an entry with its own stream.
+    // Returns a stored entry with its stream unchanged.
     fn reuse_entry(&mut self, form: EntryForm, entry: RawEntry<A>) -> NextEntry<A> {
         match form {
             EntryForm::Whole(_) => self.counts.whole = self.counts.whole.saturating_add(1),
@@ -235,8 +238,8 @@ impl<A: Allocator + Copy> Copying<A> {
         }
     }
 
-    // Returns the form of an entry at this position, or `None` if its base is not sent. A delta
-    // names the new position of its base.
+    // Returns the form of a copied entry at this offset, or `None` if the base of a delta is not
+    // sent. A delta names its base by offset if the base was already copied, and by id otherwise.
     fn form_of<F: ObjectFiles>(
         &self,
         reader: &ObjectReader<'_, F, A>,
@@ -269,7 +272,7 @@ impl<A: Allocator + Copy> Copying<A> {
         }
     }
 
-    // Returns the next object, deflated again, or `None` if there are no more.
+    // Deflates the next object again, or returns `None` if no objects remain.
     fn next_anew<F: ObjectFiles>(
         &mut self,
         reader: &mut ObjectReader<'_, F, A>,
@@ -285,7 +288,7 @@ impl<A: Allocator + Copy> Copying<A> {
         Ok(Some(self.deflated_anew(reader, &object.id)?))
     }
 
-    // Adds the loose objects to send to those that are deflated again.
+    // Adds the sent loose objects to the objects to deflate again.
     fn add_loose(&mut self) -> Result<(), RepositoryFault<A>> {
         for number in 0..self.fates.loose_count() {
             let Some((id, fate)) = self.fates.loose_at(number) else {
@@ -307,7 +310,7 @@ impl<A: Allocator + Copy> Copying<A> {
         self.is_sorted = true;
     }
 
-    // Returns the entry of an object, as a delta or whole. The id of the object is computed.
+    // Returns the entry of an object, as a delta or whole. The id of the object is checked.
     fn deflated_anew<F: ObjectFiles>(
         &mut self,
         reader: &mut ObjectReader<'_, F, A>,
@@ -345,7 +348,8 @@ impl<A: Allocator + Copy> Copying<A> {
     }
 }
 
-// Returns an entry unchanged, or `None` if it is broken. Its object may be intact elsewhere.
+// Returns a stored entry unchanged, or `None` if the entry is broken. Another copy of its object
+// may be intact.
 fn whole_entry<F: ObjectFiles, A: Allocator + Copy>(
     reader: &mut ObjectReader<'_, F, A>,
     pack: usize,

@@ -1,4 +1,4 @@
-//! The fates of objects: which are sent, and which are not.
+//! The fates of objects: whether each object is sent in a pack.
 
 use crate::fault::RepositoryFault;
 use crate::path_hash::PathHash;
@@ -9,19 +9,19 @@ use indexmap::IndexMap;
 use std::alloc::Allocator;
 use std::hash::BuildHasherDefault;
 
-/// Whether an object is sent.
+/// The fate of an object: whether it is sent in a pack.
 #[derive(Clone, Copy, Debug, PartialEq, Eq)]
 pub(crate) enum Fate {
     /// The fate is undecided.
     Open,
-    /// The object is sent. It was found at this path.
+    /// The object is sent. It was found at the path with this hash.
     Sent(PathHash),
     /// The object is not sent: the peer has it.
     Left,
 }
 
 impl Fate {
-    /// Whether the object is sent.
+    /// Returns whether the object is sent.
     pub(crate) fn is_sent(self) -> bool {
         match self {
             Fate::Sent(_) => true,
@@ -29,7 +29,7 @@ impl Fate {
         }
     }
 
-    /// Returns the fate of an entry of a tree with this fate.
+    /// Returns the fate of the entry with this name in a tree with this fate.
     pub(crate) fn of_entry(self, name: &[u8]) -> Fate {
         match self {
             Fate::Sent(path) => Fate::Sent(path.join(name)),
@@ -38,7 +38,8 @@ impl Fate {
     }
 }
 
-/// The fates of all objects of a store. The fates for a pack are listed by place in its index.
+/// The fates of all objects of a store. The fates of packed objects are listed by position in the
+/// pack index.
 #[derive(Drop)]
 pub(crate) struct Fates<A: Allocator + Copy> {
     alloc: A,
@@ -64,7 +65,7 @@ impl<A: Allocator + Copy> Fates<A> {
         self.sent
     }
 
-    /// Returns the fate of the object found here.
+    /// Returns the fate of the object at this location.
     pub(crate) fn of(&self, id: &Oid, found: Found) -> Fate {
         match found {
             Found::Packed { pack, place } => match self.packed.get(pack) {
@@ -75,17 +76,18 @@ impl<A: Allocator + Copy> Fates<A> {
         }
     }
 
-    /// Returns the fate of an object found loose. It keeps its fate if Git packs it meanwhile.
+    /// Returns the fate of an object that was found loose. The object keeps its fate if Git packs
+    /// it meanwhile.
     pub(crate) fn of_loose(&self, id: &Oid) -> Fate {
-        // Most repositories have few or no such objects; with none, no id is hashed.
+        // Most repositories have few loose objects. Without any, no id is hashed.
         if self.loose.is_empty() {
             return Fate::Open;
         }
         self.loose.get(id).copied().unwrap_or(Fate::Open)
     }
 
-    /// Returns the id and the fate of the decided loose object with this number; `None` past the
-    /// last.
+    /// Returns the id and the fate of the decided loose object with this number, or `None` past the
+    /// last object.
     pub(crate) fn loose_at(&self, number: usize) -> Option<(Oid, Fate)> {
         match self.loose.get_index(number) {
             Some((id, fate)) => Some((*id, *fate)),
@@ -98,7 +100,7 @@ impl<A: Allocator + Copy> Fates<A> {
         self.loose.len()
     }
 
-    /// Decides the fate of an undecided object found here.
+    /// Sets the fate of an undecided object at this location.
     pub(crate) fn settle<F: ObjectFiles>(
         &mut self,
         store: &ObjectStore<'_, F, A>,
@@ -129,7 +131,7 @@ impl<A: Allocator + Copy> Fates<A> {
         }
     }
 
-    // Makes room for the objects of all packs up to and including this one.
+    // Adds undecided fates for the objects of all packs up to and including this pack.
     fn make_room<F: ObjectFiles>(
         &mut self,
         store: &ObjectStore<'_, F, A>,

@@ -1,4 +1,4 @@
-//! Why a repository cannot be read, packed or added to.
+//! The faults of calls that read a repository, pack its objects or receive a pack.
 
 use ggraph::{GraphFault, MAX_NODES, MAX_PARENTS, RefsFault};
 use gitobject::ObjectFault;
@@ -10,40 +10,40 @@ use std::alloc::{AllocError, AllocFailed, Allocator};
 use std::error::Error;
 use std::{fmt, io};
 
-/// The fault of an object.
+/// The reason why an object is refused.
 #[derive(Clone, Copy, Debug, PartialEq, Eq)]
 pub enum ObjectCause {
-    /// Its bytes do not have the form of its type.
+    /// The bytes of the object do not have the form of its type.
     Malformed,
-    /// Its type differs from the type that names it.
+    /// The type of the object differs from the type that another object expects.
     Type,
     /// The store has a different object with the same id.
     Differs,
-    /// It has more than [`MAX_PARENTS`] parents.
+    /// The object has more than [`MAX_PARENTS`] parents.
     Parents,
 }
 
-/// Why a repository format is unsupported (git-config(1), "core.repositoryFormatVersion",
-/// "extensions").
+/// The reason why a repository format is unsupported (git-config(1),
+/// "core.repositoryFormatVersion", "extensions").
 #[derive(Clone, Copy, Debug, PartialEq, Eq)]
 pub enum FormFault {
-    /// It is shallow: some commits lack their parents.
+    /// The repository is shallow: some commits lack their parents.
     Shallow,
-    /// Its ids are not SHA-1: `extensions.objectFormat`.
+    /// The ids of the repository are not SHA-1: `extensions.objectFormat`.
     ObjectFormat,
-    /// Its refs are not in files: `extensions.refStorage`.
+    /// The refs of the repository are not in files: `extensions.refStorage`.
     RefStorage,
-    /// It is a partial clone: named objects may be missing.
+    /// The repository is a partial clone: named objects may be missing.
     PartialClone,
-    /// Its version is neither 0 nor 1: `core.repositoryFormatVersion`.
+    /// The version of the repository is neither 0 nor 1: `core.repositoryFormatVersion`.
     Version,
-    /// It has an unknown extension.
+    /// The repository has an unknown extension.
     Extension,
-    /// Its configuration is malformed.
+    /// The configuration of the repository is malformed.
     Config,
 }
 
-/// Why a repository cannot be read, packed or added to.
+/// The faults of calls that read a repository, pack its objects or receive a pack.
 #[derive(Drop)]
 pub enum RepositoryFault<A: Allocator + Copy> {
     /// Out of memory.
@@ -63,7 +63,7 @@ pub enum RepositoryFault<A: Allocator + Copy> {
     Objects,
     /// A pack is refused or cannot be written.
     Pack(PackFileFault),
-    /// The number of objects in a written pack differs from the counted number.
+    /// The number of objects written to a pack differs from the number in its header.
     Count,
     /// The system refused a call on a file.
     File {
@@ -74,7 +74,7 @@ pub enum RepositoryFault<A: Allocator + Copy> {
     },
     /// The repository has an unsupported format.
     Form {
-        /// The path of the file that shows it.
+        /// The path of the file that shows the unsupported format.
         path: String<A>,
         /// The format.
         fault: FormFault,
@@ -83,7 +83,7 @@ pub enum RepositoryFault<A: Allocator + Copy> {
     Busy,
 }
 
-/// Why a repository is not intact.
+/// The reason why a repository is not intact.
 #[derive(Drop)]
 pub enum CheckFault<A: Allocator + Copy> {
     /// The repository cannot be read, or out of memory.
@@ -116,7 +116,7 @@ impl<A: Allocator + Copy> CheckFault<A> {
 }
 
 impl<A: Allocator + Copy> RepositoryFault<A> {
-    /// Returns the fault of an object.
+    /// Converts the fault of the object with this id.
     pub(crate) fn of_object(id: &Oid, fault: ObjectFault) -> RepositoryFault<A> {
         match fault {
             ObjectFault::Malformed => RepositoryFault::object_fault(id, ObjectCause::Malformed),
@@ -124,7 +124,7 @@ impl<A: Allocator + Copy> RepositoryFault<A> {
         }
     }
 
-    /// Returns the fault of an object refused for this cause.
+    /// Returns the fault of the object with this id, refused for this cause.
     pub(crate) fn object_fault(id: &Oid, cause: ObjectCause) -> RepositoryFault<A> {
         RepositoryFault::Object { id: *id, cause }
     }
@@ -162,7 +162,7 @@ impl<A: Allocator + Copy> RepositoryFault<A> {
         }
     }
 
-    /// Returns the fault of a repository whose format the file with this path shows.
+    /// Returns the fault of an unsupported format that the file with this path shows.
     pub(crate) fn of_form(alloc: A, path: &str, fault: FormFault) -> RepositoryFault<A> {
         match String::from_str(alloc, path) {
             Ok(path) => RepositoryFault::Form { path, fault },
@@ -172,7 +172,7 @@ impl<A: Allocator + Copy> RepositoryFault<A> {
 }
 
 impl FormFault {
-    // Describes each unsupported format.
+    // Returns the message for an unsupported format.
     fn text(self) -> &'static str {
         match self {
             FormFault::Shallow => {
@@ -244,7 +244,7 @@ fn write_object<W: fmt::Write>(
     write!(f, " {cause}")
 }
 
-// Writes the text of a pack fault.
+// Writes the message for a pack fault.
 fn write_pack<W: fmt::Write>(fault: PackFileFault, f: &mut fmt::Formatter<W>) -> fmt::Result {
     match fault {
         PackFileFault::Memory => f.write_str(OUT_OF_MEMORY_TEXT),

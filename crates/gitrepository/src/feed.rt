@@ -1,4 +1,4 @@
-//! A pack while a Git directory receives it.
+//! A pack that a Git directory is receiving.
 
 ghost use Rattle.std.specs.Prelude.{◌≡◌, ◌++◌, [], ℕ, IfOk, OnOk};
 ghost use Rattle.gitpack.specs.Packs.{IsFramed};
@@ -23,7 +23,8 @@ pub struct Received<A: Allocator + Copy> {
     pub index: IndexedPack<A>,
 }
 
-/// A partly received pack, and what is known about its objects. Contracts see the received bytes.
+/// A partly received pack, and the facts known so far about its objects. Contracts describe a
+/// `StoreFeed` by the received bytes.
 #[derive(Drop)]
 pub struct StoreFeed<A: Allocator + Copy> {
     pack: LimitedPack<A>,
@@ -49,7 +50,7 @@ impl<A: Allocator + Copy> StoreFeed<A> {
         }
     }
 
-    /// Takes the next bytes. Fails only if out of memory.
+    /// Receives the next bytes of the pack. Fails only if out of memory.
     pub(crate) fn take_piece<F: ObjectFiles>(
         &mut self,
         reader: &mut ObjectReader<'_, F, A>,
@@ -62,7 +63,7 @@ impl<A: Allocator + Copy> StoreFeed<A> {
         feed_pack(&mut self.pack, piece, &mut inspector)
     }
 
-    /// Returns the pack, once it is complete, and the entries of its commits and tags.
+    /// Indexes the complete pack. Returns the pack and the graph entries of its commits and tags.
     pub(crate) fn finish<F: ObjectFiles>(
         self,
         reader: &mut ObjectReader<'_, F, A>,
@@ -91,7 +92,7 @@ fn feed_pack<F: ObjectFiles, A: Allocator + Copy>(
     pack.feed(piece, inspector)
 }
 
-// Indexes a complete pack. Returns the fault of the refused object, if there is one.
+// Indexes a complete pack. If an object was refused, fails with the fault of that object.
 fn finish_pack<F: ObjectFiles, A: Allocator + Copy>(
     pack: LimitedPack<A>,
     inspector: &mut Inspector<'_, '_, '_, '_, F, A>,
@@ -106,7 +107,7 @@ fn finish_pack<F: ObjectFiles, A: Allocator + Copy>(
     }
 }
 
-// Returns the fault of the refused object.
+// Returns the fault of the refused object, or a general fault if none was kept.
 fn refusal<A: Allocator + Copy>(fault: Option<RepositoryFault<A>>) -> RepositoryFault<A> {
     match fault {
         Some(fault) => fault,

@@ -5,7 +5,7 @@ ghost use Rattle.gitrepository.specs.Installing.{Comes, Folder, IndexComes, MayC
 ghost use Rattle.gitrepository.specs.declared.folder.PackFileStage.{PackFileStage};
 ghost use Rattle.gitrepository.specs.declared.folder.PackFileStage.TheVariants.{Start, PackWritten, PackSynced, IndexWritten, Ready, PackNamed, Done, Failed};
 
-/// The progress of this run with the files of a pack.
+/// The progress of writing the files of a pack.
 #[derive(Clone, Copy, Debug, PartialEq, Eq)]
 pub enum PackFileStage {
     /// No file is written.
@@ -18,9 +18,9 @@ pub enum PackFileStage {
     IndexWritten,
     /// Both files are synced.
     Ready,
-    /// The pack has its name.
+    /// The pack has its final name.
     PackNamed,
-    /// Both files have their names.
+    /// Both files have their final names.
     Done,
     /// A call failed.
     Failed,
@@ -29,13 +29,13 @@ pub enum PackFileStage {
 /// A folder of packs (gitrepository-layout(5), "objects/pack"). Git finds a pack by its index, and
 /// does not read temporary files.
 pub trait PackFolder {
-    /// The fault of a call.
+    /// The fault type of the calls.
     type Fault: Drop;
 
-    // The files that the folder received, if they are known.
+    // The files that the folder received, or `None` if the files are unknown.
     ghost known: { Self → Option Folder };
 
-    // The progress of this run.
+    // The progress of writing the current pack.
     ghost stage: { Self → PackFileStage };
 
     /// Writes the pack to a new temporary file.
@@ -47,7 +47,7 @@ pub trait PackFolder {
             (λ before after. (after.arrivals ≡ before.arrivals)
             × OnOk result (after.pack ≡ bytes.now)) };
 
-    /// Syncs that file.
+    /// Syncs the temporary file of the pack.
     fn sync_pack(&mut self) -> Result<(), Self::Fault>
         requires { stage self.old ≡ PackWritten }
         ensures stage { MatchResult result (λ _. stage self.new ≡ PackSynced)
@@ -63,14 +63,15 @@ pub trait PackFolder {
             (λ before after. (after.arrivals ≡ before.arrivals) × (after.pack ≡ before.pack)
             × OnOk result (after.index ≡ bytes.now)) };
 
-    /// Syncs that file.
+    /// Syncs the temporary file of the index.
     fn sync_index(&mut self) -> Result<(), Self::Fault>
         requires { stage self.old ≡ IndexWritten }
         ensures stage { MatchResult result (λ _. stage self.new ≡ Ready)
             (λ _. stage self.new ≡ Failed) }
         ensures known { known self.new ≡ known self.old };
 
-    /// Gives the pack its name, and syncs the folder. On `Err` the pack may have its name.
+    /// Renames the temporary pack to its final name, and syncs the folder. After `Err` the pack may
+    /// have been renamed.
     fn name_pack(&mut self) -> Result<(), Self::Fault>
         requires { stage self.old ≡ Ready }
         ensures stage { MatchResult result (λ _. stage self.new ≡ PackNamed)
@@ -80,7 +81,8 @@ pub trait PackFolder {
             × MatchResult result (λ _. Comes before after (PackComes before.pack ∷ []))
             (λ _. MayCome before after (PackComes before.pack))) };
 
-    /// Gives the index its name, and syncs the folder. On `Err` the index may have its name.
+    /// Renames the temporary index to its final name, and syncs the folder. After `Err` the index
+    /// may have been renamed.
     fn name_index(&mut self) -> Result<(), Self::Fault>
         requires { stage self.old ≡ PackNamed }
         ensures stage { MatchResult result (λ _. stage self.new ≡ Done)

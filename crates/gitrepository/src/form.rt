@@ -17,15 +17,15 @@ const KNOWN: [&[u8]; 5] = [
     b"worktreeconfig",
 ];
 
-// The values for no (git-config(1), "Values").
+// The values that mean no (git-config(1), "Values").
 const NO: [&[u8]; 5] = [b"", b"false", b"no", b"off", b"0"];
 
-/// Opens the objects of the Git directory with this path, including alternates. A repository in an
-/// unsupported format is refused: it is shallow or a partial clone, or has SHA-256 ids or a
-/// reftable. So is one whose configuration names another version or extension (git-config(1),
+/// Opens the objects of the Git directory with this path, including its alternates. Refuses a
+/// repository that is shallow or a partial clone, or that has SHA-256 ids or a reftable. Also
+/// refuses a repository whose configuration names an unknown version or extension (git-config(1),
 /// "core.repositoryFormatVersion", "extensions").
 ///
-/// Fails with `Form` if the format is unsupported, and as [`ObjectStore::open`] does.
+/// Fails with `Form` if the format is unsupported. Also fails as [`ObjectStore::open`] does.
 pub fn open_store<'f, F: ObjectFiles, A: Allocator + Copy>(
     files: &'f F,
     alloc: A,
@@ -35,8 +35,8 @@ pub fn open_store<'f, F: ObjectFiles, A: Allocator + Copy>(
     Ok(ObjectStore::open(files, alloc, git_dir)?)
 }
 
-/// Checks that the repository of a Git directory has a supported format. Otherwise it fails as
-/// [`open_store`] does.
+/// Checks that the repository of a Git directory has a supported format. Fails with `Form` if the
+/// format is unsupported, as [`open_store`] does.
 pub fn check_form<F: ObjectFiles, A: Allocator + Copy>(
     files: &F,
     alloc: A,
@@ -47,7 +47,7 @@ pub fn check_form<F: ObjectFiles, A: Allocator + Copy>(
     check_promisors(files, alloc, git_dir)
 }
 
-/// Returns the path of a file of a Git directory.
+/// Returns the path of the file with this name in a Git directory.
 pub(crate) fn path_of<A: Allocator + Copy>(
     alloc: A,
     git_dir: &str,
@@ -59,7 +59,7 @@ pub(crate) fn path_of<A: Allocator + Copy>(
     Ok(path)
 }
 
-// Checks the configuration. Git treats a repository without one as version 0.
+// Checks the configuration. Git treats a repository without a configuration as version 0.
 fn check_config<F: ObjectFiles, A: Allocator + Copy>(
     files: &F,
     alloc: A,
@@ -78,8 +78,9 @@ fn check_config<F: ObjectFiles, A: Allocator + Copy>(
     }
 }
 
-/// Whether the configuration turns the commit-graph off (git-config(1), "core.commitGraph"). An
-/// unreadable configuration turns nothing off. Fails only if out of memory.
+/// Returns whether the configuration turns the commit-graph off (git-config(1),
+/// "core.commitGraph"). An unreadable configuration does not turn it off. Fails only if out of
+/// memory.
 pub(crate) fn turns_commit_graph_off<F: ObjectFiles, A: Allocator + Copy>(
     files: &F,
     alloc: A,
@@ -88,9 +89,9 @@ pub(crate) fn turns_commit_graph_off<F: ObjectFiles, A: Allocator + Copy>(
     Ok(core_flag(files, alloc, git_dir, b"commitgraph")? == Some(false))
 }
 
-/// Whether the configuration says that the repository is bare: it has no work tree (git-config(1),
-/// "core.bare"). Returns `None` if the configuration does not say, or cannot be read. Fails only if
-/// out of memory.
+/// Returns whether the repository is bare, without a work tree, according to its configuration
+/// (git-config(1), "core.bare"). Returns `None` if the configuration does not set the variable, or
+/// is unreadable. Fails only if out of memory.
 pub fn is_bare<F: ObjectFiles, A: Allocator + Copy>(
     files: &F,
     alloc: A,
@@ -119,8 +120,8 @@ fn core_flag<F: ObjectFiles, A: Allocator + Copy>(
     }
 }
 
-// Returns the value of the last setting of a variable of the section `core`, or `None` if there is
-// none.
+// Returns the value of the last setting of a variable of the section `core`, or `None` if the
+// variable is not set.
 fn last_flag<A: Allocator + Copy>(settings: &[Setting<A>], name: &[u8]) -> Option<bool> {
     let mut flag = None;
     for setting in settings {
@@ -135,7 +136,7 @@ fn is_of_core<A: Allocator + Copy>(setting: &Setting<A>, name: &[u8]) -> bool {
     setting.section.as_slice() == b"core".as_slice() && setting.name.as_slice() == name
 }
 
-// Whether the value means no. A name without a value means yes.
+// Returns whether the value of a Boolean setting means no. A setting without a value means yes.
 fn is_no<A: Allocator + Copy>(setting: &Setting<A>) -> bool {
     match &setting.value {
         Some(value) => NO
@@ -175,15 +176,15 @@ fn check_promisors<F: ObjectFiles, A: Allocator + Copy>(
     }
 }
 
-// Whether one of these NUL-terminated names ends with `.promisor`.
+// Returns whether one of these NUL-terminated names ends with `.promisor`.
 fn lists_promisor(names: &[u8]) -> bool {
     names
         .split(|byte| *byte == 0)
         .any(|name| name.ends_with(b".promisor"))
 }
 
-// Returns why a repository with this configuration is unsupported, or `None` if it is supported.
-// Fails only if out of memory.
+// Returns the reason why this configuration is unsupported, or `None` if it is supported. Fails
+// only if out of memory.
 fn form_of<A: Allocator + Copy>(alloc: A, text: &[u8]) -> Result<Option<FormFault>, AllocError> {
     match parse_config(alloc, text) {
         Ok(settings) => Ok(fault_of_all(settings.as_slice())),
@@ -192,7 +193,8 @@ fn form_of<A: Allocator + Copy>(alloc: A, text: &[u8]) -> Result<Option<FormFaul
     }
 }
 
-// Returns why a repository with these settings is unsupported, or `None` if it is supported.
+// Returns the reason why a repository with these settings is unsupported, or `None` if the settings
+// are supported.
 fn fault_of_all<A: Allocator + Copy>(settings: &[Setting<A>]) -> Option<FormFault> {
     let is_version_1 = settings.iter().any(|setting| sets_version_1(setting));
     settings
@@ -200,7 +202,7 @@ fn fault_of_all<A: Allocator + Copy>(settings: &[Setting<A>]) -> Option<FormFaul
         .find_map(|setting| fault_of(setting, is_version_1))
 }
 
-// Whether the setting selects version 1.
+// Returns whether the setting selects version 1 of the repository format.
 fn sets_version_1<A: Allocator + Copy>(setting: &Setting<A>) -> bool {
     is_version(setting) && has_value(setting, b"1")
 }
@@ -216,7 +218,8 @@ fn has_value<A: Allocator + Copy>(setting: &Setting<A>, value: &[u8]) -> bool {
     }
 }
 
-// Returns why a repository with this setting is unsupported, or `None` if it is supported.
+// Returns the reason why a repository with this setting is unsupported, or `None` if the setting is
+// supported.
 fn fault_of<A: Allocator + Copy>(setting: &Setting<A>, is_version_1: bool) -> Option<FormFault> {
     if is_version(setting) {
         if has_value(setting, b"0") || has_value(setting, b"1") {
@@ -248,7 +251,7 @@ fn extension_fault<A: Allocator + Copy>(
     }
 }
 
-// Whether an extension does not affect this crate.
+// Returns whether the extension with this name does not affect this crate.
 fn is_known(name: &[u8]) -> bool {
     KNOWN.iter().any(|known| *known == name)
 }

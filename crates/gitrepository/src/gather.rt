@@ -9,8 +9,9 @@ use gitobjects::{Found, Object, ObjectFiles, ObjectReader, StoreFault};
 use gname::Oid;
 use std::alloc::Allocator;
 
-/// Returns the fates of objects for a list of commits and tags. The commits and tags are sent. So
-/// are the trees and blobs they reach, unless a parent outside the list reaches them.
+/// Decides which objects are sent for a list of commits and tags. The listed commits and tags are
+/// sent. The trees and blobs that they reach are also sent, unless a parent outside the list
+/// reaches them.
 pub(crate) fn gather<F: ObjectFiles, A: Allocator + Copy>(
     reader: &mut ObjectReader<'_, F, A>,
     entries: &[Entry<A>],
@@ -30,7 +31,7 @@ struct Tree {
     fate: Fate,
 }
 
-/// The fates of objects so far.
+/// The fates of objects decided so far.
 #[derive(Drop)]
 pub(crate) struct Gathering<'r, 'f, F: ObjectFiles, A: Allocator + Copy> {
     alloc: A,
@@ -41,8 +42,8 @@ pub(crate) struct Gathering<'r, 'f, F: ObjectFiles, A: Allocator + Copy> {
 }
 
 impl<'r, 'f, F: ObjectFiles, A: Allocator + Copy> Gathering<'r, 'f, F, A> {
-    /// Returns a `Gathering` in which every object is undecided. If `is_strict` is set, each object
-    /// must have its id and the type that a tree or tag names.
+    /// Returns a `Gathering` in which every object is undecided. If `is_strict` is set, the id and
+    /// the type of each object are checked.
     pub(crate) fn new(
         reader: &'r mut ObjectReader<'f, F, A>,
         is_strict: bool,
@@ -62,7 +63,8 @@ impl<'r, 'f, F: ObjectFiles, A: Allocator + Copy> Gathering<'r, 'f, F, A> {
         self.fates.sent_count()
     }
 
-    /// Sends an object and the trees and blobs it reaches, unless it is decided.
+    /// Marks an object as sent, with the trees and blobs it reaches, unless its fate is already
+    /// decided.
     pub(crate) fn send(&mut self, id: &Oid) -> Result<(), RepositoryFault<A>> {
         let fate = Fate::Sent(PathHash::NONE);
         match self.settle(id, fate)? {
@@ -71,7 +73,7 @@ impl<'r, 'f, F: ObjectFiles, A: Allocator + Copy> Gathering<'r, 'f, F, A> {
         }
     }
 
-    // Sends the commits and tags.
+    // Marks the commits and tags as sent.
     fn send_all(&mut self, entries: &[Entry<A>]) -> Result<(), RepositoryFault<A>> {
         for entry in entries {
             self.settle(&entry.id, Fate::Sent(PathHash::NONE))?;
@@ -79,7 +81,7 @@ impl<'r, 'f, F: ObjectFiles, A: Allocator + Copy> Gathering<'r, 'f, F, A> {
         Ok(())
     }
 
-    // Leaves out what unsent parents reach: the peer has it.
+    // Marks unsent parents, and the trees and blobs they reach, as left out: the peer has them.
     fn leave_out_parents(&mut self, entries: &[Entry<A>]) -> Result<(), RepositoryFault<A>> {
         for entry in entries {
             self.leave_out(entry.node.parents.as_slice())?;
@@ -96,7 +98,7 @@ impl<'r, 'f, F: ObjectFiles, A: Allocator + Copy> Gathering<'r, 'f, F, A> {
         Ok(())
     }
 
-    // Sends what the commits and tags reach.
+    // Marks the undecided trees and blobs that the commits and tags reach as sent.
     fn send_trees(&mut self, entries: &[Entry<A>]) -> Result<(), RepositoryFault<A>> {
         for entry in entries {
             self.walk_from(&entry.id, Fate::Sent(PathHash::NONE))?;
@@ -104,7 +106,7 @@ impl<'r, 'f, F: ObjectFiles, A: Allocator + Copy> Gathering<'r, 'f, F, A> {
         Ok(())
     }
 
-    // Returns the place of an object.
+    // Returns the location of an object in the store.
     fn locate(&mut self, id: &Oid) -> Result<Found, RepositoryFault<A>> {
         if let Some(found) = self.reader.store().find(id)? {
             return Ok(found);
@@ -117,7 +119,8 @@ impl<'r, 'f, F: ObjectFiles, A: Allocator + Copy> Gathering<'r, 'f, F, A> {
         }
     }
 
-    // Decides the fate of an object, and returns its place, or `None` if the fate was decided.
+    // Sets the fate of an undecided object, and returns its location. Returns `None` if the fate
+    // was already decided.
     fn settle(&mut self, id: &Oid, fate: Fate) -> Result<Option<Found>, RepositoryFault<A>> {
         if self.fates.of_loose(id) != Fate::Open {
             return Ok(None);
@@ -130,8 +133,8 @@ impl<'r, 'f, F: ObjectFiles, A: Allocator + Copy> Gathering<'r, 'f, F, A> {
         Ok(Some(found))
     }
 
-    // Decides what a tree or the tree of a commit reaches. A tag is decided alone, as the object it
-    // names is also in the list.
+    // Decides the fates of all objects that a tree, or the tree of a commit, reaches. The object
+    // that a tag names is skipped, because it is also in the list.
     fn walk_from(&mut self, id: &Oid, fate: Fate) -> Result<(), RepositoryFault<A>> {
         let object = self.read_object(id)?;
         let body = object.body.as_slice();
@@ -148,7 +151,7 @@ impl<'r, 'f, F: ObjectFiles, A: Allocator + Copy> Gathering<'r, 'f, F, A> {
         self.walk_trees(trees)
     }
 
-    // Checks the object that a tag names, if objects are compared.
+    // Checks the object that a tag names, if `is_strict` is set.
     fn check_tag(&mut self, id: &Oid, body: &[u8]) -> Result<(), RepositoryFault<A>> {
         if !self.is_strict {
             return Ok(());
@@ -159,7 +162,7 @@ impl<'r, 'f, F: ObjectFiles, A: Allocator + Copy> Gathering<'r, 'f, F, A> {
         }
     }
 
-    // Checks that an object has its id and the expected type.
+    // Checks the id and the type of a named object.
     fn check_object(&mut self, link: Link) -> Result<(), RepositoryFault<A>> {
         if self.reader.read_checked(&link.id)?.kind == link.kind {
             Ok(())
@@ -179,7 +182,8 @@ impl<'r, 'f, F: ObjectFiles, A: Allocator + Copy> Gathering<'r, 'f, F, A> {
         }
     }
 
-    // Decides what some trees reach. Each object is decided once, so the loop ends.
+    // Decides the fates of all objects that the trees reach. Each object is decided once, so the
+    // loop ends.
     fn walk_trees(&mut self, trees: Vec<Tree, A>) -> Result<(), RepositoryFault<A>> {
         let mut trees = trees;
         for _ in 0..u64::MAX {
@@ -200,7 +204,7 @@ impl<'r, 'f, F: ObjectFiles, A: Allocator + Copy> Gathering<'r, 'f, F, A> {
         }
     }
 
-    // Returns the object found here.
+    // Reads the object at this location.
     fn read_found(&mut self, id: &Oid, found: Found) -> Result<Object<A>, RepositoryFault<A>> {
         if self.is_strict {
             return self.read_object(id);
@@ -219,7 +223,8 @@ impl<'r, 'f, F: ObjectFiles, A: Allocator + Copy> Gathering<'r, 'f, F, A> {
         Ok(object)
     }
 
-    // Decides the objects that a tree names, and adds the trees among them to those to walk.
+    // Decides the fates of the objects that a tree names. Adds the undecided trees among them to
+    // `trees`.
     fn walk_entries(
         &mut self,
         id: &Oid,
@@ -243,7 +248,7 @@ impl<'r, 'f, F: ObjectFiles, A: Allocator + Copy> Gathering<'r, 'f, F, A> {
         Ok(())
     }
 
-    // Decides a named object. An undecided tree is added to the trees to walk.
+    // Decides the fate of a named object. Adds an undecided tree to `trees`.
     fn settle_link(
         &mut self,
         link: Link,

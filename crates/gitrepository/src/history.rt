@@ -28,12 +28,12 @@ struct Parent {
 #[derive(Drop)]
 pub(crate) struct History<'g, A: Allocator + Copy> {
     alloc: A,
-    // The commit-graph, which lists the parents of commits so that they are not read.
+    // The commit-graph, which lists the parents of commits. Listed commits need not be read.
     commits: &'g CommitGraph<A>,
-    // The objects that were read with everything they reach.
+    // The objects whose whole ancestry was read.
     graph: Graph<A>,
-    // A path of objects, each a parent of the one before, and for each how many of its parents were
-    // visited.
+    // A path of objects, each a parent of the object before. For each object, `looked` counts its
+    // visited parents.
     path: Vec<Entry<A>, A>,
     looked: Vec<usize, A>,
 }
@@ -53,8 +53,8 @@ impl<'g, A: Allocator + Copy> Model for History<'g, A> {
 }
 
 impl<'g, A: Allocator + Copy> History<'g, A> {
-    /// Returns a history without objects. The commit-graph lists the parents of commits. The
-    /// history has room for as many objects as it has commits.
+    /// Returns a history without objects, with room for as many objects as the commit-graph has
+    /// commits.
     pub(crate) fn new(alloc: A, commits: &'g CommitGraph<A>) -> History<'g, A>
         ensures { result.commits ≡ graph_commits commits.now }
     {
@@ -76,7 +76,7 @@ impl<'g, A: Allocator + Copy> History<'g, A> {
         self.graph.len()
     }
 
-    /// Returns the id of the object with this number, from 0; `None` past the last.
+    /// Returns the id of the object at this position, or `None` past the last object.
     pub(crate) fn id_at(&self, place: usize) -> Option<Oid> {
         match self.graph.at(place) {
             Some((id, _node)) => Some(*id),
@@ -107,8 +107,8 @@ impl<'g, A: Allocator + Copy> History<'g, A> {
         Ok(())
     }
 
-    // Moves to the next parent of the last object on the path. If there is none, adds the object to
-    // the graph. Returns whether there was an object.
+    // Moves to the next parent of the last object on the path. If no parent remains, moves the last
+    // object to the graph. Returns whether the path had an object.
     fn step<F: ObjectFiles>(
         &mut self,
         reader: &mut ObjectReader<'_, F, A>,
@@ -124,7 +124,7 @@ impl<'g, A: Allocator + Copy> History<'g, A> {
         }
     }
 
-    // Adds the last object on the path to the graph. Returns whether there was an object.
+    // Moves the last object on the path to the graph. Returns whether the path had an object.
     fn insert_last(&mut self) -> Result<bool, RepositoryFault<A>>
         ensures { self.new.commits ≡ self.old.commits }
     {
@@ -137,7 +137,7 @@ impl<'g, A: Allocator + Copy> History<'g, A> {
         }
     }
 
-    // Takes the last object off the path.
+    // Removes and returns the last object on the path.
     fn pop(&mut self) -> Option<Entry<A>>
         ensures same { self.new ≡ self.old }
         ensures known { IfSome result (λ entry. IsKnown self.old.commits entry) }
@@ -170,8 +170,8 @@ impl<'g, A: Allocator + Copy> History<'g, A> {
         Some(Parent { id, child })
     }
 
-    // Puts an object on the path, unless the graph has it. A cyclic path is cut when it is too
-    // long.
+    // Adds a parent to the path, unless the graph holds it. Fails with `Objects` if the path is too
+    // long, which stops a cycle.
     #[tactic(auto, using(crate::proofs::HistoryLemmas::known_pushed))]
     fn reach<F: ObjectFiles>(
         &mut self,
@@ -192,8 +192,7 @@ impl<'g, A: Allocator + Copy> History<'g, A> {
         Ok(())
     }
 
-    // Returns the entry of an object. It is the commit-graph's entry of a commit, or the object is
-    // read.
+    // Returns the entry of an object from the commit-graph, or reads the object.
     fn find<F: ObjectFiles>(
         &self,
         reader: &mut ObjectReader<'_, F, A>,
@@ -207,7 +206,8 @@ impl<'g, A: Allocator + Copy> History<'g, A> {
         }
     }
 
-    /// Returns the graph of these objects. Fails with `Objects` if an object precedes its parent.
+    /// Returns the graph of the added objects. Fails with `Objects` if an object precedes its
+    /// parent.
     #[tactic(auto, using(crate::proofs::HistoryLemmas::is_history))]
     pub(crate) fn into_graph(self) -> Result<Graph<A>, RepositoryFault<A>>
         ensures { IfOk result (λ graph. IsHistory self.entry.commits graph) }
@@ -220,7 +220,7 @@ impl<'g, A: Allocator + Copy> History<'g, A> {
     }
 }
 
-// Returns the entry of an object, whose id is computed. The parents of a commit must be commits.
+// Reads an object, checks its id, and returns its entry. The parents of a commit must be commits.
 fn read_entry<F: ObjectFiles, A: Allocator + Copy>(
     alloc: A,
     reader: &mut ObjectReader<'_, F, A>,

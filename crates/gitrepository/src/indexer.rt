@@ -13,17 +13,17 @@ use gname::Oid;
 use std::alloc::Allocator;
 use std::cell::RefCell;
 
-/// An indexer of packs that a Git directory receives. It keeps the last pack as received.
+/// An indexer of packs that a Git directory receives. The indexer keeps the last received pack.
 ///
 /// Each object is inflated, and its id is computed. Each object that the pack's objects name must
-/// be in the pack or in the store, with the expected type. If the store also has an object, the
-/// bytes must be equal.
+/// be in the pack or in the store, with the expected type. If the store already has an object with
+/// the same id, both must have the same bytes.
 ///
-/// A pack is too large if it has more than 1,048,576 objects. An object may have 256 MiB, less 224
-/// bytes for each object of the pack. The same limit covers a delta with its held bases and its
-/// result. A commit, tree or tag may have 64 MiB, all objects and deltas 4 GiB, and a chain 8,191
-/// deltas. At most 112 MiB hold named ids and commits: about two million ids, or 485,000 commits
-/// with a tree each.
+/// A pack is too large if it has more than 1,048,576 objects. The maximum size of an object is 256
+/// MiB, less 224 bytes for each object of the pack. The same limit applies to a delta, its bases in
+/// memory and its result together. The limit is 64 MiB for a commit, tree or tag, and 4 GiB for all
+/// objects and deltas. A delta chain may have 8,191 deltas. Named ids and commits may use 112 MiB:
+/// about two million ids, or 485,000 commits with a tree each.
 #[derive(Drop)]
 pub struct StoreIndexer<'t, 'f, F: ObjectFiles, A: Allocator + Copy> {
     reader: RefCell<ObjectReader<'f, F, A>>,
@@ -44,7 +44,7 @@ impl<'t, 'f, F: ObjectFiles, A: Allocator + Copy> StoreIndexer<'t, 'f, F, A> {
         }
     }
 
-    /// Takes the last pack that was accepted, or `None` if there is none.
+    /// Removes and returns the last accepted pack, or `None` if there is none.
     pub fn take_received(&self) -> Option<Received<A>> {
         match self.received.try_replace(None) {
             Ok(received) => received,
@@ -52,7 +52,8 @@ impl<'t, 'f, F: ObjectFiles, A: Allocator + Copy> StoreIndexer<'t, 'f, F, A> {
         }
     }
 
-    /// Takes the fault of the last call that returned `Other`, or `None` if there is none.
+    /// Removes and returns the fault of the last call that returned `Other`, or `None` if there is
+    /// none.
     pub fn take_fault(&self) -> Option<RepositoryFault<A>> {
         match self.fault.try_replace(None) {
             Ok(fault) => fault,
@@ -60,9 +61,9 @@ impl<'t, 'f, F: ObjectFiles, A: Allocator + Copy> StoreIndexer<'t, 'f, F, A> {
         }
     }
 
-    /// Returns the type of an object of the last pack that was accepted, or of the store.
+    /// Returns the type of an object in the last accepted pack or in the store.
     ///
-    /// Fails with `Store` if the object is missing or cannot be read, with `Busy`, and with
+    /// Fails with `Store` if the object is missing or cannot be read. Also fails with `Busy` and
     /// `Memory`.
     pub fn kind_of(&self, id: &Oid) -> Result<ObjectType, RepositoryFault<A>> {
         if let Some(kind) = self.received_kind(id) {
@@ -74,7 +75,7 @@ impl<'t, 'f, F: ObjectFiles, A: Allocator + Copy> StoreIndexer<'t, 'f, F, A> {
         }
     }
 
-    // Returns the type of an object of the last pack, or `None` if it has no such object.
+    // Returns the type of an object of the last pack, or `None` if the pack lacks the object.
     fn received_kind(&self, id: &Oid) -> Option<ObjectType> {
         match self.received.try_borrow() {
             Ok(received) => match &*received {
@@ -85,7 +86,7 @@ impl<'t, 'f, F: ObjectFiles, A: Allocator + Copy> StoreIndexer<'t, 'f, F, A> {
         }
     }
 
-    // Takes the next bytes of a pack.
+    // Receives the next bytes of a pack.
     fn take_piece(&self, feed: &mut StoreFeed<A>, piece: &[u8]) -> Result<(), RepositoryFault<A>>
         ensures { OnOk result (feed.new ≡ feed.old ++ piece.now) }
     {
@@ -109,7 +110,7 @@ impl<'t, 'f, F: ObjectFiles, A: Allocator + Copy> StoreIndexer<'t, 'f, F, A> {
         }
     }
 
-    // Returns the fault for the caller, and keeps the cause.
+    // Converts a fault for the caller, and keeps the original fault.
     fn keep(&self, fault: RepositoryFault<A>) -> IndexFault {
         match fault {
             RepositoryFault::Memory => IndexFault::Memory,

@@ -12,10 +12,10 @@ use crate::stored_folder::StoredFolder;
 use std::alloc::Allocator;
 use std::fs::Files;
 
-/// Installs a pack and its index in a folder of packs. Both are written to temporary files and
-/// synced before either is named. The pack is named before the index.
+/// Installs a pack and its index in a folder of packs. Both files are written under temporary names
+/// and synced before either is renamed. The pack is renamed before the index.
 ///
-/// Fails as the folder does. The folder then has neither file, only the pack, or both.
+/// Fails if a call of the folder fails. The folder then has neither file, only the pack, or both.
 pub fn install_files<P: PackFolder>(
     folder: &mut P,
     pack: &[u8],
@@ -36,7 +36,7 @@ pub fn install_files<P: PackFolder>(
     }
 }
 
-// Writes both files, and then names them.
+// Writes both files, and then renames them to their final names.
 fn write_and_name<P: PackFolder>(folder: &mut P, pack: &[u8], index: &[u8]) -> Result<(), P::Fault>
     requires { P.stage folder.old ≡ Start }
     ensures installs { WhereKnown (P.known folder.old) (P.known folder.new)
@@ -62,7 +62,7 @@ fn write_both<P: PackFolder>(folder: &mut P, pack: &[u8], index: &[u8]) -> Resul
     folder.sync_index()
 }
 
-// Names both files, the pack first.
+// Renames both files to their final names, the pack first.
 fn name_both<P: PackFolder>(folder: &mut P) -> Result<(), P::Fault>
     requires { P.stage folder.old ≡ Ready }
     ensures installs { WhereKnown (P.known folder.old) (P.known folder.new)
@@ -79,8 +79,8 @@ fn name_both<P: PackFolder>(folder: &mut P) -> Result<(), P::Fault>
 /// of the pack until the returned value is dropped.
 ///
 /// Fails with `File` if the system refuses a call, and with `Memory`. After a fault, Git finds
-/// either no new pack or all of it. A killed process can leave temporary files, and the file
-/// `pack-SUM.keep`.
+/// either no new pack or the complete pack. A killed process can leave temporary files, and the
+/// file `pack-SUM.keep`.
 pub fn install_pack<'r, R: Files, A: Allocator + Copy>(
     alloc: A,
     files: &'r R,

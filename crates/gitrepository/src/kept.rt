@@ -1,4 +1,4 @@
-//! A received pack, until refs reach its objects.
+//! Keeping a received pack until refs reach its objects.
 
 use crate::fault::RepositoryFault;
 use std::alloc::Allocator;
@@ -6,9 +6,9 @@ use std::fs;
 use std::fs::{File, Files};
 use std::io::ErrorKind;
 
-/// The file `pack-SUM.keep` of a received pack (git-index-pack(1), "--keep"). While it exists,
-/// `git gc` does not remove the pack, even if no ref reaches its objects yet. It is removed on
-/// drop.
+/// The file `pack-SUM.keep` of a received pack (git-index-pack(1), "--keep"). While this file
+/// exists, `git gc` does not remove the pack, even if no ref reaches its objects yet. The file is
+/// removed on drop.
 pub struct KeptPack<'r, R: Files, A: Allocator + Copy> {
     files: &'r R,
     // `None` if the file already existed, or there is no pack.

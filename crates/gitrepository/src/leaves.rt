@@ -13,11 +13,12 @@ use gitobjects::{ObjectFiles, ObjectReader, StoreFault};
 use gname::Oid;
 use std::alloc::Allocator;
 
-/// Adds to a graph the trees and blobs that refs of a peer point to, if the store has them and
-/// everything they reach. They count as commits without parents, so a client does not want them.
+/// Adds to a graph each tree or blob that a ref of the peer points to, if the store has everything
+/// that it reaches. In the graph, trees and blobs count as commits without parents, so a client
+/// does not request them.
 ///
 /// Fails with `Store` if an object cannot be read, with `Objects` if the graph is full, and with
-/// `Memory`. Some of them may have been added then.
+/// `Memory`. After a fault, some objects may have been added.
 pub fn add_leaves<F: ObjectFiles, A: Allocator + Copy>(
     reader: &mut ObjectReader<'_, F, A>,
     graph: &mut Graph<A>,
@@ -31,7 +32,7 @@ pub fn add_leaves<F: ObjectFiles, A: Allocator + Copy>(
     Ok(())
 }
 
-// Whether the store has a tree or blob with this id.
+// Returns whether the store has a tree or blob with this id.
 fn is_leaf<F: ObjectFiles, A: Allocator + Copy>(
     reader: &mut ObjectReader<'_, F, A>,
     id: &Oid,
@@ -42,8 +43,8 @@ fn is_leaf<F: ObjectFiles, A: Allocator + Copy>(
     Ok(is_leaf_type(reader.kind_of(id)?))
 }
 
-// Whether the store has everything that an object reaches. A killed fetch may have left a tree
-// without some of its files.
+// Returns whether the store has everything that an object reaches. A killed fetch may have left a
+// tree without some of its files.
 fn is_whole<F: ObjectFiles, A: Allocator + Copy>(
     reader: &mut ObjectReader<'_, F, A>,
     id: &Oid,
@@ -56,7 +57,7 @@ fn is_whole<F: ObjectFiles, A: Allocator + Copy>(
     }
 }
 
-// Whether objects of this type are leaves of a graph.
+// Returns whether objects of this type are leaves of a graph: trees and blobs.
 fn is_leaf_type(kind: ObjectType) -> bool
     ensures { IsTrue result ↔ IsLeafType kind }
 {
@@ -66,7 +67,7 @@ fn is_leaf_type(kind: ObjectType) -> bool
     }
 }
 
-// Adds the tree or blob with this id. Its id is computed.
+// Checks the id of a tree or blob, and adds the object to the graph.
 fn add_leaf<F: ObjectFiles, A: Allocator + Copy>(
     reader: &mut ObjectReader<'_, F, A>,
     graph: &mut Graph<A>,

@@ -2,49 +2,53 @@
 //! packs it receives (gitrepository-layout(5), gitformat-pack(5)).
 //!
 //! - [`open_repository`] returns the graph of everything the refs reach. [`read_commit_graph`]
-//!   reads the commit-graph, which lists the parents of commits, so the commits need not be read.
-//! - [`open_tips`] returns the objects that refs point to, without their history. This is enough
-//!   for ls-refs. [`lead_with_newest`] puts refs to the newest objects first.
-//! - A [`StorePacker`] packs commits and tags with their trees and blobs. It copies pack entries
-//!   unchanged, and sends other objects as deltas if these are smaller. It returns a pack whole, or
-//!   in parts and then holds one entry at a time.
-//! - A [`StoreIndexer`] indexes a pack while receiving it, and keeps it. [`install_pack`] writes it
-//!   to the directory.
+//!   reads the commit-graph, which lists the parents of commits. The commits themselves need not be
+//!   read.
+//! - [`open_tips`] returns the objects that refs point to, without their history. These objects
+//!   suffice for ls-refs. [`lead_with_newest`] puts refs to the newest objects first.
+//! - A [`StorePacker`] packs commits and tags with their trees and blobs. It copies stored pack
+//!   entries unchanged, and sends other objects as deltas if the deltas are smaller. A pack is
+//!   returned whole, or in parts with one entry in memory at a time.
+//! - A [`StoreIndexer`] indexes a pack while receiving it, and keeps the pack. [`install_pack`]
+//!   writes the received pack to the directory.
 //! - [`open_store`] refuses a repository in an unsupported format, and [`is_bare`] returns whether
-//!   one has no work tree. A [`NewRepository`] is made by a clone. [`check_repository`] checks
-//!   connectivity: every object that the refs reach exists.
+//!   a repository has no work tree. A clone creates a [`NewRepository`]. [`check_repository`]
+//!   checks connectivity: every object that the refs reach exists.
 //!
 //! # Proved
 //!
 //! - Each entry of the graph describes an object, or a commit as the commit-graph lists it. The id
-//!   of an object is the SHA-1 of a type and bytes, and its parents are those that the bytes name,
-//!   in order. Parents precede their children. Each ref points to an entry of the graph.
+//!   of an object is the SHA-1 of its type and bytes. Its parents are the parents or the tagged
+//!   object that the bytes name, in order. Parents precede their children. Each ref points to an
+//!   entry of the graph.
 //! - [`open_tips`] and [`lead_with_newest`] return only refs that point to entries of the graph.
 //! - [`check_refs`] counts a graph in which each entry describes an object.
 //! - A pack that is sent has a header, as many entries as the header says, and the SHA-1 of all
-//!   preceding bytes. Each entry has a well-formed head. The pack has at most `MAX_PACK` bytes. Its
-//!   parts make up such a pack in order. If they end in a fault, no clause describes them.
+//!   preceding bytes. Each entry of a sent pack has a well-formed header. The pack has at most
+//!   `MAX_PACK` bytes. The parts of a pack, in order, make up such a pack. If the parts end in a
+//!   fault, no clause describes them.
 //! - A pack is accepted only if its trailer is the SHA-1 of all preceding bytes. Each entry that
 //!   the indexer returns describes an object, or is a tree or blob that a tag names. The entry of
 //!   this tag is returned too.
-//! - [`install_files`] installs a pack in a [`PackFolder`] before its index. At `Ok` both exist,
-//!   with the given bytes. A file gets its name only once both files are written and synced. After
-//!   a fault the folder has neither file, only the pack, or both.
-//! - [`MemoryFolder`] is such a folder, and records all files it receives.
+//! - [`install_files`] installs a pack in a [`PackFolder`] before its index. After `Ok` both files
+//!   exist, with the given bytes. A file gets its name only once both files are written and synced.
+//!   After a fault the folder has neither file, only the pack, or both.
+//! - [`MemoryFolder`] is a [`PackFolder`] that records all files it receives.
 //! - No call panics, overflows or reads out of bounds, and every call returns, whatever the files
 //!   contain.
 //!
 //! # Differences from Git
 //!
 //! - A tree or blob that a ref or tag points to counts as a commit without parents.
-//! - A ref whose object is missing is left out. Git also does this, and prints a warning. If HEAD
-//!   points to a missing object, the repository is refused.
-//! - Parents that are not sent count as common, and so does everything their trees reach.
-//! - Deltas are made only for objects that are deflated again: loose objects, and those whose base
-//!   is not sent. Their bases are such objects, too. Git also uses objects that are whole in a
+//! - A ref whose object is missing is left out. Git also leaves the ref out, and prints a warning.
+//!   If HEAD points to a missing object, the repository is refused.
+//! - The packer assumes that the client has all parents outside the list, and everything that their
+//!   trees reach.
+//! - New deltas are made only of loose objects, and of stored deltas whose base is not sent. The
+//!   bases of new deltas are the same objects. Git also makes deltas of objects that are whole in a
 //!   pack.
-//! - Objects are sorted for deltas by the ends of their paths, but not by size. An object of more
-//!   than 8 MiB is sent whole; Git's limit is 512 MiB.
+//! - Before deltas are made, objects are sorted by the ends of their paths, but not by size. An
+//!   object of more than 8 MiB is sent whole; Git's limit is 512 MiB.
 //! - A graph holds at most 1,048,576 commits and tags, with at most 64 parents each.
 //! - A copied delta names its base by an offset, whether or not the client asks for `ofs-delta`. A
 //!   new delta names its base by id.
@@ -54,7 +58,7 @@
 //!   `config` of the repository.
 //! - A multi-pack index, bitmaps, grafts and replace refs are not read. A shallow repository, a
 //!   partial clone, SHA-256 ids, a reftable and an unknown extension are refused.
-//! - An object in the store counts as complete: the objects it names are not looked up.
+//! - An object in the store counts as complete: the objects that it names are not looked up.
 //!
 //! # What the contracts do not rule out
 //!
@@ -62,22 +66,22 @@
 //!   another. No clause says which trees and blobs are sent. The stream of an entry may be any
 //!   bytes, and a delta may name a base that is not sent. The reader compares the CRC-32 of each
 //!   copied entry with the index, but no clause says so.
-//! - If a commit-graph is wrong, the graph may be wrong too. It is used only for commits in the
-//!   store. No clause says this, or from which file it is read.
+//! - If a commit-graph is wrong, the graph may be wrong too. The commit-graph is used only for
+//!   commits in the store. No clause says so, or from which file the commit-graph is read.
 //! - The graph might hold more than the refs reach, and a ref might be left out. No clause covers
 //!   HEAD.
 //! - [`open_tips`] might find objects other than those of the refs, or peel a tag to the wrong
-//!   object. It trusts the peeled ids in `packed-refs`, as Git does. [`lead_with_newest`] might
-//!   leave refs out or put other refs first.
-//! - [`check_refs`] might look at objects other than those that the refs reach. It might count the
-//!   nodes of another graph, and no clause covers its object count.
+//!   object. [`open_tips`] trusts the peeled ids in `packed-refs`, as Git does.
+//!   [`lead_with_newest`] might leave refs out or put other refs first.
+//! - [`check_refs`] might look at objects other than those that the refs reach. [`check_refs`]
+//!   might count the nodes of another graph, and no clause covers its object count.
 //! - [`Tips`] might forget an id, [`add_leaves`] might add other nodes, and a repository in any
 //!   format might be opened or refused. [`is_bare`] might return anything. The names of peeled refs
 //!   in a new repository might be wrong.
 //! - The indexer might leave out an entry, or return one for an object that the pack does not have.
-//!   It looks up the trees and blobs that are named, and compares objects that the store already
-//!   has. No clause says this, or when it reads an object. It may miss a loose object that is added
-//!   meanwhile.
+//!   The indexer looks up the named trees and blobs, and compares objects that the store already
+//!   has. No clause says so, or when the indexer reads an object. The indexer may miss a loose
+//!   object that is added meanwhile.
 //! - A parent of a commit in the graph may be a tag, tree or blob. The types of parents are
 //!   checked, but no clause says so.
 //! - [`PackCounts`] and [`StorePacker::counts`] have no clause: they are for measurements.
@@ -85,11 +89,12 @@
 //!   may be a pack other than the one received, or none.
 //! - A [`NewRepository`] might lack its pack, its refs or HEAD, or be removed once it is finished.
 //! - No contract can describe the contents of a system file: only the order of the calls in
-//!   [`install_pack`] is proved. It might not create the file `.keep`, or install nothing.
+//!   [`install_pack`] is proved. [`install_pack`] might not create the file `.keep`, or might
+//!   install nothing.
 //! - Any call may fail if out of memory. The contracts do not cover which fault is returned, its
 //!   text, time, or memory use.
 //!
-//! There are no tests here.
+//! This crate has no tests.
 //!
 //! # Stands on
 //!

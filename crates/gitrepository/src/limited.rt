@@ -1,4 +1,4 @@
-//! An incoming pack, within limits that its header sets.
+//! An incoming pack, with limits that depend on its header.
 
 ghost use Rattle.std.specs.Prelude.{◌≡◌, ◌++◌, [], ℕ, IfOk, IfSome, OnOk};
 ghost use Rattle.gitpack.specs.Packs.{IsFramed};
@@ -13,20 +13,20 @@ const MAX_OBJECTS: usize = 1_048_576;
 
 const MAX_TOTAL: usize = 4_294_967_296;
 
-// The maximum size of an object: 256 MiB, less the tables of the pack's objects. A delta, its held
-// bases and its result share the same limit. So a small pack may have large objects, and a pack
-// with the maximum number of objects may hold 32 MiB.
+// The maximum size of an object: 256 MiB, less 224 bytes of tables for each object of the pack. The
+// same limit applies to a delta, its bases in memory and its result together. In a pack with the
+// maximum number of objects the limit is 32 MiB.
 const MAX_HELD: usize = 268_435_456;
 
 const TABLE_BYTES: usize = 224;
 
-// The length of the header, and the offset of the number of objects.
+// The length of the pack header, and the offset of the object count in it.
 const HEADER: usize = 12;
 
 const BEFORE_COUNT: usize = 8;
 
-/// An incoming pack. The limits depend on the number of objects in its header. Contracts see the
-/// received bytes.
+/// An incoming pack, with limits that depend on the number of objects in its header. Contracts
+/// describe a `LimitedPack` by the received bytes.
 #[derive(Drop)]
 pub(crate) struct LimitedPack<A: Allocator + Copy> {
     alloc: A,
@@ -57,7 +57,7 @@ impl<A: Allocator + Copy> LimitedPack<A> {
         }
     }
 
-    /// Takes the next bytes, as [`IncomingPack::feed`] does. Fails only if out of memory.
+    /// Receives the next bytes, as [`IncomingPack::feed`] does. Fails only if out of memory.
     pub(crate) fn feed<V: ObjectVisitor>(
         &mut self,
         piece: &[u8],
@@ -81,7 +81,7 @@ impl<A: Allocator + Copy> LimitedPack<A> {
         }
     }
 
-    /// Returns the received pack and its objects, as [`IncomingPack::finish`] does.
+    /// Returns the received pack and its index, as [`IncomingPack::finish`] does.
     pub(crate) fn finish<V: ObjectVisitor>(
         self,
         visitor: &mut V,
@@ -113,7 +113,7 @@ fn begin<A: Allocator + Copy, V: ObjectVisitor>(
     Ok(Some(pack))
 }
 
-// Returns the number of objects in a header, or `None` if it is incomplete.
+// Returns the number of objects in a pack header, or `None` if the header is incomplete.
 fn count_in(head: &[u8]) -> Option<u32> {
     let after = head.get(BEFORE_COUNT..)?;
     let count = after.first_chunk::<4>()?;

@@ -9,7 +9,7 @@ use std::alloc::{AllocError, Allocator};
 use std::marker::Model;
 use std::mem;
 
-/// A file of a pack.
+/// A file of a pack: the pack itself or its index.
 #[derive(Debug, Drop)]
 pub enum PackFile<A: Allocator + Copy> {
     /// The pack.
@@ -18,8 +18,8 @@ pub enum PackFile<A: Allocator + Copy> {
     Index(Vec<u8, A>),
 }
 
-/// A folder of packs in memory, for tests. It keeps every received file, in order. Its calls fail
-/// only if out of memory.
+/// A folder of packs in memory, for tests. The folder keeps every received file, in order. Calls
+/// fail only if out of memory.
 #[derive(Drop)]
 pub struct MemoryFolder<A: Allocator + Copy> {
     alloc: A,

@@ -11,13 +11,14 @@ use gname::{Oid, RefName};
 use std::alloc::Allocator;
 use std::fs::Files;
 
-/// A new bare repository (git-clone(1), `--bare`). If it is dropped before it is finished, it is
-/// removed as far as the system permits. An existing directory remains, and is empty again.
+/// A new bare repository (git-clone(1), `--bare`). If the value is dropped before `finish`, the new
+/// files are removed as far as the system permits. A directory that existed before remains, and is
+/// empty again.
 pub struct NewRepository<'r, R: Files, A: Allocator + Copy> {
     alloc: A,
     files: &'r R,
     path: &'r str,
-    // `None` once it is finished.
+    // `None` once the repository is finished.
     origin: Option<Origin>,
 }
 
@@ -36,12 +37,12 @@ impl<R: Files, A: Allocator + Copy> Drop for NewRepository<'_, R, A> {
 }
 
 impl<'r, R: Files, A: Allocator + Copy> NewRepository<'r, R, A> {
-    /// Creates a bare repository in a new or empty directory. It has no objects or refs, its remote
-    /// `origin` has this URL, and HEAD points at this branch.
+    /// Creates a bare repository in a new or empty directory. The repository has no objects or
+    /// refs, its remote `origin` has this URL, and HEAD points at this branch.
     ///
-    /// Fails with `Refs` if the directory is not empty, another run creates a repository there at
-    /// the same time, or the system refuses a call. Also fails with `Memory`. After a fault nothing
-    /// new remains, if the system permits the removal.
+    /// Fails with `Refs` if the directory is not empty, another process creates a repository there
+    /// at the same time, or the system refuses a call. Also fails with `Memory`. After a fault
+    /// nothing new remains, if the system permits the removal.
     pub fn make(
         alloc: A,
         files: &'r R,
@@ -59,12 +60,12 @@ impl<'r, R: Files, A: Allocator + Copy> NewRepository<'r, R, A> {
         })
     }
 
-    /// Writes the fetched data and keeps the repository: the pack, if there is one, then the refs
-    /// as `packed-refs`, and then HEAD. The graph peels tags.
+    /// Finishes the clone: writes the pack, if there is one, then the refs as `packed-refs`, and
+    /// then HEAD. The graph gives the peeled object of each tag.
     ///
-    /// Fails with `File` and `Refs` if the system refuses a call, with `Refs` if one ref has the
-    /// name of another's directory, and with `Memory`. The repository is then removed. The names
-    /// are checked before the pack is written.
+    /// Fails with `File` or `Refs` if the system refuses a call. Fails with `Refs` if the name of
+    /// one ref is the directory of another, and with `Memory`. After a fault the repository is
+    /// removed. The ref names are checked before the pack is written.
     pub fn finish(
         self,
         received: Option<&Received<A>>,
@@ -86,7 +87,7 @@ impl<'r, R: Files, A: Allocator + Copy> NewRepository<'r, R, A> {
         Ok(())
     }
 
-    // Installs the pack, and keeps it until refs reach its objects.
+    // Installs the pack, with a `.keep` file until refs reach its objects.
     fn install(
         &self,
         received: Option<&Received<A>>,
@@ -111,7 +112,7 @@ impl<'r, R: Files, A: Allocator + Copy> NewRepository<'r, R, A> {
     }
 }
 
-// Returns the names of the refs that point to tags, each with its peeled object.
+// Returns the names of the refs that point to tags, each with the peeled object of its tag.
 fn peeled_refs<A: Allocator + Copy>(
     alloc: A,
     graph: &Graph<A>,

@@ -10,26 +10,26 @@ use ggraph::{Graph, MAX_REFS, Refs, distinct_ids};
 use gname::{NameFault, Oid, RefName};
 use std::alloc::{AllocError, Allocator};
 
-// The maximum number of refs put first.
+// The maximum number of refs that are added for newest objects.
 const MAX_NEWEST: usize = 256;
 
-// The length of a name that is too long for a file.
+// The length of a path component that is too long for a file name.
 const LONG_NAME: usize = 256;
 
-// An object that a ref points to, and the length of the longest chain of parents below it.
+// An object that a ref points to, and the length of its longest chain of parents.
 #[derive(Clone, Copy, Drop)]
 struct Tip {
     id: Oid,
     height: usize,
 }
 
-/// Returns the same refs, preceded by at most 256 refs to their newest objects. An object is newer
-/// than another if it has a longer chain of parents. A client that sends haves in the order of ref
-/// names thus offers the newest objects first. Git orders them by commit date.
+/// Returns the refs, preceded by at most 256 added refs to the newest objects. An object counts as
+/// newer than another if its longest chain of parents is longer. A client that sends haves in the
+/// order of ref names thus offers the newest objects first. Git orders haves by commit date.
 ///
-/// The names of the added refs begin with `refs/` and 256 bytes of `!`. No file has such a long
-/// name, so no ref of a Git directory has one. No ref is added if one of the refs has such a name,
-/// or if there might be too many refs after `more` others. Fails with `Memory`.
+/// The names of the added refs begin with `refs/` and 256 bytes of `!`. No file can have such a
+/// long name, so no ref of a Git directory has it. No ref is added if a ref already has such a
+/// name, or if `more` further refs would exceed the maximum number of refs. Fails with `Memory`.
 pub fn lead_with_newest<A: Allocator + Copy>(
     graph: &Graph<A>,
     refs: &Refs<A>,
@@ -49,7 +49,7 @@ pub fn lead_with_newest<A: Allocator + Copy>(
     Ok(leading)
 }
 
-// Returns the prefix of the names of added refs.
+// Returns the prefix of the names of the added refs.
 fn leading_prefix<A: Allocator + Copy>(alloc: A) -> Result<String<A>, AllocError> {
     let mut prefix = String::from_str(alloc, "refs/")?;
     for _byte in 0..LONG_NAME {
@@ -58,12 +58,12 @@ fn leading_prefix<A: Allocator + Copy>(alloc: A) -> Result<String<A>, AllocError
     Ok(prefix)
 }
 
-// Whether there is room for added refs and `more` others.
+// Returns whether the maximum number of refs allows 256 added refs and `more` others.
 fn has_room<A: Allocator + Copy>(refs: &Refs<A>, more: usize) -> bool {
     refs.len().saturating_add(more) <= MAX_REFS - MAX_NEWEST
 }
 
-// Whether the name of one of the refs begins with the prefix.
+// Returns whether the name of one of the refs begins with the prefix.
 fn is_taken<A: Allocator + Copy>(refs: &Refs<A>, prefix: &str) -> bool {
     refs.as_slice()
         .iter()
@@ -121,7 +121,7 @@ fn put<A: Allocator + Copy>(
     }
 }
 
-// Returns the newest objects that refs point to, newest first, each once.
+// Returns the newest distinct objects that refs point to, newest first.
 fn newest_tips<A: Allocator + Copy>(
     graph: &Graph<A>,
     refs: &Refs<A>,
@@ -139,7 +139,7 @@ fn newest_tips<A: Allocator + Copy>(
     Ok(tips)
 }
 
-// Returns the height of each object of a graph, in order.
+// Returns the height of each object of a graph: the length of its longest chain of parents.
 fn heights_of<A: Allocator + Copy>(graph: &Graph<A>) -> Result<Vec<usize, A>, AllocError> {
     let mut heights = Vec::with_capacity(graph.allocator(), graph.len())?;
     for place in 0..graph.len() {
@@ -149,7 +149,7 @@ fn heights_of<A: Allocator + Copy>(graph: &Graph<A>) -> Result<Vec<usize, A>, Al
     Ok(heights)
 }
 
-// Returns the height of the object at a place, from the heights of its parents.
+// Returns the height of the object at a position, from the heights of its parents.
 fn height_at<A: Allocator + Copy>(graph: &Graph<A>, heights: &[usize], place: usize) -> usize {
     let Some((_id, node)) = graph.at(place) else {
         return 0;
@@ -161,7 +161,7 @@ fn height_at<A: Allocator + Copy>(graph: &Graph<A>, heights: &[usize], place: us
     below.saturating_add(1)
 }
 
-// Returns the height of the object with this id, if it is known; 0 otherwise.
+// Returns the height of the object with this id, or 0 if the height is unknown.
 fn height_of<A: Allocator + Copy>(graph: &Graph<A>, heights: &[usize], id: &Oid) -> usize {
     match graph.position(id) {
         Some(number) => heights.get(number).copied().unwrap_or(0),

@@ -1,4 +1,4 @@
-//! The nodes of objects, as a graph holds them.
+//! The graph nodes of objects.
 
 ghost use Rattle.std.specs.Prelude.{◌≡◌, IfOk};
 ghost use Rattle.gitobject.specs.Naming.{id_of};
@@ -64,8 +64,8 @@ fn node_of_tag<A: Allocator + Copy>(alloc: A, body: &[u8]) -> Result<Node<A>, Ob
     Ok(Node { kind, parents })
 }
 
-/// Returns the node of a tree or blob that a ref or tag points to. A graph has no kind for these:
-/// they have the node of a commit without parents.
+/// Returns the node of a tree or blob that a ref or tag points to. A graph has no kind for trees
+/// and blobs, so they count as commits without parents.
 pub(crate) fn leaf<A: Allocator + Copy>(alloc: A) -> Node<A>
     ensures { result ≡ leaf }
 {

@@ -20,12 +20,12 @@ use std::fs::Files;
 /// parents first. A tree or blob that a ref or tag points to counts as a commit without parents. A
 /// ref whose object is missing is left out, as in Git.
 ///
-/// The reader must read the same directory. It can be used again after any fault. A commit is not
-/// read if the commit-graph lists it and its object exists.
+/// The reader must read the same directory. The reader can be used again after any fault. A commit
+/// is not read if the commit-graph lists it and its object exists.
 ///
 /// Fails with `Refs` if the refs cannot be read. Fails with `Store` if a reached object is missing
-/// or cannot be read, and with `Object` if one is refused. Fails with `Objects` if there are too
-/// many commits and tags for a graph, and with `Memory`.
+/// or cannot be read, and with `Object` if a reached object is refused. Fails with `Objects` if
+/// there are too many commits and tags for a graph, and with `Memory`.
 pub fn open_repository<R: Files, F: ObjectFiles, A: Allocator + Copy>(
     directory: &GitDirectory<'_, R, A>,
     reader: &mut ObjectReader<'_, F, A>,
@@ -76,7 +76,8 @@ fn graph_of<F: ObjectFiles, A: Allocator + Copy>(
     history.into_graph()
 }
 
-// Whether an object exists. Git may have packed it since the packs were listed.
+// Returns whether an object exists. Reading a missing object lists the packs again, as Git may have
+// packed it meanwhile.
 fn is_there<F: ObjectFiles, A: Allocator + Copy>(
     reader: &mut ObjectReader<'_, F, A>,
     id: &Oid,
@@ -109,7 +110,7 @@ pub(crate) fn held_refs<A: Allocator + Copy>(
     Ok(refs)
 }
 
-/// Adds a ref to an object of the graph.
+/// Adds a ref that points to an object of the graph.
 #[tactic(auto, using(crate::proofs::RefLemmas::AreHeld_set, crate::proofs::RefLemmas::AreHeld_push))]
 pub(crate) fn set_held<A: Allocator + Copy>(
     graph: &Graph<A>,
@@ -120,7 +121,7 @@ pub(crate) fn set_held<A: Allocator + Copy>(
     requires { Holds graph.now.entries id }
     ensures { AreHeld graph.now refs.old → OnOk result (AreHeld graph.now refs.new) }
 {
-    // The search is skipped if the name sorts after the others.
+    // A ref whose name sorts after all others is appended without a search.
     if refs.len() < MAX_REFS && is_below_refs(&name) && refs.are_below(name.as_bytes()) {
         return match refs.push(name, id) {
             Ok(()) => Ok(()),

@@ -13,27 +13,27 @@ use std::alloc::{AllocError, Allocator};
 // The length of the trailer of a pack.
 const TRAILER: usize = 20;
 
-/// A pack that is returned in parts while it is built. It holds the last bytes built.
+/// A pack that is returned in parts while it is built. Only the bytes built last are in memory.
 #[derive(Drop)]
 pub(crate) struct Outgoing<A: Allocator + Copy> {
-    // The last bytes built, and how many of them were returned.
+    // The bytes built last, and the number of them already returned.
     bytes: Vec<u8, A>,
     given: usize,
-    // The total number of bytes built, and how many more may be returned.
+    // The total number of built bytes, and the number of bytes that may still be returned.
     made: usize,
     left: usize,
-    // The SHA-1 of all bytes built, except the trailer.
+    // The SHA-1 of all built bytes, except the trailer.
     sum: Sha1,
-    // The number of entries in the header, and the number written.
+    // The number of entries in the header, and the number of entries built so far.
     count: u32,
     put: u32,
-    // Whether the last entry is whole, and whether the trailer was built.
+    // Whether the last entry is complete, and whether the trailer was built.
     is_whole: bool,
     is_over: bool,
 }
 
 impl<A: Allocator + Copy> Outgoing<A> {
-    /// Returns a pack of `count` entries, without any entry yet.
+    /// Returns a pack with a header for `count` entries, and no entries yet.
     pub(crate) fn new(alloc: A, count: u32) -> Result<Outgoing<A>, AllocError>
         ensures going { IfOk result (λ pack. IsGoing pack []) }
         ensures left { IfOk result (λ pack. pack.left ≡ max_pack) }
@@ -60,14 +60,14 @@ impl<A: Allocator + Copy> Outgoing<A> {
         self.made
     }
 
-    /// Whether all bytes built were returned.
+    /// Returns whether all built bytes were returned.
     pub(crate) fn is_given(&self) -> bool
         ensures { IsTrue result ↔ (length self.now.bytes.items ≤ self.now.given) }
     {
         self.given >= self.bytes.len()
     }
 
-    /// Whether the whole pack was returned.
+    /// Returns whether the whole pack was returned.
     pub(crate) fn is_given_whole(&self) -> bool
         ensures { IsTrue result → IsGivenWhole self.now }
     {
@@ -76,9 +76,9 @@ impl<A: Allocator + Copy> Outgoing<A> {
 
     /// Appends an entry of this form with this zlib stream, which inflates to `size` bytes.
     ///
-    /// Fails with `Count` if there are too many entries, the last was incomplete, or bytes remain
-    /// to be returned. Fails with `Pack` if the pack is too large, and with `Memory`. After a fault
-    /// the pack is unusable.
+    /// Fails with `Count` if the pack already has all its entries, the last entry is incomplete, or
+    /// built bytes were not yet returned. Fails with `Pack` if the pack is too large, and with
+    /// `Memory`. After a fault the pack is unusable.
     pub(crate) fn put(
         &mut self,
         form: EntryForm,
@@ -105,8 +105,8 @@ impl<A: Allocator + Copy> Outgoing<A> {
 
     /// Appends the trailer.
     ///
-    /// Fails with `Count` if the number of entries differs from the header, or bytes remain to be
-    /// returned. Fails with `Memory`. After a fault the pack is unusable.
+    /// Fails with `Count` if the number of entries differs from the header, or built bytes were not
+    /// yet returned. Also fails with `Memory`. After a fault the pack is unusable.
     pub(crate) fn finish(&mut self) -> Result<(), RepositoryFault<A>>
         ensures going { OnOk result (GoesOn self.old self.new) }
         ensures left { self.new.left ≡ self.old.left }
@@ -125,9 +125,9 @@ impl<A: Allocator + Copy> Outgoing<A> {
         Ok(())
     }
 
-    /// Copies the next bytes built to the front of `out`, and returns how many.
+    /// Copies the next built bytes to the front of `out`, and returns their number.
     ///
-    /// Fails with `Pack` if the pack is too large. No bytes were returned then.
+    /// Fails with `Pack` if the pack is too large. In that case no bytes are copied.
     pub(crate) fn give(&mut self, out: &mut [u8]) -> Result<usize, RepositoryFault<A>>
         ensures fits { IfOk result (λ count. count ≤ length out.new) }
         ensures length { length out.new ≡ length out.old }

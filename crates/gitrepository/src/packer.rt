@@ -16,15 +16,15 @@ use gparts::PartPacker;
 use std::alloc::Allocator;
 use std::cell::{Cell, RefCell};
 
-// The size of the parts of a pack that is written whole.
+// The size of the parts in which a whole pack is built.
 const PART: usize = 65_536;
 
 /// A packer of the objects of a Git directory.
 ///
-/// A pack has the listed commits and tags. It also has all trees and blobs they reach, unless a
-/// parent outside the list reaches them. A pack entry is copied unchanged: whole, or as a delta if
-/// its base is sent too. Other objects are deflated again, as deltas of each other if these are
-/// small.
+/// A pack contains the listed commits and tags. It also contains the trees and blobs that they
+/// reach, unless a parent outside the list reaches them. A stored pack entry is copied unchanged if
+/// it is whole, or if it is a delta whose base is also sent. Other objects are deflated again, as
+/// new deltas of each other if the deltas are small.
 #[derive(Drop)]
 pub struct StorePacker<'f, F: ObjectFiles, A: Allocator + Copy> {
     reader: RefCell<ObjectReader<'f, F, A>>,
@@ -42,12 +42,13 @@ impl<'f, F: ObjectFiles, A: Allocator + Copy> StorePacker<'f, F, A> {
         }
     }
 
-    /// Returns how the objects of the last pack were sent.
+    /// Returns the counts of the objects in the last pack, by how they were sent.
     pub fn counts(&self) -> PackCounts {
         self.counts.get()
     }
 
-    /// Takes the fault of the last call that returned `Other`, or `None` if there is none.
+    /// Removes and returns the fault of the last call that returned `Other`, or `None` if there is
+    /// none.
     pub fn take_fault(&self) -> Option<RepositoryFault<A>> {
         match self.fault.try_replace(None) {
             Ok(fault) => fault,
@@ -55,7 +56,7 @@ impl<'f, F: ObjectFiles, A: Allocator + Copy> StorePacker<'f, F, A> {
         }
     }
 
-    // Returns the whole pack of some commits and tags.
+    // Returns the whole pack of the listed commits and tags.
     fn write(&self, alloc: A, entries: &[Entry<A>]) -> Result<Vec<u8, A>, RepositoryFault<A>>
         ensures { IfOk result (λ pack. MayPack (λ list bytes. IsWholePack bytes) entries.now pack.items) }
     {
@@ -72,7 +73,7 @@ impl<'f, F: ObjectFiles, A: Allocator + Copy> StorePacker<'f, F, A> {
         Err(RepositoryFault::Count)
     }
 
-    // Starts the pack of some commits and tags.
+    // Starts the pack of the listed commits and tags.
     fn start(&self, alloc: A, entries: &[Entry<A>]) -> Result<StoreParts<A>, RepositoryFault<A>>
         ensures going { IfOk result (λ parts. IsGoing parts.outgoing []) }
         ensures left { IfOk result (λ parts. parts.outgoing.left ≡ max_pack) }
@@ -83,7 +84,7 @@ impl<'f, F: ObjectFiles, A: Allocator + Copy> StorePacker<'f, F, A> {
         StoreParts::begin(&mut *reader, alloc, entries)
     }
 
-    // Copies the next bytes of a pack to `out`, and returns how many: 0 at the end.
+    // Copies the next bytes of a pack to `out`, and returns their number: 0 at the end of the pack.
     fn fill(&self, parts: &mut StoreParts<A>, out: &mut [u8]) -> Result<usize, RepositoryFault<A>>
         requires { 0 < length out.old }
         ensures fits { IfOk result (λ count. count ≤ length out.new) }
@@ -100,7 +101,7 @@ impl<'f, F: ObjectFiles, A: Allocator + Copy> StorePacker<'f, F, A> {
         Ok(count)
     }
 
-    // Returns the fault for the caller, and keeps the cause.
+    // Converts a fault for the caller, and keeps the original fault.
     fn keep(&self, fault: RepositoryFault<A>) -> PackFault {
         match fault {
             RepositoryFault::Memory => PackFault::Memory,

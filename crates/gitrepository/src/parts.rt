@@ -13,8 +13,8 @@ use ggraph::Entry;
 use gitobjects::{ObjectFiles, ObjectReader};
 use std::alloc::Allocator;
 
-/// A pack of some commits and tags with their trees and blobs, returned in parts. It holds one
-/// entry at a time.
+/// A pack of some commits and tags with their trees and blobs, returned in parts. Only one entry at
+/// a time is in memory.
 #[derive(Drop)]
 pub struct StoreParts<A: Allocator + Copy> {
     pub(crate) outgoing: Outgoing<A>,
@@ -22,7 +22,7 @@ pub struct StoreParts<A: Allocator + Copy> {
 }
 
 impl<A: Allocator + Copy> StoreParts<A> {
-    /// Starts the pack of these entries.
+    /// Starts the pack of the listed commits and tags.
     pub(crate) fn begin<F: ObjectFiles>(
         reader: &mut ObjectReader<'_, F, A>,
         alloc: A,
@@ -37,13 +37,13 @@ impl<A: Allocator + Copy> StoreParts<A> {
         Ok(StoreParts { outgoing, copying })
     }
 
-    /// Returns how the objects were sent so far.
+    /// Returns the counts of the objects sent so far.
     pub(crate) fn counts(&self) -> PackCounts {
         self.copying.counts()
     }
 
-    /// Copies the next bytes to the front of `out`, and fills it unless the pack ends. Returns how
-    /// many bytes: 0 at the end.
+    /// Fills `out` with the next bytes, unless the pack ends before. Returns the number of copied
+    /// bytes: 0 at the end of the pack.
     pub(crate) fn fill<F: ObjectFiles>(
         &mut self,
         reader: &mut ObjectReader<'_, F, A>,
@@ -69,7 +69,8 @@ impl<A: Allocator + Copy> StoreParts<A> {
         Ok(filled)
     }
 
-    // Copies some of the next bytes.
+    // Copies the next bytes of the current entry. Builds the next entry first if the current entry
+    // was returned.
     fn give_some<F: ObjectFiles>(
         &mut self,
         reader: &mut ObjectReader<'_, F, A>,

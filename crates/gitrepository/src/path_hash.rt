@@ -1,7 +1,7 @@
 //! Path hashes, which sort objects before deltas are made.
 
-/// The hash of the path at which an object was found. The last bytes of a path count most. So the
-/// versions of a file are adjacent, followed by files with the same ending.
+/// The hash of the path at which an object was found. The last bytes of a path count most. Sorted
+/// by this hash, the versions of a file are adjacent, followed by files whose names end alike.
 #[derive(Clone, Copy, Debug, PartialEq, Eq, PartialOrd, Ord)]
 pub(crate) struct PathHash(u32);
 
@@ -9,7 +9,7 @@ impl PathHash {
     /// The hash for objects without a path: commits, tags, and the tree of a commit.
     pub(crate) const NONE: PathHash = PathHash(0);
 
-    /// Returns the hash of the path of an entry of the tree at this path.
+    /// Returns the hash of the path of the entry with this name, in the tree at this path.
     pub(crate) fn join(self, name: &[u8]) -> PathHash {
         let mut hash = self.push(b'/');
         for byte in name {
@@ -18,8 +18,8 @@ impl PathHash {
         hash
     }
 
-    // Returns the hash of the path with another byte. Each earlier byte counts a quarter as much as
-    // before.
+    // Returns the hash of the path extended by one byte. Each earlier byte counts a quarter as much
+    // as before.
     fn push(self, byte: u8) -> PathHash {
         PathHash((self.0 >> 2).wrapping_add(u32::from(byte) << 24))
     }

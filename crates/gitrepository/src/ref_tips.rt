@@ -24,11 +24,11 @@ struct Tag {
 }
 
 /// Returns a repository of the objects that refs and HEAD point to, with the peeled objects of
-/// tags. Any other object counts as a commit without parents. This is enough for ls-refs. A tag of
-/// `packed-refs` leads directly to the peeled object in that file.
+/// tags. An object that is not a tag counts as a commit without parents. This repository suffices
+/// for ls-refs. A tag that `packed-refs` lists points directly to the peeled object in that file.
 ///
-/// Returns `None` if an object is missing or cannot be read, or if there are too many. The caller
-/// must then open the repository. Fails with `Memory`.
+/// Returns `None` if an object is missing or unreadable, or if there are too many objects. The
+/// caller must then open the repository. Fails with `Memory`.
 pub fn open_tips<F: ObjectFiles, A: Allocator + Copy>(
     reader: &mut QuickReader<'_, F, A>,
     peels: &PackedPeels<A>,
@@ -56,26 +56,27 @@ pub fn open_tips<F: ObjectFiles, A: Allocator + Copy>(
     Ok(Some(Repository { graph, refs, head }))
 }
 
-// The `packed-refs` data about held objects, sorted by id.
+// The peeled ids that `packed-refs` lists for objects in the store, sorted by id.
 #[derive(Drop)]
 struct HeldPeels<A: Allocator + Copy> {
     peels: Vec<(Oid, Peel), A>,
 }
 
 impl<A: Allocator + Copy> HeldPeels<A> {
-    // Returns the data about the object with this id, or `None` if there is none.
+    // Returns the peeled id of the object with this id, or `None` if the list lacks the object.
     fn get(&self, id: &Oid) -> Option<Peel> {
         let place = self.peels.binary_search_by_key(id, |pair| pair.0).ok()?;
         Some(self.peels.get(place)?.1)
     }
 
-    // Whether the file lists the object with this id.
+    // Returns whether the list has the object with this id.
     fn has(&self, id: &Oid) -> bool {
         self.get(id).is_some()
     }
 }
 
-// Looks for the objects in the order of their ids, so that each part of an index is read once.
+// Looks up the objects of `packed-refs` in the order of their ids, so that each part of an index is
+// read once.
 fn held_peels<F: ObjectFiles, A: Allocator + Copy>(
     reader: &mut QuickReader<'_, F, A>,
     peels: &PackedPeels<A>,
@@ -90,7 +91,7 @@ fn held_peels<F: ObjectFiles, A: Allocator + Copy>(
     Ok(HeldPeels { peels })
 }
 
-// Adds the object with this id, and its peeled object. Returns whether it was found.
+// Adds the object with this id, and its peeled object. Returns whether both were found.
 fn add_tip<F: ObjectFiles, A: Allocator + Copy>(
     graph: &mut Graph<A>,
     reader: &mut QuickReader<'_, F, A>,
@@ -115,7 +116,7 @@ fn add_tip<F: ObjectFiles, A: Allocator + Copy>(
     }
 }
 
-// Returns the object to which a tag leads, or `None` if the object is not a tag.
+// Returns the peeled object of a tag, or `None` if the object is not a tag.
 fn peel_target(peel: &Peel) -> Option<Oid> {
     match peel {
         Peel::Itself => None,
@@ -123,7 +124,7 @@ fn peel_target(peel: &Peel) -> Option<Oid> {
     }
 }
 
-// Adds an object that `packed-refs` does not list, and its peeled object.
+// Reads an object that `packed-refs` does not list, and adds it with its peeled object.
 fn add_read<F: ObjectFiles, A: Allocator + Copy>(
     graph: &mut Graph<A>,
     reader: &mut QuickReader<'_, F, A>,
@@ -164,7 +165,7 @@ fn target_of<F: ObjectFiles, A: Allocator + Copy>(
     }
 }
 
-// Adds a chain of tags, the last of the list first.
+// Adds a chain of tags, from the last tag to the first.
 fn add_tags<A: Allocator + Copy>(
     graph: &mut Graph<A>,
     tags: Vec<Tag, A>,
@@ -178,7 +179,7 @@ fn add_tags<A: Allocator + Copy>(
     Ok(true)
 }
 
-// Adds a tag. Returns whether the graph has it, and not another object with its id.
+// Adds a tag. Returns whether the graph holds this tag, and no different object with the same id.
 fn add_tag<A: Allocator + Copy>(
     graph: &mut Graph<A>,
     tag: Tag,
@@ -188,7 +189,8 @@ fn add_tag<A: Allocator + Copy>(
     add(graph, &tag.id, Node { kind, parents })
 }
 
-// Adds an object that is not a tag, in the same way.
+// Adds an object that is not a tag. Returns whether the graph holds it, and no different object
+// with the same id.
 fn add_leaf<A: Allocator + Copy>(
     graph: &mut Graph<A>,
     id: &Oid,

@@ -16,7 +16,7 @@ use std::{fs, io};
 // The number of temporary file names to try.
 const MAX_TRIES: usize = 1_000;
 
-// The permissions of both files, as in Git: all may read, and none may write.
+// The permissions of a pack and its index, as in Git: everyone may read, and no one may write.
 const READ_ALONE: u32 = 0o444;
 
 /// The folder of packs of a Git directory, and the names of the files of a pack there.
@@ -35,7 +35,7 @@ pub(crate) struct StoredFolder<'r, R: Files, A: Allocator + Copy> {
     stage: PackFileStage,
 }
 
-// A temporary file that this run made.
+// A temporary file that this run created.
 #[derive(Drop)]
 struct Temporary<R: Files, A: Allocator + Copy> {
     path: String<A>,
@@ -79,7 +79,7 @@ impl<'r, R: Files, A: Allocator + Copy> StoredFolder<'r, R, A> {
         })
     }
 
-    /// Returns the path of the file that keeps the pack.
+    /// Returns the path of the `.keep` file of the pack.
     pub(crate) fn keep_path(&self) -> Result<String<A>, AllocError> {
         let path = self.pack_path.as_str();
         let mut kept = String::from_str(self.alloc, path.strip_suffix(".pack").unwrap_or(path))?;

@@ -22,19 +22,19 @@ impl<A: Allocator + Copy> Model for Tips<A> {
 }
 
 impl<A: Allocator + Copy> Tips<A> {
-    /// Returns the sorted ids. Fails only if out of memory.
+    /// Returns these ids as a sorted list. Fails only if out of memory.
     pub fn new(alloc: A, ids: &[Oid]) -> Result<Tips<A>, AllocError> {
         let mut ids = ids.to_vec(alloc)?;
         ids.sort_unstable();
         Ok(Tips { ids })
     }
 
-    /// Whether a ref of the peer has this id.
+    /// Returns whether a ref of the peer points to this id.
     pub fn contains(&self, id: &Oid) -> bool {
         self.ids.binary_search(id).is_ok()
     }
 
-    /// Returns the ids, in order.
+    /// Returns the sorted ids of the peer's refs.
     pub fn as_slice(&self) -> &[Oid]
         ensures { result.now ≡ self.now }
     {

@@ -19,10 +19,10 @@ const MOST_BODY: usize = 8_388_608;
 // The maximum length of a delta chain.
 const MAX_CHAIN: usize = 50;
 
-// The length of the id of the base, which precedes a delta.
+// The length of the base id that precedes a delta.
 const BASE_ID: usize = 20;
 
-// The maximum ratio of the size of a base to that of its target.
+// The maximum ratio of the size of a base to the size of its target.
 const MAX_RATIO: usize = 32;
 
 // An object in the window: its id, and the depth of its delta chain.
@@ -37,21 +37,21 @@ struct Base<A: Allocator + Copy> {
 /// A delta of an object in the window.
 #[derive(Drop)]
 pub(crate) struct Delta<A: Allocator + Copy> {
-    /// The id of its base.
+    /// The id of the base.
     pub(crate) base: Oid,
     /// Its bytes.
     pub(crate) text: Vec<u8, A>,
-    // The depth of its delta chain.
+    // The depth of the delta chain.
     depth: usize,
 }
 
-/// The last objects sent in a pack, as bases of deltas.
+/// The last objects sent in a pack, which can be bases of new deltas.
 #[derive(Drop)]
 pub(crate) struct Window<A: Allocator + Copy> {
     alloc: A,
-    // The most recent base is last.
+    // The bases, with the most recently used base last.
     bases: Vec<Base<A>, A>,
-    // The total size of their bodies.
+    // The total size of the bases.
     bytes: usize,
 }
 
@@ -65,8 +65,8 @@ impl<A: Allocator + Copy> Window<A> {
         }
     }
 
-    /// Returns the smallest delta found for an object, or `None` if none is small enough. Its base
-    /// becomes the most recent one.
+    /// Returns the smallest delta found for an object, or `None` if none is small enough. The base
+    /// of this delta becomes the most recently used base.
     pub(crate) fn best_delta(
         &mut self,
         object: &Object<A>,
@@ -98,8 +98,8 @@ impl<A: Allocator + Copy> Window<A> {
         }
     }
 
-    /// Adds an object that was sent as this delta or whole, if its size is suitable. The oldest
-    /// objects are removed until there is room.
+    /// Adds an object that was sent as this delta, or whole if `None`. An object of unsuitable size
+    /// is not added. The oldest objects are removed until there is room.
     pub(crate) fn push(
         &mut self,
         id: &Oid,
@@ -123,7 +123,7 @@ impl<A: Allocator + Copy> Window<A> {
         Ok(())
     }
 
-    // Removes the first objects until there is room for one of this size.
+    // Removes the oldest objects until there is room for an object of this size.
     fn make_room(&mut self, size: usize) {
         for _base in 0..MAX_BASES {
             let has_room = self.bytes.saturating_add(size) <= MAX_BYTES;
@@ -135,7 +135,7 @@ impl<A: Allocator + Copy> Window<A> {
         }
     }
 
-    // Moves a base to the end, so that it stays longest.
+    // Moves a base to the end, so that it is removed last.
     fn move_to_end(&mut self, place: usize) -> Result<(), AllocError> {
         if place < self.bases.len() {
             let base = self.bases.remove(place);
@@ -146,7 +146,7 @@ impl<A: Allocator + Copy> Window<A> {
 }
 
 impl<A: Allocator + Copy> Base<A> {
-    // Returns the maximum size of a worthwhile delta of this base; 0 if there is none.
+    // Returns the maximum size of a worthwhile delta of this base, or 0 if no delta is worthwhile.
     fn limit(&self, object: &Object<A>, best: &Option<(usize, Delta<A>)>) -> usize {
         let size = object.body.len();
         let length = self.body.len();
@@ -157,7 +157,7 @@ impl<A: Allocator + Copy> Base<A> {
             Some((_, delta)) => (delta.text.len().saturating_sub(1), delta.depth),
             None => ((size / 2).saturating_sub(BASE_ID), 1),
         };
-        // A longer chain must save more.
+        // A delta with a longer chain must save more bytes.
         let left = MAX_CHAIN.saturating_sub(self.depth);
         let limit = most.saturating_mul(left) / MAX_CHAIN.saturating_sub(depth).saturating_add(1);
         if size.saturating_sub(length) >= limit {
@@ -166,7 +166,7 @@ impl<A: Allocator + Copy> Base<A> {
         limit
     }
 
-    // Returns a delta of this base.
+    // Returns a delta of this base, with these bytes.
     fn delta(&self, text: Vec<u8, A>) -> Delta<A> {
         Delta {
             base: self.id,
@@ -176,12 +176,12 @@ impl<A: Allocator + Copy> Base<A> {
     }
 }
 
-// Whether an object of this size may be a base, and be sent as a delta.
+// Returns whether an object of this size may be a base or be sent as a delta.
 fn has_fit_size(size: usize) -> bool {
     LEAST_BODY <= size && size <= MOST_BODY
 }
 
-// Returns the depth of the delta chain of an object that is sent as this delta or whole.
+// Returns the depth of the delta chain of an object: 0 if the object is sent whole.
 fn depth_of<A: Allocator + Copy>(delta: &Option<Delta<A>>) -> usize {
     match delta {
         Some(delta) => delta.depth,
