@@ -1,14 +1,14 @@
--- Alternates (gitrepository-layout(5), "objects/info/alternates"): one path a line. Git leaves out
--- a line that is empty, and one that begins with `#`.
+-- Alternates (gitrepository-layout(5), "objects/info/alternates"): one path per line. Git skips empty lines and lines
+-- that begin with `#`.
 use Rattle.std.specs.Prelude.{◌≡◌, ℕ, ◌==◌, Bool, false, not, List, [], ◌∷◌, ◌++◌, filter}
 use Rattle.gitobjects.specs.Parts.{IsOfParts}
 
--- the line names a folder
+-- the line names a folder: it is neither empty nor a comment
 abbrev pub names_folder : List ℕ → Bool
 names_folder [] = false
 names_folder (b ∷ line) = not (b == 35)
 
--- the paths that a text names, in order
+-- the paths that the alternates file lists, in order
 pub record NamesFolders (text : List ℕ) (paths : List (List ℕ)) : Type 0 where
   pub lines : List (List ℕ)
   pub last : List ℕ

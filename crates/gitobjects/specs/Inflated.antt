@@ -1,11 +1,11 @@
--- Entries of packs and their texts (gitformat-pack(5)).
+-- Pack entries and their inflated contents (gitformat-pack(5)).
 use Rattle.std.specs.Prelude.{◌≡◌, ℕ, List, [], length}
 use Rattle.gitpack.specs.Entries.{BeginsWithHead}
 use Rattle.gitpack.specs.declared.entry.EntryForm.{EntryForm}
 use Rattle.gzlib.specs.Inflate.{Inflates}
 
--- The bytes are a head of this form and size, and a stream up to their end. The text has as many
--- bytes as the head says, and the stream ends with their checksum.
+-- The bytes are an entry header with this form and size, followed by exactly one zlib stream. The stream inflates to
+-- the text, which has the size in the header, and ends with the checksum of the text.
 pub record IsInflatedFrom (bytes : List ℕ) (form : EntryForm) (size : ℕ) (text : List ℕ) : Type 0 where
   pub stream : List ℕ
   pub head : BeginsWithHead bytes form size stream

@@ -1,20 +1,21 @@
--- How often a folder is listed.
+-- The number of times that a folder was listed.
 use Rattle.std.specs.Prelude.{◌≡◌, ◌⊎◌, Option}
 use Rattle.gitobjects.specs.declared.files.FolderTime.{FolderTime}
 use Rattle.gitobjects.specs.declared.listed.Listed.{Listed}
 use Rattle.gitobjects.specs.declared.listed.Listed.TheVariants as listed
 
--- it was listed twice since its names changed at this time
+-- the folder was listed twice since its names changed at this time
 abbrev pub Twice : Option FolderTime → Listed
 Twice time = listed.Twice time
 
--- it was listed since its names changed at this time
+-- the folder was listed at least once since its names changed at this time
 abbrev pub IsListedAt : Option FolderTime → Listed → Type 0
 IsListedAt time listed.Never = ⊥
 IsListedAt time (listed.Once earlier) = earlier ≡ time
 IsListedAt time (listed.Twice earlier) = earlier ≡ time
 
--- one listing more: it is the second if the names have not changed since the last one, and otherwise the first
+-- the state after another listing: the second if the names have not changed since the last listing, and otherwise the
+-- first
 abbrev pub ListsAgain : Option FolderTime → Listed → Listed → Type 0
 ListsAgain time old new =
     (IsListedAt time old × (new ≡ listed.Twice time)) ⊎ (¬ (IsListedAt time old) × (new ≡ listed.Once time))

@@ -1,28 +1,28 @@
--- The names in a folder of packs, each with a NUL after it.
+-- The names in a folder of packs, each followed by a NUL.
 use Rattle.std.specs.Prelude.{◌≡◌, ◌≢◌, ◌⊎◌, ℕ, List, [], ◌∷◌, ◌++◌, All, codes}
 use Rattle.std.specs.List.Sorted.{IsPermutation}
 use Rattle.std.specs.Str.{IsUtf8}
 use Rattle.gitobjects.specs.Parts.{IsOfParts}
 
--- The name of the index of a pack: that of the pack, and the extension. It is UTF-8, and names
--- nothing in another folder.
+-- The name of a pack index: the name of the pack with the extension `.idx`. The name of the pack is UTF-8 and has no
+-- slash.
 pub record IsIndexName (stem name : List ℕ) : Type 0 where
   pub is : name ≡ stem ++ codes ".idx"
   pub plain : All (λ b. b ≢ 47) stem
   pub text : IsUtf8 stem
 
--- a name that is of no index
+-- a name that is not the name of a pack index
 abbrev pub IsOtherName : List ℕ → Type 0
 IsOtherName name = (stem : List ℕ) → ¬ (IsIndexName stem name)
 
--- the packs whose indexes are among these names, and no others, in the order of the names
+-- exactly the packs whose indexes are among these names, in the order of the names
 abbrev pub AreStems : List (List ℕ) → List (List ℕ) → Type 0
 AreStems [] stems = stems ≡ []
 AreStems (name ∷ names) stems =
     ((stem : List ℕ) × (more : List (List ℕ)) × IsIndexName stem name × (stems ≡ stem ∷ more) × AreStems names more)
     ⊎ (IsOtherName name × AreStems names stems)
 
--- a text lists names, and these are all packs whose index is among them, in some order
+-- the packs are exactly those whose indexes the text lists, in any order
 pub record AreListed (text : List ℕ) (stems : List (List ℕ)) : Type 0 where
   pub names : List (List ℕ)
   pub rest : List ℕ

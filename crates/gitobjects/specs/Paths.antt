@@ -2,14 +2,14 @@
 use Rattle.std.specs.Prelude.{ℕ, List, ◌∷◌, ◌++◌, take, drop}
 use Rattle.gname.specs.Ids.{Id, id_text}
 
--- the path of a name in a folder
+-- the path of a file with this name in a folder
 abbrev pub below : List ℕ → List ℕ → List ℕ
 below folder name = folder ++ 47 ∷ name
 
--- the path of the folder of a loose object: the first two digits of its id
+-- the path of the folder of a loose object, named by the first two digits of the object id
 abbrev pub loose_folder : List ℕ → Id → List ℕ
 loose_folder folder id = below folder (take 2 (id_text id))
 
--- the path of a loose object: in that folder a file for the other digits
+-- the path of a loose object: a file in the folder of the object, named by the other digits of the id
 abbrev pub loose_path : List ℕ → Id → List ℕ
 loose_path folder id = below (loose_folder folder id) (drop 2 (id_text id))

@@ -21,7 +21,7 @@ pub(crate) struct Folder<A: Allocator + Copy> {
     pub(crate) listed: Listed,
     // The faults of the packs that were left out.
     pub(crate) left_out: Vec<FileFault<A>, A>,
-    // The number of alternates that lead to it.
+    // The number of alternates on the way to this folder: 0 for the repository's own folder.
     depth: usize,
 }
 
@@ -40,8 +40,8 @@ impl<A: Allocator + Copy> Folder<A> {
 }
 
 /// Returns the object folder of a repository, and its alternates recursively, up to the same depth
-/// as Git. A folder that is named again is left out, so cyclic alternates end. A missing folder is
-/// left out, too.
+/// as Git. A folder that was already added is skipped, so cyclic alternates end. A missing folder
+/// is also skipped.
 pub(crate) fn object_folders<F: ObjectFiles, A: Allocator + Copy>(
     files: &F,
     alloc: A,
@@ -103,7 +103,7 @@ fn add_alternates<F: ObjectFiles, A: Allocator + Copy>(
     Ok(())
 }
 
-// Returns the paths that a text names, in order.
+// Returns the paths that an alternates file lists, in order.
 fn folder_names<A: Allocator + Copy>(alloc: A, text: &[u8]) -> Result<Vec<String<A>, A>, Cause>
     ensures { IfOk result (λ names. NamesFolders text.now (map string_bytes names.items)) }
 {
@@ -138,7 +138,8 @@ fn push_name<A: Allocator + Copy>(
     Ok(())
 }
 
-// Returns the path of an alternate. A relative path begins at the folder that names it.
+// Returns the path of an alternate. A relative path begins at the object folder whose alternates
+// file lists it.
 fn path_of<A: Allocator + Copy>(
     alloc: A,
     folder: &str,
@@ -151,7 +152,7 @@ fn path_of<A: Allocator + Copy>(
     }
 }
 
-// Adds a folder, if it exists and was not added before.
+// Adds the folder with this path, if the folder exists and was not added before.
 fn add_folder<F: ObjectFiles, A: Allocator + Copy>(
     files: &F,
     alloc: A,

@@ -7,21 +7,22 @@ use std::alloc::{AllocError, Allocator};
 // The maximum number of cached objects.
 const SLOTS: usize = 8_192;
 
-/// The beginning of an object: the number of its pack, and an offset in it.
+/// The location of a pack entry: the number of its pack, and its offset in the pack.
 #[derive(Clone, Copy, Debug, PartialEq, Eq)]
 pub(crate) struct Spot {
     pub(crate) pack: usize,
     pub(crate) start: usize,
 }
 
-// A cached object.
+// A cached object and its location.
 #[derive(Drop)]
 struct Kept<A: Allocator + Copy> {
     spot: Spot,
     object: Object<A>,
 }
 
-/// The cached objects. Each has one slot, and replaces the object there.
+/// The cached objects. Each location has one slot, and a new object replaces the previous object in
+/// its slot.
 #[derive(Drop)]
 pub(crate) struct BaseCache<A: Allocator + Copy> {
     alloc: A,
@@ -41,7 +42,7 @@ impl<A: Allocator + Copy> BaseCache<A> {
         })
     }
 
-    /// Returns the object that begins here, or `None` if it is not cached.
+    /// Returns the cached object at this location, or `None` if the object is not cached.
     pub(crate) fn get(&self, spot: Spot) -> Option<&Object<A>> {
         match self.slots.get(slot_of(spot)) {
             Some(Some(kept)) if kept.spot == spot => Some(&kept.object),
@@ -49,13 +50,13 @@ impl<A: Allocator + Copy> BaseCache<A> {
         }
     }
 
-    /// Returns whether the object that begins here is cached.
+    /// Returns whether the object at this location is cached.
     pub(crate) fn holds(&self, spot: Spot) -> bool {
         self.get(spot).is_some()
     }
 
-    /// Caches an object, unless it is too large. If there are too many bytes, all others are
-    /// removed first.
+    /// Caches an object, unless it is too large. If the cache would exceed its size limit, all
+    /// other objects are removed first.
     pub(crate) fn put(&mut self, spot: Spot, object: Object<A>) -> Result<(), AllocError> {
         let more = object.body.len();
         if more > MAX_BASE {
@@ -90,7 +91,7 @@ fn empty_slots<A: Allocator + Copy>(alloc: A) -> Result<Vec<Option<Kept<A>>, A>,
     Ok(slots)
 }
 
-// Returns the slot of a spot: a number spread by the golden ratio.
+// Returns the slot of a location, by a multiplicative hash with the golden ratio.
 fn slot_of(spot: Spot) -> usize {
     let mixed = spot
         .start

@@ -12,8 +12,8 @@ use gitpack::{EntryForm, apply_delta, made_size};
 use gname::Oid;
 use std::alloc::Allocator;
 
-// The offsets of the deltas in a chain, last one first, and the offset of the whole object that
-// ends the chain.
+// The offsets of the deltas in a chain, from the requested object to its base, and the offset of
+// the whole object that ends the chain.
 #[derive(Drop)]
 struct Chain<A: Allocator + Copy> {
     deltas: Vec<usize, A>,
@@ -27,7 +27,7 @@ struct Broken {
     cause: Cause,
 }
 
-// Returns the outcome for the entry that begins here.
+// Adds the offset of the entry to the fault of a call.
 fn at<T: Drop>(start: usize, outcome: Result<T, Cause>) -> Result<T, Broken> {
     match outcome {
         Ok(value) => Ok(value),
@@ -35,7 +35,7 @@ fn at<T: Drop>(start: usize, outcome: Result<T, Cause>) -> Result<T, Broken> {
     }
 }
 
-// Returns why a delta does not apply to its base.
+// Returns the reason why a delta cannot be applied to its base.
 fn refusal(delta: &[u8]) -> Cause {
     match made_size(delta) {
         Some(size) if size > MAX_OBJECT => Cause::ObjectSize,
@@ -44,8 +44,8 @@ fn refusal(delta: &[u8]) -> Cause {
 }
 
 impl<F: ObjectFiles, A: Allocator + Copy> ObjectReader<'_, F, A> {
-    /// Returns the object whose entry begins here. If an object of its chain is broken, another
-    /// copy is used, as in Git.
+    /// Returns the object whose entry is at this location. If an object of its delta chain is
+    /// broken, another copy of the broken object is used, as in Git.
     pub(crate) fn read_packed(&mut self, spot: Spot) -> Result<Object<A>, Cause> {
         let mut last = spot.start;
         for _copy in 0..MAX_COPIES {
@@ -67,8 +67,8 @@ impl<F: ObjectFiles, A: Allocator + Copy> ObjectReader<'_, F, A> {
         Err(Cause::Base)
     }
 
-    // Caches another copy of the object whose entry begins here and is broken for this cause. Fails
-    // with the cause if no other copy is intact.
+    // Caches another copy of the object whose entry at this location is broken. Fails with the
+    // given cause if no other copy is intact.
     fn copy_base(&mut self, spot: Spot, cause: Cause) -> Result<(), Cause> {
         if cause == Cause::Memory {
             return Err(cause);
@@ -85,8 +85,8 @@ impl<F: ObjectFiles, A: Allocator + Copy> ObjectReader<'_, F, A> {
         }
     }
 
-    // Returns the object with this id from any place except this pack, or `None` if no copy is
-    // intact. Fails only with `Memory`.
+    // Returns an intact copy of the object with this id from outside the pack `but`, or `None` if
+    // no copy is intact. Fails only with `Memory`.
     fn read_elsewhere(&mut self, id: &Oid, but: usize) -> Result<Option<Object<A>>, Cause> {
         for pack in 0..self.store.pack_count() {
             if pack == but {
@@ -103,8 +103,8 @@ impl<F: ObjectFiles, A: Allocator + Copy> ObjectReader<'_, F, A> {
         }
     }
 
-    // Returns the object with this id in a pack, or `None` if it is missing or broken. Fails only
-    // with `Memory`.
+    // Returns the object with this id in a pack, or `None` if the object is missing or broken.
+    // Fails only with `Memory`.
     fn read_whole(&mut self, pack: usize, id: &Oid) -> Result<Option<Object<A>>, Cause> {
         let Some(start) = self.store.start_in(pack, id) else {
             return Ok(None);
@@ -116,7 +116,8 @@ impl<F: ObjectFiles, A: Allocator + Copy> ObjectReader<'_, F, A> {
         }
     }
 
-    // Returns the object whose entry begins here, if no entry of its chain is broken.
+    // Returns the object whose entry is at this location. Fails at the first broken entry of its
+    // delta chain.
     fn read_chain(&mut self, spot: Spot) -> Result<Object<A>, Broken> {
         let Spot { pack, start } = spot;
         let chain = at(start, self.trace(pack, start))?;
@@ -136,12 +137,12 @@ impl<F: ObjectFiles, A: Allocator + Copy> ObjectReader<'_, F, A> {
         Ok(())
     }
 
-    // Returns the chain of deltas that begins here. It ends in a whole object, in a cached one, or
-    // in a broken entry. Reading that entry finds the cause.
+    // Returns the delta chain of the entry at this offset. The chain ends in a whole object, a
+    // cached object or a broken entry. Reading the broken entry later shows the cause.
     fn trace(&mut self, pack: usize, start: usize) -> Result<Chain<A>, Cause> {
         let mut deltas = Vec::new(self.store.allocator());
         let mut end = start;
-        // An acyclic chain has each object of the pack at most once.
+        // An acyclic chain contains each object of the pack at most once.
         for _delta in 0..self.store.object_count(pack) {
             let spot = Spot { pack, start: end };
             if self.cache.holds(spot) {
@@ -159,7 +160,7 @@ impl<F: ObjectFiles, A: Allocator + Copy> ObjectReader<'_, F, A> {
         Err(Cause::Circle)
     }
 
-    // Returns the whole or cached object that begins here.
+    // Returns the whole or cached object at this location.
     fn read_base(&mut self, spot: Spot) -> Result<Object<A>, Cause> {
         if let Some(object) = self.cache.get(spot) {
             return Ok(object.copy_in(self.store.allocator())?);
@@ -174,7 +175,7 @@ impl<F: ObjectFiles, A: Allocator + Copy> ObjectReader<'_, F, A> {
         }
     }
 
-    // Applies deltas to their base, the last one of the list first. Each base is cached.
+    // Applies deltas to their base, from the end of the list. Each base is cached.
     fn apply_all(
         &mut self,
         pack: usize,
@@ -200,7 +201,7 @@ impl<F: ObjectFiles, A: Allocator + Copy> ObjectReader<'_, F, A> {
         Ok(object)
     }
 
-    // Applies the delta that begins here to its base, and returns the object.
+    // Applies the delta at this location to its base, and returns the resulting object.
     fn apply(&mut self, base: &Object<A>, spot: Spot) -> Result<Object<A>, Cause> {
         let delta = self.store.inflate_at(spot, &mut self.inflater)?;
         let alloc = self.store.allocator();
@@ -214,8 +215,8 @@ impl<F: ObjectFiles, A: Allocator + Copy> ObjectReader<'_, F, A> {
         }
     }
 
-    /// Returns the type of the object whose entry begins here, from the heads of its chain, or
-    /// `None` if one of them is broken. Fails only with `Memory`.
+    /// Returns the type of the object whose entry is at this location, from the entry headers of
+    /// its delta chain. Returns `None` if one of these headers is broken. Fails only with `Memory`.
     pub(crate) fn kind_at(&mut self, spot: Spot) -> Result<Option<ObjectType>, Cause> {
         let pack = spot.pack;
         let mut start = spot.start;

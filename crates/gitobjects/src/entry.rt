@@ -9,7 +9,8 @@ use gitpack::{EntryForm, EntryHead, read_head};
 use gzlib::{InflateFault, Inflater};
 use std::alloc::Allocator;
 
-/// An entry: its head, and its inflated stream. The stream is the body of an object, or a delta.
+/// An inflated pack entry: its form, its size, and its contents. The contents are the body of an
+/// object, or a delta.
 #[derive(Drop)]
 pub(crate) struct Inflated<A: Allocator + Copy> {
     pub(crate) form: EntryForm,
@@ -22,19 +23,19 @@ pub(crate) struct Inflated<A: Allocator + Copy> {
 pub struct RawEntry<A: Allocator + Copy> {
     /// Its head.
     pub head: EntryHead,
-    /// The place of its base in the index of the same pack, if the entry is a delta.
+    /// The position of the base in the index of the same pack, if the entry is a delta.
     pub base: Option<usize>,
-    /// All of its bytes: the head, and then the stream.
+    /// All bytes of the entry: the header, and then the stream.
     pub bytes: Vec<u8, A>,
 }
 
 // The maximum ratio of an inflated size to the length of its zlib stream.
 const MAX_RATIO: usize = 1_032;
 
-// An inflater reserves room for one more match (RFC 1951, section 3.2.5).
+// The extra bytes that an inflater reserves: one more match (RFC 1951, section 3.2.5).
 const MATCH: usize = 258;
 
-/// Inflates the entry with exactly these bytes.
+/// Inflates the pack entry that has exactly these bytes.
 ///
 /// Fails with `Head`, `ObjectSize`, `Stream` and `Memory`.
 pub(crate) fn inflate_entry<A: Allocator + Copy>(

@@ -1,4 +1,4 @@
-//! Why an object cannot be read.
+//! The reasons why an object cannot be read.
 
 use gname::{MAX_ID_TEXT, OUT_OF_MEMORY_TEXT, Oid};
 use std::alloc::{AllocError, AllocFailed, Allocator};
@@ -6,7 +6,7 @@ use std::error::Error;
 use std::io::ErrorKind;
 use std::{fmt, io};
 
-/// The fault of a file. It does not name the file: a [`StoreFault`] does.
+/// The reason why a file cannot be used. A [`FileFault`] also has the path of the file.
 #[derive(Clone, Copy, Debug, PartialEq, Eq)]
 pub enum Cause {
     /// Out of memory.
@@ -33,9 +33,9 @@ pub enum Cause {
     Pack,
     /// An offset in the index is outside the pack.
     Offset,
-    /// The head of an entry is malformed.
+    /// The header of an entry is malformed.
     Head,
-    /// A stream is not a zlib stream of the size in its head.
+    /// The stream of an entry is not a zlib stream of the size in the header.
     Stream,
     /// The CRC-32 of an entry does not match the index.
     Crc,
@@ -76,7 +76,7 @@ impl Cause {
         }
     }
 
-    // Returns the failed action.
+    // Returns the verb that describes the failed action.
     fn verb(self) -> &'static str {
         match self {
             Cause::Open(_) => "open",
@@ -85,7 +85,7 @@ impl Cause {
         }
     }
 
-    // Returns the text of the cause.
+    // Returns the message for the cause.
     fn text(self) -> &'static str {
         match self {
             Cause::Memory => OUT_OF_MEMORY_TEXT,
@@ -131,7 +131,7 @@ impl<T: Drop> From<AllocFailed<T>> for Cause {
     }
 }
 
-/// Why an object cannot be read: what is wrong, and with which file.
+/// The reason why an object cannot be read, and the file at fault.
 #[derive(Drop)]
 pub enum StoreFault<A: Allocator + Copy> {
     /// Out of memory.
@@ -142,7 +142,7 @@ pub enum StoreFault<A: Allocator + Copy> {
     File(FileFault<A>),
 }
 
-/// A file, and what is wrong with it.
+/// A file that cannot be used, and the reason.
 #[derive(Drop)]
 pub struct FileFault<A: Allocator + Copy> {
     /// The path of the file.
@@ -227,7 +227,8 @@ impl<A: Allocator + Copy> FirstFault<A> {
         FirstFault { fault: None }
     }
 
-    /// Records the fault of a copy. Fails if out of memory, since no other copy is tried then.
+    /// Records the fault of a copy. Fails at once with `Memory`, because no other copy is tried if
+    /// out of memory.
     pub(crate) fn note(&mut self, fault: StoreFault<A>) -> Result<(), StoreFault<A>> {
         if let StoreFault::Memory = fault {
             return Err(fault);
@@ -238,7 +239,7 @@ impl<A: Allocator + Copy> FirstFault<A> {
         Ok(())
     }
 
-    /// Fails with the fault of the first copy, if there was one.
+    /// Fails with the fault of the first broken copy, if a fault was recorded.
     pub(crate) fn finish(self) -> Result<(), StoreFault<A>> {
         match self.fault {
             Some(fault) => Err(fault),

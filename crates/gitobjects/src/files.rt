@@ -6,13 +6,13 @@ ghost use Rattle.gitobjects.specs.Windows.{IsPart};
 use crate::fault::Cause;
 use std::alloc::Allocator;
 
-/// An open file, whose bytes are read in any order.
+/// An open file whose bytes can be read in any order.
 pub trait OpenPack {
-    // All of its bytes, if they are known. They do not change.
+    // All bytes of the file, or `None` if the bytes are unknown. The bytes do not change.
     ghost bytes: { Self → Option (List ℕ) };
 
     /// Reads `count` bytes starting at `start`. Fails with `Read` if the file is too short or the
-    /// system refuses, and with `Memory`.
+    /// system refuses the call, and with `Memory`.
     fn read_at<A: Allocator + Copy>(
         &mut self,
         alloc: A,
@@ -24,7 +24,7 @@ pub trait OpenPack {
         ensures bytes { bytes self.new ≡ bytes self.old };
 
     /// Fills the buffer with the bytes starting at `start`. Fails with `Read` if the file is too
-    /// short or the system refuses. The buffer may hold anything after that.
+    /// short or the system refuses the call. After a fault the buffer may hold any bytes.
     fn fill_at(&mut self, start: usize, buffer: &mut [u8]) -> Result<(), Cause>
         ensures part { OnOk result (IsPart (bytes self.old) start buffer.new) }
         ensures bytes { bytes self.new ≡ bytes self.old };
@@ -37,17 +37,17 @@ pub struct FolderTime {
     pub seconds: i64,
     /// The remaining nanoseconds.
     pub nanoseconds: i64,
-    /// The system's number for the folder.
+    /// The inode number of the folder.
     pub folder: u64,
 }
 
-/// The files of a Git directory that are read for objects.
+/// Access to the files of a Git directory that hold objects.
 pub trait ObjectFiles {
     /// An open pack.
     type Pack: OpenPack + Drop;
 
-    /// Returns the bytes of a file, or `None` if there is none. Fails with `Open`, `Read`, and
-    /// `FileSize` if the file has more than `most` bytes.
+    /// Returns the bytes of a file, or `None` if there is no such file. Fails with `Open` or
+    /// `Read`, or with `FileSize` if the file has more than `most` bytes.
     fn read<A: Allocator + Copy>(
         &self,
         alloc: A,
@@ -79,11 +79,11 @@ pub trait ObjectFiles {
     /// `Open`.
     fn open_pack(&self, path: &str) -> Result<Option<(Self::Pack, usize)>, Cause>;
 
-    /// Returns when the names in a folder last changed, or `None` if there is no such folder. Fails
-    /// with `List`.
+    /// Returns the time of the last change of the names in a folder, or `None` if there is no such
+    /// folder. Fails with `List`.
     fn change_time(&self, path: &str) -> Result<Option<FolderTime>, Cause>;
 
-    /// Returns the NUL-terminated names in a folder; no names if there is no such folder. Fails
-    /// with `List`, and `FileSize` if the names have more than [`crate::MAX_NAMES`] bytes.
+    /// Returns the NUL-terminated names in a folder, or no names if there is no such folder. Fails
+    /// with `List`, or with `FileSize` if the names have more than [`crate::MAX_NAMES`] bytes.
     fn list<A: Allocator + Copy>(&self, alloc: A, path: &str) -> Result<Vec<u8, A>, Cause>;
 }

@@ -9,7 +9,8 @@ use std::alloc::Allocator;
 // The signature and the version of an index.
 const SIGNATURE: &[u8] = b"\xfftOc\0\0\0\x02";
 
-// The number of counts in the fan-out table, one for each first byte of an id, and their end.
+// The number of counts in the fan-out table, one for each first byte of an id, and the offset after
+// the table.
 const COUNTS: usize = 256;
 
 const TABLE_END: usize = 1_032;
@@ -20,41 +21,42 @@ const WORD: usize = 4;
 // The length of the checksums of the pack and of the index, which follow the tables.
 const CHECKSUMS: usize = 40;
 
-// The number of ids read on either side of the likely place of an id, among few or many candidates.
-// Ids are random, so most are that close.
+// The number of ids read on either side of the likely position of an id: `NEAR` for at most `FEW`
+// candidates, and `FAR` otherwise. Ids are random, so most ids are that close to their likely
+// position.
 const FEW: usize = 1_024;
 
 const NEAR: usize = 48;
 
 const FAR: usize = 128;
 
-// The maximum number of ids read at once. Ids looked up in order are in consecutive parts, so each
-// part read is longer than the last.
+// The maximum number of ids read at once. Look-ups in id order read consecutive parts, so each part
+// may be longer than the part before.
 const MAX_IDS_READ: usize = 2_048;
 
-// The maximum number of reads for one look-up. Each read but the first halves the remaining ids, at
-// most 2^32.
+// The maximum number of reads for one look-up. Each read except the first halves the number of
+// remaining ids, which is at most 2^32.
 const MAX_READS: usize = 34;
 
-// The bit that marks the number of a long offset.
+// The bit that marks the number of an entry in the table of long offsets.
 const LONG: u32 = 0x8000_0000;
 
-/// An open index. Its fan-out table is held, and other parts are read as needed. The index is not
-/// checked as a whole.
+/// An open pack index. The fan-out table is in memory, and other parts are read as needed. The
+/// index is not checked as a whole.
 #[derive(Drop)]
 pub(crate) struct IndexFile<P: OpenPack + Drop, A: Allocator + Copy> {
     alloc: A,
     file: P,
-    // For each byte, how many ids begin with it or a lower byte.
+    // For each byte, the number of ids that begin with this byte or a lower byte.
     counts: Vec<usize, A>,
     // The number of ids.
     len: usize,
-    // The places of the last ids read, and their bytes at the front of the buffer.
+    // The positions of the ids read last. Their bytes are at the front of `buffer`.
     held: Places,
     buffer: Vec<u8, A>,
 }
 
-// The possible places of an id.
+// The possible positions of an id, from `low` up to but excluding `high`.
 #[derive(Clone, Copy, Debug, PartialEq, Eq)]
 struct Places {
     low: usize,
@@ -64,7 +66,7 @@ struct Places {
 // The result of a look-up in a part of the ids.
 #[derive(Clone, Copy, Debug)]
 enum Look {
-    // The id has this number.
+    // The id has this position in the part.
     At(usize),
     // The id precedes the part.
     Before,
@@ -74,7 +76,8 @@ enum Look {
     Absent,
 }
 
-/// Opens the index with this path, or returns `None` if there is none or it has another form.
+/// Opens the pack index with this path. Returns `None` if there is no such file, or if the file is
+/// not an index of version 2.
 ///
 /// Fails as [`ObjectFiles::open_pack`] and [`OpenPack::read_at`] do.
 pub(crate) fn open_index<F: ObjectFiles, A: Allocator + Copy>(
@@ -109,7 +112,7 @@ pub(crate) fn open_index<F: ObjectFiles, A: Allocator + Copy>(
     }))
 }
 
-// Returns the counts of a fan-out table, or `None` if they descend.
+// Returns the counts of a fan-out table, or `None` if a count is lower than the count before.
 fn counts_of<A: Allocator + Copy>(alloc: A, table: &[u8]) -> Result<Option<Vec<usize, A>>, Cause> {
     let mut counts = Vec::with_capacity(alloc, COUNTS)?;
     let mut last = 0;
@@ -130,7 +133,7 @@ fn is_long_enough(length: usize, objects: usize) -> bool {
     lines <= length.saturating_sub(TABLE_END + CHECKSUMS)
 }
 
-// Returns the number in four bytes; 0 for any other length.
+// Returns the big-endian number in the first four bytes, or 0 if there are fewer bytes.
 fn number_of(word: &[u8]) -> u32 {
     match word.first_chunk::<WORD>() {
         Some(word) => u32::from_be_bytes(*word),
@@ -144,8 +147,8 @@ impl<P: OpenPack + Drop, A: Allocator + Copy> IndexFile<P, A> {
         self.len
     }
 
-    /// Returns the place of the object with this id, or `None` if it is not there. Fails with
-    /// `Read` and `Memory`.
+    /// Returns the position of the object with this id, or `None` if the index lacks the object.
+    /// Fails with `Read` and `Memory`.
     pub(crate) fn find(&mut self, id: &Oid) -> Result<Option<usize>, Cause> {
         let wanted = id.as_bytes();
         if wanted.len() != ID_BYTES {
@@ -169,7 +172,7 @@ impl<P: OpenPack + Drop, A: Allocator + Copy> IndexFile<P, A> {
         Ok(None)
     }
 
-    // Returns the places of the ids that begin with the same byte.
+    // Returns the positions of the ids that begin with the same byte as the wanted id.
     fn places_of(&self, wanted: &[u8]) -> Places {
         let first = usize::from(wanted.first().copied().unwrap_or(0));
         let low = match first.checked_sub(1) {
@@ -180,8 +183,8 @@ impl<P: OpenPack + Drop, A: Allocator + Copy> IndexFile<P, A> {
         Places { low, high }
     }
 
-    // Returns the places to search for an id that is probably at `middle`: the held places, if
-    // `middle` is among them.
+    // Returns the positions to search for an id that is probably at `middle`. If the ids in memory
+    // include this position, no other ids are read.
     fn part_for(&self, places: Places, middle: usize) -> Places {
         let held = self.held;
         if held.low <= middle
@@ -208,7 +211,7 @@ impl<P: OpenPack + Drop, A: Allocator + Copy> IndexFile<P, A> {
         }
     }
 
-    // Looks up an id among those at these places.
+    // Looks up an id among the ids at these positions.
     fn look(&mut self, part: Places, wanted: &[u8]) -> Result<Look, Cause> {
         let count = part
             .high
@@ -229,8 +232,8 @@ impl<P: OpenPack + Drop, A: Allocator + Copy> IndexFile<P, A> {
         Ok(look_in(self.buffer.get(..count).unwrap_or(b""), wanted))
     }
 
-    /// Returns the offset of the entry of the object at this place, or `None` if it is not a valid
-    /// offset. Fails with `Read` and `Memory`.
+    /// Returns the pack offset of the object at this position, or `None` if the offset does not fit
+    /// in a `usize`. Fails with `Read` and `Memory`.
     pub(crate) fn offset(&mut self, place: usize) -> Result<Option<usize>, Cause> {
         let table = self
             .len
@@ -246,7 +249,7 @@ impl<P: OpenPack + Drop, A: Allocator + Copy> IndexFile<P, A> {
         self.long_offset(table, short - LONG)
     }
 
-    // Returns the long offset with this number from the table that begins here.
+    // Returns the long offset with this number. The table of long offsets begins at `table`.
     fn long_offset(&mut self, table: usize, number: u32) -> Result<Option<usize>, Cause> {
         let start = (number as usize)
             .saturating_mul(2 * WORD)
@@ -259,7 +262,8 @@ impl<P: OpenPack + Drop, A: Allocator + Copy> IndexFile<P, A> {
     }
 }
 
-// Returns the likely place of an id among these: ids are evenly distributed.
+// Returns the likely position of an id between `low` and `high`, because ids are evenly
+// distributed.
 fn likely_place(places: Places, wanted: &[u8]) -> usize {
     let next = number_of(wanted.get(1..).unwrap_or(b""));
     let width = places.high.saturating_sub(places.low) as u64;
@@ -269,13 +273,13 @@ fn likely_place(places: Places, wanted: &[u8]) -> usize {
         .saturating_add(usize::try_from(before).unwrap_or(0))
 }
 
-// Returns the place in the middle.
+// Returns the position in the middle of the range.
 fn halfway(places: Places) -> usize {
     let width = places.high.saturating_sub(places.low);
     places.low.saturating_add(width / 2)
 }
 
-// Returns the places around this one, among these.
+// Returns the positions around `middle` that are inside the range.
 fn part_around(places: Places, middle: usize) -> Places {
     let around = if places.high.saturating_sub(places.low) <= FEW {
         NEAR

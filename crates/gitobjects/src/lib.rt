@@ -2,30 +2,30 @@
 //! loose objects, and alternates. This crate does not handle refs, graphs or the protocol.
 //!
 //! - An [`ObjectStore`] opens the packs of a directory and finds objects.
-//! - An [`ObjectReader`] reads them, and returns their types. It applies deltas without recursion,
-//!   and keeps some bases in a bounded cache.
+//! - An [`ObjectReader`] reads objects, and returns their types. The reader applies deltas without
+//!   recursion, and keeps some bases in a bounded cache.
 //! - [`ObjectReader::raw_entry`] returns a pack entry unchanged, so that a packer can copy it.
-//! - A [`QuickReader`] looks up and reads a few objects. It reads indexes in parts, while an
-//!   [`ObjectStore`] reads whole indexes.
+//! - A [`QuickReader`] looks up and reads a few objects. A quick reader reads indexes in parts,
+//!   while an [`ObjectStore`] reads whole indexes.
 //! - [`StoredFiles`] are the files of the system, and [`MemoryFiles`] are files in memory.
 //!
 //! # Proved
 //!
 //! - [`ObjectReader::read_checked`] and [`QuickReader::read_checked`] return an object only if it
-//!   has the requested id. The SHA-1 is computed.
-//! - A private function takes the form and the size of an entry from the head at the start of its
-//!   bytes. It inflates the stream to the size in the head, and to the end of the bytes. Another
+//!   has the requested id. The SHA-1 of the object is computed.
+//! - A private function reads the form and the size of a pack entry from its header. The stream of
+//!   the entry is inflated to the size in the header, and to the end of the bytes. Another function
 //!   splits the text of a loose object exactly.
-//! - The window on the packs returns the bytes of a pack, if they are known, whatever blocks it
-//!   holds. It holds at most 64 blocks for all packs together, each of at most 1 MiB.
-//! - A private function decides when a folder must be listed again: unless it was listed twice
-//!   since its names changed.
+//! - The window on the packs returns the bytes of a pack, whichever blocks are in memory. The
+//!   window holds at most 64 blocks for all packs together, each of at most 1 MiB.
+//! - A private function decides that a folder must be listed again, unless the folder was listed
+//!   twice since its names changed.
 //! - The path of a loose object consists of a folder and the digits of the id. The lines of
 //!   `info/alternates` are read in order.
 //! - A private function finds in a listing exactly the packs whose index is listed. The name of an
 //!   index ends in `.idx`, is UTF-8 and has no slash.
-//! - No call panics, overflows or reads out of bounds, and every call returns, whatever the files,
-//!   even if a delta chain is cyclic.
+//! - No call panics, overflows or reads out of bounds, and every call returns, whatever the files
+//!   contain, even if a delta chain is cyclic.
 //!
 //! # Only tested
 //!
@@ -36,17 +36,17 @@
 //!
 //! - A pack stays open once found. Git opens packs as needed, and closes some.
 //! - If an object is not found, Git lists all packs again. This crate lists only the folders whose
-//!   names changed, and each of them once more after that.
-//! - A pack with an index of version 1 is left out, and so is a pack of version 3; Git reads both.
-//!   A multi-pack index, bitmaps and a commit-graph are not read.
-//! - Each open pack uses a descriptor. A repository with about a thousand packs needs `git gc`
-//!   first, because of the system's limit.
+//!   names changed, and each such folder once more.
+//! - A pack with an index of version 1 and a pack of version 3 are left out. Git reads both. A
+//!   multi-pack index, bitmaps and a commit-graph are not read.
+//! - Each open pack uses a file descriptor. A repository with about a thousand packs needs `git gc`
+//!   first, because the system limits open files.
 //! - If an object is missing and a pack was left out, the fault names that pack. Git says that the
 //!   object is missing.
-//! - If a delta base is broken in its pack, another copy is used, as in Git. Here the copy has at
-//!   most 4 MiB, none of its own bases is broken, and a chain has at most 16 such bases.
+//! - If a delta base is broken in its pack, another copy is used, as in Git. In this crate the copy
+//!   has at most 4 MiB, all its own bases are intact, and a chain has at most 16 such bases.
 //! - A path in quotes in `info/alternates`, or one that is not UTF-8, is a fault. Git reads both.
-//! - A missing alternate is left out. Git also does this, and prints an error.
+//! - A missing alternate is left out. Git also leaves the alternate out, and prints an error.
 //! - A pack entry must not have bytes after its stream. Git does not check this.
 //! - A pack whose index has an offset outside the pack is left out entirely. In Git only the object
 //!   with that offset is broken.
@@ -55,21 +55,21 @@
 //!
 //! - [`ObjectReader::read`] trusts the files: it does not compute ids. A clause cannot describe the
 //!   contents of a system file.
-//! - No clause states the object that a whole delta chain makes, or the type that
+//! - No clause says which object a whole delta chain produces, or which type
 //!   [`ObjectReader::kind_of`] returns. Each step relies on a contract of `gitpack`.
 //! - No clause says that other copies of a broken object are tried, or that a listed pack is
 //!   opened.
 //! - The entry that [`ObjectReader::raw_entry`] returns may be any bytes. Its CRC-32 is compared
 //!   with the index, but no clause says so.
-//! - A pack may be added in the same tick of the file system's clock as a listing. It is then not
-//!   seen until the folder changes again, or until [`ObjectReader::refresh`].
+//! - A pack may be added in the same tick of the file system's clock as a listing. Such a pack is
+//!   not seen until the folder changes again, or until [`ObjectReader::refresh`].
 //! - Only the safety of the base cache is proved.
 //! - [`ObjectStore::find`], [`ObjectStore::find_in`] and [`ObjectReader::find`] may return a wrong
-//!   place for an object, or none. [`ObjectStore::index`] and [`ObjectStore::starts`] may return
-//!   those of another pack, or nothing.
+//!   location of an object, or `None`. [`ObjectStore::index`] and [`ObjectStore::starts`] may
+//!   return the data of another pack, or nothing.
 //! - No clause says from which pack and position an entry is read. Only the window is exact.
-//! - A pack that does not match its index may be opened. Its header, count and checksum are
-//!   compared, but no clause says so.
+//! - A pack that does not match its index may be opened. The header, object count and checksum of
+//!   the pack are compared with the index, but no clause says so.
 //! - A loose object may be accepted even if bytes follow its stream.
 //! - No clause says which alternates are read, where a relative path begins, or how the open packs
 //!   are ordered.
@@ -77,7 +77,7 @@
 //!   the function that decides about listings says.
 //! - [`MemoryFiles`] may return bytes other than those that were added.
 //! - A [`QuickReader`] may find no object, report one that does not exist, or return a wrong type.
-//!   Its index is not checked as a whole.
+//!   A quick reader does not check a whole index.
 //! - The contracts do not cover which fault is returned, which file it names, or its text.
 //! - Any call may fail if out of memory, and any file may be refused.
 //!

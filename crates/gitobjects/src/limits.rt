@@ -1,6 +1,6 @@
-//! The limits of this crate. They bound each file and each cache, whatever the files contain. The
-//! number of packs is not bounded here. Each open pack uses a descriptor, so the system bounds it:
-//! a repository with about a thousand packs needs `git gc` first.
+//! The limits of each file and each cache, whatever the files contain. The number of packs is not
+//! limited here. Each open pack uses a file descriptor, so the system limits the number of packs. A
+//! repository with about a thousand packs needs `git gc` first.
 
 /// The maximum size of an object: 1 GiB.
 pub const MAX_OBJECT: usize = 1_073_741_824;
@@ -18,29 +18,30 @@ pub const MAX_ALTERNATES: usize = 1_048_576;
 /// The maximum depth of alternates. Git has the same limit.
 pub const MAX_DEPTH: usize = 5;
 
-/// The maximum number of object folders: that of the repository, and all alternates.
+/// The maximum number of object folders: the folder of the repository, and all alternates.
 pub const MAX_FOLDERS: usize = 1_024;
 
 /// The maximum size of the names in one folder of packs: 64 MiB.
 pub const MAX_NAMES: usize = 67_108_864;
 
-/// The maximum size of the bases that a reader keeps: 64 MiB.
+/// The maximum total size of the delta bases that a reader caches: 64 MiB.
 pub const MAX_KEPT: usize = 67_108_864;
 
-/// The maximum size of one base that a reader keeps: 4 MiB.
+/// The maximum size of one delta base that a reader caches: 4 MiB.
 pub const MAX_BASE: usize = 4_194_304;
 
-/// The maximum size of a returned object that is kept, since a delta may need it next: 64 KiB.
+/// The maximum size of a returned object that is also cached, because a delta may need it next: 64
+/// KiB.
 pub(crate) const MAX_ANSWER: usize = 65_536;
 
-/// The maximum number of bytes of a loose object read to find its type.
+/// The maximum number of bytes read from a loose object to find its type.
 pub(crate) const MAX_FRONT: usize = 4_096;
 
 /// The maximum number of broken objects in one delta chain that are replaced by other copies.
 pub(crate) const MAX_COPIES: usize = 16;
 
-/// The maximum size of a block of a pack that is held: 1 MiB.
+/// The maximum size of a block of a pack in memory: 1 MiB.
 pub(crate) const BLOCK: usize = 1_048_576;
 
-/// The maximum number of blocks that a store holds, for all its packs together: 64 MiB.
+/// The maximum number of blocks in memory for all packs of a store: 64 blocks of 1 MiB.
 pub(crate) const BLOCKS: usize = 64;

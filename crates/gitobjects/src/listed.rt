@@ -1,4 +1,4 @@
-//! When a pack folder was listed, and when it must be listed again.
+//! Whether a pack folder was listed since its last change, and must be listed again.
 
 ghost use Rattle.std.specs.Prelude.{◌≡◌, ◌≢◌, ◌↔◌, IsTrue, Option};
 ghost use Rattle.gitobjects.specs.Listed.{ListsAgain, Twice};
@@ -6,21 +6,21 @@ ghost use Rattle.gitobjects.specs.declared.files.FolderTime.{FolderTime};
 
 use crate::files::FolderTime;
 
-/// How often a folder was listed since its names changed, and the time of the change; no time if
-/// there is no such folder.
+/// The number of times that a folder was listed since its names changed, with the time of the
+/// change. The time is `None` if there is no such folder.
 #[derive(Clone, Copy, Debug)]
 pub(crate) enum Listed {
-    /// It was never listed.
+    /// The folder was never listed.
     Never,
-    /// It was listed once.
+    /// The folder was listed once.
     Once(Option<FolderTime>),
-    /// It was listed twice.
+    /// The folder was listed twice.
     Twice(Option<FolderTime>),
 }
 
 impl Listed {
     /// Returns whether the folder must be listed again, if its names last changed at this time.
-    /// Returns false if it was listed twice since.
+    /// Returns false if the folder was listed twice since this change.
     pub(crate) fn is_stale(&self, now: Option<FolderTime>) -> bool
         ensures { IsTrue result ↔ (self.now ≢ Twice now) }
     {

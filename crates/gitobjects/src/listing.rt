@@ -7,8 +7,8 @@ use crate::fault::Cause;
 use crate::parts::cut;
 use std::alloc::Allocator;
 
-/// Returns the names of the packs whose index is listed, without the extension, in order. The
-/// listed names are NUL-terminated.
+/// Returns the sorted names, without extension, of the packs whose index is listed. The listed
+/// names are NUL-terminated.
 pub(crate) fn index_stems<A: Allocator + Copy>(
     alloc: A,
     names: &[u8],
@@ -20,7 +20,7 @@ pub(crate) fn index_stems<A: Allocator + Copy>(
     Ok(stems)
 }
 
-// Returns the same names, in listing order.
+// Returns the names of the packs whose index is listed, in listing order.
 fn listed_stems<A: Allocator + Copy>(alloc: A, names: &[u8]) -> Result<Vec<String<A>, A>, Cause>
     ensures { IfOk result (λ stems. AreListed names.now (map string_bytes stems.items)) }
 {
@@ -33,7 +33,7 @@ fn listed_stems<A: Allocator + Copy>(alloc: A, names: &[u8]) -> Result<Vec<Strin
     Ok(stems)
 }
 
-// Adds the name of a pack, if this is the name of its index.
+// Adds the name of a pack, if the listed name is the name of a pack index.
 fn push_stem<A: Allocator + Copy>(
     alloc: A,
     stems: &mut Vec<String<A>, A>,
@@ -53,7 +53,7 @@ fn push_stem<A: Allocator + Copy>(
     }
 }
 
-// Returns the name of an index without its extension, or `None` if it is not an index. All names
+// Returns the name of a pack index without its extension, or `None` for any other name. All names
 // from Git are UTF-8.
 fn stem_of(name: &[u8]) -> Option<&str>
     ensures { MatchOption result (IsOtherName name.now) (λ stem. IsIndexName stem.now name.now) }

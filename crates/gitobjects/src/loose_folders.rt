@@ -4,24 +4,25 @@ ghost use Rattle.std.specs.Prelude.{◌<◌};
 
 use gname::Oid;
 
-/// The existing folders of loose objects. Each is looked up once, at the first look-up of an object
-/// that would be in it.
+/// The folders of loose objects that are known to exist or to be missing. Each folder is looked up
+/// once, at the first look-up of an object in it.
 #[derive(Clone, Copy, Drop)]
 pub struct LooseFolders {
-    // For each first byte of an id, whether its folder exists, if it was looked up.
+    // Whether the folder for each first byte of an id exists, or `None` if the folder was not
+    // looked up.
     are_there: [Option<bool>; 256],
 }
 
 impl LooseFolders {
-    /// Returns a `LooseFolders` before any look-up.
+    /// Returns a `LooseFolders` in which no folder was looked up.
     pub fn new() -> LooseFolders {
         LooseFolders {
             are_there: [None; 256],
         }
     }
 
-    /// Returns whether the folder of an object with this id exists, or `None` if it was not looked
-    /// up.
+    /// Returns whether the folder of an object with this id exists, or `None` if the folder was not
+    /// looked up.
     pub(crate) fn get(&self, id: &Oid) -> Option<bool> {
         self.are_there[first_byte(id)]
     }

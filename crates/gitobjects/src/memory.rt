@@ -42,7 +42,7 @@ impl<A: Allocator + Copy> MemoryFiles<A> {
         Ok(())
     }
 
-    // Returns the bytes of the file with this path, or `None` if there is none.
+    // Returns the bytes of the file with this path, or `None` if there is no such file.
     fn bytes_of(&self, path: &str) -> Option<&[u8]> {
         for file in &self.files {
             if file.path.as_str() == path {
@@ -53,7 +53,7 @@ impl<A: Allocator + Copy> MemoryFiles<A> {
     }
 }
 
-// Returns the rest of a path below a folder; `None` for any other path.
+// Returns the part of a path after this folder, or `None` if the path is not below the folder.
 fn below<'a>(folder: &str, path: &'a str) -> Option<&'a str> {
     path.strip_prefix(folder)?.strip_prefix("/")
 }

@@ -22,7 +22,7 @@ pub struct Object<A: Allocator + Copy> {
 }
 
 impl<A: Allocator + Copy> Object<A> {
-    /// Returns whether the object has this id. Its SHA-1 is computed.
+    /// Returns whether the object has this id. The SHA-1 of the object is computed.
     pub fn has_id(&self, id: &Oid) -> bool
         ensures { IsTrue result ↔ (id_of self.now.kind self.now.body.items ≡ id.now) }
     {
@@ -41,11 +41,10 @@ impl<A: Allocator + Copy> Object<A> {
     }
 }
 
-// The maximum length of the text of a loose object before its body: a type, a length, a space and a
-// NUL.
+// The maximum length of the header of a loose object: a type, a space, a length and a NUL.
 const MAX_LOOSE_HEAD: usize = 32;
 
-/// Returns the object in the file of a loose object: exactly one zlib stream of its text.
+/// Returns the object in these bytes of a loose object file, which must be exactly one zlib stream.
 ///
 /// Fails with `Stream`, `Loose` and `Memory`.
 pub(crate) fn read_loose<A: Allocator + Copy>(
@@ -62,8 +61,8 @@ pub(crate) fn read_loose<A: Allocator + Copy>(
     }
 }
 
-/// Returns the type of a loose object whose file begins with these bytes, or `None` if they do not
-/// show it.
+/// Returns the type of a loose object whose file begins with these bytes, or `None` if the bytes do
+/// not show the type.
 ///
 /// Fails only with `Memory`.
 pub(crate) fn loose_kind<A: Allocator + Copy>(
@@ -79,7 +78,7 @@ pub(crate) fn loose_kind<A: Allocator + Copy>(
     }
 }
 
-// Returns the type whose name and a space begin a text.
+// Returns the type whose name, followed by a space, begins the text.
 fn kind_in(text: &[u8]) -> Option<ObjectType>
     ensures { MatchOption result ((kind : ObjectType) → ¬ (BeginsAsObject text.now kind))
         (BeginsAsObject text.now) }
@@ -107,7 +106,7 @@ fn begins(word: &[u8], text: &[u8]) -> bool
     }
 }
 
-// Returns the object with this text.
+// Parses the inflated text of a loose object.
 fn object_of<A: Allocator + Copy>(alloc: A, text: &[u8]) -> Result<Object<A>, Cause>
     ensures { IfOk result (λ object. text.now ≡ object_text object.kind object.body.items) }
 {

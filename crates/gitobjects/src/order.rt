@@ -4,12 +4,12 @@ use crate::fault::Cause;
 use gitpack::PackIndex;
 use std::alloc::Allocator;
 
-/// The offset of an entry in a pack, and its place in the index.
+/// The offset of a pack entry, and its position in the pack index.
 #[derive(Clone, Copy, Debug, Drop)]
 pub struct Start {
     /// The offset of the entry.
     pub offset: usize,
-    /// Its place in the index.
+    /// The position of the entry in the pack index.
     pub place: usize,
 }
 
@@ -20,13 +20,13 @@ pub(crate) const HEADER: usize = 12;
 #[derive(Drop)]
 pub(crate) struct EntryOrder<A: Allocator + Copy> {
     starts: Vec<Start, A>,
-    // The end of the last entry.
+    // The offset at which the last entry ends.
     end: usize,
 }
 
 impl<A: Allocator + Copy> EntryOrder<A> {
-    /// Returns the order of a pack whose entries end here. Fails with `Offset` if an offset of the
-    /// index is outside the entries, and with `Memory`.
+    /// Returns the entries of a pack, the last of which ends at `end`. Fails with `Offset` if an
+    /// offset of the index is outside the entries, and with `Memory`.
     pub(crate) fn new(alloc: A, index: &PackIndex<A>, end: usize) -> Result<EntryOrder<A>, Cause> {
         let mut starts = Vec::with_capacity(alloc, index.len())?;
         for place in 0..index.len() {
@@ -37,12 +37,12 @@ impl<A: Allocator + Copy> EntryOrder<A> {
         Ok(EntryOrder { starts, end })
     }
 
-    /// Returns all entries, in order.
+    /// Returns all entries in pack order.
     pub(crate) fn starts(&self) -> &[Start] {
         self.starts.as_slice()
     }
 
-    // Returns the number of the entry that begins here.
+    // Returns the number in pack order of the entry at this offset.
     fn number_of(&self, offset: usize) -> Option<usize> {
         let search = self
             .starts
@@ -50,13 +50,14 @@ impl<A: Allocator + Copy> EntryOrder<A> {
         search.ok()
     }
 
-    /// Returns the place in the index of the entry that begins here, or `None` if none does.
+    /// Returns the position in the pack index of the entry at this offset, or `None` if no entry
+    /// begins there.
     pub(crate) fn place_of(&self, offset: usize) -> Option<usize> {
         let start = self.starts.get(self.number_of(offset)?)?;
         Some(start.place)
     }
 
-    /// Returns the length of the entry that begins here, or `None` if none does.
+    /// Returns the length of the entry at this offset, or `None` if no entry begins there.
     pub(crate) fn length_of(&self, offset: usize) -> Option<usize> {
         let number = self.number_of(offset)?;
         let end = match self.starts.get(number.saturating_add(1)) {
@@ -67,8 +68,8 @@ impl<A: Allocator + Copy> EntryOrder<A> {
     }
 }
 
-// Returns the offset at a place of the index, which must be between the header of the pack and the
-// end of its entries.
+// Returns the offset at a position of the pack index. The offset must be between the pack header
+// and the end of the entries.
 fn offset_of<A: Allocator + Copy>(
     index: &PackIndex<A>,
     place: usize,

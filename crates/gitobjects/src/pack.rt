@@ -1,4 +1,4 @@
-//! A pack and its index. The index is held in memory; only blocks of the packs are.
+//! A pack and its index. The whole index is in memory, but only blocks of the pack are.
 
 use crate::entry::RawEntry;
 use crate::fault::{Cause, StoreFault, fault_at};
@@ -22,11 +22,11 @@ pub(crate) struct PackFile<A: Allocator + Copy> {
     path: String<A>,
     index: PackIndex<A>,
     order: EntryOrder<A>,
-    // Its number in the window.
+    // The number of the pack in the window.
     number: usize,
 }
 
-/// The form of an entry.
+/// The form of a pack entry, with the offset of the base of a delta.
 #[derive(Clone, Copy, Debug, PartialEq, Eq)]
 pub(crate) enum LocalForm {
     /// A whole object of this type.
@@ -35,7 +35,7 @@ pub(crate) enum LocalForm {
     Delta(usize),
 }
 
-/// Opens the pack with this name, without its extension, in a folder, and adds it to the window.
+/// Opens the pack with this name (without extension) in a folder, and adds the pack to the window.
 /// Returns `None` if the index or the pack is missing.
 pub(crate) fn open_pack<F: ObjectFiles, A: Allocator + Copy>(
     files: &F,
@@ -77,7 +77,8 @@ fn read_index<F: ObjectFiles, A: Allocator + Copy>(
     }
 }
 
-// Opens the pack of an index, and returns its number in the window.
+// Opens the pack of an index. Returns the number of the pack in the window, and its entries in pack
+// order.
 fn open_entries<F: ObjectFiles, A: Allocator + Copy>(
     files: &F,
     alloc: A,
@@ -98,7 +99,7 @@ fn open_entries<F: ObjectFiles, A: Allocator + Copy>(
     Ok(Some((number, order)))
 }
 
-// Checks that the header of the pack has version 2 and the count of the index.
+// Checks that the header of the pack has version 2 and the object count of the index.
 fn check_header<P: OpenPack, A: Allocator + Copy>(
     file: &mut P,
     alloc: A,
@@ -146,13 +147,14 @@ impl<A: Allocator + Copy> PackFile<A> {
         self.order.starts()
     }
 
-    /// Returns the offset of the entry at a place of the index; `None` past its end.
+    /// Returns the offset of the entry at this index position, or `None` past the end of the index.
     pub(crate) fn start_of(&self, place: usize) -> Option<usize> {
         usize::try_from(self.index.offset(place)?).ok()
     }
 
-    /// Returns the form of the entry that begins here. Fails with `Head`, and with `Base` if no
-    /// entry begins here or the base is not in the pack.
+    /// Returns the form of the entry at this offset. Fails with `Head` if the entry header is
+    /// malformed. Fails with `Base` if no entry begins at the offset, or the base is not in the
+    /// pack.
     pub(crate) fn form_at<P: OpenPack + Drop>(
         &self,
         window: &mut Window<P, A>,
@@ -166,8 +168,8 @@ impl<A: Allocator + Copy> PackFile<A> {
         }
     }
 
-    /// Returns all bytes of the entry that begins here. Fails with `Base` if none does, and with
-    /// `ObjectSize`.
+    /// Returns all bytes of the entry at this offset. Fails with `Base` if no entry begins there,
+    /// and with `ObjectSize` if the entry is too long.
     pub(crate) fn bytes_at<P: OpenPack + Drop>(
         &self,
         window: &mut Window<P, A>,
@@ -180,8 +182,9 @@ impl<A: Allocator + Copy> PackFile<A> {
         window.read(self.number, start, length)
     }
 
-    /// Returns the unchanged entry at a place of the index; `None` past the end of the index. Fails
-    /// with `Crc` if its CRC-32 does not match the index, with `Head`, and otherwise as `bytes_at`.
+    /// Returns the unchanged entry at this index position, or `None` past the end of the index.
+    /// Fails with `Crc` if the CRC-32 of the entry does not match the index, and with `Head` if its
+    /// header is malformed. Also fails as `bytes_at` does.
     pub(crate) fn raw_entry<P: OpenPack + Drop>(
         &self,
         window: &mut Window<P, A>,
@@ -201,8 +204,7 @@ impl<A: Allocator + Copy> PackFile<A> {
         Ok(Some(RawEntry { head, base, bytes }))
     }
 
-    // Returns the place in the index of the base of a delta, or `None` if the entry is a whole
-    // object.
+    // Returns the index position of the base of a delta, or `None` if the entry is a whole object.
     fn base_place(&self, start: usize, form: EntryForm) -> Result<Option<usize>, Cause> {
         match self.local_form(start, form)? {
             LocalForm::Delta(base) => match self.order.place_of(base) {
@@ -220,7 +222,7 @@ impl<A: Allocator + Copy> PackFile<A> {
         }
     }
 
-    // Returns the form of an entry that begins here.
+    // Converts the form of the entry at this offset: the base of a delta becomes an offset.
     fn local_form(&self, start: usize, form: EntryForm) -> Result<LocalForm, Cause> {
         let base = match form {
             EntryForm::Whole(kind) => return Ok(LocalForm::Whole(kind)),
@@ -234,13 +236,14 @@ impl<A: Allocator + Copy> PackFile<A> {
         }
     }
 
-    /// Returns the offset of the entry of the object with this id, or `None` if it is not in the
-    /// pack.
+    /// Returns the offset of the entry of the object with this id, or `None` if the object is not
+    /// in the pack.
     pub(crate) fn start_of_id(&self, id: &Oid) -> Option<usize> {
         self.start_of(self.index.find(id)?)
     }
 
-    /// Returns the id of the object whose entry begins here, or `None` if none does.
+    /// Returns the id of the object whose entry is at this offset, or `None` if no entry begins
+    /// there.
     pub(crate) fn id_at(&self, start: usize) -> Option<Oid> {
         self.index.id(self.order.place_of(start)?)
     }

@@ -29,8 +29,9 @@ impl<P: OpenPack + Drop, A: Allocator + Copy> Packs<P, A> {
         }
     }
 
-    /// Lists a pack folder, unless it was listed twice since its names changed, and returns whether
-    /// it was listed. A pack that cannot be opened is left out, with its fault.
+    /// Lists a pack folder and opens its new packs, unless the folder was listed twice since its
+    /// names changed. Returns whether the folder was listed. A pack that cannot be opened is left
+    /// out, and its fault is recorded.
     ///
     /// Fails only if out of memory.
     pub(crate) fn list<F: ObjectFiles<Pack = P>>(
@@ -47,7 +48,8 @@ impl<P: OpenPack + Drop, A: Allocator + Copy> Packs<P, A> {
         Ok(true)
     }
 
-    // Opens the packs of a folder that are not open yet, and returns the faults of those left out.
+    // Opens the packs of a folder that are not open yet. Returns the faults of the packs that are
+    // left out.
     fn add_packs<F: ObjectFiles<Pack = P>>(
         &mut self,
         files: &F,
@@ -91,13 +93,13 @@ impl<P: OpenPack + Drop, A: Allocator + Copy> Packs<P, A> {
         self.open.len()
     }
 
-    /// Returns the pack with this number, or `None` if there is none.
+    /// Returns the pack with this number, or `None` if there is no such pack.
     pub(crate) fn get(&self, pack: usize) -> Option<&PackFile<A>> {
         self.open.get(pack)
     }
 
-    /// Returns the unchanged entry at a place of the index of a pack, or `None` if there is no such
-    /// pack or place. Fails as [`PackFile::raw_entry`] does.
+    /// Returns the unchanged entry at this index position of a pack, or `None` if there is no such
+    /// pack or position. Fails as [`PackFile::raw_entry`] does.
     pub(crate) fn raw_entry(
         &mut self,
         pack: usize,
@@ -109,7 +111,7 @@ impl<P: OpenPack + Drop, A: Allocator + Copy> Packs<P, A> {
         }
     }
 
-    /// Returns all bytes of the entry that begins here. Fails with `Base` if none does.
+    /// Returns all bytes of the entry at this location. Fails with `Base` if no entry begins there.
     pub(crate) fn bytes_at(&mut self, spot: Spot) -> Result<Vec<u8, A>, Cause> {
         match self.open.get(spot.pack) {
             Some(file) => file.bytes_at(&mut self.window, spot.start),
@@ -117,7 +119,7 @@ impl<P: OpenPack + Drop, A: Allocator + Copy> Packs<P, A> {
         }
     }
 
-    /// Returns the form of the entry that begins here. Fails with `Base` if none does.
+    /// Returns the form of the entry at this location. Fails with `Base` if no entry begins there.
     pub(crate) fn form_at(&mut self, spot: Spot) -> Result<LocalForm, Cause> {
         match self.open.get(spot.pack) {
             Some(file) => file.form_at(&mut self.window, spot.start),
@@ -126,8 +128,8 @@ impl<P: OpenPack + Drop, A: Allocator + Copy> Packs<P, A> {
     }
 }
 
-// Returns when the names in a pack folder last changed, or `None` if it is missing or cannot be
-// listed.
+// Returns the time of the last change of the names in a pack folder, or `None` if the folder is
+// missing or cannot be listed.
 fn time_of<F: ObjectFiles, A: Allocator + Copy>(
     files: &F,
     folder: &str,
@@ -149,7 +151,7 @@ fn stems_in<F: ObjectFiles, A: Allocator + Copy>(
     index_stems(alloc, names.as_slice())
 }
 
-// Keeps the fault of a file, if there is one. Any other fault is returned.
+// Records the fault of a file in `faults`. Fails with any other fault.
 fn keep_fault<A: Allocator + Copy>(
     faults: &mut Vec<FileFault<A>, A>,
     outcome: Result<(), StoreFault<A>>,

@@ -7,7 +7,7 @@ use crate::fault::Cause;
 use gname::{MAX_ID_TEXT, Oid};
 use std::alloc::{AllocError, Allocator};
 
-/// Returns the path of a name in a folder.
+/// Returns the path of the file with this name in a folder.
 pub(crate) fn join<A: Allocator + Copy>(
     alloc: A,
     folder: &str,
@@ -21,7 +21,8 @@ pub(crate) fn join<A: Allocator + Copy>(
     Ok(path)
 }
 
-/// Returns the path of a file in a folder of packs: the name of the pack, and an extension.
+/// Returns the path of a file in a folder of packs. The file has the name of the pack and this
+/// extension.
 pub(crate) fn pack_path<A: Allocator + Copy>(
     alloc: A,
     folder: &str,
@@ -69,7 +70,8 @@ pub(crate) fn loose_path<A: Allocator + Copy>(
     Ok(join(alloc, own.as_str(), rest)?)
 }
 
-// Returns the first two digits of an id, and the others, or `None` if there are fewer than two.
+// Splits the digits of an id after the first two, or returns `None` if there are fewer than two
+// digits.
 fn split_digits(digits: &[u8]) -> Option<(&str, &str)>
     ensures { IfSome result (λ parts. (parts.0.now ≡ take 2 digits.now)
         × (parts.1.now ≡ drop 2 digits.now)) }

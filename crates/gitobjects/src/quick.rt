@@ -16,10 +16,12 @@ use gname::Oid;
 use gzlib::Inflater;
 use std::alloc::{AllocError, Allocator};
 
-/// A reader for a few objects of a Git directory and of its alternates. It reads no whole index. So
-/// it opens quickly, but each look-up costs more than with an [`crate::ObjectReader`].
+/// A reader for a few objects of a Git directory and of its alternates. The reader opens quickly,
+/// because it reads only parts of indexes. Each look-up costs more than with an
+/// [`crate::ObjectReader`].
 ///
-/// It does not list folders again. An object that it cannot find or read may still exist.
+/// The reader does not list folders again. An object that the reader cannot find or read may still
+/// exist.
 #[derive(Drop)]
 pub struct QuickReader<'f, F: ObjectFiles, A: Allocator + Copy> {
     files: &'f F,
@@ -30,8 +32,8 @@ pub struct QuickReader<'f, F: ObjectFiles, A: Allocator + Copy> {
 }
 
 impl<'f, F: ObjectFiles, A: Allocator + Copy> QuickReader<'f, F, A> {
-    /// Opens the objects of the Git directory with this path. It leaves out unusable packs, and the
-    /// packs of a folder that cannot be listed.
+    /// Opens the objects of the Git directory with this path. Unusable packs, and the packs of a
+    /// folder that cannot be listed, are left out.
     ///
     /// Fails as [`crate::ObjectStore::open`] does.
     pub fn open(
@@ -59,7 +61,7 @@ impl<'f, F: ObjectFiles, A: Allocator + Copy> QuickReader<'f, F, A> {
         self.alloc
     }
 
-    /// Returns whether it finds the object with this id. Fails only if out of memory.
+    /// Returns whether the reader finds the object with this id. Fails only if out of memory.
     pub fn holds(&mut self, id: &Oid) -> Result<bool, AllocError> {
         for pack in self.packs.iter_mut() {
             if or_unknown(pack.holds(id))? == Some(true) {
@@ -69,7 +71,7 @@ impl<'f, F: ObjectFiles, A: Allocator + Copy> QuickReader<'f, F, A> {
         self.holds_loose(id)
     }
 
-    // Returns whether the object is loose.
+    // Returns whether the object with this id is loose.
     fn holds_loose(&self, id: &Oid) -> Result<bool, AllocError> {
         for folder in &self.folders {
             let path = or_unknown(loose_path(self.alloc, folder.path.as_str(), id))?;
@@ -82,8 +84,9 @@ impl<'f, F: ObjectFiles, A: Allocator + Copy> QuickReader<'f, F, A> {
         Ok(false)
     }
 
-    /// Returns the type of the object with this id, or `None` if it is not found. The object is not
-    /// inflated, as with [`crate::ObjectReader::kind_of`]. Fails only if out of memory.
+    /// Returns the type of the object with this id, or `None` if the object is not found. The
+    /// object is not inflated, as with [`crate::ObjectReader::kind_of`]. Fails only if out of
+    /// memory.
     pub fn kind_of(&mut self, id: &Oid) -> Result<Option<ObjectType>, AllocError> {
         for pack in self.packs.iter_mut() {
             if let Some(Some(kind)) = or_unknown(pack.kind_of(id))? {
@@ -93,7 +96,7 @@ impl<'f, F: ObjectFiles, A: Allocator + Copy> QuickReader<'f, F, A> {
         self.kind_of_loose(id)
     }
 
-    // Returns the type of the object, if it is loose.
+    // Returns the type of the loose object with this id, or `None` if no loose object is found.
     fn kind_of_loose(&mut self, id: &Oid) -> Result<Option<ObjectType>, AllocError> {
         for folder in &self.folders {
             let path = or_unknown(loose_path(self.alloc, folder.path.as_str(), id))?;
@@ -107,8 +110,8 @@ impl<'f, F: ObjectFiles, A: Allocator + Copy> QuickReader<'f, F, A> {
         Ok(None)
     }
 
-    /// Returns the object with this id, or `None` if it is not found, has another id or is not
-    /// small. Its id is computed. Fails only if out of memory.
+    /// Returns the object with this id, or `None` if the object is not found, has another id or is
+    /// too large. The id of the object is computed. Fails only if out of memory.
     pub fn read_checked(&mut self, id: &Oid) -> Result<Option<Object<A>>, AllocError>
         ensures { IfOk result (λ found. IfSome found (λ object.
             id_of object.kind object.body.items ≡ id.now)) }
@@ -128,7 +131,7 @@ impl<'f, F: ObjectFiles, A: Allocator + Copy> QuickReader<'f, F, A> {
         self.read_loose(id)
     }
 
-    // Returns the object, if it is loose.
+    // Returns the loose object with this id, or `None` if no loose object is found.
     fn read_loose(&mut self, id: &Oid) -> Result<Option<Object<A>>, AllocError> {
         for folder in &self.folders {
             let path = or_unknown(loose_path(self.alloc, folder.path.as_str(), id))?;
@@ -165,7 +168,7 @@ fn add_packs<F: ObjectFiles, A: Allocator + Copy>(
     Ok(())
 }
 
-// Returns the result of a call; `None` on any fault except out of memory.
+// Returns the value of a successful call, or `None` for any fault except `Memory`.
 fn or_unknown<T: Drop>(outcome: Result<T, Cause>) -> Result<Option<T>, AllocError> {
     match outcome {
         Ok(value) => Ok(Some(value)),

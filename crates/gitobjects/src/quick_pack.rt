@@ -14,15 +14,15 @@ use std::alloc::Allocator;
 // The length of the checksum at the end of a pack.
 const TRAILER: usize = 20;
 
-// The maximum size of an object that is read.
+// The maximum size of an object that a quick reader reads.
 const MAX_TEXT: usize = 131_072;
 
-// The maximum number of entries in a chain: a whole object, and as many deltas as
+// The maximum number of entries in a chain: a whole object, and the maximum number of deltas that
 // git-fast-import(1) makes.
 const MAX_CHAIN: usize = 8_192;
 
-// The number of bytes of an entry that are read first, and the number if these lack part of its
-// stream.
+// The number of bytes read first for an entry, and the number read if the first bytes do not hold
+// the whole stream.
 const FRONTS: [usize; 2] = [4_096, MAX_TEXT];
 
 /// An open pack and its index. Only the needed parts of both are read.
@@ -31,7 +31,7 @@ pub(crate) struct QuickPack<P: OpenPack + Drop, A: Allocator + Copy> {
     alloc: A,
     index: IndexFile<P, A>,
     file: P,
-    // The end of the last entry.
+    // The offset at which the last entry ends.
     end: usize,
 }
 
@@ -47,11 +47,11 @@ struct QuickEntry<A: Allocator + Copy> {
 enum Below {
     // A whole object of this type.
     Whole(ObjectType),
-    // A delta of the entry that begins here.
+    // A delta of the entry at this offset.
     Base(usize),
 }
 
-/// Opens the pack with this name, without its extension, in a folder. Returns `None` if it is
+/// Opens the pack with this name (without extension) in a folder. Returns `None` if the pack is
 /// missing or unusable.
 ///
 /// Fails only with `Memory`.
@@ -97,7 +97,7 @@ impl<P: OpenPack + Drop, A: Allocator + Copy> QuickPack<P, A> {
         Ok(self.index.find(id)?.is_some())
     }
 
-    // Returns the offset of the entry of an object, or `None` if it is not there.
+    // Returns the offset of the entry of an object, or `None` if the pack lacks the object.
     fn start_of(&mut self, id: &Oid) -> Result<Option<usize>, Cause> {
         match self.index.find(id)? {
             Some(place) => self.index.offset(place),
@@ -105,8 +105,9 @@ impl<P: OpenPack + Drop, A: Allocator + Copy> QuickPack<P, A> {
         }
     }
 
-    /// Returns the type of the object with this id, from the heads of its chain. Returns `None` if
-    /// it is missing or they do not show the type. Fails with `Read` and `Memory`.
+    /// Returns the type of the object with this id, from the entry headers of its delta chain.
+    /// Returns `None` if the object is missing, or the headers do not show the type. Fails with
+    /// `Read` and `Memory`.
     pub(crate) fn kind_of(&mut self, id: &Oid) -> Result<Option<ObjectType>, Cause> {
         let mut next = self.start_of(id)?;
         for _entry in 0..MAX_CHAIN {
@@ -126,8 +127,8 @@ impl<P: OpenPack + Drop, A: Allocator + Copy> QuickPack<P, A> {
         Ok(None)
     }
 
-    /// Returns the object with this id, or `None` if it is not there, too large or broken. Fails
-    /// with `Read` and `Memory`.
+    /// Returns the object with this id, or `None` if the object is missing, too large or broken.
+    /// Fails with `Read` and `Memory`.
     pub(crate) fn read(
         &mut self,
         id: &Oid,
@@ -160,8 +161,8 @@ impl<P: OpenPack + Drop, A: Allocator + Copy> QuickPack<P, A> {
         self.file.read_at(self.alloc, start, count)
     }
 
-    // Returns what an entry of this form that begins here builds on, or `None` if it is not in the
-    // pack.
+    // Returns the type of a whole object, or the offset of the base of a delta, from the form of
+    // the entry at `start`. Returns `None` if the base is not in the pack.
     fn below(&mut self, start: usize, form: EntryForm) -> Result<Option<Below>, Cause> {
         let base = match form {
             EntryForm::Whole(kind) => return Ok(Some(Below::Whole(kind))),
@@ -174,7 +175,7 @@ impl<P: OpenPack + Drop, A: Allocator + Copy> QuickPack<P, A> {
         }
     }
 
-    // Returns the entry that begins here, or `None` if it is too large or broken.
+    // Returns the entry at this offset, or `None` if the entry is too large or broken.
     fn entry_at(
         &mut self,
         start: usize,
@@ -193,7 +194,7 @@ impl<P: OpenPack + Drop, A: Allocator + Copy> QuickPack<P, A> {
     }
 }
 
-// Returns the entry at the start of the bytes.
+// Inflates the entry at the start of the bytes.
 fn inflate_front<A: Allocator + Copy>(
     alloc: A,
     inflater: &mut Inflater,
@@ -215,8 +216,8 @@ fn inflate_front<A: Allocator + Copy>(
     Ok(QuickEntry { form, text })
 }
 
-// Applies deltas to a whole object, the last delta of the list first. Returns the object, or `None`
-// if a delta does not fit.
+// Applies deltas to a whole object, from the end of the list. Returns the resulting object, or
+// `None` if a delta does not fit its base.
 fn apply_all<A: Allocator + Copy>(
     alloc: A,
     kind: ObjectType,

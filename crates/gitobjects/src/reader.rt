@@ -14,7 +14,7 @@ use gname::Oid;
 use gzlib::Inflater;
 use std::alloc::{AllocError, Allocator};
 
-/// A reader of the objects of a store. It caches some delta bases.
+/// A reader of the objects of a store. The reader caches some delta bases.
 ///
 /// A call that does not find an object lists the packs again, as Git may have packed the object
 /// meanwhile. A pack folder is listed at most twice after each change of its names, however many
@@ -42,17 +42,18 @@ impl<'f, F: ObjectFiles, A: Allocator + Copy> ObjectReader<'f, F, A> {
         &self.store
     }
 
-    /// Looks for new alternates and packs, whenever their folders changed.
+    /// Lists all folders again to find new alternates and packs, even in folders that seem
+    /// unchanged.
     ///
-    /// Fails as [`ObjectStore::open`] does. The reader then still has all its packs.
+    /// Fails as [`ObjectStore::open`] does. After a fault the reader still has all its packs.
     pub fn refresh(&mut self) -> Result<(), StoreFault<A>> {
         self.store.reload()
     }
 
-    /// Returns the place of the object with this id, or `None` if it is not there.
+    /// Returns the location of the object with this id, or `None` if the object is missing.
     ///
-    /// Fails with `Memory`. If the object is not found, the fault names the first unreadable
-    /// folder. A pack that was left out does not cause a fault here.
+    /// Fails with `File` if the object is not found and a folder is unreadable. Also fails with
+    /// `Memory`. A pack that was left out does not cause a fault here.
     pub fn find(&mut self, id: &Oid) -> Result<Option<Found>, StoreFault<A>> {
         if let Some(found) = self.store.find(id)? {
             return Ok(Some(found));
@@ -63,12 +64,12 @@ impl<'f, F: ObjectFiles, A: Allocator + Copy> ObjectReader<'f, F, A> {
         Ok(None)
     }
 
-    /// Returns the object with this id, trusting the files. Its id is not computed: see
-    /// [`ObjectReader::read_checked`]. If one copy of the object is broken, the others are tried,
-    /// as in Git.
+    /// Returns the object with this id, trusting the files. The id of the object is not computed,
+    /// unlike in [`ObjectReader::read_checked`]. If one copy of the object is broken, other copies
+    /// are tried, as in Git.
     ///
     /// Fails with `Missing` if the object is missing and no pack was left out. If every copy is
-    /// broken, the fault names the first one and the cause. If the object is missing, the fault
+    /// broken, the fault names the first copy and the cause. If the object is missing, the fault
     /// names the first pack that was left out and the cause. Also fails with `Memory`. The reader
     /// can be used again after any fault.
     pub fn read(&mut self, id: &Oid) -> Result<Object<A>, StoreFault<A>> {
@@ -88,7 +89,7 @@ impl<'f, F: ObjectFiles, A: Allocator + Copy> ObjectReader<'f, F, A> {
         }
     }
 
-    /// Returns the object with this id. Its id is computed and checked.
+    /// Returns the object with this id. The id of the object is computed and checked.
     ///
     /// Fails as [`ObjectReader::read`] does, and with the cause `Id` if the object has another id.
     pub fn read_checked(&mut self, id: &Oid) -> Result<Object<A>, StoreFault<A>>
@@ -102,11 +103,12 @@ impl<'f, F: ObjectFiles, A: Allocator + Copy> ObjectReader<'f, F, A> {
         }
     }
 
-    /// Returns the type of the object with this id. Its body is not inflated: the type is in the
-    /// heads of its entry and its bases, or at the start of a loose object. If these do not show
-    /// it, the object is read.
+    /// Returns the type of the object with this id. The type is read from the entry headers of the
+    /// delta chain, or from the start of a loose object. If these bytes do not show the type, the
+    /// whole object is read.
     ///
-    /// Fails as [`ObjectReader::read`] does. An object with a broken body may have a type.
+    /// Fails as [`ObjectReader::read`] does. The type of an object with a broken body may be
+    /// returned.
     pub fn kind_of(&mut self, id: &Oid) -> Result<ObjectType, StoreFault<A>> {
         match self.kind_listed(id) {
             Ok(Some(kind)) => Ok(kind),
@@ -115,11 +117,11 @@ impl<'f, F: ObjectFiles, A: Allocator + Copy> ObjectReader<'f, F, A> {
         }
     }
 
-    /// Returns the unchanged entry at a place of the index of a pack, or `None` if there is no such
-    /// pack or place. If it is broken, no other copy is tried.
+    /// Returns the unchanged entry at this index position of a pack, or `None` if there is no such
+    /// pack or position. If the entry is broken, no other copy is tried.
     ///
-    /// Fails with `Memory`; any other fault names the pack and the cause. The cause is `Crc` if the
-    /// CRC-32 of the entry does not match the index.
+    /// Fails with `Memory`, or with a fault that names the pack and the cause. The cause is `Crc`
+    /// if the CRC-32 of the entry does not match the index.
     pub fn raw_entry(
         &mut self,
         pack: usize,
@@ -128,10 +130,10 @@ impl<'f, F: ObjectFiles, A: Allocator + Copy> ObjectReader<'f, F, A> {
         self.store.raw_entry(pack, place)
     }
 
-    /// Returns the object found here, or `None` if it no longer exists. If this copy is broken,
-    /// other copies are tried.
+    /// Returns the object at this location, or `None` if the object no longer exists. If the copy
+    /// at this location is broken, other copies are tried.
     ///
-    /// Fails with `Memory`. If every copy is broken, the fault names the first one and the cause.
+    /// Fails with `Memory`. If every copy is broken, the fault names the first copy and the cause.
     pub fn read_found(
         &mut self,
         id: &Oid,
@@ -149,8 +151,8 @@ impl<'f, F: ObjectFiles, A: Allocator + Copy> ObjectReader<'f, F, A> {
         self.read_listed(id)
     }
 
-    // Returns the first intact copy of the object with this id, or `None` if it is neither in an
-    // open pack nor loose. If every copy is broken, it fails with the first fault.
+    // Returns the first intact copy of the object with this id, or `None` if the object is neither
+    // in an open pack nor loose. If every copy is broken, fails with the fault of the first copy.
     fn read_listed(&mut self, id: &Oid) -> Result<Option<Object<A>>, StoreFault<A>> {
         let mut faults = FirstFault::new();
         for pack in 0..self.store.pack_count() {
@@ -180,8 +182,8 @@ impl<'f, F: ObjectFiles, A: Allocator + Copy> ObjectReader<'f, F, A> {
         }
     }
 
-    // Returns the type of the object with this id, from heads alone, or `None` if no head shows it.
-    // Any fault except `Memory` is treated as if no head showed it.
+    // Returns the type of the object with this id from headers alone, or `None` if no header shows
+    // the type. A header that cannot be read does not show the type.
     fn kind_listed(&mut self, id: &Oid) -> Result<Option<ObjectType>, Cause> {
         for pack in 0..self.store.pack_count() {
             if let Some(start) = self.store.start_in(pack, id) {

@@ -18,17 +18,17 @@ use gname::Oid;
 use gzlib::Inflater;
 use std::alloc::Allocator;
 
-/// The place of an object.
+/// The location of an object.
 #[derive(Clone, Copy, Debug, PartialEq, Eq)]
 pub enum Found {
-    /// The object is in the pack with this number, at this place of its index.
+    /// The object is in the pack with this number, at this position of the pack index.
     Packed { pack: usize, place: usize },
     /// The object is loose in one of the folders.
     Loose,
 }
 
-/// The objects of a Git directory and of its alternates. Its packs are open. The number of a pack
-/// does not change.
+/// The objects of a Git directory and of its alternates. All packs of a store are open. The number
+/// of a pack does not change.
 #[derive(Drop)]
 pub struct ObjectStore<'f, F: ObjectFiles, A: Allocator + Copy> {
     files: &'f F,
@@ -43,7 +43,7 @@ impl<'f, F: ObjectFiles, A: Allocator + Copy> ObjectStore<'f, F, A> {
     /// is read. A pack that cannot be opened or used is left out, as in Git: see
     /// [`ObjectStore::left_out`].
     ///
-    /// Fails with `Memory`. Otherwise the fault names the missing object folder, or the unusable
+    /// Fails with `Memory`, or with a fault that names the missing object folder or the unusable
     /// alternates file.
     pub fn open(
         files: &'f F,
@@ -62,17 +62,18 @@ impl<'f, F: ObjectFiles, A: Allocator + Copy> ObjectStore<'f, F, A> {
         Ok(store)
     }
 
-    /// Looks for alternates and packs added since the last look. Open packs stay open.
+    /// Looks for alternates and packs that were added since the store was opened or reloaded. Open
+    /// packs stay open.
     ///
-    /// Fails as `open` does. The store then still has all its packs.
+    /// Fails as `open` does. After a fault the store still has all its packs.
     pub fn reload(&mut self) -> Result<(), StoreFault<A>> {
         self.folders = object_folders(self.files, self.alloc, self.own.as_str())?;
         self.list_stale()?;
         Ok(())
     }
 
-    /// Lists the pack folders that may have changed since they were listed, and returns whether
-    /// there is such a folder. A folder is listed at most twice while its names are unchanged.
+    /// Lists the pack folders that may have changed since they were listed, and returns whether a
+    /// folder was listed. A folder is listed at most twice while its names are unchanged.
     ///
     /// Fails only if out of memory.
     pub(crate) fn list_stale(&mut self) -> Result<bool, StoreFault<A>> {
@@ -85,7 +86,8 @@ impl<'f, F: ObjectFiles, A: Allocator + Copy> ObjectStore<'f, F, A> {
         Ok(is_listed)
     }
 
-    /// Returns the fault of the first pack or pack folder that was left out, or `None` if none was.
+    /// Returns the fault of the first pack or pack folder that was left out, or `None` if nothing
+    /// was left out.
     pub fn left_out(&self) -> Option<&FileFault<A>> {
         for folder in &self.folders {
             if let Some(fault) = folder.left_out.first() {
@@ -95,7 +97,8 @@ impl<'f, F: ObjectFiles, A: Allocator + Copy> ObjectStore<'f, F, A> {
         None
     }
 
-    /// Returns the fault of a missing object: that of a pack that was left out, if there is one.
+    /// Returns the fault for a missing object: the fault of the first pack that was left out, or
+    /// `Missing` if no pack was left out.
     pub(crate) fn missing(&self, id: &Oid) -> StoreFault<A> {
         match self.left_out() {
             Some(fault) => fault_at(self.alloc, fault.path.as_str(), fault.cause),
@@ -121,7 +124,8 @@ impl<'f, F: ObjectFiles, A: Allocator + Copy> ObjectStore<'f, F, A> {
         }
     }
 
-    /// Returns the entries of a pack in pack order; none if there is no pack with this number.
+    /// Returns the entries of a pack in pack order, or no entries if there is no pack with this
+    /// number.
     pub fn starts(&self, pack: usize) -> &[Start] {
         match self.packs.get(pack) {
             Some(file) => file.starts(),
@@ -129,11 +133,11 @@ impl<'f, F: ObjectFiles, A: Allocator + Copy> ObjectStore<'f, F, A> {
         }
     }
 
-    /// Returns the place of the object with this id, or `None` if it is not there. Packs are
-    /// searched before loose objects. Folders are not listed again.
+    /// Returns the location of the object with this id, or `None` if the object is missing. Packs
+    /// are searched before loose objects. Folders are not listed again.
     ///
-    /// Fails with `Memory`. If the object is not found, the fault names the first unreadable
-    /// folder.
+    /// Fails with `File` if the object is not found and a folder is unreadable. Also fails with
+    /// `Memory`.
     pub fn find(&self, id: &Oid) -> Result<Option<Found>, StoreFault<A>> {
         match self.find_packed(id) {
             Some(found) => Ok(Some(found)),
@@ -141,7 +145,7 @@ impl<'f, F: ObjectFiles, A: Allocator + Copy> ObjectStore<'f, F, A> {
         }
     }
 
-    // Returns the place of the object, if it is loose.
+    // Returns the location of a loose object, or `None` if the object is not loose.
     fn find_loose(&self, id: &Oid) -> Result<Option<Found>, StoreFault<A>> {
         let mut faults = FirstFault::new();
         for folder in &self.folders {
@@ -155,9 +159,9 @@ impl<'f, F: ObjectFiles, A: Allocator + Copy> ObjectStore<'f, F, A> {
         Ok(None)
     }
 
-    /// Returns the place of the object with this id, as [`ObjectStore::find`] does. `folders`
-    /// records whether each folder of loose objects existed at its first look-up. If it did not,
-    /// loose objects are not looked up there.
+    /// Returns the location of the object with this id, as [`ObjectStore::find`] does. `folders`
+    /// records whether each folder of loose objects existed at its first look-up. Loose objects are
+    /// not looked up in a folder that did not exist then.
     pub fn find_in(
         &self,
         id: &Oid,
@@ -173,8 +177,8 @@ impl<'f, F: ObjectFiles, A: Allocator + Copy> ObjectStore<'f, F, A> {
         }
     }
 
-    // Returns whether the folder of a loose object with this id existed. A folder that cannot be
-    // looked up counts as existing.
+    // Returns whether the folder of a loose object with this id existed at its first look-up. A
+    // folder that cannot be looked up counts as existing.
     fn has_folder(&self, id: &Oid, folders: &mut LooseFolders) -> Result<bool, StoreFault<A>> {
         if let Some(is_there) = folders.get(id) {
             return Ok(is_there);
@@ -198,7 +202,7 @@ impl<'f, F: ObjectFiles, A: Allocator + Copy> ObjectStore<'f, F, A> {
         Ok(false)
     }
 
-    // Returns the first pack that has the object.
+    // Returns the location of the object in the first pack that contains it.
     fn find_packed(&self, id: &Oid) -> Option<Found> {
         for pack in 0..self.packs.len() {
             if let Some(place) = self.place_in(pack, id) {
@@ -208,7 +212,7 @@ impl<'f, F: ObjectFiles, A: Allocator + Copy> ObjectStore<'f, F, A> {
         None
     }
 
-    // Returns the place of the object in the index of a pack.
+    // Returns the position of the object in the index of a pack.
     fn place_in(&self, pack: usize, id: &Oid) -> Option<usize> {
         self.packs.get(pack)?.index().find(id)
     }
@@ -224,11 +228,11 @@ impl<'f, F: ObjectFiles, A: Allocator + Copy> ObjectStore<'f, F, A> {
         }
     }
 
-    /// Returns the unchanged entry at a place of the index of a pack, or `None` if there is no such
-    /// pack or place.
+    /// Returns the unchanged entry at this index position of a pack, or `None` if there is no such
+    /// pack or position.
     ///
-    /// Fails with `Memory`; any other fault names the pack and the cause. The cause is `Crc` if the
-    /// CRC-32 of the entry does not match the index.
+    /// Fails with `Memory`, or with a fault that names the pack and the cause. The cause is `Crc`
+    /// if the CRC-32 of the entry does not match the index.
     pub fn raw_entry(
         &mut self,
         pack: usize,
@@ -240,8 +244,8 @@ impl<'f, F: ObjectFiles, A: Allocator + Copy> ObjectStore<'f, F, A> {
         }
     }
 
-    /// Returns the offset of the entry at a place of the index of a pack, or `None` if there is no
-    /// such pack or place.
+    /// Returns the offset of the entry at this index position of a pack, or `None` if there is no
+    /// such pack or position.
     pub(crate) fn start_of(&self, pack: usize, place: usize) -> Option<usize> {
         self.packs.get(pack)?.start_of(place)
     }
@@ -252,12 +256,13 @@ impl<'f, F: ObjectFiles, A: Allocator + Copy> ObjectStore<'f, F, A> {
         self.packs.get(pack)?.start_of_id(id)
     }
 
-    /// Returns the id of the object whose entry begins here, or `None` if none does.
+    /// Returns the id of the object whose entry is at this location, or `None` if no entry begins
+    /// there.
     pub(crate) fn id_at(&self, spot: Spot) -> Option<Oid> {
         self.packs.get(spot.pack)?.id_at(spot.start)
     }
 
-    /// Returns the form of the entry that begins here, and its inflated stream.
+    /// Reads and inflates the entry at this location.
     pub(crate) fn inflate_at(
         &mut self,
         spot: Spot,
@@ -267,12 +272,12 @@ impl<'f, F: ObjectFiles, A: Allocator + Copy> ObjectStore<'f, F, A> {
         inflate_entry(self.alloc, inflater, bytes.as_slice())
     }
 
-    /// Returns the form of the entry that begins here.
+    /// Returns the form of the entry at this location.
     pub(crate) fn form_at(&mut self, spot: Spot) -> Result<LocalForm, Cause> {
         self.packs.form_at(spot)
     }
 
-    /// Returns the number of objects in a pack; 0 if there is no such pack.
+    /// Returns the number of objects in a pack, or 0 if there is no such pack.
     pub(crate) fn object_count(&self, pack: usize) -> usize {
         match self.packs.get(pack) {
             Some(file) => file.index().len(),
@@ -280,7 +285,7 @@ impl<'f, F: ObjectFiles, A: Allocator + Copy> ObjectStore<'f, F, A> {
         }
     }
 
-    /// Returns the fault of a pack.
+    /// Returns a fault that names the pack with this number.
     pub(crate) fn fault_in(&self, pack: usize, cause: Cause) -> StoreFault<A> {
         match self.packs.get(pack) {
             Some(file) => fault_at(self.alloc, file.path(), cause),
@@ -288,7 +293,7 @@ impl<'f, F: ObjectFiles, A: Allocator + Copy> ObjectStore<'f, F, A> {
         }
     }
 
-    /// Returns the fault of the object with this id, with its location.
+    /// Returns a fault that names the file of the object with this id.
     pub(crate) fn fault_of(&self, id: &Oid, cause: Cause) -> StoreFault<A> {
         if let Some(Found::Packed { pack, .. }) = self.find_packed(id) {
             return self.fault_in(pack, cause);
@@ -299,7 +304,7 @@ impl<'f, F: ObjectFiles, A: Allocator + Copy> ObjectStore<'f, F, A> {
         }
     }
 
-    /// Returns the loose object with this id, or `None` if no folder has it.
+    /// Returns the loose object with this id, or `None` if no folder has the object.
     ///
     /// Fails with `Memory`. If no folder has an intact copy, the fault names the first broken file.
     pub(crate) fn read_loose(
@@ -335,8 +340,8 @@ impl<'f, F: ObjectFiles, A: Allocator + Copy> ObjectStore<'f, F, A> {
         }
     }
 
-    /// Returns the type of the loose object with this id, from its beginning, or `None` if no
-    /// folder has one with a type.
+    /// Returns the type of the loose object with this id, from the start of its file. Returns
+    /// `None` if no file shows the type.
     ///
     /// Fails only with `Memory`.
     pub(crate) fn kind_of_loose(
@@ -369,8 +374,8 @@ pub(crate) fn read_loose_file<F: ObjectFiles, A: Allocator + Copy>(
     }
 }
 
-/// Returns the type of the loose object in a file. Returns `None` if there is no such file, or its
-/// beginning does not show the type.
+/// Returns the type of the loose object in a file. Returns `None` if there is no such file, or if
+/// the start of the file does not show the type.
 pub(crate) fn read_kind<F: ObjectFiles, A: Allocator + Copy>(
     files: &F,
     alloc: A,

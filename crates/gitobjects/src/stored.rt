@@ -84,8 +84,8 @@ fn is_special<R: Files>(files: &R, path: &str) -> bool {
     }
 }
 
-// Opens a file, and returns it with its length, or `None` if there is none. A pipe is not opened,
-// since that might block forever.
+// Opens a file, and returns it with its length, or `None` if there is no such file. A pipe is not
+// opened, because opening it might block forever.
 fn open_file<R: Files>(files: &R, path: &str) -> Result<Option<(R::File, usize)>, Cause> {
     if is_special(files, path) {
         return Err(Cause::Open(ErrorKind::Unsupported));

@@ -1,4 +1,4 @@
-//! A window on the open packs: the blocks read last, so that no whole pack is held.
+//! A window on the open packs: the blocks read last, so that no whole pack is in memory.
 
 ghost use Rattle.std.specs.Prelude.{◌≡◌, ◌+◌, ◌≤◌, ◌<◌, ◌++◌, ◌∷◌, [], ℕ, List, Option, IfOk, IfSome, OnErr, OnOk, OnSome, take, drop, length, map, vec_len};
 ghost use Rattle.gitobjects.specs.Windows.{AreBlocks, IsBlock, IsPartOf};
@@ -9,7 +9,7 @@ use crate::limits::{BLOCK, BLOCKS};
 use std::alloc::{AllocError, Allocator};
 use std::marker::Model;
 
-/// An open pack, and its end.
+/// An open pack, and its length.
 #[derive(Drop)]
 pub(crate) struct Opened<P: OpenPack + Drop> {
     file: P,
@@ -29,7 +29,7 @@ pub(crate) struct Block<A: Allocator + Copy> {
 pub(crate) struct Window<P: OpenPack + Drop, A: Allocator + Copy> {
     alloc: A,
     packs: Vec<Opened<P>, A>,
-    // The oldest block is first.
+    // The blocks, with the oldest block first.
     blocks: Vec<Block<A>, A>,
 }
 
@@ -37,7 +37,7 @@ impl<P: OpenPack + Drop, A: Allocator + Copy> Model for Window<P, A> {
     ghost use Rattle.std.specs.Prelude.{ℕ, List, Option, map};
     ghost use Rattle.gitobjects.specs.Windows.{AreBlocks};
 
-    // The bytes of each pack, if they are known.
+    // The bytes of each pack, or `None` if the bytes are unknown.
     ghost Value = { List (Option (List ℕ)) };
 
     ghost view = { λ w. map (λ opened. P.bytes opened.file) w.packs.items };
@@ -58,7 +58,8 @@ impl<P: OpenPack + Drop, A: Allocator + Copy> Window<P, A> {
         }
     }
 
-    /// Adds an open pack that ends here, and returns its number. Fails only if out of memory.
+    /// Adds an open pack with this length, and returns the number of the pack. Fails only if out of
+    /// memory.
     pub(crate) fn add(&mut self, file: P, end: usize) -> Result<usize, AllocError>
         ensures number { IfOk result (λ number. number ≡ length self.old) }
         ensures ok { OnOk result (self.new ≡ self.old ++ P.bytes file ∷ []) }
@@ -70,7 +71,7 @@ impl<P: OpenPack + Drop, A: Allocator + Copy> Window<P, A> {
     }
 
     /// Returns `count` bytes of a pack starting at `start`. Fails with `Offset` if the pack is too
-    /// short or there is no pack with this number, with `Read`, and with `Memory`.
+    /// short or there is no pack with this number. Also fails with `Read` and `Memory`.
     pub(crate) fn read(
         &mut self,
         pack: usize,
@@ -96,12 +97,12 @@ impl<P: OpenPack + Drop, A: Allocator + Copy> Window<P, A> {
         Ok(Vec::from_slice(self.alloc, bytes)?)
     }
 
-    // Returns whether the block of a pack that begins here is held.
+    // Returns whether the block at this offset of a pack is in memory.
     fn holds(&self, pack: usize, first: usize) -> bool {
         self.block_at(pack, first).is_some()
     }
 
-    // Returns the block of a pack that begins here, or `None` if it is not held.
+    // Returns the block at this offset of a pack, or `None` if the block is not in memory.
     fn block_at(&self, pack: usize, first: usize) -> Option<&[u8]>
         ensures { IfSome result (λ bytes. IsPartOf self.now pack first bytes.now) }
     {
@@ -113,7 +114,7 @@ impl<P: OpenPack + Drop, A: Allocator + Copy> Window<P, A> {
         None
     }
 
-    // Reads the block of a pack that begins here, unless it is held.
+    // Reads the block at this offset of a pack, unless the block is already in memory.
     fn fetch(&mut self, pack: usize, first: usize) -> Result<(), Cause>
         ensures { self.new ≡ self.old }
     {
@@ -125,7 +126,7 @@ impl<P: OpenPack + Drop, A: Allocator + Copy> Window<P, A> {
         push_block(&mut self.blocks, Block { pack, first, bytes })
     }
 
-    // Returns the length of a pack; 0 if there is no pack with this number.
+    // Returns the length of a pack, or 0 if there is no pack with this number.
     fn end_of(&self, pack: usize) -> usize {
         match self.packs.get(pack) {
             Some(opened) => opened.end,
@@ -168,7 +169,7 @@ fn read_part<P: OpenPack + Drop, A: Allocator + Copy>(
     packs[pack].file.read_at(alloc, start, count)
 }
 
-// Adds a block, and drops the oldest one if there are too many.
+// Adds a block, and drops the oldest block if there are too many.
 fn push_block<A: Allocator + Copy>(
     blocks: &mut Vec<Block<A>, A>,
     block: Block<A>,
@@ -193,7 +194,7 @@ fn make_room<A: Allocator + Copy>(blocks: &mut Vec<Block<A>, A>)
     let _oldest = blocks.remove(0);
 }
 
-// Returns `count` bytes starting at `offset`, or `None` if there are fewer.
+// Returns `count` bytes starting at `offset`, or `None` if fewer bytes remain.
 fn inner_part(bytes: &[u8], offset: usize, count: usize) -> Option<&[u8]>
     ensures part { IfSome result (λ part. part.now ≡ take count (drop offset bytes.now)) }
     ensures count { IfSome result (λ part. length part.now ≡ count) }

@@ -14,7 +14,7 @@ use std::hash::BuildHasherDefault;
 pub(crate) enum Fate {
     /// The fate is undecided.
     Open,
-    /// The object is sent. It was found at the path with this hash.
+    /// The object is sent, and was found at the path with this hash.
     Sent(PathHash),
     /// The object is not sent: the peer has it.
     Left,

@@ -79,8 +79,8 @@ fn check_config<F: ObjectFiles, A: Allocator + Copy>(
 }
 
 /// Returns whether the configuration turns the commit-graph off (git-config(1),
-/// "core.commitGraph"). An unreadable configuration does not turn it off. Fails only if out of
-/// memory.
+/// "core.commitGraph"). An unreadable configuration does not turn the commit-graph off. Fails only
+/// if out of memory.
 pub(crate) fn turns_commit_graph_off<F: ObjectFiles, A: Allocator + Copy>(
     files: &F,
     alloc: A,

@@ -10,8 +10,8 @@ use gname::Oid;
 use std::alloc::Allocator;
 
 /// Decides which objects are sent for a list of commits and tags. The listed commits and tags are
-/// sent. The trees and blobs that they reach are also sent, unless a parent outside the list
-/// reaches them.
+/// sent. The trees and blobs that these commits reach are also sent, unless a parent outside the
+/// list reaches them.
 pub(crate) fn gather<F: ObjectFiles, A: Allocator + Copy>(
     reader: &mut ObjectReader<'_, F, A>,
     entries: &[Entry<A>],

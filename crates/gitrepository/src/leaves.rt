@@ -14,8 +14,8 @@ use gname::Oid;
 use std::alloc::Allocator;
 
 /// Adds to a graph each tree or blob that a ref of the peer points to, if the store has everything
-/// that it reaches. In the graph, trees and blobs count as commits without parents, so a client
-/// does not request them.
+/// that the object reaches. In the graph, trees and blobs count as commits without parents, so a
+/// client does not request them.
 ///
 /// Fails with `Store` if an object cannot be read, with `Objects` if the graph is full, and with
 /// `Memory`. After a fault, some objects may have been added.

@@ -6,8 +6,8 @@
 //!   read.
 //! - [`open_tips`] returns the objects that refs point to, without their history. These objects
 //!   suffice for ls-refs. [`lead_with_newest`] puts refs to the newest objects first.
-//! - A [`StorePacker`] packs commits and tags with their trees and blobs. It copies stored pack
-//!   entries unchanged, and sends other objects as deltas if the deltas are smaller. A pack is
+//! - A [`StorePacker`] packs commits and tags with their trees and blobs. The packer copies stored
+//!   pack entries unchanged, and sends other objects as deltas if the deltas are smaller. A pack is
 //!   returned whole, or in parts with one entry in memory at a time.
 //! - A [`StoreIndexer`] indexes a pack while receiving it, and keeps the pack. [`install_pack`]
 //!   writes the received pack to the directory.
@@ -18,9 +18,9 @@
 //! # Proved
 //!
 //! - Each entry of the graph describes an object, or a commit as the commit-graph lists it. The id
-//!   of an object is the SHA-1 of its type and bytes. Its parents are the parents or the tagged
-//!   object that the bytes name, in order. Parents precede their children. Each ref points to an
-//!   entry of the graph.
+//!   of an object is the SHA-1 of its type and bytes. The parents of an entry are the commits or
+//!   the tagged object that the bytes name, in order. Parents precede their children. Each ref
+//!   points to an entry of the graph.
 //! - [`open_tips`] and [`lead_with_newest`] return only refs that point to entries of the graph.
 //! - [`check_refs`] counts a graph in which each entry describes an object.
 //! - A pack that is sent has a header, as many entries as the header says, and the SHA-1 of all

@@ -21,10 +21,10 @@ const PART: usize = 65_536;
 
 /// A packer of the objects of a Git directory.
 ///
-/// A pack contains the listed commits and tags. It also contains the trees and blobs that they
-/// reach, unless a parent outside the list reaches them. A stored pack entry is copied unchanged if
-/// it is whole, or if it is a delta whose base is also sent. Other objects are deflated again, as
-/// new deltas of each other if the deltas are small.
+/// A pack contains the listed commits and tags. A pack also contains the trees and blobs that these
+/// commits reach, unless a parent outside the list reaches them. A stored pack entry is copied
+/// unchanged if it is whole, or if it is a delta whose base is also sent. Other objects are
+/// deflated again, as new deltas of each other if the deltas are small.
 #[derive(Drop)]
 pub struct StorePacker<'f, F: ObjectFiles, A: Allocator + Copy> {
     reader: RefCell<ObjectReader<'f, F, A>>,
