@@ -2,19 +2,19 @@
 use Rattle.std.specs.Prelude.{◌≡◌, ⊤, ℕ, ◌==◌, ◌||◌, Bool, true, List, [], ◌∷◌}
 use Rattle.std.specs.Char.{is_ascii_alphanumeric}
 
--- a space, a tab or a CR
+-- a blank: a space, a tab or a CR
 abbrev pub is_blank : ℕ → Bool
 is_blank b = b == 32 || b == 9 || b == 13
 
--- a blank, or an LF
+-- white space: a blank or an LF
 abbrev pub is_space : ℕ → Bool
 is_space b = is_blank b || b == 10
 
--- the bytes of names of variables: letters, digits and `-`
+-- a byte of a variable name: a letter, a digit or `-`
 unfoldable pub is_name_byte : ℕ → Bool
 is_name_byte b = is_ascii_alphanumeric b || b == 45
 
--- the bytes of names of sections: these, and the dot
+-- a byte of a section name: a byte of a variable name, or a dot
 unfoldable pub is_section_byte : ℕ → Bool
 is_section_byte b = is_name_byte b || b == 46
 
@@ -22,15 +22,15 @@ is_section_byte b = is_name_byte b || b == 46
 abbrev pub is_mark : ℕ → Bool
 is_mark b = b == 35 || b == 59
 
--- the text begins with such a byte, or there is none
+-- the text is empty, or begins with a byte for which `p` holds
 abbrev pub IsEndOr : (ℕ → Bool) → List ℕ → Type 0
 IsEndOr p [] = ⊤
 IsEndOr p (b ∷ rest) = p b ≡ true
 
--- a line ends here
+-- a line ends before this text
 abbrev pub EndsLine : List ℕ → Type 0
 EndsLine rest = IsEndOr (λ b. b == 10) rest
 
--- the text of a value ends here: with its line, or with a comment
+-- a value ends before this text: its line ends, or a comment begins
 abbrev pub EndsValue : List ℕ → Type 0
 EndsValue rest = IsEndOr (λ b. b == 10 || is_mark b) rest

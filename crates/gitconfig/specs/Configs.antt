@@ -7,7 +7,7 @@ use Rattle.gitconfig.specs.Bytes.{EndsLine, is_blank, is_mark, is_name_byte, is_
 use Rattle.gitconfig.specs.Values.{BeginsWithValue}
 use Rattle.gitconfig.specs.declared.setting.Setting as settings
 
--- a variable that is set
+-- a variable that a configuration sets
 pub record Setting : Type 0 where
   pub section : List ℕ
   pub name : List ℕ
@@ -15,17 +15,17 @@ pub record Setting : Type 0 where
 
 -- ---- the header of a section: `[section]`, or `[section "subsection"]`
 
--- the text begins with a byte of a name in quotes: as it is, or after a backslash
+-- the text begins with a byte of a quoted name, which may follow a backslash
 abbrev pub BeginsWithQuoted : List ℕ → ℕ → List ℕ → Type 0
 BeginsWithQuoted text b rest =
     (b ≢ 10) × (((text ≡ b ∷ rest) × (b ≢ 34) × (b ≢ 92)) ⊎ (text ≡ 92 ∷ b ∷ rest))
 
--- the text begins with a name and a quote, and the rest comes after it
+-- the text begins with a quoted name and its closing quote, followed by the rest
 abbrev pub HasQuoted : List ℕ → List ℕ → List ℕ → Type 0
 HasQuoted text [] rest = text ≡ 34 ∷ rest
 HasQuoted text (b ∷ name) rest = (next : List ℕ) × BeginsWithQuoted text b next × HasQuoted next name rest
 
--- blanks, a quote, the name of a subsection and a quote
+-- the text begins with blanks and a subsection name in quotes, followed by the rest
 pub record BeginsWithSubsection (text name rest : List ℕ) : Type 0 where
   pub blanks : List ℕ
   pub quoted : List ℕ
@@ -34,13 +34,14 @@ pub record BeginsWithSubsection (text name rest : List ℕ) : Type 0 where
   pub blank : All (λ b. is_blank b ≡ true) blanks
   pub has : HasQuoted quoted name rest
 
--- the end of a header: a bracket, perhaps after a subsection, whose name follows a dot
+-- The end of a header: a bracket, or a subsection name in quotes and a bracket. A dot separates the two names of the
+-- section.
 abbrev pub EndsHeader : List ℕ → List ℕ → List ℕ → List ℕ → Type 0
 EndsHeader text name section rest = ((text ≡ 93 ∷ rest) × (section ≡ name))
     ⊎ ((subsection : List ℕ) × BeginsWithSubsection text subsection (93 ∷ rest)
     × (section ≡ name ++ 46 ∷ subsection))
 
--- the text begins with the header of a section, and the rest comes after it
+-- the text begins with the header of a section, followed by the rest
 pub record BeginsWithHeader (text section rest : List ℕ) : Type 0 where
   pub name : List ℕ
   pub after : List ℕ
@@ -59,7 +60,7 @@ HasValue text (Some value) rest = (next : List ℕ) × (text ≡ 61 ∷ next) ×
 abbrev pub BeginsWithLetter : List ℕ → Type 0
 BeginsWithLetter text = (first : ℕ) × (more : List ℕ) × (text ≡ first ∷ more) × (is_ascii_alphabetic first ≡ true)
 
--- the text begins with a variable, and the rest comes after it
+-- the text begins with a variable, followed by the rest
 pub record BeginsWithVariable (text name : List ℕ) (value : Option (List ℕ)) (rest : List ℕ) : Type 0 where
   pub spelt : List ℕ
   pub blanks : List ℕ
@@ -73,7 +74,7 @@ pub record BeginsWithVariable (text name : List ℕ) (value : Option (List ℕ))
 
 -- ---- the whole
 
--- a comment: `#` or `;`, and all up to the end of the line
+-- a comment: `#` or `;`, and the text up to the end of the line
 pub record BeginsWithComment (text rest : List ℕ) : Type 0 where
   pub mark : ℕ
   pub words : List ℕ
@@ -82,25 +83,25 @@ pub record BeginsWithComment (text rest : List ℕ) : Type 0 where
   pub each : All (λ b. b ≢ 10) words
   pub ends : EndsLine rest
 
--- a space or a comment, the header of a section, or a variable
+-- an item of a configuration: a space or a comment, the header of a section, or a variable
 pub data Item : Type 0 where
   Nothing : Item
   Begins : List ℕ → Item
   Sets : List ℕ → Option (List ℕ) → Item
 
--- the text begins with an item, and the rest comes after it
+-- the text begins with an item, followed by the rest
 abbrev pub BeginsWithItem : List ℕ → Item → List ℕ → Type 0
 BeginsWithItem text Nothing rest =
     ((b : ℕ) × (text ≡ b ∷ rest) × (is_space b ≡ true)) ⊎ BeginsWithComment text rest
 BeginsWithItem text (Begins section) rest = BeginsWithHeader text section rest
 BeginsWithItem text (Sets name value) rest = BeginsWithVariable text name value rest
 
--- the text is these items, one after the other
+-- the text is the concatenation of these items
 abbrev pub HasItems : List ℕ → List Item → Type 0
 HasItems text [] = text ≡ []
 HasItems text (item ∷ items) = (rest : List ℕ) × BeginsWithItem text item rest × HasItems rest items
 
--- what items set: each variable in the section that began last
+-- the variables that the items set, each in the section that began last
 abbrev pub settings_of : List ℕ → List Item → List Setting
 settings_of section [] = []
 settings_of section (Nothing ∷ items) = settings_of section items
@@ -108,13 +109,13 @@ settings_of section (Begins next ∷ items) = settings_of next items
 settings_of section (Sets name value ∷ items) =
     record { section = section; name = name; value = value } ∷ settings_of section items
 
--- a configuration, and what it sets
+-- the text is a configuration that sets these variables, in order
 pub record IsConfig (text : List ℕ) (sets : List Setting) : Type 0 where
   pub items : List Item
   pub has : HasItems text items
   pub is : sets ≡ settings_of [] items
 
--- a variable of the code
+-- the variable that a Rust value describes
 abbrev pub setting_of : {A : Type 0} → settings.Setting A → Setting
 setting_of s = record {
   section = s.section.items;
@@ -127,7 +128,7 @@ setting_of s = record {
 abbrev pub set : List ℕ → List ℕ → List ℕ → Setting
 set section name value = record { section = section; name = name; value = Some value }
 
--- its remote `origin` is at a URL
+-- the variables of a bare repository whose remote `origin` has this URL
 abbrev pub bare_settings : List ℕ → List Setting
 bare_settings url =
     set (codes "core") (codes "repositoryformatversion") (codes "0")

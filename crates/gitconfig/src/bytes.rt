@@ -1,4 +1,4 @@
-//! The bytes of a configuration, by their meaning.
+//! The kinds of bytes in a configuration.
 
 ghost use Rattle.std.specs.Prelude.{◌≡◌, ◌≢◌, ◌++◌, ◌∷◌, ◌↔◌, [], All, IfSome, IsTrue, true};
 ghost use Rattle.gitconfig.specs.Bytes.{EndsLine, EndsValue, is_blank, is_name_byte, is_section_byte, is_space};
@@ -33,14 +33,14 @@ fn is_section_byte(byte: u8) -> bool
     is_name_byte(byte) || byte == b'.'
 }
 
-/// Returns whether no bytes are left.
+/// Returns whether the text is empty.
 pub(crate) fn is_over(text: &[u8]) -> bool
     ensures { IsTrue result ↔ (text.now ≡ []) }
 {
     text.is_empty()
 }
 
-/// Returns the rest of a text that begins with this byte; `None` for any other text.
+/// Returns the text after this byte, or `None` if the text does not begin with the byte.
 pub(crate) fn strip(byte: u8, text: &[u8]) -> Option<&[u8]>
     ensures { IfSome result (λ rest. text.now ≡ byte ∷ rest.now) }
 {

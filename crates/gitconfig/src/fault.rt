@@ -1,11 +1,11 @@
-//! Why a configuration cannot be read.
+//! The reasons why a configuration cannot be read.
 
 ghost use Rattle.std.specs.Prelude.{◌≡◌};
 ghost use Rattle.gitconfig.specs.declared.fault.ConfigFault.TheVariants.{Memory};
 
 use std::alloc::{AllocError, AllocFailed};
 
-/// Why a configuration cannot be read.
+/// The reasons why a configuration cannot be read.
 #[derive(Clone, Copy, Debug, PartialEq, Eq)]
 pub enum ConfigFault {
     /// The text is not a configuration.

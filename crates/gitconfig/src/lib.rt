@@ -3,27 +3,28 @@
 //!
 //! # Proved
 //!
-//! - [`parse_config`] succeeds only for a text that is a configuration, as defined in `specs/`. It
-//!   returns the variables that the text sets, in order, with their sections and values.
+//! - [`parse_config`] succeeds only for a text that is a configuration, as defined in `specs/`.
+//!   [`parse_config`] returns the variables that the text sets, in order, with their sections and
+//!   values.
 //! - [`bare_config`] writes a configuration that sets exactly the variables of a new bare
-//!   repository. Any bytes of a URL read back unchanged.
+//!   repository. A URL of any bytes is read back unchanged.
 //! - No call panics, overflows or reads out of bounds, and every call returns, for any text.
 //!
 //! # Differences from Git
 //!
 //! - A variable before the first header belongs to the empty section.
-//! - A CR always counts as a blank. In Git it does so only before LF and in values.
-//! - A byte order mark at the start is malformed; Git skips it. A blank before a section name, and
-//!   a `\` before CR LF or at the end of the text, are malformed too; Git accepts these.
+//! - A CR always counts as a blank. In Git a CR is a blank only before LF and in values.
+//! - A byte order mark at the start of the text is refused. Git skips a byte order mark. A blank
+//!   before a section name, and a `\` before CR LF or at the end of the text, are also refused. Git
+//!   accepts such texts.
 //! - `include` and `includeIf` are ordinary sections.
 //!
 //! # What the contracts do not rule out
 //!
-//! A configuration might be refused as malformed. [`bare_config`] might lay out its text with other
-//! spaces and comments. Any call that allocates may fail if out of memory; the contracts do not say
-//! when.
+//! A configuration might be refused as malformed. [`bare_config`] might write any spaces and
+//! comments. Any call that allocates may fail if out of memory; the contracts do not say when.
 //!
-//! There are no tests here.
+//! This crate has no tests.
 //!
 //! # Stands on
 //!

@@ -10,7 +10,7 @@ use crate::bytes::is_blank;
 pub(crate) enum Piece {
     /// A byte of the value.
     Byte(u8),
-    /// A blank outside quotes: a byte of the value, unless it is at either end.
+    /// A blank outside quotes: a byte of the value, unless the blank is at either end of the value.
     Blank(u8),
     /// A quote.
     Quote,
@@ -18,8 +18,7 @@ pub(crate) enum Piece {
     Joint,
 }
 
-/// Returns the first piece of the text of a value, and the text after it, or `None` if there is
-/// none.
+/// Returns the first piece of a value, and the text after the piece, or `None` if no piece follows.
 pub(crate) fn split_piece(text: &[u8], is_quoted: bool) -> Option<(Piece, &[u8])>
     ensures piece { IfSome result (λ parts.
         BeginsWithPiece is_quoted text.now parts.0 parts.1.now) }
@@ -37,7 +36,8 @@ pub(crate) fn split_piece(text: &[u8], is_quoted: bool) -> Option<(Piece, &[u8])
     }
 }
 
-// Returns the piece made by a backslash and the text after it, and the text that follows.
+// Returns the piece that a backslash and the start of this text encode, and the text after the
+// piece.
 fn split_escape(text: &[u8]) -> Option<(Piece, &[u8])>
     ensures piece { IfSome result (λ parts. (is_quoted : Bool)
         → BeginsWithPiece is_quoted (92 ∷ text.now) parts.0 parts.1.now) }

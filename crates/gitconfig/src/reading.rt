@@ -45,7 +45,7 @@ pub fn parse_config<A: Allocator + Copy>(
 }
 
 impl<A: Allocator + Copy> Reading<A> {
-    // Reads the first item of a text, and returns the text after it.
+    // Reads the first item of a text, and returns the text after the item.
     fn read_item<'t>(&mut self, text: &'t [u8]) -> Result<&'t [u8], ConfigFault>
         ensures item { IfOk result (λ rest. (item : Item) × BeginsWithItem text.now item rest.now
             × HasRead self.old item self.new) }
@@ -65,7 +65,7 @@ impl<A: Allocator + Copy> Reading<A> {
         }
     }
 
-    // Reads the header of a section, and returns the text after it.
+    // Reads the header of a section, and returns the text after the header.
     fn read_header<'t>(&mut self, text: &'t [u8]) -> Result<&'t [u8], ConfigFault>
         ensures item { IfOk result (λ rest. (section : List ℕ)
             × BeginsWithHeader text.now section rest.now
@@ -85,7 +85,7 @@ impl<A: Allocator + Copy> Reading<A> {
         Ok(rest)
     }
 
-    // Reads a variable, and returns the text after it.
+    // Reads a variable, and returns the text after the variable.
     fn read_setting<'t>(&mut self, text: &'t [u8]) -> Result<&'t [u8], ConfigFault>
         ensures item { IfOk result (λ rest. (name : List ℕ) × (value : Option (List ℕ))
             × BeginsWithVariable text.now name value rest.now
@@ -104,7 +104,7 @@ impl<A: Allocator + Copy> Reading<A> {
     }
 }
 
-// Returns a variable of a section.
+// Returns the variable with this section, name and value.
 fn setting_in<A: Allocator + Copy>(
     alloc: A,
     section: &[u8],
@@ -136,8 +136,8 @@ fn begins_with_letter(text: &[u8]) -> bool
     }
 }
 
-// Reads the end of a header after the section name: a bracket, perhaps after a subsection, whose
-// name is appended. Returns the text after it.
+// Reads the end of a section header: a bracket, or a subsection name in quotes and a bracket.
+// Appends the subsection name to `section`, and returns the text after the header.
 fn end_header<'t, A: Allocator + Copy>(
     section: &mut Vec<u8, A>,
     text: &'t [u8],
@@ -205,8 +205,8 @@ fn split_quoted(text: &[u8]) -> Option<(u8, &[u8])>
     }
 }
 
-// Reads the rest of a variable after its name and blanks: its value, if there is one. Returns the
-// text after it.
+// Reads the value of a variable, if there is one, from the text after the name and blanks. Returns
+// the value, and the text after it.
 fn read_assigned<A: Allocator + Copy>(
     alloc: A,
     text: &[u8],
@@ -228,7 +228,7 @@ fn read_assigned<A: Allocator + Copy>(
 // A value being read.
 #[derive(Drop)]
 struct ValueText<A: Allocator + Copy> {
-    // Its bytes, without leading blanks.
+    // The bytes of the value so far, without leading blanks.
     bytes: Vec<u8, A>,
     // The number of bytes before the trailing blanks.
     kept: usize,
@@ -236,7 +236,7 @@ struct ValueText<A: Allocator + Copy> {
 }
 
 impl<A: Allocator + Copy> ValueText<A> {
-    // Adds a piece.
+    // Adds a piece to the value.
     fn push(&mut self, piece: Piece) -> Result<(), AllocError>
         ensures value { OnOk result (Pushes piece self.old self.new) }
         ensures quoted { OnOk result (self.new.is_quoted
@@ -259,7 +259,7 @@ impl<A: Allocator + Copy> ValueText<A> {
     }
 }
 
-// Reads a value, and returns the text after it.
+// Reads a value. Returns the value, and the text after it.
 fn read_value<A: Allocator + Copy>(
     alloc: A,
     text: &[u8],

@@ -7,10 +7,10 @@ use std::alloc::Allocator;
 /// A variable that a configuration sets.
 #[derive(Debug, Drop)]
 pub struct Setting<A: Allocator + Copy> {
-    /// Its section in lower case. A subsection name follows a dot.
+    /// The section name in lower case, followed by a dot and the subsection name if there is one.
     pub section: Vec<u8, A>,
-    /// Its name in lower case.
+    /// The name of the variable in lower case.
     pub name: Vec<u8, A>,
-    /// Its value, or `None` if there is only a name.
+    /// The value of the variable, or `None` if the configuration has only the name.
     pub value: Option<Vec<u8, A>>,
 }

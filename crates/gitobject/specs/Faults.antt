@@ -1,4 +1,4 @@
--- The texts of faults, as they are printed.
+-- The messages of faults.
 use Rattle.std.specs.Prelude.{ℕ, List, codes}
 use Rattle.gname.specs.Faults.{out_of_memory_text}
 use Rattle.gitobject.specs.declared.fault.ObjectFault.{ObjectFault}

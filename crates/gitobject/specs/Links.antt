@@ -1,5 +1,5 @@
--- What objects link to (gitglossary(7), "commit object", "tree object", "tag object"). A link is an id, and the type of
--- the object that has it.
+-- The links of objects (gitglossary(7), "commit object", "tree object", "tag object"). A link is the id and the type of
+-- another object.
 use Rattle.std.specs.Prelude.{◌≡◌, ◌≢◌, ⊤, ℕ, ◌≤◌, List, [], ◌∷◌, ◌++◌, length, map, codes}
 use Rattle.std.specs.List.{filter_map}
 use Rattle.gname.specs.Ids.{Id}
@@ -11,24 +11,24 @@ use Rattle.gitobject.specs.declared.links.Link.{Link}
 use Rattle.gitobject.specs.declared.fault.ObjectFault.{ObjectFault}
 use Rattle.gitobject.specs.declared.fault.ObjectFault.TheVariants as faults
 
--- there is more text, and it does not begin as the line of a parent does
+-- the text is not empty, and does not begin like a parent line
 pub record GoesOn (text : List ℕ) : Type 0 where
   pub more : text ≢ []
   pub other : (rest : List ℕ) → ¬ (text ≡ codes "parent " ++ rest)
 
--- the text begins with a line for each parent, and goes on with something other than a parent
+-- the text begins with one line for each parent, followed by text that is not a parent line
 abbrev pub HasParents : List ℕ → List Id → Type 0
 HasParents text [] = GoesOn text
 HasParents text (id ∷ ids) = (rest : List ℕ) × BeginsWithId (codes "parent ") text id rest × HasParents rest ids
 
--- a commit: the line of its tree, those of its parents, and more
+-- a commit: a tree line, a line for each parent, and more text
 pub record IsCommit (body : List ℕ) (tree : Id) (parents : List Id) : Type 0 where
   pub rest : List ℕ
   pub names : BeginsWithId (codes "tree ") body tree rest
   pub follows : HasParents rest parents
 
--- A tag: the line of the object that it names, that of the object's type, and that of its own name. Git takes none of
--- fewer than 64 bytes.
+-- A tag: a line for the tagged object, a line for the type of the object, and a line for the name of the tag. Git
+-- rejects a tag of fewer than 64 bytes.
 pub record IsTag (body : List ℕ) (target : Id) (kind : ObjectType) : Type 0 where
   pub least : 64 ≤ length body
   pub after_object : List ℕ
@@ -37,8 +37,8 @@ pub record IsTag (body : List ℕ) (target : Id) (kind : ObjectType) : Type 0 wh
   pub typed : BeginsWithType after_object kind after_type
   pub named : BeginsWithName after_type
 
--- The links of an object: of a commit its tree and then its parents, of a tree those of its entries, of a tag the
--- object that it names. A blob has none.
+-- The links of an object. A commit links to its tree and then its parents, a tree to the objects of its entries, and a
+-- tag to its target. A blob has no links.
 abbrev pub LinksOf : ObjectType → List ℕ → List Link → Type 0
 LinksOf Commit body links =
     (tree : Id) × (parents : List Id) × IsCommit body tree parents
@@ -48,7 +48,7 @@ LinksOf Blob body links = links ≡ []
 LinksOf Tag body links =
     (target : Id) × (kind : ObjectType) × IsTag body target kind × (links ≡ link_of kind target ∷ [])
 
--- why an object is not read: it has no reading, or there is no memory
+-- the reason why an object cannot be read: the object is malformed, or out of memory
 abbrev pub IsObjectFault : Type 0 → ObjectFault → Type 0
 IsObjectFault Reading faults.Malformed = ¬ Reading
 IsObjectFault Reading faults.Memory = ⊤

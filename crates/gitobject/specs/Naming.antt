@@ -5,8 +5,8 @@ use Rattle.gname.specs.Ids.{Id}
 use Rattle.gitobject.specs.Types.{type_name}
 use Rattle.gitobject.specs.declared.types.ObjectType.{ObjectType}
 
--- The text of an object: the word of its type, a space, its length in decimal, NUL, and its bytes. A loose object is
--- this text, compressed.
+-- The text of an object: the name of its type, a space, its length in decimal, NUL, and its bytes. A loose object file
+-- is this text, compressed.
 abbrev pub object_text : ObjectType → List ℕ → List ℕ
 object_text kind body = type_name kind ++ 32 ∷ (decimal (length body) ++ 0 ∷ body)
 

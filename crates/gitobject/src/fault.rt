@@ -1,4 +1,4 @@
-//! Faults of objects.
+//! The faults of reading objects.
 
 ghost use Rattle.std.specs.Prelude.{◌≡◌, Some};
 ghost use Rattle.gitobject.specs.Faults.{object_fault_text};
@@ -9,7 +9,7 @@ use std::alloc::{AllocError, AllocFailed};
 use std::error::Error;
 use std::fmt;
 
-/// Why the links of an object cannot be read.
+/// The reason why the links of an object cannot be read.
 #[derive(Clone, Copy, Debug, PartialEq, Eq, Drop)]
 pub enum ObjectFault {
     /// The bytes do not have the form of the object type.

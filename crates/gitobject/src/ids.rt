@@ -14,11 +14,11 @@ use sha1::Sha1;
 /// The length of a SHA-1 id.
 pub const ID_BYTES: usize = 20;
 
-/// The number of digits of an id.
+/// The number of hexadecimal digits of a SHA-1 id.
 pub(crate) const ID_TEXT: usize = 40;
 
-/// Returns the id of an object with these bytes (gitglossary(7), "object name"). It is the SHA-1 of
-/// the type, a space, the length in decimal, NUL, and the bytes.
+/// Returns the id of an object with these bytes (gitglossary(7), "object name"). The id is the
+/// SHA-1 of the type, a space, the length in decimal, NUL, and the bytes.
 pub fn id_of(kind: ObjectType, body: &[u8]) -> Oid
     ensures id { result ≡ id_of kind body.now }
     ensures format { IsIdOf formats.Sha1 result }

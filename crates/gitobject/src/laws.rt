@@ -1,9 +1,9 @@
-//! Laws of objects. Each function does nothing, and its contract is the law: a caller may rely on
-//! the law after the call.
+//! Laws of objects. Each function does nothing, and its contract states the law. A caller may rely
+//! on the law after the call.
 
 ghost use Rattle.gitobject.specs.Laws.{LinksAreOne, TextsAreOne};
 
-/// An object has exactly one list of links.
+/// An object has at most one list of links.
 pub fn links_are_one()
     ensures { LinksAreOne }
 {}

@@ -3,37 +3,38 @@
 //!
 //! # Proved
 //!
-//! - [`ObjectType`] has the name of each type and its number in a pack. It accepts exactly those
-//!   names and numbers.
-//! - [`id_of`] is the SHA-1 of the type, a space, the length in decimal, NUL, and the bytes.
+//! - [`ObjectType`] returns the name of each object type and its number in a pack. Only these names
+//!   and numbers are accepted.
+//! - [`id_of`] returns the SHA-1 of the type, a space, the length in decimal, NUL, and the bytes.
 //! - [`commit_links`] reads the tree and the parents of a commit, in order. [`tag_link`] reads the
 //!   object that a tag names. [`split_entry`] reads the first entry of a tree, and [`tree_links`]
-//!   the links of all entries. [`links_of`] does the same by type. Each accepts exactly the texts
-//!   of the form in `specs/`, and refuses all others.
+//!   reads the links of all entries. [`links_of`] reads the links of an object of any type. Each
+//!   function accepts exactly the texts of the form defined in `specs/`, and refuses all others.
 //! - A link has an id, and the type that the object with that id must have. In a tree, the file
-//!   type in the mode decides it. A directory links to a tree; a file or a symbolic link links to a
-//!   blob. A gitlink names a commit of another repository, and is not a link.
+//!   type in the mode of an entry decides the type of the link. A directory links to a tree. A file
+//!   or a symbolic link links to a blob. A gitlink names a commit of another repository, and is not
+//!   a link.
 //! - [`split_loose`] accepts exactly the texts of objects.
-//! - An object has one list of links, and a text encodes at most one object: [`laws`].
+//! - An object has at most one list of links, and a text encodes at most one object: [`laws`].
 //! - No call panics, overflows or reads out of bounds, and every call returns.
 //!
 //! # Only tested
 //!
-//! The definitions in `specs/` are Git's: the program `gitcases` tests correct and wrong objects,
+//! The definitions in `specs/` match Git: the program `gitcases` tests correct and wrong objects,
 //! and `examples/with-git.sh` tests repositories made by Git.
 //!
 //! # Differences from Git
 //!
-//! - Only the parts with links are checked. git-fsck(1) also checks authors, committers, and the
-//!   names and order of tree entries.
+//! - Only the parts of an object that contain links are checked. git-fsck(1) also checks authors,
+//!   committers, and the names and order of tree entries.
 //! - Git accepts a commit that ends within a parent line, and ignores that line. This crate refuses
 //!   the commit, as git-fsck(1) does.
 //! - Git reads the type of a tag only up to the first NUL.
 //!
 //! # What the contracts do not rule out
 //!
-//! Any call that allocates may fail if out of memory; the contracts do not say when. They do not
-//! cover time or memory use.
+//! Any call that allocates may fail if out of memory; the contracts do not say when. The contracts
+//! do not cover time or memory use.
 //!
 //! # Stands on
 //!

@@ -1,4 +1,4 @@
-//! The parts of objects: words, lines, and texts up to a byte.
+//! Splitting the text of an object into words, lines, and parts up to a byte.
 
 ghost use Rattle.std.specs.Prelude.{◌≡◌, ◌≢◌, ◌++◌, ◌∷◌, ◌<◌, List, ℕ, All, IfSome, MatchOption, length};
 ghost use Rattle.gname.specs.Ids.{Id};
@@ -11,7 +11,7 @@ use gname::Oid;
 use gname::laws::texts_have_one_reading;
 use memchr::memchr;
 
-/// Returns the rest of a text that begins with the word; `None` for any other text.
+/// Returns the text after this word, or `None` if the text does not begin with the word.
 pub(crate) fn strip<'a>(word: &[u8], text: &'a [u8]) -> Option<&'a [u8]>
     ensures { MatchOption result ((rest : List ℕ) → ¬ (text.now ≡ word.now ++ rest))
         (λ rest. text.now ≡ word.now ++ rest.now) }

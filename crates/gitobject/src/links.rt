@@ -31,9 +31,9 @@ pub struct Link {
 /// The links of a commit.
 #[derive(Debug, Drop)]
 pub struct CommitLinks<A: Allocator + Copy> {
-    /// Its tree.
+    /// The tree of the commit.
     pub tree: Oid,
-    /// Its parents, in order.
+    /// The parents of the commit, in order.
     pub parents: Vec<Oid, A>,
 }
 
@@ -103,7 +103,7 @@ fn push_parents<A: Allocator + Copy>(
     }
 }
 
-// Returns whether there is more text, and it does not begin like a parent line.
+// Returns whether the text is not empty and does not begin like a parent line.
 fn goes_on(text: &[u8]) -> bool
     ensures { IsTrue result ↔ GoesOn text.now }
 {
@@ -116,8 +116,8 @@ fn goes_on(text: &[u8]) -> bool
     }
 }
 
-/// Returns the object that a tag names, or `None` if the bytes do not begin like a tag, or are
-/// fewer than 64.
+/// Returns the object that a tag names, or `None` if the bytes do not begin like a tag, or if there
+/// are fewer than 64 bytes.
 pub fn tag_link(body: &[u8]) -> Option<Link>
     ensures { MatchOption result
         ((target : Id) (kind : ObjectType) → ¬ (IsTag body.now target kind))

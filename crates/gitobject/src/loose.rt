@@ -8,9 +8,9 @@ use crate::lines::cut;
 use crate::types::ObjectType;
 use itoa::Buffer;
 
-/// Returns the type and the bytes of the object with this text; `None` for any other text. The text
-/// of an object is its type, a space, the length in decimal without leading zeros, NUL, and exactly
-/// that number of bytes.
+/// Returns the type and the bytes of the object with this text, or `None` if the text does not
+/// encode an object. The text of an object is its type, a space, the length in decimal without
+/// leading zeros, NUL, and exactly that number of bytes.
 pub fn split_loose(text: &[u8]) -> Option<(ObjectType, &[u8])>
     ensures { MatchOption result
         ((kind : ObjectType) (body : List ℕ) → ¬ (text.now ≡ object_text kind body))

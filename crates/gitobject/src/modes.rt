@@ -1,4 +1,4 @@
-//! The modes of a tree's entries.
+//! The modes of tree entries.
 
 ghost use Rattle.std.specs.Prelude.{◌≡◌, ◌<◌, MatchOption};
 ghost use Rattle.std.specs.Char.{digit_value};
@@ -7,11 +7,10 @@ ghost use Rattle.gitobject.specs.Trees.{file_type, linked_type};
 
 use crate::types::ObjectType;
 
-// The number of values of a mode's lowest sixteen bits, which are the file type and the
-// permissions.
+// The number of values of the lowest sixteen bits of a mode: the file type and the permissions.
 const MODE_VALUES: u32 = 0o200000;
 
-// The number of values of its lowest twelve bits, which are the permissions.
+// The number of values of the lowest twelve bits of a mode: the permissions.
 const PERMISSIONS: u32 = 0o10000;
 
 // The file types that link to an object (inode(7)).
@@ -21,7 +20,7 @@ const REGULAR_FILE: u32 = 0o10;
 
 const SYMBOLIC_LINK: u32 = 0o12;
 
-/// Returns the file type of a mode in octal digits; `None` for any other text.
+/// Returns the file type of a mode in octal digits, or `None` if the text is not octal digits.
 pub(crate) fn file_type(mode: &[u8]) -> Option<u32>
     ensures { MatchOption result (¬ (IsNumeral 8 mode.now))
         (λ number. IsNumeral 8 mode.now × (number ≡ file_type mode.now)) }
@@ -39,7 +38,7 @@ pub(crate) fn file_type(mode: &[u8]) -> Option<u32>
     Some(number / PERMISSIONS)
 }
 
-// Returns the value of an octal digit; `None` for any other byte.
+// Returns the value of an octal digit, or `None` for any other byte.
 fn octal_digit(byte: u8) -> Option<u32>
     ensures { MatchOption result (¬ (digit_value byte < 8))
         (λ digit. (digit ≡ digit_value byte) × (digit < 8)) }
@@ -51,7 +50,8 @@ fn octal_digit(byte: u8) -> Option<u32>
     }
 }
 
-/// Returns the type of the object that an entry of this file type links to; `None` for a gitlink.
+/// Returns the type of the object that an entry of this file type links to, or `None` for a
+/// gitlink.
 pub(crate) fn linked_type(file_type: u32) -> Option<ObjectType>
     ensures { result ≡ linked_type file_type }
 {

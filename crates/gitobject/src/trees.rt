@@ -20,19 +20,19 @@ use std::alloc::{AllocError, Allocator};
 /// An entry of a tree (git-ls-tree(1)).
 #[derive(Clone, Copy, Debug)]
 pub struct TreeEntry<'a> {
-    /// Its mode, in octal digits.
+    /// The mode of the entry, in octal digits.
     pub mode: &'a [u8],
-    /// Its name, which is not empty and has no NUL.
+    /// The name of the entry, which is not empty and has no NUL.
     pub name: &'a [u8],
-    /// The object that it names.
+    /// The id of the object that the entry names.
     pub id: Oid,
-    /// The type of that object; `None` for a gitlink, which names a commit of another repository
+    /// The type of the object, or `None` for a gitlink, which names a commit of another repository
     /// (gitsubmodules(7)).
     pub links_to: Option<ObjectType>,
 }
 
 impl TreeEntry<'_> {
-    /// Returns the link of the entry; `None` for a gitlink.
+    /// Returns the link of the entry, or `None` for a gitlink.
     pub fn link(&self) -> Option<Link>
         ensures { result ≡ link_of_entry self.now }
     {
@@ -96,7 +96,7 @@ pub fn tree_links<A: Allocator + Copy>(alloc: A, body: &[u8]) -> Result<Vec<Link
     Ok(links)
 }
 
-// Returns whether no bytes are left.
+// Returns whether the text is empty.
 fn is_over(text: &[u8]) -> bool
     ensures { IsTrue result ↔ (text.now ≡ []) }
 {

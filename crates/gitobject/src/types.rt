@@ -7,11 +7,11 @@ ghost use Rattle.gitobject.specs.declared.types.ObjectType.{ObjectType};
 /// The type of an object (gitglossary(7), "object type").
 #[derive(Clone, Copy, Debug, PartialEq, Eq, Drop)]
 pub enum ObjectType {
-    /// A tree, the commits before it, and a message.
+    /// A commit: a tree, the parent commits, and a message.
     Commit,
-    /// The entries of a directory.
+    /// A tree: the entries of a directory.
     Tree,
-    /// The bytes of a file, or the target of a symbolic link.
+    /// A blob: the bytes of a file, or the target of a symbolic link.
     Blob,
     /// An annotated tag: the object that it names, and a message.
     Tag,
@@ -30,7 +30,7 @@ impl ObjectType {
         }
     }
 
-    /// Returns the type with this name, or `None` if there is none.
+    /// Returns the type with this name, or `None` if there is no such type.
     pub fn from_name(word: &[u8]) -> Option<ObjectType>
         ensures { MatchOption result ((kind : ObjectType) → ¬ (word.now ≡ type_name kind))
             (λ kind. word.now ≡ type_name kind) }
@@ -56,8 +56,8 @@ impl ObjectType {
         }
     }
 
-    /// Returns the type with this number in a pack; `None` for the number of a delta, and any other
-    /// number.
+    /// Returns the object type with this number in a pack, or `None` for the number of a delta or
+    /// any other number.
     pub fn from_pack_number(number: u8) -> Option<ObjectType>
         ensures { MatchOption result ((kind : ObjectType) → ¬ (number ≡ pack_number kind))
             (λ kind. number ≡ pack_number kind) }

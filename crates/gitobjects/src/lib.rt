@@ -45,7 +45,8 @@
 //!   object is missing.
 //! - If a delta base is broken in its pack, another copy is used, as in Git. In this crate the copy
 //!   has at most 4 MiB, all its own bases are intact, and a chain has at most 16 such bases.
-//! - A path in quotes in `info/alternates`, or one that is not UTF-8, is a fault. Git reads both.
+//! - A quoted path in `info/alternates`, or a path that is not UTF-8, is a fault. Git reads such
+//!   paths.
 //! - A missing alternate is left out. Git also leaves the alternate out, and prints an error.
 //! - A pack entry must not have bytes after its stream. Git does not check this.
 //! - A pack whose index has an offset outside the pack is left out entirely. In Git only the object
@@ -59,10 +60,10 @@
 //!   [`ObjectReader::kind_of`] returns. Each step relies on a contract of `gitpack`.
 //! - No clause says that other copies of a broken object are tried, or that a listed pack is
 //!   opened.
-//! - The entry that [`ObjectReader::raw_entry`] returns may be any bytes. Its CRC-32 is compared
-//!   with the index, but no clause says so.
-//! - A pack may be added in the same tick of the file system's clock as a listing. Such a pack is
-//!   not seen until the folder changes again, or until [`ObjectReader::refresh`].
+//! - The entry that [`ObjectReader::raw_entry`] returns may be any bytes. The CRC-32 of the entry
+//!   is compared with the index, but no clause says so.
+//! - A pack may be added in the same tick of the file system's clock as a listing. A pack added in
+//!   this tick is not seen until the folder changes again, or until [`ObjectReader::refresh`].
 //! - Only the safety of the base cache is proved.
 //! - [`ObjectStore::find`], [`ObjectStore::find_in`] and [`ObjectReader::find`] may return a wrong
 //!   location of an object, or `None`. [`ObjectStore::index`] and [`ObjectStore::starts`] may

@@ -1,4 +1,4 @@
--- A configuration that is read, item by item.
+-- Reading a configuration item by item.
 use Rattle.std.specs.Prelude.{◌≡◌, ◌≢◌, ◌⊎◌, ℕ, Bool, false, List, [], ◌∷◌, ◌++◌, All, length, map}
 use Rattle.gitconfig.specs.Values.{is_marked}
 use Rattle.gitconfig.specs.declared.pieces.Piece.{Piece}
@@ -7,18 +7,18 @@ use Rattle.gitconfig.specs.declared.reading.ValueText.{ValueText}
 use Rattle.gitconfig.specs.Configs.{Item, Begins, Nothing, Sets, Setting, setting_of, settings_of}
 use Rattle.gitconfig.specs.declared.reading.Reading.{Reading}
 
--- the section after an item
+-- the current section after an item
 abbrev pub section_after : List ℕ → Item → List ℕ
 section_after section (Begins next) = next
 section_after section item = section
 
--- an item was read: what it sets is added
+-- an item was read: the variable that it sets was added, and the current section was updated
 abbrev pub HasRead : {A : Type 0} → Reading A → Item → Reading A → Type 0
 HasRead old item new =
     (map setting_of new.settings.items ≡ map setting_of old.settings.items ++ settings_of old.section.items (item ∷ []))
     × (new.section.items ≡ section_after old.section.items item)
 
--- a value is read on by a piece
+-- the value was extended by a piece
 abbrev pub Pushes : {A : Type 0} → Piece → ValueText A → ValueText A → Type 0
 Pushes (Byte b) old new = (new.bytes.items ≡ old.bytes.items ++ b ∷ []) × (new.kept ≡ length new.bytes.items)
 Pushes (Blank b) old new = (new.kept ≡ old.kept) × (((old.bytes.items ≡ []) × (new.bytes.items ≡ []))
@@ -26,8 +26,7 @@ Pushes (Blank b) old new = (new.kept ≡ old.kept) × (((old.bytes.items ≡ [])
 Pushes Quote old new = (new.kept ≡ old.kept) × (new.bytes.items ≡ old.bytes.items)
 Pushes Joint old new = (new.kept ≡ old.kept) × (new.bytes.items ≡ old.bytes.items)
 
--- The value of marked bytes so far: it has those after the blanks at the front, and the count of
--- those before the blanks at the end.
+-- The value read so far: its bytes without the leading blanks, and the number of bytes before the trailing blanks.
 pub record IsValueSoFar {A : Type 0} (bytes : List (ℕ × Bool)) (value : ValueText A) : Type 0 where
   pub before : List (ℕ × Bool)
   pub kept : List (ℕ × Bool)

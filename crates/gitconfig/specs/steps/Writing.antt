@@ -1,4 +1,4 @@
--- A configuration that is written, part by part.
+-- Writing a configuration part by part.
 use Rattle.std.specs.Prelude.{◌≡◌, ℕ, ◌&&◌, Bool, true, false, List, [], ◌∷◌, ◌++◌, map}
 use Rattle.std.specs.List.{list_all}
 use Rattle.std.specs.Char.{is_ascii_lowercase}
@@ -8,27 +8,27 @@ use Rattle.gitconfig.specs.Values.{BeginsWithPiece, BeginsWithValue, HasPieces}
 use Rattle.gitconfig.specs.declared.pieces.Piece.{Piece}
 use Rattle.gitconfig.specs.declared.pieces.Piece.TheVariants.{Byte}
 
--- letters in lower case, at least one
+-- a word of one or more lower-case letters
 abbrev pub is_word : List ℕ → Bool
 is_word [] = false
 is_word (b ∷ word) = is_ascii_lowercase b && list_all is_ascii_lowercase word
 
--- a text has these items, whatever comes after it
+-- the text has these items, whatever items follow
 abbrev pub HoldsItems : List Item → List ℕ → Type 0
 HoldsItems items text = (rest : List ℕ) (more : List Item) → HasItems rest more → HasItems (text ++ rest) (items ++ more)
 
--- such a text was added
+-- a text with these items was appended
 pub record AddsItems (items : List Item) (old new : List ℕ) : Type 0 where
   pub text : List ℕ
   pub after : new ≡ old ++ text
   pub holds : HoldsItems items text
 
--- a text is a value, where one ends after it
+-- a text was appended that is read as this value, if the value ends after the text
 abbrev pub AddsValue : List ℕ → List ℕ → List ℕ → Type 0
 AddsValue value old new = (text : List ℕ) × (new ≡ old ++ text)
     × ((rest : List ℕ) → EndsValue rest → BeginsWithValue (32 ∷ text ++ rest) value rest)
 
--- a text is the bytes of a value in quotes
+-- the bytes of a quoted value were appended
 abbrev pub AddsQuoted : List ℕ → List ℕ → List ℕ → Type 0
 AddsQuoted value old new = (text : List ℕ) × (new ≡ old ++ text)
     × ((rest : List ℕ) (more : List Piece) (end : List ℕ) → HasPieces true rest more end
