@@ -27,10 +27,10 @@ abbrev pub IsEndOr : (ℕ → Bool) → List ℕ → Type 0
 IsEndOr p [] = ⊤
 IsEndOr p (b ∷ rest) = p b ≡ true
 
--- a line ends before this text
+-- a line ended: the text is empty or begins with an LF
 abbrev pub EndsLine : List ℕ → Type 0
 EndsLine rest = IsEndOr (λ b. b == 10) rest
 
--- a value ends before this text: its line ends, or a comment begins
+-- a value ended: the text is empty or begins with an LF or a comment
 abbrev pub EndsValue : List ℕ → Type 0
 EndsValue rest = IsEndOr (λ b. b == 10 || is_mark b) rest

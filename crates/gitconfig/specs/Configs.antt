@@ -72,7 +72,7 @@ pub record BeginsWithVariable (text name : List ℕ) (value : Option (List ℕ))
   pub blank : All (λ b. is_blank b ≡ true) blanks
   pub has : HasValue after value rest
 
--- ---- the whole
+-- ---- the whole configuration
 
 -- a comment: `#` or `;`, and the text up to the end of the line
 pub record BeginsWithComment (text rest : List ℕ) : Type 0 where

@@ -95,7 +95,7 @@ pub(crate) fn split_line(text: &[u8]) -> (&[u8], &[u8])
     }
 }
 
-/// Returns whether a line ends before this text.
+/// Returns whether the text is empty or begins with an LF: a line ended.
 pub(crate) fn ends_line(text: &[u8]) -> bool
     ensures { IsTrue result ↔ EndsLine text.now }
 {
@@ -105,7 +105,7 @@ pub(crate) fn ends_line(text: &[u8]) -> bool
     }
 }
 
-/// Returns whether a value ends before this text: its line ends, or a comment begins.
+/// Returns whether the text is empty or begins with an LF or a comment: a value ended.
 pub(crate) fn ends_value(text: &[u8]) -> bool
     ensures { IsTrue result ↔ EndsValue text.now }
 {

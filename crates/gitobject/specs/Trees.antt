@@ -39,7 +39,7 @@ pub record IsTree (body : List ℕ) (entries : List Entry) : Type 0 where
   pub is : body ≡ tree_text entries
   pub each : All IsEntry entries
 
--- ---- what entries link to
+-- ---- the links of entries
 
 -- the file type in a mode: bits 12 to 15 (inode(7))
 abbrev pub file_type : List ℕ → ℕ

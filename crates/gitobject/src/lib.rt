@@ -14,7 +14,7 @@
 //!   type in the mode of an entry decides the type of the link. A directory links to a tree. A file
 //!   or a symbolic link links to a blob. A gitlink names a commit of another repository, and is not
 //!   a link.
-//! - [`split_loose`] accepts exactly the texts of objects.
+//! - [`split_loose`] accepts exactly the texts that encode an object.
 //! - An object has at most one list of links, and a text encodes at most one object: [`laws`].
 //! - No call panics, overflows or reads out of bounds, and every call returns.
 //!

@@ -37,7 +37,7 @@ const MATCH: usize = 258;
 
 /// Inflates the pack entry that has exactly these bytes.
 ///
-/// Fails with `Head`, `ObjectSize`, `Stream` and `Memory`.
+/// Fails with `Head`, `ObjectSize`, `Stream` or `Memory`.
 pub(crate) fn inflate_entry<A: Allocator + Copy>(
     alloc: A,
     inflater: &mut Inflater,

@@ -48,7 +48,7 @@
 //! - A quoted path in `info/alternates`, or a path that is not UTF-8, is a fault. Git reads such
 //!   paths.
 //! - A missing alternate is left out. Git also leaves the alternate out, and prints an error.
-//! - A pack entry must not have bytes after its stream. Git does not check this.
+//! - A pack entry must not have bytes after its stream. Git accepts such bytes.
 //! - A pack whose index has an offset outside the pack is left out entirely. In Git only the object
 //!   with that offset is broken.
 //!
@@ -68,7 +68,8 @@
 //! - [`ObjectStore::find`], [`ObjectStore::find_in`] and [`ObjectReader::find`] may return a wrong
 //!   location of an object, or `None`. [`ObjectStore::index`] and [`ObjectStore::starts`] may
 //!   return the data of another pack, or nothing.
-//! - No clause says from which pack and position an entry is read. Only the window is exact.
+//! - No clause says from which pack and position an entry is read. Only the bytes that the window
+//!   returns are proved.
 //! - A pack that does not match its index may be opened. The header, object count and checksum of
 //!   the pack are compared with the index, but no clause says so.
 //! - A loose object may be accepted even if bytes follow its stream.

@@ -46,7 +46,7 @@ const MAX_LOOSE_HEAD: usize = 32;
 
 /// Returns the object in these bytes of a loose object file, which must be exactly one zlib stream.
 ///
-/// Fails with `Stream`, `Loose` and `Memory`.
+/// Fails with `Stream`, `Loose` or `Memory`.
 pub(crate) fn read_loose<A: Allocator + Copy>(
     alloc: A,
     inflater: &mut Inflater,

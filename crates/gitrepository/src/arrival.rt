@@ -41,8 +41,8 @@ const PARENT_LINE: usize = 48;
 // entries.
 const MAX_LINKING: usize = 67_108_864;
 
-/// The facts known so far about the objects of an incoming pack. Contracts describe an `Arrival` by
-/// its graph entries.
+/// The facts known so far about the objects of an incoming pack. Contracts treat an `Arrival` as
+/// the list of its graph entries.
 #[derive(Drop)]
 pub(crate) struct Arrival<A: Allocator + Copy> {
     alloc: A,

@@ -23,8 +23,8 @@ pub struct Received<A: Allocator + Copy> {
     pub index: IndexedPack<A>,
 }
 
-/// A partly received pack, and the facts known so far about its objects. Contracts describe a
-/// `StoreFeed` by the received bytes.
+/// A partly received pack, and the facts known so far about its objects. Contracts treat a
+/// `StoreFeed` as the bytes received so far.
 #[derive(Drop)]
 pub struct StoreFeed<A: Allocator + Copy> {
     pack: LimitedPack<A>,

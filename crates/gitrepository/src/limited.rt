@@ -26,7 +26,7 @@ const HEADER: usize = 12;
 const BEFORE_COUNT: usize = 8;
 
 /// An incoming pack, with limits that depend on the number of objects in its header. Contracts
-/// describe a `LimitedPack` by the received bytes.
+/// treat a `LimitedPack` as the bytes received so far.
 #[derive(Drop)]
 pub(crate) struct LimitedPack<A: Allocator + Copy> {
     alloc: A,

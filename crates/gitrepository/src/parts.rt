@@ -42,7 +42,7 @@ impl<A: Allocator + Copy> StoreParts<A> {
         self.copying.counts()
     }
 
-    /// Fills `out` with the next bytes, unless the pack ends before. Returns the number of copied
+    /// Fills `out` with the next bytes, unless the pack ends first. Returns the number of copied
     /// bytes: 0 at the end of the pack.
     pub(crate) fn fill<F: ObjectFiles>(
         &mut self,

@@ -1,7 +1,8 @@
 //! Path hashes, which sort objects before deltas are made.
 
-/// The hash of the path at which an object was found. The last bytes of a path count most. Sorted
-/// by this hash, the versions of a file are adjacent, followed by files whose names end alike.
+/// The hash of the path at which an object was found. The last bytes of a path have the most
+/// weight. Sorted by this hash, the versions of a file are adjacent, followed by files whose names
+/// end alike.
 #[derive(Clone, Copy, Debug, PartialEq, Eq, PartialOrd, Ord)]
 pub(crate) struct PathHash(u32);
 
@@ -18,8 +19,8 @@ impl PathHash {
         hash
     }
 
-    // Returns the hash of the path extended by one byte. Each earlier byte counts a quarter as much
-    // as before.
+    // Returns the hash of the path extended by one byte. The weight of each earlier byte is divided
+    // by four.
     fn push(self, byte: u8) -> PathHash {
         PathHash((self.0 >> 2).wrapping_add(u32::from(byte) << 24))
     }

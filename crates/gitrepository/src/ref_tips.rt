@@ -91,7 +91,7 @@ fn held_peels<F: ObjectFiles, A: Allocator + Copy>(
     Ok(HeldPeels { peels })
 }
 
-// Adds the object with this id, and its peeled object. Returns whether both were found.
+// Adds the object with this id, and its peeled object. Returns whether the objects were found.
 fn add_tip<F: ObjectFiles, A: Allocator + Copy>(
     graph: &mut Graph<A>,
     reader: &mut QuickReader<'_, F, A>,
