@@ -144,7 +144,7 @@ fn split_trailer<'p>(pack: &'p [u8], sum: &[u8; ID_BYTES]) -> Option<(&'p [u8], 
     Some((body, id_of_bytes(trailer)))
 }
 
-/// Whether two texts are equal.
+/// Returns whether two texts are equal.
 pub(crate) fn is_same(one: &[u8], other: &[u8]) -> bool
     ensures { IsTrue result ↔ (one.now ≡ other.now) }
 {

@@ -90,7 +90,7 @@ impl<A: Allocator + Copy> PackIndex<A> {
         self.entries.len()
     }
 
-    /// Whether there are no objects.
+    /// Returns whether there are no objects.
     pub fn is_empty(&self) -> bool
         ensures { result ≡ (length self.now.entries == 0) }
     {
@@ -222,7 +222,7 @@ fn find(entries: &[IndexEntry], id: &Oid) -> Option<usize>
     }
 }
 
-// Whether the ids ascend, and the number of entries is within the limit.
+// Returns whether the ids ascend, and the number of entries is within the limit.
 fn are_entries(entries: &[IndexEntry]) -> bool
     requires { All IsLine entries.now }
     ensures { IsTrue result ↔ AreEntries entries.now }

@@ -5,7 +5,7 @@ ghost use Rattle.std.specs.Prelude.{◌≤◌, None, length};
 use gpkt::{Down, Source};
 use std::marker::Model;
 
-// The maximum number of bytes to peek at: the length of the first packet of an ls-refs request.
+// The maximum number of peeked bytes: the length of the packet `command=ls-refs`.
 const LOOK: usize = 20;
 
 // The number of digits of a packet length.
@@ -15,7 +15,7 @@ const LENGTH: usize = 4;
 #[derive(Drop)]
 pub(crate) struct Ahead<'s, S> {
     source: &'s mut S,
-    // The peeked bytes. Those from `start` to `end` are still to be read.
+    // The peeked bytes. The bytes from `start` to `end` are not read yet.
     front: [u8; LOOK],
     start: usize,
     end: usize,
@@ -34,8 +34,8 @@ impl<'s, S: Source> Ahead<'s, S> {
         }
     }
 
-    /// Whether the next request may be a fetch: it is neither ls-refs, nor a lone flush packet, nor
-    /// the end of the input. This looks only at the first packet.
+    /// Returns whether the next request may be a fetch. It may not if the first packet is a flush
+    /// packet or that of ls-refs, or if the input ends.
     pub(crate) fn may_ask_for_objects(&mut self) -> bool {
         self.look(LENGTH);
         match self.ahead() {
@@ -52,12 +52,12 @@ impl<'s, S: Source> Ahead<'s, S> {
         }
     }
 
-    // Returns the peeked bytes that are still to be read.
+    // Returns the peeked bytes that are not read yet.
     fn ahead(&self) -> &[u8] {
         self.front.get(self.start..self.end).unwrap_or(b"")
     }
 
-    // Peeks at up to `count` bytes, including those that are still to be read.
+    // Peeks until `count` bytes are peeked, or the input ends.
     fn look(&mut self, count: usize) {
         if self.start == self.end {
             self.start = 0;
@@ -70,7 +70,7 @@ impl<'s, S: Source> Ahead<'s, S> {
         }
     }
 
-    // Peeks at more bytes, up to `count`. Returns whether there were any.
+    // Reads once into the peeked bytes, up to `count` in total. Returns whether any bytes arrived.
     fn look_on(&mut self, count: usize) -> bool {
         let Some(room) = self.front.get_mut(self.end..count) else {
             return false;
@@ -88,7 +88,7 @@ impl<'s, S: Source> Ahead<'s, S> {
     }
 }
 
-// Copies as many bytes as there is room for, and returns how many.
+// Copies as many bytes as fit into `room`, and returns their number.
 fn copy_front(bytes: &[u8], room: &mut [u8]) -> usize
     ensures { result ≤ length room.new }
 {

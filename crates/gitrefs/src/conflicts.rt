@@ -35,7 +35,7 @@ fn keep_fronts<A: Allocator + Copy>(fronts: &mut Vec<&[u8], A>, text: &[u8]) {
     }
 }
 
-// Whether a slash follows one of these prefixes in a text.
+// Returns whether a slash follows one of these prefixes in a text.
 fn lies_in_one(fronts: &[&[u8]], text: &[u8]) -> bool {
     for front in fronts {
         if text.get(front.len()) == Some(&b'/') {

@@ -164,7 +164,7 @@ impl<'r, R: Files, A: Allocator + Copy> GitDirectory<'r, R, A> {
         }
     }
 
-    // Whether the path names a directory without files.
+    // Returns whether the path names a directory without files.
     fn is_empty(&self) -> bool {
         match fs::read_dir(&(self.files, &self.alloc), self.path) {
             Ok(mut entries) => entries.next().is_none(),
@@ -323,7 +323,7 @@ impl<'r, R: Files, A: Allocator + Copy> GitDirectory<'r, R, A> {
     }
 }
 
-// Whether a path names something other than a file or a directory.
+// Returns whether a path names something other than a file or a directory.
 fn is_special<R: Files>(files: &R, path: &str) -> bool {
     match files.metadata(path) {
         Ok(metadata) => !metadata.is_file() && !metadata.is_dir(),

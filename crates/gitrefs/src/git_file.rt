@@ -97,7 +97,7 @@ impl<'r, R: Files, A: Allocator + Copy> GitFile<'r, R, A> {
         StorageFault::Failed
     }
 
-    // Whether the path names a symbolic link.
+    // Returns whether the path names a symbolic link.
     fn is_symlink(&self) -> bool {
         match self.files.symlink_metadata(self.path.as_str()) {
             Ok(metadata) => metadata.is_symlink(),
@@ -128,7 +128,7 @@ fn make_parents<R: Files>(files: &R, path: &str) -> Result<(), Cause> {
     }
 }
 
-// Whether an error means that a part of a path is a file.
+// Returns whether an error means that a part of a path is a file.
 fn is_no_directory(kind: ErrorKind) -> bool {
     kind == ErrorKind::AlreadyExists || kind == ErrorKind::NotADirectory
 }

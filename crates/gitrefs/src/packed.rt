@@ -95,7 +95,7 @@ fn parse_lines<A: Allocator + Copy>(
     Ok(refs)
 }
 
-// Whether no bytes are left.
+// Returns whether no bytes are left.
 fn is_over(text: &[u8]) -> bool
     ensures { IsTrue result ↔ (text.now ≡ []) }
 {

@@ -72,8 +72,8 @@ fn join<A: Allocator + Copy>(alloc: A, git_dir: &str, name: &str) -> Result<File
     Ok(FilePath { text })
 }
 
-/// Whether an error means that a path does not exist. A part of the path may be a file, or have
-/// become one.
+/// Returns whether an error means that a path does not exist. A part of the path may be a file, or
+/// have become one.
 pub(crate) fn is_absent(kind: ErrorKind) -> bool {
     matches!(kind, ErrorKind::NotFound | ErrorKind::NotADirectory)
 }

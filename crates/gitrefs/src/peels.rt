@@ -54,7 +54,7 @@ impl<A: Allocator + Copy> PackedPeels<A> {
     }
 }
 
-/// Whether the header of a text claims that each tag has its peeled id.
+/// Returns whether the header of a text claims that each tag has its peeled id.
 pub(crate) fn is_fully_peeled(text: &[u8]) -> bool {
     let Some(words) = strip(b"# pack-refs with:", text) else {
         return false;

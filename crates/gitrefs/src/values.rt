@@ -79,7 +79,7 @@ pub(crate) fn unless_null<A: Allocator + Copy>(value: LooseRef<A>) -> Option<Loo
     if is_null(&value) { None } else { Some(value) }
 }
 
-// Whether a ref has the all-zero id.
+// Returns whether a ref has the all-zero id.
 fn is_null<A: Allocator + Copy>(value: &LooseRef<A>) -> bool {
     match value {
         LooseRef::Id(id) => id.as_bytes().iter().all(|byte| *byte == 0),

@@ -57,21 +57,21 @@ fn split_front(count: usize, text: &[u8]) -> Option<(&[u8], &[u8])>
     text.split_at_checked(count)
 }
 
-// Whether a byte is white space for Git.
+// Returns whether a byte is white space for Git.
 pub(crate) fn is_space(byte: u8) -> bool
     ensures { result ≡ is_space byte }
 {
     byte == b'\t' || byte == b'\n' || byte == b'\r' || byte == b' '
 }
 
-/// Whether a text has only white space.
+/// Returns whether a text has only white space.
 pub(crate) fn is_blank(text: &[u8]) -> bool
     ensures { IsTrue result ↔ IsBlank text.now }
 {
     text.iter().all(|byte| is_space(*byte))
 }
 
-/// Whether a word ends before this text: it is empty, or begins with white space.
+/// Returns whether a word ends before this text: it is empty, or begins with white space.
 pub(crate) fn ends_word(text: &[u8]) -> bool
     ensures { IsTrue result ↔ EndsWord text.now }
 {
