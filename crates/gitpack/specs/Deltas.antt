@@ -7,7 +7,7 @@ pub data Instruction : Type 0 where
   Copy : (offset size : ℕ) → Instruction
   Insert : (bytes : List ℕ) → Instruction
 
--- the bytes that remain if each byte whose bit is not set is dropped; a dropped byte is 0
+-- `kept` contains the bytes whose bit is set in `bits`; all other bytes are 0
 abbrev pub Keeps : ℕ → List ℕ → List ℕ → Type 0
 Keeps bits [] kept = kept ≡ []
 Keeps bits (b ∷ bytes) kept =
@@ -19,7 +19,7 @@ abbrev pub number_of : List ℕ → ℕ
 number_of [] = 0
 number_of (b ∷ bytes) = b + 256 * number_of bytes
 
--- the encoding of a number of `count` bytes, with only those bytes whose bits are set
+-- the encoding of a number of `count` bytes, which contains only the bytes whose bit is set in `bits`
 pub record IsSparse (bits count number : ℕ) (kept : List ℕ) : Type 0 where
   pub bytes : List ℕ
   pub counted : length bytes ≡ count
@@ -66,14 +66,14 @@ pub record BeginsWithInstruction (base text : List ℕ) (i : Instruction) (rest 
   pub fits : Fits base i
   pub parts : text ≡ front ++ rest
 
--- a text encodes these instructions, and the bytes that they add are the result of the delta
+-- a text encodes these instructions, and `body` consists of the bytes that the instructions add
 abbrev pub Makes : List ℕ → List Instruction → List ℕ → List ℕ → Type 0
 Makes base [] text body = (text ≡ []) × (body ≡ [])
 Makes base (i ∷ is) text body =
     (rest more : List ℕ) × BeginsWithInstruction base text i rest × (body ≡ add_instruction base i ++ more) × Makes base is rest more
 
 -- A delta that makes `body` from the base: the sizes of both, and instructions. Git refuses a delta of fewer than four
--- bytes (`DELTA_SIZE_MIN` in its `delta.h`).
+-- bytes (`DELTA_SIZE_MIN` in Git's `delta.h`).
 pub record IsDelta (base delta body : List ℕ) : Type 0 where
   pub least : 4 ≤ length delta
   pub base_size : List ℕ

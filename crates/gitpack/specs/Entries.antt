@@ -18,8 +18,8 @@ pub record IsTypeAndSize (number size : ℕ) (text : List ℕ) : Type 0 where
   pub typed : number ≡ first / 16 % 8
   pub sized : size ≡ first % 16 + 16 * low_first more
 
--- The part of an entry header after the size. It is empty for an undeltified object, the offset of the base for type 6,
--- and the id of the base for type 7.
+-- The part of an entry header after the size. This part is empty for an undeltified object, the offset of the base for
+-- type 6, and the id of the base for type 7.
 abbrev pub IsBaseOf : EntryForm → ℕ → List ℕ → Type 0
 IsBaseOf (Whole kind) number text = (number ≡ pack_number kind) × (text ≡ [])
 IsBaseOf (OffsetDelta back) number text = (number ≡ 6) × IsOffset text back

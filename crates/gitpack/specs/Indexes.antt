@@ -23,7 +23,7 @@ pub record IsLine (e : IndexEntry) : Type 0 where
   pub crc : e.crc < 2 ^ 32
   pub offset : e.offset < 2 ^ 64
 
--- the entries of an index: they are valid and sorted by id, and there are fewer than 2^31
+-- the entries of an index: fewer than 2^31 valid entries, sorted by id
 pub record AreEntries (entries : List IndexEntry) : Type 0 where
   pub lines : All IsLine entries
   pub sorted : IsSortedByKey entry_id id_cmp entries
@@ -34,7 +34,7 @@ pub record HasText (index : Index) : Type 0 where
   pub entries : AreEntries index.entries
   pub checksum : IsIdOf Sha1 index.checksum
 
--- ---- the tables
+-- ---- the tables of a pack index
 
 -- the signature and version of a pack index
 abbrev pub index_header : List ℕ
@@ -85,7 +85,7 @@ index_tables entries =
 abbrev pub index_body : Index → List ℕ
 index_body index = index_tables index.entries ++ index.checksum
 
--- the bytes of an index; the index's own checksum, the SHA-1 of all other bytes, is at the end
+-- the bytes of an index, which end with the SHA-1 of all other bytes
 abbrev pub index_text : Index → List ℕ
 index_text index = index_body index ++ sha1 (index_body index)
 
@@ -103,7 +103,7 @@ IsNoIndex text = (index : Index) → HasText index → ¬ (IsIndex index text)
 abbrev pub ReadsIndex : List ℕ → Option Index → Type 0
 ReadsIndex text found = MatchOption found (IsNoIndex text) (λ index. HasText index × IsIndex index text)
 
--- ---- a pack that is indexed
+-- ---- indexed packs
 
 -- an indexed pack: its objects, and its checksum
 pub record Indexed : Type 0 where
@@ -117,7 +117,7 @@ object_id e = e.entry.id
 abbrev pub line_of : IndexedEntry → IndexEntry
 line_of e = e.entry
 
--- the objects of a pack: their entries are valid, they are sorted by id, and there are fewer than 2^31
+-- the objects of a pack: fewer than 2^31 objects with valid index entries, sorted by id
 pub record AreObjects (entries : List IndexedEntry) : Type 0 where
   pub lines : All (λ e. IsLine (line_of e)) entries
   pub sorted : IsSortedByKey object_id id_cmp entries

@@ -5,7 +5,7 @@ use std::alloc::{AllocError, Allocator};
 /// The length of a block.
 pub(crate) const BLOCK: usize = 16;
 
-// The multiplier of the rolling hash, and its power for the first byte of a block.
+// The multiplier of the rolling hash of a block.
 const DIGITS: u32 = 0x0100_0193;
 
 const FIRST_DIGIT: u32 = 0xd69d_215b;

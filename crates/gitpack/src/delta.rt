@@ -1,4 +1,4 @@
-//! Deltas (gitformat-pack(5), "Deltified representation").
+//! Applying deltas (gitformat-pack(5), "Deltified representation").
 
 ghost use Rattle.std.specs.Prelude.{◌≡◌, ◌+◌, ◌^◌, ◌<◌, ◌≤◌, ◌++◌, ◌∷◌, List, ℕ, IfOk, IfSome, MatchOption, drop, length, take};
 ghost use Rattle.gitpack.specs.Deltas.{BeginsWithInstruction, Instruction, IsCopy, IsDelta, IsSparse, Makes, add_instruction, copy_size};
@@ -72,7 +72,8 @@ pub fn apply_delta<A: Allocator + Copy>(
     follow(alloc, base, commands, size)
 }
 
-// Returns the object of `size` bytes that these instructions make, or `None` if they make none.
+// Returns the object that these instructions make, or `None` if an instruction is invalid or the
+// object does not have `size` bytes.
 fn follow<A: Allocator + Copy>(
     alloc: A,
     base: &[u8],
@@ -111,7 +112,8 @@ fn first_room(base: &[u8], commands: &[u8], size: usize) -> usize {
 }
 
 // Returns the bytes that the first instruction adds to the result, and the bytes after this
-// instruction. Returns `None` if there is no instruction or it copies beyond the end of the base.
+// instruction. Returns `None` if there is no valid instruction, or if the instruction copies beyond
+// the end of the base.
 fn split_instruction<'a>(base: &'a [u8], text: &'a [u8]) -> Option<(&'a [u8], &'a [u8])>
     ensures { MatchOption result
         ((i : Instruction) (rest : List ℕ) → ¬ (BeginsWithInstruction base.now text.now i rest))
@@ -188,8 +190,8 @@ fn copy_size(number: usize) -> usize
     if number == 0 { FULL_COPY } else { number }
 }
 
-// Returns a little-endian number, of which only the bytes with a set bit in `bits` are encoded, and
-// the bytes after it.
+// Decodes a little-endian number in which only the bytes with a set bit in `bits` are present.
+// Returns the number and the remaining bytes.
 fn split_sparse(bits: u8, count: u32, bytes: &[u8]) -> Option<(usize, &[u8])>
     requires { count ≤ 4 }
     ensures cases { MatchOption result

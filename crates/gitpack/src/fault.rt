@@ -1,4 +1,4 @@
-//! Faults of packs.
+//! The faults of reading and writing packs.
 
 ghost use Rattle.std.specs.Prelude.{◌≡◌};
 ghost use Rattle.gitpack.specs.declared.fault.PackFileFault.TheVariants.{Memory};
@@ -12,14 +12,15 @@ pub enum PackFileFault {
     Memory,
     /// The header, the number of entries or the trailer of the pack is wrong.
     Frame,
-    /// The entry at this position is truncated, its zlib stream is malformed or has the wrong size,
-    /// it is not a delta of its base, or its base occurs twice.
+    /// The entry at this position is truncated, or its zlib stream is malformed or has the wrong
+    /// size. A delta also causes this fault if it does not fit its base, or if the base occurs
+    /// twice.
     Entry(usize),
     /// The base of a delta is not in the pack: the pack is thin, or an offset is wrong.
     Thin,
     /// The number of objects, the size of an object, the total size, the memory for delta bases, or
-    /// a written pack exceeds a limit. This fault also means that a chain has more than 8,191
-    /// deltas, or that an entry header cannot encode a size or offset.
+    /// a written pack exceeds a limit. A chain of more than 8,191 deltas, or a size or offset that
+    /// an entry header cannot encode, causes the same fault.
     TooLarge,
     /// The id of the base of a written delta is not a SHA-1 id.
     Format,

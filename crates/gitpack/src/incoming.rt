@@ -45,7 +45,7 @@ impl<A: Allocator + Copy> IncomingPack<A> {
     /// Adds the next bytes of the pack. The visitor receives each undeltified object that is
     /// inflated in this call. Faults of the pack or of the visitor are reported by `finish`.
     ///
-    /// Fails only if out of memory. The pack is then unusable.
+    /// Fails only if out of memory. After a fault, the pack is unusable.
     pub fn feed<V: ObjectVisitor>(
         &mut self,
         piece: &[u8],

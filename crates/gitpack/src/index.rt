@@ -160,8 +160,8 @@ impl<A: Allocator + Copy> PackIndex<A> {
 }
 
 // Searches for an id by its first eight bytes, and returns the position of its entry. The search is
-// quick, since it reads only a small part of `fronts`. It may miss an entry if two ids begin with
-// the same eight bytes.
+// quick, since it reads only a small part of `fronts`. The search may miss an entry if two ids
+// begin with the same eight bytes.
 fn find_front(entries: &[IndexEntry], fronts: &[u64], ends: &[u32; 256], id: &Oid) -> Option<usize>
     ensures { IfSome result (HoldsAt (λ e. e.id ≡ id.now) entries.now) }
 {

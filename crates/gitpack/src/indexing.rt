@@ -24,7 +24,7 @@ pub trait ObjectVisitor {
         requires { id.now ≡ id_of kind body.now };
 }
 
-/// The limits for indexing a pack. They are needed because a small pack can contain huge objects.
+/// The limits for indexing a pack. Limits are needed because a small pack can contain huge objects.
 /// An entry has at least nine bytes, and uses about two hundred bytes of memory.
 #[derive(Clone, Copy, Debug, Drop)]
 pub struct IndexLimits {

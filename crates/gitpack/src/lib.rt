@@ -13,19 +13,19 @@
 //! - [`DeltaBase::make_delta`] returns only a delta that makes the target from the base, and whose
 //!   size is within the limit.
 //! - [`PackIndex::read`] returns an index exactly if the bytes are an index of version 2
-//!   (`ReadsIndex` in `specs/Indexes.antt`). It does not check the index's own checksum. The
-//!   entries of an index are sorted by id, and the fan-out table and both offset tables match the
-//!   entries. The same bytes encode at most one index ([`laws`]).
+//!   (`ReadsIndex` in `specs/Indexes.antt`). This function does not check the index's own checksum.
+//!   The entries of an index are sorted by id, and the fan-out table and both offset tables match
+//!   the entries. The same bytes encode at most one index ([`laws`]).
 //! - [`PackIndex::find`] finds an id exactly if the index contains it. [`PackIndex::id`],
 //!   [`PackIndex::crc`] and [`PackIndex::offset`] return the fields of the entry at a position.
 //! - [`IndexedPack::write_index`] writes the pack index of version 2, with both checksums.
 //!   [`PackIndex::read`] accepts these bytes, and returns the index of the same pack.
 //! - [`PackWriter`] writes the pack header with the entry count, then each entry, and finally the
-//!   SHA-1 of all these bytes. [`put_header`] writes only a pack header, and [`put_entry`] only one
-//!   entry.
+//!   SHA-1 of all these bytes. The functions [`put_header`] and [`put_entry`] write only a pack
+//!   header or one entry.
 //! - [`IncomingPack`] accepts only packs of version 2 whose trailer is the SHA-1 of all preceding
-//!   bytes. It returns the concatenation of all received bytes. Each object that the visitor
-//!   receives has the id of its type and bytes. The returned objects are sorted by id.
+//!   bytes. `IncomingPack` returns the concatenation of all received bytes. Each object that the
+//!   visitor receives has the id of its type and bytes. The returned objects are sorted by id.
 //! - [`index_pack`] does the same for a pack in one slice.
 //! - No call panics, overflows or reads out of bounds, and every call returns.
 //!
@@ -38,7 +38,7 @@
 //! # Differences from Git
 //!
 //! - The encoded sizes in a delta, and the encoded offset of a base, have at most eight bytes each.
-//! - A pack of version 3 is refused; Git reads it. All ids are SHA-1.
+//! - A pack of version 3 is refused; Git reads it. All ids are SHA-1 ids.
 //! - An index of version 1 is refused. An index of version 2 is accepted only in the form that Git
 //!   writes. Its table of 64-bit offsets contains only offsets of at least 2^31, one per entry, in
 //!   the order of the entries. The index's own checksum is not checked.
@@ -52,7 +52,7 @@
 //!
 //! - Any call that allocates may fail with out-of-memory. The contracts do not say when.
 //! - [`DeltaBase::make_delta`] might never find a delta, or might find a longer delta than
-//!   necessary. Only the memory safety of its search is proved. Each found delta is applied as a
+//!   necessary. Only the memory safety of the search is proved. Each found delta is applied as a
 //!   check, and returned only if it makes the target.
 //! - [`IncomingPack`] and [`index_pack`] might refuse a good pack. Both might omit any object, or
 //!   return an object that the visitor did not receive, or received with another type. Both might

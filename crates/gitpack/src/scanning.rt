@@ -14,8 +14,8 @@ use gname::Oid;
 use gzlib::{Inflater, crc32_of};
 use std::alloc::Allocator;
 
-// The minimum number of bytes between two scans. Frequent scans would often inflate an incomplete
-// entry in vain.
+// The minimum number of bytes that must arrive between two scans. More frequent scans would waste
+// time on inflating incomplete entries.
 const BATCH: usize = 131_072;
 
 // The maximum memory for cached inflated streams, 64 MiB.
@@ -65,8 +65,8 @@ pub(crate) struct ScannedPack<A: Allocator + Copy> {
     pub inflater: Inflater,
 }
 
-/// A scanner of a pack that arrives in pieces. It scans each complete entry, and passes undeltified
-/// objects to a visitor.
+/// A scanner of a pack that arrives in pieces. The scanner reads each complete entry, and passes
+/// undeltified objects to a visitor.
 ///
 /// An incomplete entry is inflated again only when twice as many bytes of it have arrived. So the
 /// total work is linear in the length of the pack, however small the pieces are.
@@ -234,7 +234,7 @@ impl<A: Allocator + Copy> Scanner<A> {
 }
 
 // Passes the object of an undeltified entry to the visitor, and returns its id and type. Returns
-// `None` for a delta.
+// `None` if the entry is a delta.
 fn whole_object<V: ObjectVisitor>(
     form: EntryForm,
     body: &[u8],

@@ -55,8 +55,8 @@ impl<A: Allocator + Copy> PackWriter<A> {
 
     /// Appends an undeltified object of `size` bytes, which `stream` inflates to.
     ///
-    /// Fails with `TooLarge` if the size has more than 60 bits or the pack would exceed its limit,
-    /// and with `Memory`.
+    /// Fails with `TooLarge` if the size has more than 60 bits or the pack would exceed its limit.
+    /// Also fails with `Memory`.
     pub fn put_whole(
         &mut self,
         kind: ObjectType,

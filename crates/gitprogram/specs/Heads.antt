@@ -14,8 +14,8 @@ default_branch = codes "refs/heads/main"
 abbrev pub is_branch : Name → Bool
 is_branch name = starts_with nat_eq name (codes "refs/heads/")
 
--- the HEAD of a clone if the server's HEAD is unborn: its branch, or the default branch if the name is not a branch
--- name
+-- the HEAD of a clone if the server's HEAD is unborn: the unborn branch, or the default branch if the name is not a
+-- branch name
 abbrev pub IsUnbornHead : Name → ServerHead → Type 0
 IsUnbornHead name head =
     ((is_branch name ≡ true) × (head ≡ Branch name))

@@ -23,7 +23,7 @@ packs_any list pack = IsWholePack pack
 abbrev pub fails_any : List (Entry Global) → PackFault → Type 0
 fails_any list fault = ⊤
 
--- the bytes that may follow in a pack: if they end without a fault, they complete the bytes sent before to a whole pack
+-- the bytes that a packer may still send: without a fault, the bytes sent before and these bytes form a whole pack
 abbrev pub gives_rest : StoreParts Global → List ℕ → Option PackFault → Type 0
 gives_rest parts bytes end = end ≡ None → (length bytes ≤ parts.outgoing.left)
     × ((before : List ℕ) → IsGoing parts.outgoing before → IsWholePack (before ++ bytes))

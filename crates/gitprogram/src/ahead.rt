@@ -15,7 +15,7 @@ const LENGTH: usize = 4;
 #[derive(Drop)]
 pub(crate) struct Ahead<'s, S> {
     source: &'s mut S,
-    // The peeked bytes. The bytes from `start` to `end` are not read yet.
+    // The peeked bytes. The bytes from `start` to `end` have not been read by a caller.
     front: [u8; LOOK],
     start: usize,
     end: usize,
@@ -34,8 +34,8 @@ impl<'s, S: Source> Ahead<'s, S> {
         }
     }
 
-    /// Returns whether the next request may be a fetch. It may not if the first packet is a flush
-    /// packet or that of ls-refs, or if the input ends.
+    /// Returns whether the next request may be a fetch. A flush packet, the packet
+    /// `command=ls-refs` or the end of the input is certainly no fetch.
     pub(crate) fn may_ask_for_objects(&mut self) -> bool {
         self.look(LENGTH);
         match self.ahead() {
@@ -43,7 +43,7 @@ impl<'s, S: Source> Ahead<'s, S> {
                 self.look(LOOK);
                 self.ahead() != b"0014command=ls-refs\n".as_slice()
             }
-            // The line feed is optional.
+            // The line feed after the command is optional.
             b"0013" => {
                 self.look(LOOK - 1);
                 self.ahead() != b"0013command=ls-refs".as_slice()
@@ -52,7 +52,7 @@ impl<'s, S: Source> Ahead<'s, S> {
         }
     }
 
-    // Returns the peeked bytes that are not read yet.
+    // Returns the peeked bytes that no caller has read yet.
     fn ahead(&self) -> &[u8] {
         self.front.get(self.start..self.end).unwrap_or(b"")
     }
@@ -70,7 +70,8 @@ impl<'s, S: Source> Ahead<'s, S> {
         }
     }
 
-    // Reads once into the peeked bytes, up to `count` in total. Returns whether any bytes arrived.
+    // Peeks at more bytes with one read, up to `count` bytes in total. Returns whether any bytes
+    // arrived.
     fn look_on(&mut self, count: usize) -> bool {
         let Some(room) = self.front.get_mut(self.end..count) else {
             return false;

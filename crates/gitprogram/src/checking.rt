@@ -11,7 +11,7 @@ use std::alloc::{AllocError, Global};
 use std::rt::Files;
 
 /// Prints the number of refs of a repository, and of the commits, tags and objects that they reach.
-/// Fails if such an object is missing or malformed.
+/// Fails if a reachable object is missing or malformed.
 pub(crate) fn check<R>(rt: &R, dir: &str) -> Result<(), Fault>
 where
     R: Files + Print + AllocGlobal,

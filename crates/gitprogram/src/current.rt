@@ -10,7 +10,7 @@ use std::alloc::Global;
 use std::rt::Files;
 
 /// Returns the report of a fetch if each requested ref is already up to date and its object exists.
-/// Returns `None` for any other fetch. The history is not read.
+/// Returns `None` for any other fetch. This check does not read the history.
 ///
 /// Fails if the repository cannot be opened.
 pub(crate) fn fetched_already<R>(
@@ -45,7 +45,7 @@ where
     Ok(Some(report_of(alloc, asks)?))
 }
 
-// Returns the requested ref updates in the order in which a session makes them, or `None` if a
+// Returns the ref updates that the refspecs request, in the order of a fetch. Returns `None` if a
 // refspec does not yield a ref name.
 fn asks_of(
     alloc: Global,

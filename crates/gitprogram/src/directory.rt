@@ -53,9 +53,9 @@ impl Directories {
         below(alloc, self.common.as_str(), "objects/pack")
     }
 
-    /// Returns whether the repository has a work tree. It has one if a `.git` file leads to the
-    /// repository, or if `core.bare` is false (git-config(1)). If `core.bare` is not set, it has
-    /// one if its directory is named `.git`.
+    /// Returns whether the repository has a work tree. A repository has a work tree if a `.git`
+    /// file leads to the repository, or if `core.bare` is false (git-config(1)). If `core.bare` is
+    /// not set, a repository has a work tree if its directory is named `.git`.
     pub(crate) fn has_work_tree<R>(&self, rt: &R) -> Result<bool, Fault>
     where
         R: Files + AllocGlobal,

@@ -373,7 +373,7 @@ fn print_report<R: Print + AllocGlobal>(
     }
 }
 
-/// Fetches into a repository in memory. Nothing is written to disk.
+/// Fetches into a repository in memory. This function writes nothing to disk.
 pub(crate) fn receive<R, E>(
     rt: &R,
     found: &Directories,
@@ -551,7 +551,7 @@ fn refused_pack(alloc: Global, remote: &Remote, fault: &RepositoryFault<Global>)
     Fault::of(alloc, Sentence::RefusedPack { url, fault })
 }
 
-// Performs a fetch through buffers.
+// Performs a fetch over a buffered connection.
 fn converse_with<R, S, E>(
     alloc: Global,
     peer: &Peer<S, Silence>,
@@ -581,7 +581,7 @@ where
     fetched
 }
 
-// Returns the parameters of the fetch. They allow deltas that name their base by offset.
+// Returns the parameters of the fetch, which allow offset deltas in the pack.
 fn fetch_of(wanted: Wanted<'_>, progress: bool) -> GitFetch<'_, Global> {
     GitFetch {
         hello: &wanted.remote.hello,

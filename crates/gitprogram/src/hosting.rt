@@ -85,7 +85,8 @@ fn open_extent<R: Files + AllocGlobal, F: ObjectFiles>(
     open_shown(rt.alloc(), files, found, listed)
 }
 
-// A repository with open objects. Its refs and HEAD are those from the time when it was opened.
+// A repository with open objects. The refs and HEAD are those that were read when the repository
+// was opened.
 #[derive(Drop)]
 struct Opened<'f, F: ObjectFiles> {
     // The graph, the refs and HEAD.
@@ -233,8 +234,8 @@ impl Packer<Global> for NoPacker {
     }
 }
 
-// Sends an error packet that the repository cannot be opened. The packet names the cause if it is
-// an unsupported format.
+// Sends an error packet that the repository cannot be opened. If the format of the repository is
+// unsupported, the packet says so.
 fn send_not_opened<W: Sink>(
     alloc: Global,
     form: Option<FormFault>,

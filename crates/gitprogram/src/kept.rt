@@ -61,9 +61,9 @@ impl KeptRepositories {
         }
     }
 
-    /// Adds a repository, and removes an older entry with the same Git directory. If the cache is
-    /// full, it drops the oldest repositories. Fails only if out of memory, and then the cache has
-    /// no entry for this Git directory.
+    /// Adds a repository, and removes an older entry with the same Git directory. A full cache
+    /// drops the oldest repositories. Fails only if out of memory, and then the cache has no entry
+    /// for this Git directory.
     pub(crate) fn put<D>(&mut self, shared: &Shared<'_, D>) -> Result<(), AllocError> {
         let path = shared.shown.found.own.as_str();
         if let Some(place) = self.kept.iter().position(|kept| kept.path() == path) {

@@ -3,15 +3,15 @@
 //!
 //! - `serve` serves every repository below a directory, with many connections at once on one thread
 //!   (git-daemon(1)). `serve` reads the refs anew for each connection, so clients see changes that
-//!   Git makes meanwhile. It caches the graphs of at most 64 repositories, with at most 1,048,576
-//!   commits and tags in total. A cached graph is used while the refs and HEAD are unchanged.
-//!   Connections also share open packs while the pack directory is unchanged. `serve` sends a pack
-//!   entry by entry, and holds one entry and at most 10 possible delta bases in memory. `serve`
-//!   logs one line per connection.
+//!   Git makes meanwhile. The server caches the graphs of at most 64 repositories, with at most
+//!   1,048,576 commits and tags in total. A cached graph is used while the refs and HEAD are
+//!   unchanged. Connections also share open packs while the pack directory is unchanged. `serve`
+//!   sends a pack entry by entry, and holds one entry and at most 10 possible delta bases in
+//!   memory. `serve` logs one line per connection.
 //! - `upload-pack` serves one connection on standard input and output (git-upload-pack(1)).
 //! - `serve` and `upload-pack` answer ls-refs from the objects that refs point to. Both commands
-//!   read the history at the first request that may be a fetch. Then they refuse a repository with
-//!   an incomplete history, as Git does.
+//!   read the history at the first request that may be a fetch. If the history is incomplete, both
+//!   commands refuse the request, as Git does.
 //! - `clone` and `fetch` store the received pack unchanged, and then update the refs. `ls` prints
 //!   the refs of a server as git-ls-remote(1) does. `check` checks the connectivity of the refs.
 //! - A failed command prints one sentence on standard error, and exits with status 1. The exit
@@ -21,25 +21,25 @@
 //!
 //! - No call panics, overflows or reads out of bounds, and every call returns, whatever the
 //!   arguments, files, standard streams and peers.
-//! - The text of a listing is that of git-ls-remote(1) (`specs/Listing.antt`). A private function
-//!   derives the HEAD of a clone from the server's reply (`specs/Heads.antt`). Another private
-//!   function finds version 2 among the keys of `GIT_PROTOCOL` (`specs/Versions.antt`).
+//! - `ls` prints the refs in the format of git-ls-remote(1) (`specs/Listing.antt`). A private
+//!   function derives the HEAD of a clone from the server's reply (`specs/Heads.antt`). Another
+//!   private function finds version 2 among the keys of `GIT_PROTOCOL` (`specs/Versions.antt`).
 //! - A connection of `serve` is a dialogue of `gserver` over a loop of `gevents`, so the proofs of
-//!   these crates apply to it. A pack that `serve` sends to the end is complete.
+//!   these crates apply to each connection. A pack that `serve` sends to the end is complete.
 //!
 //! # Only tested
 //!
-//! Everything else is tested with Git as the peer (`examples/with-git.sh`). The tests cover finding
-//! repositories, the sent and stored data, progress, the log of connections, and each error
+//! Everything else is tested with Git as the peer (`examples/with-git.sh`). These tests cover
+//! finding repositories, the sent and stored data, progress, the log of connections, and each error
 //! message. `examples/many-clients.py` tests many clients at once, and their deadlines.
 //!
 //! # Differences from Git
 //!
 //! - `clone` fetches only HEAD, branches and tags. If the server's HEAD is detached at a tag, the
-//!   clone's HEAD is detached at the tag's commit. Git refuses such a clone.
-//! - `fetch` fast-forwards a tag without force, like any ref. It fails instead of updating a
-//!   symbolic ref. It may update a branch that another worktree has checked out. A repository has a
-//!   work tree if `core.bare` is false in the file `config`. If `core.bare` is not set, a
+//!   clone's HEAD is detached at the tag's commit. Git refuses to clone from such a server.
+//! - `fetch` fast-forwards a tag without force, like any ref. `fetch` fails instead of updating a
+//!   symbolic ref. `fetch` may update a branch that another worktree has checked out. A repository
+//!   has a work tree if `core.bare` is false in the file `config`. If `core.bare` is not set, a
 //!   repository has a work tree if its directory is named `.git`.
 //! - By default, `serve` accepts at most 1,024 connections at once, and at most 64 from one
 //!   address. A client must send its first line within 10 seconds, the first byte of a request
@@ -64,10 +64,10 @@
 //! # What the contracts do not rule out
 //!
 //! Anything else. Most behaviour depends on files, streams and sockets, which contracts cannot
-//! describe. No clause says how many repositories are cached, or that a packer is ever closed. A
-//! cached repository lists its refs even if their objects have since been removed. `Repositories`
-//! may find any repository and report any text: its clauses restrict neither. A packer may fail
-//! with any fault.
+//! describe. No clause says how many repositories are cached, or that an object store is ever
+//! closed. A cached repository lists its refs even if their objects have since been removed.
+//! `Repositories` may find any repository and report any text: its clauses restrict neither. A
+//! packer may fail with any fault.
 //!
 //! # Stands on
 //!

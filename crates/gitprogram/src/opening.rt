@@ -119,8 +119,8 @@ fn find_listed<R: Files, F: ObjectFiles>(
     Ok(found.refs(alloc, rt).read_peeled_refs()?)
 }
 
-/// Reads the objects that refs point to, which is enough for ls-refs. If such an object is not
-/// found quickly, reads the whole history.
+/// Reads the objects that refs point to, which is enough for ls-refs. If an object is not found
+/// quickly, the whole history is read.
 pub(crate) fn open_shown<F: ObjectFiles>(
     alloc: Global,
     files: &F,
@@ -172,8 +172,8 @@ fn is_same_head(one: &Head<Global>, other: &Head<Global>) -> bool {
     }
 }
 
-// Returns the objects that refs and HEAD point to, or `None` if one is not found quickly. All packs
-// are closed again.
+// Returns the objects that refs and HEAD point to, or `None` if one is not found quickly. No pack
+// stays open after this call.
 fn find_tips<F: ObjectFiles>(
     alloc: Global,
     files: &F,

@@ -9,7 +9,7 @@ use std::io::Write;
 // The number of bytes that one write to a terminal copies at most.
 const PIECE: usize = 512;
 
-/// A writer of standard output. On a terminal, it replaces non-printable bytes.
+/// A writer of standard output, which replaces non-printable bytes on a terminal.
 #[derive(Drop)]
 pub(crate) struct Output<W> {
     writer: W,

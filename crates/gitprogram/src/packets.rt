@@ -23,7 +23,7 @@ enum PacketPosition {
     Digits { count: u8, number: u16 },
     // In a payload: the number of bytes read, and the number of bytes left.
     Payload { before: u16, left: u16 },
-    // After a malformed packet. All further bytes are ignored.
+    // After a malformed packet, where all further bytes are ignored.
     Lost,
 }
 

@@ -126,7 +126,7 @@ impl<'e, E: Write> Progress<'e, E> {
         Ok(())
     }
 
-    // Begins or continues a line of this kind, after ending an unfinished line of another kind.
+    // Ends an unfinished line of another kind, and then begins or continues a line of this kind.
     fn begin_line(&mut self, line: Line) -> Result<(), AllocError> {
         if self.line != Line::New && self.line != line {
             self.text.push(b'\n')?;

@@ -77,8 +77,8 @@ impl Wording {
     }
 }
 
-/// A writer that replaces general error packets by packets that name the limits. All other packets
-/// are unchanged.
+/// A writer that replaces general error packets by packets that name the limits. The writer does
+/// not change other packets.
 #[derive(Drop)]
 pub(crate) struct Worded<W> {
     writer: W,
@@ -102,7 +102,7 @@ impl<W> Worded<W> {
         self.wording.packet().get(..self.held).unwrap_or(&[])
     }
 
-    // Holds bytes back if they may continue an error packet. Returns whether they do.
+    // Holds bytes back if they may belong to an error packet. Returns whether bytes were held back.
     fn hold(&mut self, buf: &[u8]) -> bool {
         let held = self.held_bytes();
         for wording in WORDINGS {

@@ -22,7 +22,7 @@ use std::{fmt, io};
 pub(crate) enum Sentence<'a> {
     /// An argument is not UTF-8.
     NotText,
-    /// A path is not that of a Git repository.
+    /// A path does not lead to a Git repository.
     NoRepository {
         path: &'a str,
     },
@@ -219,7 +219,7 @@ fn write_reason<W: fmt::Write>(error: &io::Error, f: &mut fmt::Formatter<W>) -> 
     }
 }
 
-// ---- a repository here
+// ---- faults of local repositories
 
 fn write_repository<W: fmt::Write>(
     path: &str,
@@ -259,8 +259,8 @@ fn write_store_file<W: fmt::Write>(
     }
 }
 
-/// Returns the text about an unsupported format. In a message it follows the name of the
-/// repository.
+/// Returns the text about an unsupported format, which follows the name of the repository in a
+/// message.
 pub(crate) fn form_text(fault: FormFault) -> &'static str {
     match fault {
         FormFault::Shallow => "is shallow: 'git fetch --unshallow' makes it whole",
@@ -352,7 +352,7 @@ fn write_client_repo<W: fmt::Write>(
     write!(f, "cannot fetch into {path}: {fault}")
 }
 
-// ---- a server
+// ---- faults of a conversation with a server
 
 fn write_fetch<W: fmt::Write>(
     url: &str,
@@ -449,7 +449,7 @@ fn write_message<W: fmt::Write>(frame: u64, why: &Why, f: &mut fmt::Formatter<W>
     }
 }
 
-// ---- a client
+// ---- faults of a request from a client
 
 fn write_request<W: fmt::Write>(fault: &ServeFault, f: &mut fmt::Formatter<W>) -> fmt::Result {
     match fault {
@@ -491,7 +491,7 @@ fn write_request_message<W: fmt::Write>(
     }
 }
 
-// ---- parts
+// ---- helpers
 
 /// Bytes from a peer, displayed on one line with a question mark for each non-printable byte.
 #[derive(Clone, Copy)]

@@ -9,7 +9,8 @@ use Rattle.gitrefs.specs.declared.fault.Cause.TheVariants as cause
 use Rattle.gitrefs.specs.declared.fault.RefFault.{RefFault}
 use Rattle.gitrefs.specs.declared.fault.RefFault.TheVariants as fault
 
--- the meaning of a fault: `Malformed` means that the text has no valid reading, and `Memory` is always possible
+-- a parse fault is correct: the fault `Malformed` requires a text with no valid reading, and the fault `Memory` is
+-- always possible
 abbrev pub IsTextFault : Type 0 → TextFault → Type 0
 IsTextFault Reading Malformed = ¬ Reading
 IsTextFault Reading Memory = ⊤

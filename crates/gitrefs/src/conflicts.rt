@@ -3,8 +3,8 @@
 use gname::RefName;
 use std::alloc::{AllocError, Allocator};
 
-/// Returns the first name that has another of these names as a parent directory. The names must be
-/// sorted.
+/// Returns the first name that has another of these names as a parent directory. The caller must
+/// sort the names.
 ///
 /// A prefix of a name sorts before the name, and all names between the two have the same prefix. So
 /// each name is compared only with its prefixes among the earlier names. Fails only if out of

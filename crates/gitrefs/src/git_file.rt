@@ -17,8 +17,8 @@ use std::path::Path;
 use std::{fs, io};
 
 /// A file of a Git directory, and its lockfile, which has the suffix `.lock`. A missing file counts
-/// as empty, and locking it creates its parent directories. The lockfile is open only while it is
-/// written, so a thousand locks need only one file descriptor.
+/// as empty, and locking the file creates its parent directories. The lockfile is open only while
+/// it is written, so a thousand locks need only one file descriptor.
 #[derive(Drop)]
 pub(crate) struct GitFile<'r, R: Files, A: Allocator + Copy = Global> {
     files: &'r R,

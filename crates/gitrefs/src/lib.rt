@@ -4,17 +4,17 @@
 //! # Proved
 //!
 //! - [`parse_loose_ref`] and [`parse_packed_refs`] accept exactly the file formats of `specs/`.
-//!   [`parse_loose_ref`] returns the id, or the name of the other ref. [`parse_packed_refs`]
-//!   returns the refs with their peeled ids, in the order of the lines.
+//!   `parse_loose_ref` returns the id, or the name of the other ref. `parse_packed_refs` returns
+//!   the refs with their peeled ids, in the order of the lines.
 //! - [`parse_common_dir`] accepts exactly the format of `commondir` files in `specs/`, and returns
-//!   the path in the file. [`parse_git_file`] returns a path only for a valid `.git` file, but
-//!   might refuse a valid file.
+//!   the path in the file. The function [`parse_git_file`] returns a path only for a valid `.git`
+//!   file, but might refuse a valid file.
 //! - [`packed_refs_text`] and [`peeled_refs_text`] write a header and a line for each ref, sorted
 //!   by name. If all ids are SHA-1, the text reads back as the same refs ([`laws`]).
 //! - The written text of a HEAD that points at a branch reads back as that branch.
 //! - [`prepare_ref`] writes an id to the lockfile of a ref file, with any `Storage` of `glockfile`,
-//!   and does not change the file. [`commit_file`] replaces the file atomically, and always
-//!   releases the lock. After `Ok`, the file has the new text.
+//!   and does not change the file. The function [`commit_file`] replaces the file atomically, and
+//!   always releases the lock. After `Ok`, the file has the new text.
 //! - The path of a ref file is the Git directory, a slash and the ref name. No component of a ref
 //!   name is empty, `.` or `..` ([`laws`]).
 //! - A file that will be replaced is read only while it is locked. A lockfile is renamed only after
@@ -26,21 +26,21 @@
 //!
 //! # Differences from Git
 //!
-//! - Git ignores everything after a NUL in a loose ref file. This crate accepts a NUL only after
-//!   white space that follows the id.
-//! - Git accepts any white space between an id and a name in `packed-refs`. This crate requires one
-//!   space.
-//! - Git dies if a name in `packed-refs` contains `..`, such as `refs/../x`. This crate ignores the
-//!   line, like any line with an invalid ref name.
+//! - Git ignores everything after a NUL in a loose ref file. This crate accepts a NUL in a loose
+//!   ref file only after an id and white space.
+//! - Git accepts any white space between an id and a name in `packed-refs`. This crate requires
+//!   exactly one space.
+//! - Git dies if a name in `packed-refs` contains `..`, such as `refs/../x`. This crate ignores
+//!   each line with an invalid ref name.
 //! - A ref name has at most 1,000 bytes, and a repository has at most 65,536 refs.
-//! - A loose ref whose name is not UTF-8 is ignored, and cannot be updated. A ref in `packed-refs`
-//!   may have such a name.
+//! - A loose ref whose name is not UTF-8 is ignored, and cannot be updated. In `packed-refs`, names
+//!   that are not UTF-8 are accepted.
 //! - Git cannot resolve HEAD if it leads to a malformed ref file, or through too many symbolic
 //!   refs. This crate returns the last ref name that such a HEAD leads to.
 //! - Git updates a symbolic ref by updating its target. This crate updates neither symbolic refs
 //!   nor symbolic links.
-//! - A ref cannot replace a directory that contains empty directories. Git removes such
-//!   directories.
+//! - A ref cannot replace a directory that contains empty directories. Git removes empty
+//!   directories first.
 //! - Git skips a ref whose file cannot be read, or whose symbolic link is cyclic. This crate fails
 //!   on such a ref.
 //! - Git dies if a directory has neither HEAD nor `refs`. This crate finds no refs in such a
@@ -58,17 +58,17 @@
 //! No contract can describe the contents of a system file, so [`GitDirectory`] is only tested,
 //! against Git. No clause covers the files that [`GitDirectory`] opens, the precedence of loose
 //! refs, and symbolic refs. No clause covers the updates that [`GitDirectory`] refuses, and the
-//! locks that it removes. A lockfile is removed when its guard is dropped, but no clause says so.
+//! removal of locks. A lockfile is removed when its guard is dropped, but no clause says so.
 //!
-//! The contracts let [`PackedPeels`] contain any data. It repeats the peeled ids of `packed-refs`,
-//! which may be wrong.
+//! The contracts let [`PackedPeels`] contain any data. In fact it contains the peeled ids of
+//! `packed-refs`, which may be wrong.
 //!
 //! Name conflicts are checked before files are locked, so a conflict with a ref that is packed
 //! meanwhile is missed. If two lines of `packed-refs` have the same name, the first line wins.
 //!
 //! Any call that allocates may fail with out-of-memory. The contracts do not say when. A killed
-//! process can leave a lockfile behind. The crate does not notice that two paths name the same Git
-//! directory, for example through symbolic links.
+//! process can leave its lockfile on disk. The crate does not notice that two paths name the same
+//! Git directory, for example through symbolic links.
 //!
 //! This crate contains no tests.
 //!

@@ -6,7 +6,7 @@ ghost use Rattle.gitrefs.specs.Links.{IsGitFile, IsPathFile, is_line_end};
 use crate::words::strip;
 
 /// Returns the path of the Git directory that a file `.git` names, as in a linked worktree
-/// (git-worktree(1)) or a submodule (gitsubmodules(7)). Returns `None` if the text is not that of a
+/// (git-worktree(1)) or a submodule (gitsubmodules(7)). Returns `None` if the text is not a valid
 /// `.git` file. A relative path starts at the directory of the file.
 pub fn parse_git_file(text: &[u8]) -> Option<&[u8]>
     ensures { IfSome result (λ path. IsGitFile text.now path.now) }
@@ -18,7 +18,7 @@ pub fn parse_git_file(text: &[u8]) -> Option<&[u8]>
 }
 
 /// Returns the path of the directory that a file `commondir` names (gitrepository-layout(5)).
-/// Returns `None` if the text is not that of a `commondir` file. A relative path starts at the Git
+/// Returns `None` if the text is not a valid `commondir` file. A relative path starts at the Git
 /// directory.
 pub fn parse_common_dir(text: &[u8]) -> Option<&[u8]>
     ensures { MatchOption result ((path : List ℕ) → ¬ (IsPathFile text.now path))

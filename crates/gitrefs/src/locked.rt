@@ -148,8 +148,8 @@ fn write_text<T: Storage>(file: &mut T, text: &[u8]) -> Result<(), StorageFault>
 
 /// Replaces a file with its lockfile, which unlocks the file.
 ///
-/// Fails with `Failed` or `Memory`. After a fault, the file has either the old text or the whole
-/// new text. The file is unlocked in any case.
+/// Fails with `Failed` or `Memory`. A failed call leaves either the old text or the whole new text
+/// in the file. The file is unlocked in any case.
 pub fn commit_file<T: Storage>(file: &mut T) -> Result<(), StorageFault>
     requires { T.lockfile file.old ≡ Synced }
     ensures states { WhereKnown (T.texts file.old) (T.texts file.new)

@@ -24,7 +24,7 @@ pub enum LooseRef<A: Allocator + Copy = Global> {
 /// white space may surround, or forty hexadecimal digits. White space may follow the digits, and
 /// then any bytes.
 ///
-/// Fails with `Malformed` if the text is not that of a ref file, and with `Memory`.
+/// Fails with `Malformed` if the text is not a valid ref file. Also fails with `Memory`.
 pub fn parse_loose_ref<A: Allocator + Copy>(alloc: A, text: &[u8]) -> Result<LooseRef<A>, TextFault>
     ensures { MatchResult result (λ value. LooseRefOf text.now value)
         (IsTextFault (IsLooseRefFile text.now)) }

@@ -37,7 +37,7 @@ struct Line<'a> {
 /// refs may be in any order.
 ///
 /// A line whose name is not a ref name below `refs/` is ignored. Fails with `Malformed` if the text
-/// is not that of `packed-refs`, and with `Memory`.
+/// is not valid. Also fails with `Memory`.
 pub fn parse_packed_refs<A: Allocator + Copy>(
     alloc: A,
     text: &[u8],

@@ -72,8 +72,8 @@ fn join<A: Allocator + Copy>(alloc: A, git_dir: &str, name: &str) -> Result<File
     Ok(FilePath { text })
 }
 
-/// Returns whether an error means that a path does not exist. A path does not exist either if one
-/// of its parents is a file.
+/// Returns whether an error means that a path does not exist. A path with a file as a parent
+/// directory does not exist either.
 pub(crate) fn is_absent(kind: ErrorKind) -> bool {
     matches!(kind, ErrorKind::NotFound | ErrorKind::NotADirectory)
 }

@@ -263,7 +263,7 @@ impl<R: Files, A: Allocator + Copy> GitDirectory<'_, R, A> {
         }
     }
 
-    // Reads a path whose metadata is known and is not that of a symbolic link.
+    // Reads the file at a path that is not a symbolic link and has this metadata.
     fn look_at(&self, path: &FilePath<A>, metadata: &Metadata) -> Result<RefEntry<A>, RefFault<A>> {
         if metadata.is_dir() {
             return Ok(RefEntry::Directory);

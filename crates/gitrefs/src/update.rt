@@ -15,8 +15,8 @@ use std::fs::Files;
 pub struct RefUpdate<A: Allocator + Copy = Global> {
     /// The name of the ref, which is below `refs/`.
     pub name: RefName<A>,
-    /// The expected old id, or `None` if the ref must not exist. It is checked while the ref is
-    /// locked.
+    /// The expected old id, which is checked while the ref is locked. `None` means that the ref
+    /// must not exist.
     pub old: Option<Oid>,
     /// The new id of the ref.
     pub new: Oid,
@@ -115,8 +115,8 @@ impl<R: Files, A: Allocator + Copy> GitDirectory<'_, R, A> {
         self.check_apart(names.as_slice())
     }
 
-    /// Checks that none of these names is a directory of another name. The names must be sorted.
-    /// Fails with `Conflict` or `Memory`.
+    /// Checks that none of these names is a directory of another name. The caller must sort the
+    /// names. Fails with `Conflict` or `Memory`.
     pub(crate) fn check_apart(&self, names: &[&RefName<A>]) -> Result<(), RefFault<A>> {
         match first_conflict(self.alloc, names)? {
             Some(name) => Err(self.fault_of(name, Cause::Conflict)),

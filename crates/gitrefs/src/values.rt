@@ -36,7 +36,7 @@ impl<A: Allocator + Copy> Values<A> {
         Ok(())
     }
 
-    /// Sorts the refs by name. This must precede all other calls except `push`.
+    /// Sorts the refs by name. A caller must call `sort` before any function except `push`.
     pub(crate) fn sort(&mut self) -> Result<(), AllocError> {
         if self.values.is_sorted_by(|one, next| one.0 < next.0) {
             return Ok(());

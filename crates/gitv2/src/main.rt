@@ -13,7 +13,8 @@
 //!
 //! # What the contracts do not rule out
 //!
-//! Anything else: no contract can describe a file, a stream or a socket of the system.
+//! The contracts say nothing more, because no contract can describe a file, a stream or a socket of
+//! the system.
 //!
 //! # Stands on
 //!
