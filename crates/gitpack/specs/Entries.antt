@@ -1,4 +1,4 @@
--- The heads of a pack's entries (gitformat-pack(5), "pack-*.pack files have the following format", "Object types").
+-- The headers of pack entries (gitformat-pack(5), "pack-*.pack files have the following format", "Object types").
 use Rattle.std.specs.Prelude.{◌≡◌, ℕ, ◌+◌, ◌*◌, ◌/◌, ◌%◌, ◌≤◌, List, [], ◌∷◌, ◌++◌, length}
 use Rattle.gname.specs.Ids.{IsIdOf}
 use Rattle.gname.specs.declared.formats.Format.TheVariants.{Sha1}
@@ -7,8 +7,8 @@ use Rattle.gitpack.specs.Numbers.{IsNumber, IsOffset, low_first}
 use Rattle.gitpack.specs.declared.entry.EntryForm.{EntryForm}
 use Rattle.gitpack.specs.declared.entry.EntryForm.TheVariants.{Whole, OffsetDelta, RefDelta}
 
--- A type and a size: bits 4 to 6 of the first byte are the number of the type, and its low four bits are the lowest of
--- the size. The bytes after it, eight at most, have the rest of the size.
+-- The encoding of a type and a size. Bits 4 to 6 of the first byte are the type number, and its low four bits are the
+-- lowest bits of the size. At most eight more bytes encode the other bits of the size.
 pub record IsTypeAndSize (number size : ℕ) (text : List ℕ) : Type 0 where
   pub first : ℕ
   pub more : List ℕ
@@ -18,14 +18,14 @@ pub record IsTypeAndSize (number size : ℕ) (text : List ℕ) : Type 0 where
   pub typed : number ≡ first / 16 % 8
   pub sized : size ≡ first % 16 + 16 * low_first more
 
--- What comes after the size: nothing, if the number is that of an object type; after 6 the offset of the base, and after
--- 7 the id of the base.
+-- The part of an entry header after the size. This part is empty for an undeltified object, the offset of the base for
+-- type 6, and the id of the base for type 7.
 abbrev pub IsBaseOf : EntryForm → ℕ → List ℕ → Type 0
 IsBaseOf (Whole kind) number text = (number ≡ pack_number kind) × (text ≡ [])
 IsBaseOf (OffsetDelta back) number text = (number ≡ 6) × IsOffset text back
 IsBaseOf (RefDelta id) number text = (number ≡ 7) × IsIdOf Sha1 id × (text ≡ id)
 
--- the head of an entry of this form, whose stream inflates to this size
+-- the header of an entry of type `form`, whose stream inflates to `size` bytes
 pub record IsHead (form : EntryForm) (size : ℕ) (text : List ℕ) : Type 0 where
   pub number : ℕ
   pub front : List ℕ
@@ -34,7 +34,7 @@ pub record IsHead (form : EntryForm) (size : ℕ) (text : List ℕ) : Type 0 whe
   pub sized : IsTypeAndSize number size front
   pub based : IsBaseOf form number back
 
--- the bytes begin with such a head, and the rest comes after it
+-- the bytes begin with the header of an entry of type `form`, and `rest` follows the header
 pub record BeginsWithHead (bytes : List ℕ) (form : EntryForm) (size : ℕ) (rest : List ℕ) : Type 0 where
   pub head : List ℕ
   pub is : IsHead form size head

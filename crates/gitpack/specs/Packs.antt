@@ -5,27 +5,27 @@ use Rattle.sha1.specs.Sha1.{sha1}
 use Rattle.gitpack.specs.Entries.{IsHead}
 use Rattle.gitpack.specs.declared.entry.EntryForm.{EntryForm}
 
--- the header: the signature, version 2, and the number of entries
+-- the header of a pack: the signature, version 2, and the number of entries
 abbrev pub pack_header : ℕ → List ℕ
 pack_header count = codes "PACK" ++ (to_be_bytes w32 2 ++ to_be_bytes w32 count)
 
--- an entry: its head, and its stream
+-- a pack entry: the entry header, and the zlib stream
 pub record IsEntry (form : EntryForm) (size : ℕ) (stream text : List ℕ) : Type 0 where
   pub head : List ℕ
   pub is : IsHead form size head
   pub parts : text ≡ head ++ stream
 
--- a longer pack: the earlier one, and an entry after it
+-- a pack that consists of the bytes `old` and one more entry
 pub record AddsEntry (form : EntryForm) (size : ℕ) (stream old new : List ℕ) : Type 0 where
   pub text : List ℕ
   pub entry : IsEntry form size stream text
   pub after : new ≡ old ++ text
 
--- a pack with its trailer, the SHA-1 of all bytes before
+-- a pack with its trailer, which is the SHA-1 of all other bytes
 abbrev pub with_trailer : List ℕ → List ℕ
 with_trailer bytes = bytes ++ sha1 bytes
 
--- a pack of so many entries with this trailer: its header, more, and the SHA-1 of both
+-- a pack with this entry count and trailer: a pack header, any bytes, and the SHA-1 of both
 pub record IsFramed (count : ℕ) (trailer pack : List ℕ) : Type 0 where
   pub entries : List ℕ
   pub parts : pack ≡ (pack_header count ++ entries) ++ trailer

@@ -1,3 +1,3 @@
--- The steps: what only private functions and proofs speak of.
+-- Definitions for private functions and proofs.
 pub mod FirstBytes
 pub mod Rows

@@ -1,38 +1,38 @@
-//! The blocks of a base, by the hashes of their bytes.
+//! A hash table of the blocks of a delta base.
 
 use std::alloc::{AllocError, Allocator};
 
 /// The length of a block.
 pub(crate) const BLOCK: usize = 16;
 
-// The base of the digits of a hash, and the factor of the first digit of a block. A hash has one
-// digit for each byte. The digit of the first byte is the highest.
+// The multiplier of the rolling hash of a block.
 const DIGITS: u32 = 0x0100_0193;
 
 const FIRST_DIGIT: u32 = 0xd69d_215b;
 
-// The maximum number of blocks to try in a slot.
+// The maximum number of blocks in a slot that are compared with the target.
 const MAX_TRIES: usize = 32;
 
-// The length of a match that ends the search at its place.
+// The length from which a match is accepted without looking for a longer one.
 const NICE_LENGTH: usize = 4_096;
 
-// A block: its hash, and the next block in the same slot.
+// The hash of a block, and the number of the next block in the same slot.
 #[derive(Clone, Copy, Drop)]
 struct Block {
     hash: u32,
     next: u32,
 }
 
-/// The blocks of a base. Block numbers are stored plus one; 0 means no block.
+/// A hash table of the blocks of a delta base. Stored block numbers are one higher than block
+/// positions, and 0 means no block.
 #[derive(Drop)]
 pub(crate) struct Blocks<A: Allocator + Copy> {
-    // The first block in each slot.
+    // The number of the first block in each slot.
     heads: Vec<u32, A>,
     blocks: Vec<Block, A>,
 }
 
-/// Bytes that the target and the base share.
+/// A range of bytes that occurs in both the target and the base.
 #[derive(Clone, Copy)]
 pub(crate) struct Match {
     /// The offset of the first byte in the target.
@@ -44,7 +44,7 @@ pub(crate) struct Match {
 }
 
 impl<A: Allocator + Copy> Blocks<A> {
-    /// Returns the blocks of a base. Fails only if out of memory.
+    /// Returns the hash table of the blocks of a base. Fails only if out of memory.
     pub(crate) fn new(alloc: A, base: &[u8]) -> Result<Blocks<A>, AllocError> {
         let count = base.len() / BLOCK;
         let mut heads = Vec::with_capacity(alloc, count)?;
@@ -56,7 +56,8 @@ impl<A: Allocator + Copy> Blocks<A> {
         Ok(made)
     }
 
-    // Adds the blocks, the last one first. Only the first of consecutive equal blocks is kept.
+    // Adds the blocks, from last to first. If consecutive blocks are equal, only the first of them
+    // stays in the table.
     fn add_all(&mut self, base: &[u8]) {
         let count = self.blocks.len();
         let mut after = None;
@@ -71,7 +72,7 @@ impl<A: Allocator + Copy> Blocks<A> {
         }
     }
 
-    // Adds a block. It replaces the following block if `takes_place` is set.
+    // Adds a block. If `takes_place` is set, the new block replaces the first block in its slot.
     fn add(&mut self, number: usize, hash: u32, takes_place: bool) {
         let slot = slot_of(hash, self.heads.len());
         let Some(head) = self.heads.get_mut(slot) else {
@@ -88,8 +89,9 @@ impl<A: Allocator + Copy> Blocks<A> {
         }
     }
 
-    /// Returns the first match with a block that begins at or after `from` and before `to`, or
-    /// `None` if there is none. The match extends as far as the bytes are equal.
+    /// Returns the first match of at least one block that begins in the target at or after `from`
+    /// and before `to`, or `None` if there is none. The match extends as far as the bytes are
+    /// equal.
     pub(crate) fn next_match(
         &self,
         base: &[u8],
@@ -111,8 +113,8 @@ impl<A: Allocator + Copy> Blocks<A> {
         None
     }
 
-    // Returns the longest match at `at`. `start` is the hash of the bytes there and the first block
-    // in its slot.
+    // Returns the longest match that begins at `at` in the target. `start` holds the hash of the
+    // block at `at`, and the number of the first block in the slot of this hash.
     fn longest(&self, base: &[u8], target: &[u8], at: usize, start: (u32, u32)) -> Match {
         let mut best = Match {
             at,
@@ -142,8 +144,8 @@ impl<A: Allocator + Copy> Blocks<A> {
 }
 
 impl Match {
-    /// Returns the match, extended by the equal bytes before it, but not before `least` in the
-    /// target.
+    /// Returns the match, extended backwards while bytes are equal, at most to offset `least` of
+    /// the target.
     pub(crate) fn from_front(self, base: &[u8], target: &[u8], least: usize) -> Match {
         let more = common_back(base.get(..self.offset), target.get(least..self.at));
         Match {
@@ -159,7 +161,7 @@ fn block_at(bytes: &[u8], offset: usize) -> Option<&[u8]> {
     bytes.get(offset..)?.get(..BLOCK)
 }
 
-// Returns the block after this one in its slot; 0 if there is none.
+// Returns the number of the next block in the same slot, or 0 if there is none.
 fn next_of(blocks: &[Block], number: u32) -> u32 {
     match blocks.get((number as usize).wrapping_sub(1)) {
         Some(block) => block.next,
@@ -167,13 +169,13 @@ fn next_of(blocks: &[Block], number: u32) -> u32 {
     }
 }
 
-// Returns the slot of a hash among `slots` slots.
+// Returns the slot for a hash in a table of `slots` slots.
 fn slot_of(hash: u32, slots: usize) -> usize {
     let spread = u64::from(hash.wrapping_mul(0x9E37_79B1));
     (spread.wrapping_mul(slots as u64) >> 32) as usize
 }
 
-// Returns the hash of some bytes.
+// Returns the rolling hash of these bytes.
 fn hash_of(bytes: &[u8]) -> u32 {
     let mut hash = 0u32;
     for byte in bytes {
@@ -182,7 +184,8 @@ fn hash_of(bytes: &[u8]) -> u32 {
     hash
 }
 
-// Returns the hash of a block moved on by one byte: `first` leaves it, and `next` enters it.
+// Returns the rolling hash after removing the byte `first` at the front and appending the byte
+// `next`.
 fn roll(hash: u32, first: u8, next: u8) -> u32 {
     let rest = hash.wrapping_sub(digit(first).wrapping_mul(FIRST_DIGIT));
     rest.wrapping_mul(DIGITS).wrapping_add(digit(next))
@@ -192,7 +195,7 @@ fn digit(byte: u8) -> u32 {
     u32::from(byte).wrapping_add(1)
 }
 
-// Returns the length of the common prefix of two texts.
+// Returns the length of the common prefix of two slices.
 fn common_front(one: Option<&[u8]>, other: Option<&[u8]>) -> usize {
     let (Some(one), Some(other)) = (one, other) else {
         return 0;
@@ -207,7 +210,7 @@ fn common_front(one: Option<&[u8]>, other: Option<&[u8]>) -> usize {
     length
 }
 
-// Returns the length of the common suffix of two texts.
+// Returns the length of the common suffix of two slices.
 fn common_back(one: Option<&[u8]>, other: Option<&[u8]>) -> usize {
     let (Some(one), Some(other)) = (one, other) else {
         return 0;

@@ -1,32 +1,32 @@
-//! The deltas of a pack, by their bases.
+//! A table of the deltas in a pack, sorted by their bases.
 
 use crate::entry::EntryForm;
 use crate::scanning::Scanned;
 use gname::Oid;
 use std::alloc::{AllocError, Allocator};
 
-// A delta of the entry that begins here: the index of its entry.
+// The position of an offset delta among the entries, and the offset of its base.
 #[derive(Clone, Copy, Debug, Drop)]
 struct OffsetChild {
     base: usize,
     place: usize,
 }
 
-// A delta of the object with this id: the index of its entry.
+// The position of a ref delta among the entries, and the id of its base.
 #[derive(Clone, Copy, Debug, Drop)]
 struct RefChild {
     base: Oid,
     place: usize,
 }
 
-/// The deltas of a pack, in the order of their bases.
+/// The offset deltas and the ref deltas of a pack, each sorted by base.
 #[derive(Drop)]
 pub(crate) struct Children<A: Allocator + Copy> {
     by_offset: Vec<OffsetChild, A>,
     by_id: Vec<RefChild, A>,
 }
 
-/// The remaining deltas of one base, as positions in both lists.
+/// An iterator over the deltas of one base, as positions in both lists of [`Children`].
 #[derive(Clone, Copy, Debug, Drop)]
 pub(crate) struct Cursor {
     start: usize,
@@ -36,7 +36,7 @@ pub(crate) struct Cursor {
 }
 
 impl<A: Allocator + Copy> Children<A> {
-    /// Returns the deltas among these entries. Fails only if out of memory.
+    /// Returns the table of the deltas among these entries. Fails only if out of memory.
     pub(crate) fn new(alloc: A, entries: &[Scanned]) -> Result<Children<A>, AllocError> {
         let mut by_offset = Vec::new(alloc);
         let mut by_id = Vec::new(alloc);
@@ -56,7 +56,7 @@ impl<A: Allocator + Copy> Children<A> {
         Ok(Children { by_offset, by_id })
     }
 
-    /// Returns the deltas of the object with this id, whose entry begins here.
+    /// Returns a cursor over the deltas of the object with this id, whose entry begins at `start`.
     pub(crate) fn of(&self, start: usize, id: Oid) -> Cursor {
         let offset_place = self.by_offset.partition_point(|child| child.base < start);
         let id_place = self.by_id.partition_point(|child| child.base < id);
@@ -68,7 +68,7 @@ impl<A: Allocator + Copy> Children<A> {
         }
     }
 
-    /// Returns the index of the next delta among all entries, or `None` if there is none.
+    /// Returns the position of the next delta among the entries, or `None` if there is none.
     pub(crate) fn peek(&self, cursor: &Cursor) -> Option<usize> {
         match self.next_by_offset(cursor) {
             Some(place) => Some(place),
@@ -76,7 +76,7 @@ impl<A: Allocator + Copy> Children<A> {
         }
     }
 
-    /// Returns the cursor, moved past the next delta.
+    /// Returns the cursor after the next delta.
     pub(crate) fn after(&self, cursor: &Cursor) -> Cursor {
         let mut next = *cursor;
         if self.next_by_offset(cursor).is_some() {

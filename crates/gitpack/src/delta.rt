@@ -1,4 +1,4 @@
-//! Deltas (gitformat-pack(5), "Deltified representation").
+//! Applying deltas (gitformat-pack(5), "Deltified representation").
 
 ghost use Rattle.std.specs.Prelude.{◌≡◌, ◌+◌, ◌^◌, ◌<◌, ◌≤◌, ◌++◌, ◌∷◌, List, ℕ, IfOk, IfSome, MatchOption, drop, length, take};
 ghost use Rattle.gitpack.specs.Deltas.{BeginsWithInstruction, Instruction, IsCopy, IsDelta, IsSparse, Makes, add_instruction, copy_size};
@@ -6,25 +6,25 @@ ghost use Rattle.gitpack.specs.Deltas.{BeginsWithInstruction, Instruction, IsCop
 use crate::numbers::split_size;
 use std::alloc::{AllocError, Allocator};
 
-// The minimum length of a delta.
+// The minimum length of a delta in bytes.
 const MIN_DELTA: usize = 4;
 
-// The lowest command that is a copy. A lower command inserts that number of bytes.
+// The lowest command that copies. A lower command inserts as many bytes as its value.
 const COPIES: u8 = 128;
 
-// The bits of a copy command for the bytes of the offset.
+// The number of values of the low four bits of a copy command, which mark the bytes of the offset.
 const OFFSET_BITS: u8 = 16;
 
-// The maximum number of bytes of the offset and of the size of a copy.
+// The maximum number of bytes for the offset of a copy.
 const OFFSET_BYTES: u32 = 4;
 
 const SIZE_BYTES: u32 = 3;
 
-// The size of a copy with size 0 in its command.
+// The size of a copy whose encoded size is 0.
 const FULL_COPY: usize = 0x10000;
 
-/// Returns the size of the body that a delta makes, as the delta records it. Returns `None` if the
-/// bytes do not begin with two sizes, and thus are not a delta.
+/// Returns the size of the object that a delta makes, as the delta records it. Returns `None` if
+/// the bytes do not begin with two sizes, as a delta does.
 pub fn made_size(delta: &[u8]) -> Option<usize>
     ensures { MatchOption result
         ((base body : List ℕ) → ¬ (IsDelta base delta.now body))
@@ -39,9 +39,9 @@ pub fn made_size(delta: &[u8]) -> Option<usize>
     }
 }
 
-/// Applies a delta to its base and returns the body. Returns `None` if the bytes are not a delta of
-/// this base, or the body has more than `most` bytes. The body uses at most twice its size in
-/// memory.
+/// Applies a delta to its base and returns the resulting object. Returns `None` if the bytes are
+/// not a delta of this base, or the result has more than `most` bytes. The result uses at most
+/// twice its size in memory.
 ///
 /// Fails only if out of memory.
 pub fn apply_delta<A: Allocator + Copy>(
@@ -72,7 +72,8 @@ pub fn apply_delta<A: Allocator + Copy>(
     follow(alloc, base, commands, size)
 }
 
-// Returns the body of `size` bytes that these instructions make.
+// Returns the object that these instructions make, or `None` if an instruction is invalid or the
+// object does not have `size` bytes.
 fn follow<A: Allocator + Copy>(
     alloc: A,
     base: &[u8],
@@ -104,14 +105,15 @@ fn follow<A: Allocator + Copy>(
     }
 }
 
-// Returns the initial capacity for the body of a delta. It grows if parts of the base are copied
-// more than once.
+// Returns the initial capacity for the result of a delta. The result needs more capacity only if
+// parts of the base are copied more than once.
 fn first_room(base: &[u8], commands: &[u8], size: usize) -> usize {
     size.min(base.len().saturating_add(commands.len()))
 }
 
-// Returns the bytes that the first instruction of a text adds, and the text after it. Returns
-// `None` if the text does not begin with an instruction that fits the base.
+// Returns the bytes that the first instruction adds to the result, and the bytes after this
+// instruction. Returns `None` if there is no valid instruction, or if the instruction copies beyond
+// the end of the base.
 fn split_instruction<'a>(base: &'a [u8], text: &'a [u8]) -> Option<(&'a [u8], &'a [u8])>
     ensures { MatchOption result
         ((i : Instruction) (rest : List ℕ) → ¬ (BeginsWithInstruction base.now text.now i rest))
@@ -139,14 +141,14 @@ fn split_instruction<'a>(base: &'a [u8], text: &'a [u8]) -> Option<(&'a [u8], &'
     Some((bytes, rest))
 }
 
-// The offset and the size of a copy.
+// The offset and size of the range that a copy instruction reads.
 #[derive(Clone, Copy)]
 struct Range {
     offset: usize,
     size: usize,
 }
 
-// Returns these bytes of the base, or `None` if they are not all within it.
+// Returns this range of the base, or `None` if the range ends after the base.
 fn part_of(base: &[u8], range: Range) -> Option<&[u8]>
     ensures { MatchOption result (length base.now < range.offset + range.size)
         (λ part. (range.offset + range.size ≤ length base.now)
@@ -161,7 +163,7 @@ fn part_of(base: &[u8], range: Range) -> Option<&[u8]>
     }
 }
 
-// Returns the range of the copy with this command, and the text after it.
+// Returns the range of a copy instruction with this command, and the bytes after the instruction.
 fn split_copy(command: u8, bytes: &[u8]) -> Option<(Range, &[u8])>
     requires { 128 ≤ command }
     ensures cases { MatchOption result
@@ -181,15 +183,15 @@ fn split_copy(command: u8, bytes: &[u8]) -> Option<(Range, &[u8])>
     Some((Range { offset, size }, rest))
 }
 
-// Returns the size of a copy with this number in its command.
+// Returns the size of a copy whose encoded size is `number`.
 fn copy_size(number: usize) -> usize
     ensures { result ≡ copy_size number }
 {
     if number == 0 { FULL_COPY } else { number }
 }
 
-// Returns a number whose bytes are present as these bits say, the lowest first, and the text after
-// it.
+// Decodes a little-endian number in which only the bytes with a set bit in `bits` are present.
+// Returns the number and the remaining bytes.
 fn split_sparse(bits: u8, count: u32, bytes: &[u8]) -> Option<(usize, &[u8])>
     requires { count ≤ 4 }
     ensures cases { MatchOption result

@@ -10,19 +10,19 @@ use crate::heads::put_size;
 use std::alloc::{AllocError, Allocator};
 use std::marker::Model;
 
-// The maximum length of an insertion and of a copy.
+// The maximum length of one insertion.
 const MAX_INSERTION: usize = 127;
 
 const MAX_COPY: usize = 0x10000;
 
-// The bit of a copy command, and the bits for the first byte of the offset and of the size.
+// The bit that marks a copy command.
 const COPY: u8 = 0x80;
 
 const OFFSET_BIT: u8 = 0x01;
 
 const SIZE_BIT: u8 = 0x10;
 
-/// A base of deltas. Contracts see its bytes.
+/// A base that deltas can refer to. In contracts, a base is the list of its bytes.
 #[derive(Drop)]
 pub struct DeltaBase<A: Allocator + Copy> {
     alloc: A,
@@ -39,8 +39,8 @@ impl<A: Allocator + Copy> Model for DeltaBase<A> {
 }
 
 impl<A: Allocator + Copy> DeltaBase<A> {
-    /// Returns a base with these bytes. Its table of blocks uses three quarters of their size in
-    /// memory. Fails only if out of memory.
+    /// Returns a base with these bytes. The hash table uses three quarters of their size in
+    /// additional memory. Fails only if out of memory.
     pub fn new(alloc: A, bytes: Vec<u8, A>) -> Result<DeltaBase<A>, AllocError>
         ensures { IfOk result (λ base. base ≡ bytes.items) }
     {
@@ -52,15 +52,15 @@ impl<A: Allocator + Copy> DeltaBase<A> {
         })
     }
 
-    /// Returns the length of the base.
+    /// Returns the length of the base in bytes.
     pub fn len(&self) -> usize
         ensures { result ≡ length self.now }
     {
         self.bytes.len()
     }
 
-    /// Returns a delta of this base that makes the target and has at most `limit` bytes, or `None`
-    /// if none was found. The delta is applied as a check before it is returned.
+    /// Returns a delta of at most `limit` bytes that makes the target from this base, or `None` if
+    /// the search finds none. The delta is applied as a check before it is returned.
     ///
     /// Fails only if out of memory.
     pub fn make_delta(&self, target: &[u8], limit: usize) -> Result<Option<Vec<u8, A>>, AllocError>
@@ -109,7 +109,7 @@ impl<A: Allocator + Copy> DeltaBase<A> {
     }
 }
 
-// Appends insertions of these bytes.
+// Appends instructions that insert these bytes.
 fn put_insertions<A: Allocator + Copy>(
     delta: &mut Vec<u8, A>,
     bytes: Option<&[u8]>,
@@ -124,7 +124,7 @@ fn put_insertions<A: Allocator + Copy>(
     Ok(())
 }
 
-// Appends copies of `length` bytes of the base.
+// Appends instructions that copy `length` bytes of the base from `offset` on.
 fn put_copies<A: Allocator + Copy>(
     delta: &mut Vec<u8, A>,
     offset: usize,
@@ -138,7 +138,7 @@ fn put_copies<A: Allocator + Copy>(
     Ok(())
 }
 
-// Appends a copy. Zero bytes of its offset and size are left out.
+// Appends a copy instruction. Zero bytes of the offset and the size are left out.
 fn put_copy<A: Allocator + Copy>(
     delta: &mut Vec<u8, A>,
     offset: usize,
@@ -155,7 +155,8 @@ fn put_copy<A: Allocator + Copy>(
     Ok(())
 }
 
-// Appends the nonzero bytes among the lowest bytes of a number, and returns their bits.
+// Appends the nonzero bytes of a number in little-endian order, and returns the bits that mark
+// these bytes.
 fn put_sparse<A: Allocator + Copy>(
     delta: &mut Vec<u8, A>,
     number: usize,

@@ -1,4 +1,4 @@
-//! The heads of entries.
+//! Reading the headers of pack entries.
 
 ghost use Rattle.std.specs.Prelude.{◌≡◌, ◌+◌, ◌*◌, ◌/◌, ◌%◌, ◌≤◌, ◌++◌, List, ℕ, MatchOption, OnOk, length, drop};
 ghost use Rattle.gitpack.specs.Entries.{BeginsWithHead, IsBaseOf, IsHead, IsTypeAndSize};
@@ -8,47 +8,47 @@ use crate::numbers::{low_first, split_number, split_offset};
 use gitobject::{ID_BYTES, ObjectType, id_of_bytes};
 use gname::Oid;
 
-/// The maximum length of a head: nine bytes for the type and the size, and an id.
+/// The maximum length of an entry header: nine bytes for the type and the size, and twenty for an
+/// id.
 pub const MAX_HEAD: usize = 29;
 
-// The maximum length of the type and the size.
+// The maximum encoded length of the type and the size in an entry header.
 const MAX_TYPE_AND_SIZE: usize = 9;
 
-// The values of the low bits of the first byte, which belong to the size, and of the bits of the
-// type.
+// The number of values of the low four bits of the first byte, which belong to the size.
 const LOW_SIZES: u8 = 16;
 
 const TYPES: u8 = 8;
 
-// The numbers of deltas (gitformat-pack(5), "Object types").
+// The type number of an offset delta (gitformat-pack(5), "Object types").
 pub(crate) const OFFSET_DELTA: u8 = 6;
 
 pub(crate) const REF_DELTA: u8 = 7;
 
-/// How a pack holds an object (gitformat-pack(5), "Object types").
+/// The type of a pack entry (gitformat-pack(5), "Object types").
 #[derive(Clone, Copy, Debug, PartialEq, Eq, Drop)]
 pub enum EntryForm {
-    /// Whole.
+    /// An undeltified object of this type.
     Whole(ObjectType),
-    /// As a delta of the object whose entry begins this number of bytes before this entry.
+    /// A delta whose base is the entry that begins this number of bytes earlier.
     OffsetDelta(usize),
-    /// As a delta of the object with this id.
+    /// A delta whose base is the object with this id.
     RefDelta(Oid),
 }
 
-/// The head of an entry, which precedes its zlib stream.
+/// The header of a pack entry, which precedes the zlib stream.
 #[derive(Clone, Copy, Debug, Drop)]
 pub struct EntryHead {
-    /// The form of the entry.
+    /// The type of the entry.
     pub form: EntryForm,
-    /// The size of the inflated stream.
+    /// The size of the inflated zlib stream.
     pub size: usize,
-    /// The length of the head.
+    /// The length of the entry header.
     pub length: usize,
 }
 
-/// Returns the head at the start of the bytes, or `None` if they do not begin with one. A size has
-/// at most 60 bits here, and an offset at most eight bytes.
+/// Returns the entry header at the start of the bytes, or `None` if they do not begin with one.
+/// This function accepts sizes of at most 60 bits, and offsets of at most eight bytes.
 pub fn read_head(bytes: &[u8]) -> Option<EntryHead>
     ensures { MatchOption result
         ((form : EntryForm) (size : ℕ) (rest : List ℕ)
@@ -67,14 +67,14 @@ pub fn read_head(bytes: &[u8]) -> Option<EntryHead>
     Some(EntryHead { form, size, length })
 }
 
-// A type number and a size.
+// The type number and the size in an entry header.
 #[derive(Clone, Copy)]
 struct TypeAndSize {
     number: u8,
     size: usize,
 }
 
-// Returns the type and size at the start of the bytes, and the bytes after them.
+// Returns the type and size at the start of the bytes, and the remaining bytes.
 fn split_type_and_size(bytes: &[u8]) -> Option<(TypeAndSize, &[u8])>
     ensures { MatchOption result
         ((number size : ℕ) (text rest : List ℕ) → IsTypeAndSize number size text
@@ -93,8 +93,8 @@ fn split_type_and_size(bytes: &[u8]) -> Option<(TypeAndSize, &[u8])>
     Some((TypeAndSize { number, size }, rest))
 }
 
-// Returns the form with this number, whose base is at the start of the bytes, and the bytes after
-// it.
+// Returns the entry type with this number, whose base is at the start of the bytes, and the
+// remaining bytes.
 fn split_form(number: u8, bytes: &[u8]) -> Option<(EntryForm, &[u8])>
     ensures { MatchOption result
         ((form : EntryForm) (text rest : List ℕ) → IsBaseOf form number text

@@ -1,27 +1,28 @@
-//! Faults of packs.
+//! The faults of reading and writing packs.
 
 ghost use Rattle.std.specs.Prelude.{◌≡◌};
 ghost use Rattle.gitpack.specs.declared.fault.PackFileFault.TheVariants.{Memory};
 
 use std::alloc::{AllocError, AllocFailed};
 
-/// Why a pack is refused, or why an entry cannot be added to one.
+/// The reason why a pack is refused, or why an entry cannot be written.
 #[derive(Clone, Copy, Debug, PartialEq, Eq, Drop)]
 pub enum PackFileFault {
     /// Out of memory.
     Memory,
     /// The header, the number of entries or the trailer of the pack is wrong.
     Frame,
-    /// The entry with this number is truncated, or its zlib stream is missing or has the wrong
-    /// size. Or it is not a delta of its base, or its base occurs twice.
+    /// The entry at this position is truncated, or its zlib stream is malformed or has the wrong
+    /// size. A delta also causes this fault if it does not fit its base, or if the base occurs
+    /// twice.
     Entry(usize),
     /// The base of a delta is not in the pack: the pack is thin, or an offset is wrong.
     Thin,
-    /// There are more objects than the limits allow, or more than 8,191 deltas in a chain. Or one
-    /// object, all objects, the held bytes, or a written pack exceed the limits. Or a size or
-    /// offset does not fit in the head of an entry.
+    /// The number of objects, the size of an object, the total size, the memory for delta bases, or
+    /// a written pack exceeds a limit. A chain of more than 8,191 deltas, or a size or offset that
+    /// an entry header cannot encode, causes the same fault.
     TooLarge,
-    /// The base of a written delta has no SHA-1 id.
+    /// The id of the base of a written delta is not a SHA-1 id.
     Format,
     /// The visitor refused an object.
     Refused,

@@ -12,14 +12,14 @@ use sha1::Sha1;
 use std::alloc::{AllocError, Allocator};
 use std::marker::Model;
 
-/// The length of a header.
+/// The length of a pack header.
 pub(crate) const HEADER_BYTES: usize = 12;
 
-/// The signature of a pack, and version 2.
+/// The first eight bytes of a pack: the signature, and version 2.
 pub(crate) const SIGNATURE: &[u8; 8] = b"PACK\0\0\0\x02";
 
-/// The received bytes of a pack. The last twenty may be its trailer. All others are hashed as they
-/// arrive. Contracts see the bytes.
+/// The received bytes of a pack. All bytes except the last twenty, which may be the trailer, are
+/// hashed on arrival. In contracts, this value is the list of received bytes.
 #[derive(Drop)]
 pub(crate) struct PackBytes<A: Allocator + Copy> {
     bytes: Vec<u8, A>,
@@ -31,9 +31,9 @@ pub(crate) struct PackBytes<A: Allocator + Copy> {
 pub(crate) struct FramedPack<A: Allocator + Copy> {
     /// The whole pack.
     pub bytes: Vec<u8, A>,
-    /// The number of entries in the header.
+    /// The entry count in the pack header.
     pub count: u32,
-    /// The trailer.
+    /// The trailer, which is the checksum of the pack.
     pub trailer: Oid,
 }
 
@@ -60,12 +60,12 @@ impl<A: Allocator + Copy> PackBytes<A> {
         }
     }
 
-    /// Returns all bytes except the last twenty.
+    /// Returns all received bytes except the last twenty.
     pub(crate) fn body(&self) -> &[u8] {
         body_of(self.bytes.as_slice())
     }
 
-    /// Adds the next bytes. Fails only if out of memory.
+    /// Appends the next received bytes. Fails only if out of memory.
     pub(crate) fn push(&mut self, piece: &[u8]) -> Result<(), AllocError>
         ensures { OnOk result (self.new ≡ self.old ++ piece.now) }
     {
@@ -76,8 +76,8 @@ impl<A: Allocator + Copy> PackBytes<A> {
         Ok(())
     }
 
-    /// Returns the whole pack, or `None` if its trailer is not the SHA-1 of all preceding bytes, or
-    /// its header is wrong.
+    /// Returns the whole pack, or `None` if the pack header is wrong, or the trailer is not the
+    /// SHA-1 of all preceding bytes.
     pub(crate) fn finish(self) -> Option<FramedPack<A>>
         ensures bytes { IfSome result (λ pack. pack.bytes.items ≡ self) }
         ensures frame { IfSome result (λ pack. IsFramed pack.count pack.trailer self) }
@@ -96,7 +96,7 @@ impl<A: Allocator + Copy> PackBytes<A> {
     }
 }
 
-// Returns the number of bytes before the last twenty.
+// Returns the length of a pack without its last twenty bytes.
 fn body_length(pack: &[u8]) -> usize
     ensures { result ≡ length pack.now - 20 }
 {
@@ -111,8 +111,8 @@ pub(crate) fn body_of(pack: &[u8]) -> &[u8] {
     }
 }
 
-// Returns the number of entries and the trailer of a pack. `sum` is the SHA-1 of its bytes before
-// the last twenty. Returns `None` if the trailer differs from it, or if the header is wrong.
+// Returns the entry count and the trailer of a pack. `sum` is the SHA-1 of all bytes except the
+// last twenty. Returns `None` if the trailer differs from `sum`, or if the pack header is wrong.
 fn frame_of(pack: &[u8], sum: &[u8; ID_BYTES]) -> Option<(u32, Oid)>
     requires { sum.now ≡ sha1 (take (length pack.now - 20) pack.now) }
     ensures frame { IfSome result (λ frame. IsFramed frame.0 frame.1 pack.now) }
@@ -127,8 +127,8 @@ fn frame_of(pack: &[u8], sum: &[u8; ID_BYTES]) -> Option<(u32, Oid)>
     }
 }
 
-// Returns the bytes of a pack before its trailer, and the trailer, or `None` if the trailer is not
-// their SHA-1.
+// Splits a pack into the bytes before the trailer and the trailer. Returns `None` if the trailer
+// differs from `sum`.
 fn split_trailer<'p>(pack: &'p [u8], sum: &[u8; ID_BYTES]) -> Option<(&'p [u8], Oid)>
     requires { sum.now ≡ sha1 (take (length pack.now - 20) pack.now) }
     ensures parts { IfSome result (λ parts. (parts.1 ≡ sha1 parts.0.now)
@@ -144,14 +144,15 @@ fn split_trailer<'p>(pack: &'p [u8], sum: &[u8; ID_BYTES]) -> Option<(&'p [u8], 
     Some((body, id_of_bytes(trailer)))
 }
 
-/// Whether two texts are equal.
+/// Returns whether two slices are equal.
 pub(crate) fn is_same(one: &[u8], other: &[u8]) -> bool
     ensures { IsTrue result ↔ (one.now ≡ other.now) }
 {
     one == other
 }
 
-/// Returns the number of entries in the header, or `None` if the bytes do not begin with a header.
+/// Returns the entry count in the pack header, or `None` if the bytes do not begin with a pack
+/// header.
 pub(crate) fn entry_count(pack: &[u8]) -> Option<u32>
     ensures { IfSome result (λ count. (rest : List ℕ) × (pack.now ≡ pack_header count ++ rest)) }
 {

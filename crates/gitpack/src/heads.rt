@@ -1,4 +1,4 @@
-//! Writing the heads of entries.
+//! Writing the headers of pack entries.
 
 ghost use Rattle.std.specs.Prelude.{◌≡◌, ◌+◌, ◌^◌, ◌<◌, ◌≤◌, ◌++◌, ◌∷◌, [], suc, All, List, ℕ, OnOk, length};
 ghost use Rattle.gname.specs.Ids.{IsIdOf};
@@ -11,26 +11,25 @@ use crate::fault::PackFileFault;
 use gname::{Format, Oid};
 use std::alloc::{AllocError, Allocator};
 
-// The bit that is set if more bytes of the number follow, and the number of values of the other
-// bits.
+// The bit that is set if more bytes of the number follow.
 const MORE: u8 = 128;
 
 const DIGITS: usize = 128;
 
-// The number of values of the low bits of the first byte, which belong to the size.
+// The number of values of the low four bits of the first byte, which belong to the size.
 const LOW_SIZES: usize = 16;
 
-// The upper bound of the sizes that nine bytes can encode.
+// The exclusive upper bound of the sizes that nine bytes can encode.
 const SIZES: usize = 1 << 60;
 
-// The upper bound of written offsets, so that eight bytes suffice.
+// The exclusive upper bound of written offsets, which eight bytes can encode.
 const OFFSETS: usize = 1 << 56;
 
-/// Appends the head of an entry of this form, whose stream inflates to `size` bytes.
+/// Appends the header of an entry of type `form`, whose stream inflates to `size` bytes.
 ///
 /// Fails with `TooLarge` if the size has more than 60 bits or the offset more than 56. Fails with
-/// `Format` if the base has no SHA-1 id, and with `Memory`. A part of the head may have been
-/// appended then.
+/// `Format` if the id of the base is not a SHA-1 id, and with `Memory`. After a fault, a part of
+/// the header may have been appended.
 pub(crate) fn put_head<A: Allocator + Copy>(
     out: &mut Vec<u8, A>,
     form: EntryForm,
@@ -52,7 +51,7 @@ pub(crate) fn put_head<A: Allocator + Copy>(
     }
 }
 
-// Appends a type number and a size.
+// Appends the type number and the size of an entry header.
 fn put_type_and_size<A: Allocator + Copy>(
     out: &mut Vec<u8, A>,
     number: u8,
@@ -76,7 +75,7 @@ fn put_type_and_size<A: Allocator + Copy>(
     Ok(())
 }
 
-/// Appends a number, the lowest digit first.
+/// Appends a number in groups of seven bits, the lowest group first.
 pub(crate) fn put_size<A: Allocator + Copy>(
     out: &mut Vec<u8, A>,
     number: usize,
@@ -95,7 +94,7 @@ pub(crate) fn put_size<A: Allocator + Copy>(
     put_size(out, high)
 }
 
-// Appends an offset.
+// Appends the offset of a base, as in the header of an offset delta.
 fn put_offset<A: Allocator + Copy>(out: &mut Vec<u8, A>, offset: usize) -> Result<(), PackFileFault>
     ensures { OnOk result ((text : List ℕ) × IsOffset text offset
         × (out.new.items ≡ out.old.items ++ text)) }
@@ -114,7 +113,7 @@ fn put_offset<A: Allocator + Copy>(out: &mut Vec<u8, A>, offset: usize) -> Resul
     Ok(())
 }
 
-// Appends the bytes of a number before its last one.
+// Appends all bytes of an encoded offset except the last.
 fn put_high<A: Allocator + Copy>(out: &mut Vec<u8, A>, number: usize) -> Result<(), AllocError>
     ensures { OnOk result ((text : List ℕ) × (0 < length text) × All (λ b. 128 ≤ b) text
         × (number ≡ high_first text)

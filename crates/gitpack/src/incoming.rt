@@ -12,11 +12,11 @@ use crate::scanning::Scanner;
 use std::alloc::{AllocError, Allocator};
 use std::marker::Model;
 
-/// A pack that is indexed while it arrives: `new`, a `feed` for each piece, and `finish`. Contracts
-/// see it as the received bytes.
+/// A pack that is indexed while it arrives: call `new`, then `feed` for each piece, then `finish`.
+/// In contracts, this value is the list of received bytes.
 ///
-/// The bytes are hashed as they arrive. Entries are inflated some time after they are complete: at
-/// the latest after as many bytes again have arrived, but at least 128 KiB.
+/// Bytes are hashed on arrival. Complete entries are inflated in batches of at least 128 KiB; a
+/// batch is larger if a longer entry is incomplete.
 #[derive(Drop)]
 pub struct IncomingPack<A: Allocator + Copy> {
     bytes: PackBytes<A>,
@@ -42,10 +42,10 @@ impl<A: Allocator + Copy> IncomingPack<A> {
         }
     }
 
-    /// Takes the next bytes, and shows a visitor the whole objects that are read now. Faults of the
-    /// objects or the visitor are reported by `finish`.
+    /// Adds the next bytes of the pack. The visitor receives each undeltified object that is
+    /// inflated in this call. Faults of the pack or of the visitor are reported by `finish`.
     ///
-    /// Fails only if out of memory. The pack is then unusable.
+    /// Fails only if out of memory. After a fault, the pack is unusable.
     pub fn feed<V: ObjectVisitor>(
         &mut self,
         piece: &[u8],
@@ -58,8 +58,8 @@ impl<A: Allocator + Copy> IncomingPack<A> {
         Ok(())
     }
 
-    /// Returns the received pack and its objects, once all bytes have arrived. The visitor is shown
-    /// the remaining objects, and must be the one that was shown the earlier ones.
+    /// Returns the received pack and its objects, once all bytes have arrived. The visitor receives
+    /// the remaining objects, and must be the visitor of all `feed` calls.
     ///
     /// Fails as [`crate::index_pack`] does.
     pub fn finish<V: ObjectVisitor>(
@@ -80,7 +80,7 @@ impl<A: Allocator + Copy> IncomingPack<A> {
     }
 }
 
-// Returns the objects of a complete, partly scanned pack.
+// Returns the objects of a complete pack, of which some entries may be scanned already.
 fn objects_of<A: Allocator + Copy, V: ObjectVisitor>(
     scanner: Scanner<A>,
     pack: &FramedPack<A>,

@@ -12,7 +12,8 @@ use gname::Oid;
 use std::alloc::{AllocError, Allocator};
 use std::marker::Model;
 
-// The maximum number of entries of an index: long offsets are numbered with 31 bits.
+// The maximum number of entries of an index, because positions in the table of 64-bit offsets have
+// 31 bits.
 pub(crate) const MAX_ENTRIES: usize = 0x7fff_ffff;
 
 /// An entry of the pack index.
@@ -20,19 +21,19 @@ pub(crate) const MAX_ENTRIES: usize = 0x7fff_ffff;
 pub struct IndexEntry {
     /// The id of the object.
     pub id: Oid,
-    /// The CRC-32 of its entry in the pack.
+    /// The CRC-32 of the object's entry in the pack.
     pub crc: u32,
-    /// The offset of its entry in the pack.
+    /// The offset of the object's entry in the pack.
     pub offset: u64,
 }
 
-/// The index of a pack: its entries, sorted by id, and the checksum of the pack.
+/// A pack index: entries sorted by id, and the checksum of the pack.
 #[derive(Drop)]
 pub struct PackIndex<A: Allocator + Copy> {
     entries: Vec<IndexEntry, A>,
-    // For each byte, how many ids begin with it or a lower byte.
+    // For each byte, the number of ids whose first byte is at most this byte.
     ends: [u32; 256],
-    // The first eight bytes of each id, as a number.
+    // The first eight bytes of each id, as a big-endian number.
     fronts: Vec<u64, A>,
     checksum: Oid,
 }
@@ -49,8 +50,8 @@ impl<A: Allocator + Copy> Model for PackIndex<A> {
 }
 
 impl<A: Allocator + Copy> PackIndex<A> {
-    /// Parses an index, or returns `None` if the text is not one. The checksum of the index itself
-    /// is not checked.
+    /// Parses a pack index. Returns `None` if the bytes are not a pack index. The index's own
+    /// checksum is not checked.
     ///
     /// Fails only if out of memory.
     pub fn read(alloc: A, bytes: &[u8]) -> Result<Option<PackIndex<A>>, AllocError>
@@ -83,14 +84,14 @@ impl<A: Allocator + Copy> PackIndex<A> {
         }))
     }
 
-    /// Returns the number of objects.
+    /// Returns the number of objects in the index.
     pub fn len(&self) -> usize
         ensures { result ≡ length self.now.entries }
     {
         self.entries.len()
     }
 
-    /// Whether there are no objects.
+    /// Returns whether the index contains no objects.
     pub fn is_empty(&self) -> bool
         ensures { result ≡ (length self.now.entries == 0) }
     {
@@ -105,7 +106,7 @@ impl<A: Allocator + Copy> PackIndex<A> {
         self.entries.as_slice()
     }
 
-    /// Returns the place of the entry of the object with this id, or `None` if there is none.
+    /// Returns the position of the entry with this id, or `None` if there is none.
     pub fn find(&self, id: &Oid) -> Option<usize>
         ensures { MatchOption result (All (λ e. e.id ≢ id.now) self.now.entries)
             (HoldsAt (λ e. e.id ≡ id.now) self.now.entries) }
@@ -117,7 +118,7 @@ impl<A: Allocator + Copy> PackIndex<A> {
         }
     }
 
-    /// Returns the id of the entry at this place; `None` past the end.
+    /// Returns the id of the entry at position `place`, or `None` past the end.
     pub fn id(&self, place: usize) -> Option<Oid>
         ensures { MatchOption result (length self.now.entries ≤ place)
             (λ id. HoldsAt (λ e. e.id ≡ id) self.now.entries place) }
@@ -128,7 +129,7 @@ impl<A: Allocator + Copy> PackIndex<A> {
         }
     }
 
-    /// Returns the CRC-32 of the entry at this place; `None` past the end.
+    /// Returns the CRC-32 of the entry at position `place`, or `None` past the end.
     pub fn crc(&self, place: usize) -> Option<u32>
         ensures { MatchOption result (length self.now.entries ≤ place)
             (λ crc. HoldsAt (λ e. e.crc ≡ crc) self.now.entries place) }
@@ -139,7 +140,7 @@ impl<A: Allocator + Copy> PackIndex<A> {
         }
     }
 
-    /// Returns the offset of the entry at this place; `None` past the end.
+    /// Returns the offset of the entry at position `place`, or `None` past the end.
     pub fn offset(&self, place: usize) -> Option<u64>
         ensures { MatchOption result (length self.now.entries ≤ place)
             (λ offset. HoldsAt (λ e. e.offset ≡ offset) self.now.entries place) }
@@ -150,7 +151,7 @@ impl<A: Allocator + Copy> PackIndex<A> {
         }
     }
 
-    /// Returns the checksum of the pack: its trailer.
+    /// Returns the checksum of the pack, which is its trailer.
     pub fn pack_checksum(&self) -> Oid
         ensures { result ≡ self.now.checksum }
     {
@@ -158,9 +159,9 @@ impl<A: Allocator + Copy> PackIndex<A> {
     }
 }
 
-// Returns the place of the entry with this id, found by its first bytes. This is quick: few ids
-// begin with the same byte, and numbers are close together in memory. But another id may begin with
-// the same eight bytes.
+// Searches for an id by its first eight bytes, and returns the position of its entry. The search is
+// quick, since it reads only a small part of `fronts`. The search may miss an entry if two ids
+// begin with the same eight bytes.
 fn find_front(entries: &[IndexEntry], fronts: &[u64], ends: &[u32; 256], id: &Oid) -> Option<usize>
     ensures { IfSome result (HoldsAt (λ e. e.id ≡ id.now) entries.now) }
 {
@@ -178,7 +179,7 @@ fn find_front(entries: &[IndexEntry], fronts: &[u64], ends: &[u32; 256], id: &Oi
     }
 }
 
-// Returns the first eight bytes of each id.
+// Returns the first eight bytes of each id, as big-endian numbers.
 fn fronts_of<A: Allocator + Copy>(
     alloc: A,
     entries: &[IndexEntry],
@@ -189,7 +190,7 @@ fn fronts_of<A: Allocator + Copy>(
         .collect(alloc)
 }
 
-// Returns the first eight bytes of an id, as a number.
+// Returns the first eight bytes of an id, as a big-endian number.
 fn front_of(id: &Oid) -> u64 {
     match id.as_bytes().first_chunk::<8>() {
         Some(front) => u64::from_be_bytes(*front),
@@ -197,7 +198,7 @@ fn front_of(id: &Oid) -> u64 {
     }
 }
 
-// For each byte, how many ids begin with it or a lower byte.
+// For each byte, the number of ids whose first byte is at most this byte.
 fn ends_of(entries: &[IndexEntry]) -> [u32; 256]
     requires { length entries.now < 2 ^ 31 }
 {
@@ -210,7 +211,7 @@ fn ends_of(entries: &[IndexEntry]) -> [u32; 256]
     ends
 }
 
-// Returns the place of the entry with this id.
+// Returns the position of the entry with this id, or `None` if there is none.
 fn find(entries: &[IndexEntry], id: &Oid) -> Option<usize>
     requires { AreEntries entries.now }
     ensures { MatchOption result (All (λ e. e.id ≢ id.now) entries.now)
@@ -222,7 +223,7 @@ fn find(entries: &[IndexEntry], id: &Oid) -> Option<usize>
     }
 }
 
-// Whether the ids ascend, and the number of entries is within the limit.
+// Returns whether the entries are sorted by id, and their number is within the limit.
 fn are_entries(entries: &[IndexEntry]) -> bool
     requires { All IsLine entries.now }
     ensures { IsTrue result ↔ AreEntries entries.now }

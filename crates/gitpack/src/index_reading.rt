@@ -1,4 +1,4 @@
-//! The tables of a pack index (gitformat-pack(5)).
+//! Reading the tables of a pack index (gitformat-pack(5)).
 
 ghost use Rattle.std.specs.Prelude.{◌≡◌, ◌^◌, ◌<◌, ◌++◌, ◌∷◌, ℕ, All, IfOk, IfSome, List, MatchOption, length};
 ghost use Rattle.gitpack.specs.Indexes.{AreEntries, IsLine, index_tables, long_bytes};
@@ -9,13 +9,13 @@ use crate::index::{IndexEntry, MAX_ENTRIES};
 use gitobject::{ID_BYTES, id_of_bytes};
 use std::alloc::{AllocError, Allocator};
 
-// The offset of the last number of the fan-out table, which counts all ids.
+// The offset of the last number in the fan-out table, which counts all ids.
 const COUNT: usize = 1_028;
 
-// An offset with this bit refers to a long offset.
+// The bit that marks a position in the table of 64-bit offsets.
 const LONG_MARK: u32 = 1 << 31;
 
-// The tables of some entries of an index. Their long offsets are in order.
+// The unread parts of the tables of a pack index.
 #[derive(Clone, Copy)]
 struct Tables<'a> {
     ids: &'a [u8],
@@ -24,8 +24,8 @@ struct Tables<'a> {
     long_offsets: &'a [u8],
 }
 
-/// Returns the entries of an index with these bytes before the checksum of the pack, or `None` if
-/// there are too few bytes. The signature, the fan-out table and the order of the ids are not
+/// Returns the entries of a pack index whose bytes before the two checksums are `bytes`, or `None`
+/// if there are too few bytes. The signature, the fan-out table and the order of the ids are not
 /// checked.
 ///
 /// Fails only if out of memory.
@@ -46,7 +46,7 @@ pub(crate) fn read_entries<A: Allocator + Copy>(
     read_lines(alloc, tables, count)
 }
 
-// Returns the number of entries, and the tables after the fan-out table.
+// Returns the number of entries, and the bytes after the fan-out table.
 fn split_count(bytes: &[u8]) -> Option<(usize, &[u8])>
     ensures { (lines : List IndexEntry) → AreEntries lines → bytes.now ≡ index_tables lines
         → MatchOption result ⊥ (λ it. (it.0 ≡ length lines) × (it.1.now ≡ index_rows lines)) }
@@ -60,7 +60,7 @@ fn split_count(bytes: &[u8]) -> Option<(usize, &[u8])>
     Some((u32::from_be_bytes(*count) as usize, rows))
 }
 
-// Returns the tables of `count` entries.
+// Splits the bytes after the fan-out table into the tables of `count` entries.
 fn split_tables(rows: &[u8], count: usize) -> Option<Tables<'_>>
     ensures { (lines : List IndexEntry) → AreEntries lines → count ≡ length lines
         → rows.now ≡ index_rows lines
@@ -86,7 +86,7 @@ fn split_tables(rows: &[u8], count: usize) -> Option<Tables<'_>>
     })
 }
 
-// Returns `count` entries of these tables, or `None` if the tables are too short.
+// Reads `count` entries from these tables. Returns `None` if the tables are too short.
 fn read_lines<A: Allocator + Copy>(
     alloc: A,
     tables: Tables<'_>,
@@ -109,7 +109,7 @@ fn read_lines<A: Allocator + Copy>(
     Ok(Some(entries))
 }
 
-// Returns the first entry of these tables, and the tables of the others.
+// Returns the first entry in these tables, and the tables without this entry.
 fn split_line(tables: Tables<'_>) -> Option<(IndexEntry, Tables<'_>)>
     ensures line { IfSome result (λ it. IsLine it.0) }
     ensures first { (longs : ℕ) (line : IndexEntry) (more : List IndexEntry)
@@ -145,7 +145,8 @@ fn split_line(tables: Tables<'_>) -> Option<(IndexEntry, Tables<'_>)>
     Some((entry, more))
 }
 
-// Returns the offset that this number of the offset table denotes, and the remaining long offsets.
+// Returns the offset that a number in the offset table denotes, and the unread part of the table of
+// 64-bit offsets.
 fn split_offset(short: u32, longs: &[u8]) -> Option<(u64, &[u8])>
     ensures { (before : ℕ) (line : IndexEntry) (more : List ℕ) → IsLine line
         → short ≡ short_of before line → longs.now ≡ long_bytes line ++ more

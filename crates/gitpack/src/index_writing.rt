@@ -1,4 +1,4 @@
-//! The text of a pack index (gitformat-pack(5)).
+//! Writing a pack index (gitformat-pack(5)).
 
 ghost use Rattle.std.specs.Prelude.{◌≡◌, ℕ, ◌^◌, ◌<◌, ◌≤◌, ◌++◌, IfOk, OnOk, length, slice_index};
 ghost use Rattle.std.specs.List.{flat_map};
@@ -10,16 +10,16 @@ use gname::Oid;
 use sha1::Sha1;
 use std::alloc::{AllocError, Allocator};
 
-// The signature, and version 2.
+// The signature and version 2 of a pack index.
 const HEADER: &[u8; 8] = b"\xfftOc\0\0\0\x02";
 
 // The lowest offset that is written in the table of 64-bit offsets.
 const LONG: u64 = 1 << 31;
 
-// The bit that marks the index of a 64-bit offset.
+// The bit that marks a position in the table of 64-bit offsets.
 const LONG_MARK: u32 = 1 << 31;
 
-// Appends the text of an index without its own checksum.
+// Appends a pack index without its own checksum.
 fn put_body<A: Allocator + Copy>(
     out: &mut Vec<u8, A>,
     entries: &[IndexEntry],
@@ -38,7 +38,7 @@ fn put_body<A: Allocator + Copy>(
     out.extend_from_slice(checksum.as_bytes())
 }
 
-// Appends the fan-out table.
+// Appends the fan-out table of the entries.
 fn put_fan_out<A: Allocator + Copy>(
     out: &mut Vec<u8, A>,
     entries: &[IndexEntry],
@@ -55,7 +55,7 @@ fn put_fan_out<A: Allocator + Copy>(
     Ok(())
 }
 
-/// Returns, for each byte, the number of ids that begin with it.
+/// Returns, for each byte, the number of ids that begin with this byte.
 pub(crate) fn count_by_first(entries: &[IndexEntry]) -> [u32; 256]
     requires { length entries.now < 2 ^ 31 }
     ensures { (byte : ℕ) → byte < 256
@@ -77,7 +77,7 @@ pub(crate) fn first_byte(id: &Oid) -> usize
     usize::from(id.as_bytes()[0])
 }
 
-// Appends the ids.
+// Appends the ids of the entries.
 fn put_ids<A: Allocator + Copy>(
     out: &mut Vec<u8, A>,
     entries: &[IndexEntry],
@@ -90,7 +90,7 @@ fn put_ids<A: Allocator + Copy>(
     Ok(())
 }
 
-// Appends the CRC-32s.
+// Appends the CRC-32 of each entry.
 fn put_crcs<A: Allocator + Copy>(
     out: &mut Vec<u8, A>,
     entries: &[IndexEntry],
@@ -103,7 +103,7 @@ fn put_crcs<A: Allocator + Copy>(
     Ok(())
 }
 
-// Appends the table of offsets.
+// Appends the table of 32-bit offsets.
 fn put_offsets<A: Allocator + Copy>(
     out: &mut Vec<u8, A>,
     entries: &[IndexEntry],
@@ -138,7 +138,7 @@ fn put_long_offsets<A: Allocator + Copy>(
     Ok(())
 }
 
-/// Returns the text of an index without its own checksum. Fails only if out of memory.
+/// Returns the bytes of a pack index without its own checksum. Fails only if out of memory.
 pub(crate) fn body_of<A: Allocator + Copy>(
     alloc: A,
     entries: &[IndexEntry],
@@ -153,7 +153,7 @@ pub(crate) fn body_of<A: Allocator + Copy>(
     Ok(text)
 }
 
-/// Returns the text of an index. Fails only if out of memory.
+/// Returns the bytes of a pack index. Fails only if out of memory.
 pub(crate) fn write_index<A: Allocator + Copy>(
     alloc: A,
     entries: &[IndexEntry],

@@ -1,4 +1,4 @@
-//! Indexing a pack received from a peer.
+//! Indexing a pack that a peer sent.
 
 ghost use Rattle.std.specs.Prelude.{◌≡◌, ◌≢◌, ℕ, All, IfOk, MatchOption, Option, Some, length, map};
 ghost use Rattle.gitobject.specs.Naming.{id_of};
@@ -16,38 +16,39 @@ use gname::Oid;
 use std::alloc::{AllocError, Allocator};
 use std::marker::Model;
 
-/// A visitor of the objects of a pack.
+/// A receiver of the objects of a pack.
 pub trait ObjectVisitor {
-    /// Visits an object: its id, its type and its bytes. It may refuse the object with a fault,
-    /// which becomes the fault of the pack.
+    /// Receives the id, type and bytes of an object. If this call fails, indexing the pack fails
+    /// with the same fault.
     fn visit(&mut self, id: &Oid, kind: ObjectType, body: &[u8]) -> Result<(), PackFileFault>
         requires { id.now ≡ id_of kind body.now };
 }
 
-/// The limits of a pack. A small pack can hold huge objects or very many objects. An entry has at
-/// least nine bytes, and uses about two hundred bytes of memory.
+/// The limits for indexing a pack. Limits are needed because a small pack can contain huge objects.
+/// An entry has at least nine bytes, and uses about two hundred bytes of memory.
 #[derive(Clone, Copy, Debug, Drop)]
 pub struct IndexLimits {
     /// The maximum number of objects.
     pub objects: usize,
     /// The maximum size of an object.
     pub object: usize,
-    /// The maximum number of bytes held at a time to apply deltas: bases, a delta, and its result.
+    /// The maximum number of bytes in memory while deltas are applied: bases, a delta, and its
+    /// result.
     pub held: usize,
     /// The maximum total size of all objects and deltas.
     pub total: usize,
 }
 
-/// An object of a pack: its entry in the pack index, and its type.
+/// An object of a pack, with its entry in the pack index and its type.
 #[derive(Clone, Copy, Debug, Drop)]
 pub struct IndexedEntry {
-    /// Its entry in the pack index.
+    /// The object's entry in the pack index.
     pub entry: IndexEntry,
-    /// Its type.
+    /// The type of the object.
     pub kind: ObjectType,
 }
 
-/// An indexed pack: its objects sorted by id, and its checksum.
+/// The objects of a pack, sorted by id, and the checksum of the pack.
 #[derive(Drop)]
 pub struct IndexedPack<A: Allocator + Copy> {
     entries: Vec<IndexedEntry, A>,
@@ -66,8 +67,8 @@ impl<A: Allocator + Copy> Model for IndexedPack<A> {
 }
 
 impl<A: Allocator + Copy> IndexedPack<A> {
-    /// Returns the index of these objects. Fails with `TooLarge` if there are too many for an
-    /// index.
+    /// Returns an indexed pack with these objects. Fails with `TooLarge` if there are too many
+    /// objects for a pack index.
     pub(crate) fn new(
         objects: Vec<IndexedEntry, A>,
         checksum: Oid,
@@ -80,7 +81,7 @@ impl<A: Allocator + Copy> IndexedPack<A> {
         Ok(IndexedPack { entries, checksum })
     }
 
-    /// Returns the objects, sorted by id.
+    /// Returns the objects of the pack, sorted by id.
     pub fn entries(&self) -> &[IndexedEntry]
         ensures objects { result.now ≡ self.now.entries }
         ensures order { AreObjects result.now }
@@ -88,7 +89,7 @@ impl<A: Allocator + Copy> IndexedPack<A> {
         self.entries.as_slice()
     }
 
-    /// Returns the object with this id, or `None` if there is none.
+    /// Returns an object with this id, or `None` if the pack contains none.
     pub fn find(&self, id: &Oid) -> Option<IndexedEntry>
         ensures { MatchOption result (All (λ e. object_id e ≢ id.now) self.now.entries)
             (λ e. object_id e ≡ id.now) }
@@ -96,15 +97,15 @@ impl<A: Allocator + Copy> IndexedPack<A> {
         find(self.entries.as_slice(), id)
     }
 
-    /// Returns the checksum of the pack: its trailer.
+    /// Returns the checksum of the pack, which is its trailer.
     pub fn checksum(&self) -> Oid
         ensures { result ≡ self.now.checksum }
     {
         self.checksum
     }
 
-    /// Returns the text of the pack index of version 2. [`crate::PackIndex::read`] reads it back as
-    /// this index.
+    /// Returns the bytes of the pack index, in version 2. [`crate::PackIndex::read`] reads these
+    /// bytes back as the same index.
     ///
     /// Fails only if out of memory.
     pub fn write_index(&self, alloc: A) -> Result<Vec<u8, A>, AllocError>
@@ -117,7 +118,7 @@ impl<A: Allocator + Copy> IndexedPack<A> {
     }
 }
 
-// Returns the object with this id.
+// Returns an object with this id, or `None` if there is none.
 fn find(entries: &[IndexedEntry], id: &Oid) -> Option<IndexedEntry>
     requires { AreObjects entries.now }
     ensures { MatchOption result (All (λ e. object_id e ≢ id.now) entries.now)
@@ -129,7 +130,7 @@ fn find(entries: &[IndexedEntry], id: &Oid) -> Option<IndexedEntry>
     }
 }
 
-// Returns the entries of the index.
+// Returns the entries of the pack index for these objects.
 fn lines_of<A: Allocator + Copy>(
     alloc: A,
     entries: &[IndexedEntry],
@@ -140,14 +141,15 @@ fn lines_of<A: Allocator + Copy>(
     entries.iter().map(|entry| entry.entry).collect(alloc)
 }
 
-/// Indexes a pack, and shows each of its objects to a visitor: whole objects first, and each delta
-/// after its base.
+/// Indexes a pack, and passes each object to a visitor. The visitor receives undeltified objects
+/// first, and the result of each delta after its base.
 ///
 /// Fails with `Frame` if the header or the trailer is wrong, or if bytes follow the last entry.
-/// Fails with `Entry` at a wrong or missing entry, and with `Thin` if a base is not in the pack.
-/// Fails with `TooLarge` if the pack exceeds a limit, a chain has more than 8,191 deltas, or there
-/// are 2^31 objects or more. Also fails with the visitor's fault, and with `Memory`. The visitor
-/// may have seen some objects by then.
+/// Fails with `Entry` if an entry is malformed or missing, and with `Thin` if the base of a delta
+/// is not in the pack. Fails with `TooLarge` if the pack exceeds a limit, a chain has more than
+/// 8,191 deltas, or there are 2^31 objects or more. Fails with the visitor's fault if the visitor
+/// fails, and with `Memory`. The visitor may already have received objects when this function
+/// fails.
 pub fn index_pack<A: Allocator + Copy, V: ObjectVisitor>(
     alloc: A,
     pack: &[u8],
@@ -162,7 +164,8 @@ pub fn index_pack<A: Allocator + Copy, V: ObjectVisitor>(
     Ok(index)
 }
 
-// Returns these objects sorted by id. Fails with `TooLarge` if there are too many for an index.
+// Returns these objects, sorted by id. Fails with `TooLarge` if there are too many objects for a
+// pack index.
 fn in_order<A: Allocator + Copy>(
     objects: Vec<IndexedEntry, A>,
 ) -> Result<Vec<IndexedEntry, A>, PackFileFault>

@@ -1,19 +1,21 @@
-//! Laws of packs. Each function does nothing, and its contract is the law: a caller may rely on the
-//! law after the call.
+//! Proved laws of packs. Each function does nothing, and its contract states a law that holds for
+//! the caller afterwards.
 
 ghost use Rattle.gitpack.specs.Laws.{HeadsAreOne, IndexesAreOne, IndexesReadBack};
 
-/// Bytes begin with at most one head: a written head is read back, whatever follows it.
+/// States that bytes begin with at most one entry header, so that a written entry header is read
+/// back.
 pub fn heads_are_one()
     ensures { HeadsAreOne }
 {}
 
-/// A text encodes at most one pack index.
+/// States that the same bytes encode at most one pack index.
 pub fn indexes_are_one()
     ensures { IndexesAreOne }
 {}
 
-/// The text written for a pack index is read back as that index, and is never refused.
+/// States that the written bytes of a pack index are read back as the same index, and are never
+/// refused.
 pub fn indexes_read_back()
     ensures { IndexesReadBack }
 {}

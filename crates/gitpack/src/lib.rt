@@ -1,77 +1,78 @@
-//! The packs of a Git repository as bytes in memory: entries, applying and making deltas, the pack
-//! index, indexing a pack, and writing one (gitformat-pack(5)). This crate does not read files or
-//! the object graph.
+//! Reading, indexing and writing Git packs in memory, with deltas and pack indexes
+//! (gitformat-pack(5)). This crate does not read files or the object graph.
 //!
 //! # Proved
 //!
-//! - [`read_head`] accepts exactly the heads of entries in `specs/Entries.antt`: a type, a size,
-//!   and the offset or the id of a base. Bytes begin with at most one head ([`laws`]), so each head
-//!   that [`PackWriter`] writes is read back.
-//! - [`apply_delta`] returns a body exactly if the bytes are a delta of the base, and the size of
-//!   the body is within the limit. In a delta both sizes are right, and each copy is within the
-//!   base. The body consists of the bytes of the copies and insertions, in order. [`made_size`]
-//!   returns the size of that body.
-//! - [`DeltaBase::make_delta`] returns only a delta of the base that makes the target, with a size
-//!   within the limit.
-//! - [`PackIndex::read`] returns an index exactly if the text is an index of version 2
-//!   (`ReadsIndex` in `specs/Indexes.antt`), whatever its own checksum. The entries are sorted by
-//!   id, and the fan-out table and both offset tables match them. A text encodes at most one index
-//!   ([`laws`]).
-//! - [`PackIndex::find`] finds an id exactly if it is in the index. [`PackIndex::id`],
-//!   [`PackIndex::crc`] and [`PackIndex::offset`] return the fields of the entry at a place.
-//! - [`IndexedPack::write_index`] writes the text of version 2, with its own checksum.
-//!   [`PackIndex::read`] never refuses this text, and reads it as the index of that pack.
-//! - [`PackWriter`] writes the header with the count, then each entry, and then the SHA-1 of
-//!   everything. [`put_header`] and [`put_entry`] write only one of these.
+//! - [`read_head`] accepts exactly the entry headers of `specs/Entries.antt`: a type, a size, and
+//!   the offset or id of a delta base. Bytes begin with at most one entry header ([`laws`]), so
+//!   [`read_head`] reads back each header that [`PackWriter`] writes.
+//! - [`apply_delta`] returns an object exactly if the bytes are a delta of the base, and the size
+//!   of the object is within the limit. In a delta, both sizes are correct, and each copied range
+//!   is within the base. The object consists of the copied and inserted bytes, in order.
+//!   [`made_size`] returns the size of this object.
+//! - [`DeltaBase::make_delta`] returns only a delta that makes the target from the base, and whose
+//!   size is within the limit.
+//! - [`PackIndex::read`] returns an index exactly if the bytes are an index of version 2
+//!   (`ReadsIndex` in `specs/Indexes.antt`). This function does not check the index's own checksum.
+//!   The entries of an index are sorted by id, and the fan-out table and both offset tables match
+//!   the entries. The same bytes encode at most one index ([`laws`]).
+//! - [`PackIndex::find`] finds an id exactly if the index contains it. [`PackIndex::id`],
+//!   [`PackIndex::crc`] and [`PackIndex::offset`] return the fields of the entry at a position.
+//! - [`IndexedPack::write_index`] writes the pack index of version 2, with both checksums.
+//!   [`PackIndex::read`] accepts these bytes, and returns the index of the same pack.
+//! - [`PackWriter`] writes the pack header with the entry count, then each entry, and finally the
+//!   SHA-1 of all these bytes. The functions [`put_header`] and [`put_entry`] write only a pack
+//!   header or one entry.
 //! - [`IncomingPack`] accepts only packs of version 2 whose trailer is the SHA-1 of all preceding
-//!   bytes, and returns the pack as received, whatever its pieces. Each object shown to the visitor
-//!   has the id of its type and bytes, and the returned objects are sorted by id.
-//! - [`index_pack`] does the same for a whole pack.
+//!   bytes. `IncomingPack` returns the concatenation of all received bytes. Each object that the
+//!   visitor receives has the id of its type and bytes. The returned objects are sorted by id.
+//! - [`index_pack`] does the same for a pack in one slice.
 //! - No call panics, overflows or reads out of bounds, and every call returns.
 //!
 //! # Only tested
 //!
 //! The program `gitcases` indexes correct, wrong, hostile, truncated and altered packs, and looks
-//! up their objects in the index. `examples/with-git.sh` indexes packs made by Git, and Git reads
-//! the written packs.
+//! up their objects in the index. `examples/with-git.sh` indexes packs that Git wrote, and lets Git
+//! read packs that this crate wrote.
 //!
 //! # Differences from Git
 //!
-//! - A size in a delta and an offset of a base have at most eight bytes.
-//! - A pack of version 3 is refused; Git reads it. All ids are SHA-1.
-//! - An index of version 1 is not read. One of version 2 is read only as Git writes it: no offset
-//!   below 2^31 is in the table of 64-bit offsets. The offsets there are in the order of the
-//!   entries, one for each. The checksum of the index itself is not checked.
-//! - A pack of 2^31 objects or more is refused. A thin pack and a chain of more than 8,191 deltas
-//!   are refused too. No Git command makes a longer chain, but Git would read one.
-//! - An object that a pack holds twice is accepted, and both entries are in the index. Git also
-//!   accepts it without `--strict`. A delta by id whose base occurs twice is refused, as in Git
-//!   2.39; later versions accept it.
+//! - The encoded sizes in a delta, and the encoded offset of a base, have at most eight bytes each.
+//! - A pack of version 3 is refused; Git reads it. All ids are SHA-1 ids.
+//! - An index of version 1 is refused. An index of version 2 is accepted only in the form that Git
+//!   writes. Its table of 64-bit offsets contains only offsets of at least 2^31, one per entry, in
+//!   the order of the entries. The index's own checksum is not checked.
+//! - A pack of 2^31 objects or more is refused. A thin pack is refused, and so is a chain of more
+//!   than 8,191 deltas. No Git command makes a longer chain, but Git can read longer chains.
+//! - A pack may contain the same object twice, and then both entries are in the index. Git accepts
+//!   such a pack without `--strict`. A pack is refused if it contains the base of a ref delta
+//!   twice, as in Git 2.39; later versions of Git accept the pack.
 //!
 //! # What the contracts do not rule out
 //!
-//! - Any call that allocates may fail if out of memory; the contracts do not say when.
-//! - [`DeltaBase::make_delta`] might never find a delta, or find a longer one than necessary. Only
-//!   the safety of its search is proved: a delta it finds is applied, and returned if it makes the
-//!   target.
-//! - [`IncomingPack`] and [`index_pack`] might refuse a good pack. They might leave out any object,
-//!   list one that was not shown, or list one with another type. They might give an object a wrong
-//!   offset or CRC-32, or apply a delta to a wrong base. They might accept a pack with bytes after
-//!   its last entry, a thin pack, or one with a delta base that occurs twice. They might accept a
-//!   pack if the visitor refuses an object, or show it an object that is not in the pack. Their
-//!   contracts do not cover limits, faults, or when an object is shown.
-//! - [`IndexedPack::find`] returns an object with the id, but no clause says that it is one of
-//!   [`IndexedPack::entries`].
-//! - [`PackWriter`] and [`put_entry`] might refuse an entry, with any fault. After a fault,
-//!   [`put_entry`] and [`put_header`] might leave any bytes in the text.
-//! - The number of entries is not compared with the count, and no clause bounds the bytes of the
-//!   pack or of a head ([`MAX_HEAD`]).
+//! - Any call that allocates may fail with out-of-memory. The contracts do not say when.
+//! - [`DeltaBase::make_delta`] might never find a delta, or might find a longer delta than
+//!   necessary. Only the memory safety of the search is proved. Each found delta is applied as a
+//!   check, and returned only if it makes the target.
+//! - [`IncomingPack`] and [`index_pack`] might refuse a good pack. Both might omit any object, or
+//!   return an object that the visitor did not receive, or received with another type. Both might
+//!   return a wrong offset or CRC-32 of an object, or apply a delta to a wrong base. Both might
+//!   accept a thin pack, a pack with bytes after its last entry, or a pack with the same delta base
+//!   twice. Both might accept a pack after the visitor refused an object, or pass the visitor an
+//!   object that is not in the pack. The contracts of both do not cover limits, faults, or the time
+//!   at which the visitor receives an object.
+//! - [`IndexedPack::find`] returns an object with the id, but no clause says that
+//!   [`IndexedPack::entries`] contains this object.
+//! - [`PackWriter`] and [`put_entry`] might refuse any entry with any fault. After a fault,
+//!   [`put_entry`] and [`put_header`] might leave any bytes in `out`.
+//! - No clause compares the number of written entries with the count in the pack header. No clause
+//!   bounds the length of a written pack or of an entry header ([`MAX_HEAD`]).
 //! - The contracts do not cover time or memory use.
 //!
 //! # Stands on
 //!
-//! `gzlib` for zlib streams and CRC-32, `gitobject` for types and the ids of objects, `gname` for
-//! ids, `sha1` for checksums.
+//! `gzlib` has zlib streams and CRC-32, `gitobject` has object types and the hashing of objects,
+//! `gname` has ids, and `sha1` has checksums.
 #![tactic(auto)]
 
 mod blocks;

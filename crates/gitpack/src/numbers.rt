@@ -1,16 +1,17 @@
-//! Numbers in bytes of seven bits: sizes, and offsets of bases.
+//! Numbers in groups of seven bits: sizes, and the offsets of delta bases.
 
 ghost use Rattle.std.specs.Prelude.{◌≡◌, ◌^◌, ◌<◌, ◌≤◌, ◌++◌, ◌∷◌, List, ℕ, MatchOption, length, slice_index};
 ghost use Rattle.gitpack.specs.Numbers.{IsNumber, IsOffset, IsSize, high_first, low_first};
 
-// The number of values of a digit. A byte of at least this value is not the last of its number.
+// The number of values of seven bits. A byte of at least this value is not the last byte of a
+// number.
 const DIGITS: u8 = 128;
 
-// The maximum number of bytes of a size or an offset.
+// The maximum number of bytes of an encoded size or offset.
 const MAX_BYTES: usize = 8;
 
-/// Returns the bytes of the number at the start, and the bytes after it. Returns `None` if there is
-/// no number of at most `most` bytes.
+/// Splits the bytes after their first encoded number. Returns `None` if this number has more than
+/// `most` bytes or has no end.
 pub(crate) fn split_number(most: usize, bytes: &[u8]) -> Option<(&[u8], &[u8])>
     ensures { MatchOption result
         ((text rest : List ℕ) → IsNumber text → length text ≤ most → ¬ (bytes.now ≡ text ++ rest))
@@ -41,7 +42,7 @@ fn last_place(bytes: &[u8]) -> Option<usize>
     None
 }
 
-/// Returns the number with these digits, the lowest first.
+/// Decodes a number in groups of seven bits, the lowest group first.
 pub(crate) fn low_first(bytes: &[u8]) -> usize
     requires { length bytes.now ≤ 8 }
     ensures number { result ≡ low_first bytes.now }
@@ -56,7 +57,7 @@ pub(crate) fn low_first(bytes: &[u8]) -> usize
     number
 }
 
-// Returns the number with these digits, the highest first, and a carry at each byte but the first.
+// Decodes the offset of a delta base, the highest group of seven bits first.
 fn high_first(first: u8, more: &[u8]) -> usize
     requires { length more.now ≤ 7 }
     ensures { result ≡ high_first (first ∷ more.now) }
@@ -68,8 +69,8 @@ fn high_first(first: u8, more: &[u8]) -> usize
     number
 }
 
-/// Returns the size at the start of the bytes, and the bytes after it, or `None` if they do not
-/// begin with a size.
+/// Returns the size at the start of the bytes, and the remaining bytes. Returns `None` if the bytes
+/// do not begin with a size.
 pub(crate) fn split_size(bytes: &[u8]) -> Option<(usize, &[u8])>
     ensures { MatchOption result
         ((size : ℕ) (text rest : List ℕ) → IsSize text size → ¬ (bytes.now ≡ text ++ rest))
@@ -81,8 +82,8 @@ pub(crate) fn split_size(bytes: &[u8]) -> Option<(usize, &[u8])>
     Some((low_first(text), rest))
 }
 
-/// Returns the offset at the start of the bytes, and the bytes after it, or `None` if they do not
-/// begin with an offset.
+/// Returns the offset at the start of the bytes, and the remaining bytes. Returns `None` if the
+/// bytes do not begin with an offset.
 pub(crate) fn split_offset(bytes: &[u8]) -> Option<(usize, &[u8])>
     ensures { MatchOption result
         ((offset : ℕ) (text rest : List ℕ) → IsOffset text offset → ¬ (bytes.now ≡ text ++ rest))

@@ -1,5 +1,5 @@
-//! Applying deltas to their bases: depth first, so that only the objects of one chain are held at a
-//! time.
+//! Applying deltas to their bases in depth-first order, so that only the objects of one chain are
+//! in memory.
 
 ghost use Rattle.std.specs.Prelude.{All, IfOk};
 ghost use Rattle.gitpack.specs.Indexes.{IsLine, line_of};
@@ -16,35 +16,35 @@ use gitobject::{ObjectType, id_of};
 use gzlib::Inflater;
 use std::alloc::{AllocError, Allocator};
 
-// The maximum number of deltas in a chain: the same as for git-fast-import(1), "--depth". Reading
-// the last object of a chain reads the whole chain.
+// The maximum number of deltas in a chain, as for git-fast-import(1), "--depth". The limit bounds
+// the cost of reading the last object of a chain.
 const MAX_DEPTH: usize = 8_191;
 
-// A base of deltas.
+// An object to which deltas are applied.
 #[derive(Drop)]
 struct Base<A: Allocator + Copy> {
     kind: ObjectType,
     body: Vec<u8, A>,
-    // The number of deltas in its chain.
+    // The number of deltas between this object and the start of its chain.
     depth: usize,
-    // Its remaining deltas.
+    // The deltas of this object that are not applied yet.
     left: Cursor,
 }
 
-/// Applies the deltas of a pack.
+/// The state of applying the deltas of a pack.
 #[derive(Drop)]
 pub(crate) struct Resolver<'a, A: Allocator + Copy> {
     alloc: A,
     pack: &'a [u8],
     limits: IndexLimits,
     entries: Vec<Scanned, A>,
-    // The inflated streams, kept until they are used.
+    // The inflated streams that are still in memory, one position per entry.
     texts: Vec<Option<Vec<u8, A>>, A>,
     children: Children<A>,
-    // The chain of bases, and their total size.
+    // The current chain of bases, from the undeltified object on.
     bases: Vec<Base<A>, A>,
     held: usize,
-    // The total size of all objects made from deltas.
+    // The total size of all objects made from deltas so far.
     total: usize,
     inflater: Inflater,
 }
@@ -77,7 +77,7 @@ impl<'a, A: Allocator + Copy> Resolver<'a, A> {
         })
     }
 
-    /// Applies all deltas, and shows each object to the visitor.
+    /// Applies all deltas, and passes each resulting object to the visitor.
     pub(crate) fn resolve_all<V: ObjectVisitor>(
         &mut self,
         visitor: &mut V,
@@ -89,7 +89,7 @@ impl<'a, A: Allocator + Copy> Resolver<'a, A> {
         Ok(())
     }
 
-    // Begins a chain with the object of this entry, if it is whole and has deltas.
+    // Begins a chain at this entry if the entry is undeltified and is the base of a delta.
     fn begin(&mut self, place: usize) -> Result<(), PackFileFault> {
         let Some(entry) = self.entries.get(place).copied() else {
             return Ok(());
@@ -110,7 +110,8 @@ impl<'a, A: Allocator + Copy> Resolver<'a, A> {
         })
     }
 
-    // Returns the inflated stream of the entry at this place. It is requested only once.
+    // Returns the inflated stream of the entry at position `place`. This function is called at most
+    // once for each entry.
     fn text_of(&mut self, place: usize, entry: &Scanned) -> Result<Vec<u8, A>, PackFileFault> {
         match self.take_text(place) {
             Some(text) => Ok(text),
@@ -118,12 +119,12 @@ impl<'a, A: Allocator + Copy> Resolver<'a, A> {
         }
     }
 
-    // Takes the inflated stream, if it was kept.
+    // Removes and returns the inflated stream of an entry, if it is still in memory.
     fn take_text(&mut self, place: usize) -> Option<Vec<u8, A>> {
         self.texts.get_mut(place)?.take()
     }
 
-    // Inflates the stream again.
+    // Inflates the stream of an entry again.
     fn inflate(&mut self, place: usize, entry: &Scanned) -> Result<Vec<u8, A>, PackFileFault> {
         let stream = self.pack.get(entry.stream..entry.end).unwrap_or(b"");
         match inflate(self.alloc, &mut self.inflater, stream, entry.size, place)? {
@@ -132,7 +133,7 @@ impl<'a, A: Allocator + Copy> Resolver<'a, A> {
         }
     }
 
-    // Holds an object, to apply deltas to it.
+    // Appends an object to the chain of bases.
     fn hold(&mut self, base: Base<A>) -> Result<(), PackFileFault> {
         self.check_held(base.body.len())?;
         self.held = self.held.saturating_add(base.body.len());
@@ -140,9 +141,9 @@ impl<'a, A: Allocator + Copy> Resolver<'a, A> {
         Ok(())
     }
 
-    // Applies the deltas of the held object, then those of the results, and so on.
+    // Applies all deltas that depend on the first base of the chain, directly or indirectly.
     fn resolve_chain<V: ObjectVisitor>(&mut self, visitor: &mut V) -> Result<(), PackFileFault> {
-        // Each delta is applied once, and each object is released once.
+        // The loop applies each delta once, and releases each base once.
         let steps = self.entries.len().saturating_mul(2).saturating_add(2);
         for _step in 0..steps {
             if self.bases.is_empty() {
@@ -162,8 +163,8 @@ impl<'a, A: Allocator + Copy> Resolver<'a, A> {
         }
     }
 
-    // Releases the last held object if it has no more deltas. So a chain of any length holds two
-    // objects.
+    // Releases the last base if it has no more deltas. So a chain without branches needs only two
+    // objects in memory.
     fn let_go_of_done(&mut self) {
         let Some(last) = self.bases.last() else {
             return;
@@ -174,7 +175,7 @@ impl<'a, A: Allocator + Copy> Resolver<'a, A> {
         }
     }
 
-    // Returns the place of the next delta of the last held object.
+    // Returns the position of the next delta whose base is the last base of the chain.
     fn next_delta(&mut self) -> Option<usize> {
         let last = self.bases.last_mut()?;
         let left = last.left;
@@ -182,7 +183,7 @@ impl<'a, A: Allocator + Copy> Resolver<'a, A> {
         self.children.peek(&left)
     }
 
-    // Applies the delta at this place to the last held object.
+    // Applies the delta at position `place` to the last base of the chain.
     fn resolve<V: ObjectVisitor>(
         &mut self,
         place: usize,
@@ -191,7 +192,7 @@ impl<'a, A: Allocator + Copy> Resolver<'a, A> {
         let Some(entry) = self.entries.get(place).copied() else {
             return Err(PackFileFault::Entry(place));
         };
-        // An earlier base had the same id.
+        // This delta was already applied to another base with the same id.
         if entry.object.is_some() {
             return Err(PackFileFault::Entry(place));
         }
@@ -221,8 +222,8 @@ impl<'a, A: Allocator + Copy> Resolver<'a, A> {
         Ok(())
     }
 
-    // Returns the number of deltas in the chain of the next object. Fails with `TooLarge` if there
-    // are too many.
+    // Returns the length of the chain with one more delta. Fails with `TooLarge` if the chain is
+    // too long.
     fn next_depth(&self) -> Result<usize, PackFileFault> {
         match self.bases.last() {
             Some(base) if base.depth >= MAX_DEPTH => Err(PackFileFault::TooLarge),
@@ -231,7 +232,7 @@ impl<'a, A: Allocator + Copy> Resolver<'a, A> {
         }
     }
 
-    // Fails with `TooLarge` unless `more` additional bytes may be held.
+    // Fails with `TooLarge` if `more` additional bytes in memory exceed the limit.
     fn check_held(&self, more: usize) -> Result<(), PackFileFault> {
         if self.held.saturating_add(more) > self.limits.held {
             return Err(PackFileFault::TooLarge);
@@ -239,8 +240,8 @@ impl<'a, A: Allocator + Copy> Resolver<'a, A> {
         Ok(())
     }
 
-    // Checks that the object that a delta makes is within the object limit, and may be held with
-    // the delta.
+    // Fails with `TooLarge` if the object that a delta makes exceeds the limits for one object or
+    // for memory.
     fn check_size(&self, delta: &[u8]) -> Result<(), PackFileFault> {
         match made_size(delta) {
             Some(size) if size > self.limits.object => Err(PackFileFault::TooLarge),
@@ -249,7 +250,7 @@ impl<'a, A: Allocator + Copy> Resolver<'a, A> {
         }
     }
 
-    // Adds `size` to the total size.
+    // Adds `size` to the total size, and fails with `TooLarge` above the limit.
     fn count(&mut self, size: usize) -> Result<(), PackFileFault> {
         self.total = self.total.saturating_add(size);
         if self.total > self.limits.total {
@@ -258,7 +259,8 @@ impl<'a, A: Allocator + Copy> Resolver<'a, A> {
         Ok(())
     }
 
-    // Applies the delta to the last held object, and returns the type and the bytes of the result.
+    // Applies the delta to the last base of the chain, and returns the type and the bytes of the
+    // result.
     fn apply(&self, delta: &[u8]) -> Result<Option<(ObjectType, Vec<u8, A>)>, AllocError> {
         let Some(base) = self.bases.last() else {
             return Ok(None);
@@ -270,8 +272,8 @@ impl<'a, A: Allocator + Copy> Resolver<'a, A> {
         }
     }
 
-    /// Returns the objects, if the object of each entry is known. Fails with `Thin` if the base of
-    /// a delta is not in the pack, and with `Memory`.
+    /// Returns the objects of all entries. Fails with `Thin` if the base of a delta is not in the
+    /// pack, and with `Memory`.
     pub(crate) fn into_entries(self) -> Result<Vec<IndexedEntry, A>, PackFileFault>
         ensures { IfOk result (λ objects. All (λ e. IsLine (line_of e)) objects.items) }
     {
@@ -280,13 +282,13 @@ impl<'a, A: Allocator + Copy> Resolver<'a, A> {
         list_objects(alloc, entries.as_slice())
     }
 
-    // Returns only the entries. The memory of all texts is freed.
+    // Returns only the entries, and frees all other memory.
     fn into_scanned(self) -> Vec<Scanned, A> {
         self.entries
     }
 }
 
-// Returns the objects of these entries, if all are known.
+// Returns the objects of these entries. Fails with `Thin` if an entry has no object.
 fn list_objects<A: Allocator + Copy>(
     alloc: A,
     entries: &[Scanned],
@@ -305,7 +307,7 @@ fn list_objects<A: Allocator + Copy>(
     Ok(objects)
 }
 
-// Returns the index entry of this object, whose pack entry has this CRC-32 and begins at `start`.
+// Returns the index entry of an object whose pack entry has the CRC-32 `crc` and begins at `start`.
 fn line_of(object: Object, crc: u32, start: usize) -> IndexEntry
     ensures { IsLine result }
 {

@@ -1,4 +1,4 @@
-//! The entries of a pack, in order, as they arrive.
+//! Reading the entries of a pack in order while the pack arrives.
 
 ghost use Rattle.gname.specs.Ids.{IsIdOf};
 ghost use Rattle.gname.specs.declared.formats.Format.TheVariants as formats;
@@ -14,19 +14,19 @@ use gname::Oid;
 use gzlib::{Inflater, crc32_of};
 use std::alloc::Allocator;
 
-// The number of bytes that must arrive before entries are scanned again: inflating part of an
-// incomplete entry is wasted work.
+// The minimum number of bytes that must arrive between two scans. More frequent scans would waste
+// time on inflating incomplete entries.
 const BATCH: usize = 131_072;
 
-// The maximum memory for kept inflated texts: 64 MiB.
+// The maximum memory for cached inflated streams, 64 MiB.
 const MAX_KEPT: usize = 67_108_864;
 
-/// An object: its id and its type.
+/// The id and type of an object.
 #[derive(Clone, Copy, Debug, Drop)]
 pub(crate) struct Object {
-    /// Its id.
+    /// The id of the object.
     pub id: Oid,
-    /// Its type.
+    /// The type of the object.
     pub kind: ObjectType,
     ghost named: { IsIdOf formats.Sha1 id } by { Prim.hlevel props },
 }
@@ -34,56 +34,56 @@ pub(crate) struct Object {
 /// An entry of a pack.
 #[derive(Clone, Copy, Debug, Drop)]
 pub(crate) struct Scanned {
-    /// The offset of the entry.
+    /// The offset of the start of the entry.
     pub start: usize,
-    /// The offset of its stream.
+    /// The offset of the entry's zlib stream.
     pub stream: usize,
-    /// The offset of its end.
+    /// The offset of the end of the entry.
     pub end: usize,
-    /// The size of its inflated stream.
+    /// The size of the entry's inflated stream.
     pub size: usize,
-    /// Its form.
+    /// The type of the entry.
     pub form: EntryForm,
-    /// The CRC-32 of its bytes.
+    /// The CRC-32 of the entry's bytes.
     pub crc: u32,
-    /// Its object, once known.
+    /// The id and type of the entry's object, or `None` before its deltas are applied.
     pub object: Option<Object>,
 }
 
-/// A completely scanned pack.
+/// A pack whose entries are all scanned.
 #[derive(Drop)]
 pub(crate) struct ScannedPack<A: Allocator + Copy> {
-    /// The allocator.
+    /// The allocator for further memory.
     pub alloc: A,
-    /// The remaining limits.
+    /// The limits that remain for applying deltas.
     pub limits: IndexLimits,
-    /// The entries, in order.
+    /// The entries, in the order of the pack.
     pub entries: Vec<Scanned, A>,
-    /// The inflated streams of the entries, if they are kept.
+    /// The inflated stream of each entry, or `None` if it is not cached.
     pub texts: Vec<Option<Vec<u8, A>>, A>,
-    /// An inflater.
+    /// The inflater for further streams.
     pub inflater: Inflater,
 }
 
-/// Scans a pack as it arrives. An entry is scanned once it is complete, and each whole object is
-/// shown to a visitor.
+/// A scanner of a pack that arrives in pieces. The scanner reads each complete entry, and passes
+/// undeltified objects to a visitor.
 ///
-/// An incomplete entry is inflated again only once its bytes have doubled. So the work is linear in
-/// the bytes, whatever the pieces are.
+/// An incomplete entry is inflated again only when twice as many bytes of it have arrived. So the
+/// total work is linear in the length of the pack, however small the pieces are.
 #[derive(Drop)]
 pub(crate) struct Scanner<A: Allocator + Copy> {
     alloc: A,
     limits: IndexLimits,
-    // The offset of the next entry, and the number of bytes that must be present before it is
-    // scanned.
+    // The offset of the next entry, and the number of bytes that must have arrived before the next
+    // scan.
     place: usize,
     enough: usize,
     entries: Vec<Scanned, A>,
     texts: Vec<Option<Vec<u8, A>>, A>,
-    // The memory of the texts, and the total size of all inflated streams so far.
+    // The memory for cached streams, and the total size of all inflated streams so far.
     kept: usize,
     total: usize,
-    // The first fault, reported at the end.
+    // The first fault, which `finish` reports.
     fault: Option<PackFileFault>,
     inflater: Inflater,
 }
@@ -105,8 +105,8 @@ impl<A: Allocator + Copy> Scanner<A> {
         }
     }
 
-    /// Scans the received bytes of a pack, without its possible trailer. A fault is kept for the
-    /// end, as the header and trailer are checked first.
+    /// Scans the received bytes of a pack, without the last twenty. A fault is reported only by
+    /// `finish`, since a wrong header or trailer takes precedence.
     pub(crate) fn scan_more<V: ObjectVisitor>(&mut self, body: &[u8], visitor: &mut V) {
         if self.fault.is_some() || body.len() < self.enough {
             return;
@@ -118,7 +118,8 @@ impl<A: Allocator + Copy> Scanner<A> {
         self.enough = body.len().saturating_add(waiting.max(BATCH));
     }
 
-    /// Scans the rest of a complete pack of `count` entries, given without its trailer.
+    /// Scans the remaining entries of a complete pack. `body` is the pack without its trailer, and
+    /// `count` its entry count.
     pub(crate) fn finish<V: ObjectVisitor>(
         self,
         body: &[u8],
@@ -153,7 +154,7 @@ impl<A: Allocator + Copy> Scanner<A> {
         }
     }
 
-    // Scans the complete entries.
+    // Scans the next entries until one is incomplete.
     fn scan_entries<V: ObjectVisitor>(
         &mut self,
         body: &[u8],
@@ -209,7 +210,8 @@ impl<A: Allocator + Copy> Scanner<A> {
         Ok(true)
     }
 
-    // Returns the total number of inflated bytes plus `size`.
+    // Returns the total size of inflated streams plus `size`. Fails with `TooLarge` if a limit is
+    // exceeded.
     fn total_with(&self, size: usize) -> Result<usize, PackFileFault> {
         let total = self.total.saturating_add(size);
         if size > self.limits.object || total > self.limits.total {
@@ -218,7 +220,7 @@ impl<A: Allocator + Copy> Scanner<A> {
         Ok(total)
     }
 
-    // Keeps the text of the last entry, if there is room for it.
+    // Caches the inflated stream of the last entry, unless the cache is full.
     fn keep(&mut self, text: Vec<u8, A>) -> Result<(), PackFileFault> {
         let kept = self.kept.saturating_add(text.capacity());
         if kept > MAX_KEPT {
@@ -231,7 +233,8 @@ impl<A: Allocator + Copy> Scanner<A> {
     }
 }
 
-// Shows the object of a whole entry to the visitor, and returns it.
+// Passes the object of an undeltified entry to the visitor, and returns its id and type. Returns
+// `None` if the entry is a delta.
 fn whole_object<V: ObjectVisitor>(
     form: EntryForm,
     body: &[u8],

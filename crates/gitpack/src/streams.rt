@@ -1,4 +1,4 @@
-//! The zlib streams of entries.
+//! Inflating the zlib streams of pack entries.
 
 ghost use Rattle.std.specs.Prelude.{◌≡◌, IfOk, IfSome, vec_len};
 
@@ -6,24 +6,24 @@ use crate::fault::PackFileFault;
 use gzlib::{InflateFault, Inflater};
 use std::alloc::Allocator;
 
-// The maximum ratio of an inflated size to the length of its stream (RFC 1951, section 3.2.5: 258
-// bytes in two bits).
+// The maximum ratio of an inflated size to the length of its stream, since two bits can encode 258
+// bytes (RFC 1951, section 3.2.5).
 const MAX_RATIO: usize = 1_032;
 
-// The number of bytes that an inflater reserves past the end of a body.
+// The number of bytes that an inflater reserves beyond the inflated size.
 const SPARE: usize = 258;
 
-/// A stream, inflated.
+/// The result of inflating a stream.
 #[derive(Drop)]
 pub(crate) struct Inflated<A: Allocator + Copy> {
     /// The inflated bytes.
     pub body: Vec<u8, A>,
-    /// The length of the stream.
+    /// The length of the zlib stream.
     pub length: usize,
 }
 
-/// Inflates the stream at the start of the bytes, which is that of the entry at this place, to
-/// exactly `size` bytes. Returns `None` if the stream continues after the bytes.
+/// Inflates the stream at the start of `bytes` to exactly `size` bytes, for the entry at position
+/// `place`. Returns `None` if `bytes` ends before the stream.
 pub(crate) fn inflate<A: Allocator + Copy>(
     alloc: A,
     inflater: &mut Inflater,

@@ -17,9 +17,9 @@ use sha1::Sha1;
 use std::alloc::{AllocError, Allocator};
 use std::marker::Model;
 
-/// A pack that is written entry by entry. Contracts see it as its bytes so far.
+/// A writer of a pack, entry by entry. In contracts, a writer is the list of bytes written so far.
 ///
-/// After a fault a part of an entry may have been written, and the pack is unusable.
+/// After a fault, a part of an entry may have been written, and the pack is unusable.
 #[derive(Drop)]
 pub struct PackWriter<A: Allocator + Copy> {
     alloc: A,
@@ -36,8 +36,8 @@ impl<A: Allocator + Copy> Model for PackWriter<A> {
 }
 
 impl<A: Allocator + Copy> PackWriter<A> {
-    /// Returns a pack of `count` entries, without any entry yet. It has at most `most` bytes
-    /// without its trailer, and reserves `room` bytes. Fails only if out of memory.
+    /// Returns a writer for a pack of `count` entries. The pack may have at most `most` bytes
+    /// without its trailer, and memory for `room` bytes is reserved. Fails only if out of memory.
     pub fn new(alloc: A, count: u32, room: usize, most: usize) -> Result<PackWriter<A>, AllocError>
         ensures { IfOk result (λ writer. writer ≡ pack_header count) }
     {
@@ -53,10 +53,10 @@ impl<A: Allocator + Copy> PackWriter<A> {
         self.bytes.len()
     }
 
-    /// Appends a whole object of `size` bytes, with this zlib stream.
+    /// Appends an undeltified object of `size` bytes, which `stream` inflates to.
     ///
-    /// Fails with `TooLarge` if the size has more than 60 bits or the pack has no room for the
-    /// stream, and with `Memory`.
+    /// Fails with `TooLarge` if the size has more than 60 bits or the pack would exceed its limit.
+    /// Also fails with `Memory`.
     pub fn put_whole(
         &mut self,
         kind: ObjectType,
@@ -68,8 +68,8 @@ impl<A: Allocator + Copy> PackWriter<A> {
         self.put_entry(EntryForm::Whole(kind), size, stream)
     }
 
-    /// Appends a delta of `size` bytes, with this zlib stream. Its base is the object whose entry
-    /// begins `back` bytes before this one.
+    /// Appends a delta of `size` bytes, which `stream` inflates to. The base of the delta is the
+    /// object whose entry begins `back` bytes earlier.
     ///
     /// Fails as `put_whole` does, and with `TooLarge` if the offset has more than 56 bits.
     pub fn put_offset_delta(
@@ -84,9 +84,10 @@ impl<A: Allocator + Copy> PackWriter<A> {
         self.put_entry(EntryForm::OffsetDelta(back), size, stream)
     }
 
-    /// Appends a delta of `size` bytes, with this zlib stream. Its base is the object with this id.
+    /// Appends a delta of `size` bytes, which `stream` inflates to. The base of the delta is the
+    /// object with id `base`.
     ///
-    /// Fails as `put_whole` does, and with `Format` if the id is not a SHA-1 id.
+    /// Fails as `put_whole` does, and with `Format` if the base's id is not a SHA-1 id.
     pub fn put_ref_delta(
         &mut self,
         size: usize,
@@ -99,7 +100,7 @@ impl<A: Allocator + Copy> PackWriter<A> {
         self.put_entry(EntryForm::RefDelta(*base), size, stream)
     }
 
-    /// Appends a whole object with these bytes, in a zlib stream of stored blocks.
+    /// Appends an undeltified object with these bytes, in a zlib stream without compression.
     ///
     /// Fails as `put_whole` does.
     pub fn put_body(&mut self, kind: ObjectType, body: &[u8]) -> Result<(), PackFileFault>
@@ -111,7 +112,7 @@ impl<A: Allocator + Copy> PackWriter<A> {
         self.put_entry(EntryForm::Whole(kind), body.len(), stream.as_slice())
     }
 
-    // Appends an entry.
+    // Appends an entry of type `form`.
     fn put_entry(
         &mut self,
         form: EntryForm,
@@ -123,7 +124,7 @@ impl<A: Allocator + Copy> PackWriter<A> {
         put_entry(&mut self.bytes, form, size, stream, self.most)
     }
 
-    /// Returns the pack with its trailer. Fails only if out of memory.
+    /// Appends the trailer, and returns the pack. Fails only if out of memory.
     pub fn finish(self) -> Result<Vec<u8, A>, AllocError>
         ensures { IfOk result (λ pack. pack.items ≡ with_trailer self) }
     {
@@ -142,11 +143,11 @@ pub fn put_header<A: Allocator + Copy>(out: &mut Vec<u8, A>, count: u32) -> Resu
     out.extend_from_slice(&count.to_be_bytes())
 }
 
-/// Appends an entry of this form with this zlib stream, which inflates to `size` bytes.
+/// Appends an entry of type `form`, whose zlib stream inflates to `size` bytes.
 ///
-/// Fails with `TooLarge` if the size has more than 60 bits, an offset more than 56, or `out` would
-/// get more than `most` bytes. Fails with `Format` if the id of a base is not a SHA-1 id, and with
-/// `Memory`. A part of the entry may have been appended then.
+/// Fails with `TooLarge` if the size has more than 60 bits, an offset has more than 56 bits, or
+/// `out` would have more than `most` bytes. Fails with `Format` if the base's id is not a SHA-1 id,
+/// and with `Memory`. After a fault, a part of the entry may have been appended.
 pub fn put_entry<A: Allocator + Copy>(
     out: &mut Vec<u8, A>,
     form: EntryForm,

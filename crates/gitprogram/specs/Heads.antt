@@ -1,4 +1,4 @@
--- HEAD of a clone: as the server has it.
+-- The HEAD of a clone, derived from the server's reply to ls-refs.
 use Rattle.std.specs.Prelude.{◌≡◌, ◌≢◌, ◌⊎◌, Bool, true, false, nat_eq, List, [], ◌∷◌, codes, Option, None, Some}
 use Rattle.std.specs.List.{starts_with}
 use Rattle.gname.specs.Names.{Name, head_name}
@@ -6,35 +6,37 @@ use Rattle.glsreply.specs.RefTexts.{RefLine}
 use Rattle.gitprogram.specs.declared.cloning.ServerHead.{ServerHead}
 use Rattle.gitprogram.specs.declared.cloning.ServerHead.TheVariants.{Branch, Detached}
 
--- the branch at which HEAD points if the server does not say at which one its own does
+-- the branch for the HEAD of a clone if the server does not report HEAD
 abbrev pub default_branch : Name
 default_branch = codes "refs/heads/main"
 
--- a name is that of a branch
+-- whether a name is a branch name
 abbrev pub is_branch : Name → Bool
 is_branch name = starts_with nat_eq name (codes "refs/heads/")
 
--- HEAD would point at a branch that is unborn; any other name counts as none
+-- the HEAD of a clone if the server's HEAD is unborn: the unborn branch, or the default branch if the name is not a
+-- branch name
 abbrev pub IsUnbornHead : Name → ServerHead → Type 0
 IsUnbornHead name head =
     ((is_branch name ≡ true) × (head ≡ Branch name))
     ⊎ ((is_branch name ≡ false) × (head ≡ Branch default_branch))
 
--- HEAD points at a branch, or it is at an id
+-- the HEAD of a clone for the symref target of the server's HEAD: the target if it is a branch, and detached otherwise
 abbrev pub IsSymrefOf : Option Name → ServerHead → Type 0
 IsSymrefOf (Some target) head =
     ((is_branch target ≡ true) × (head ≡ Branch target))
     ⊎ ((is_branch target ≡ false) × (head ≡ Detached))
 IsSymrefOf None head = head ≡ Detached
 
--- HEAD as the first line of a listing says, if it is that of HEAD
+-- the HEAD of a clone for the lines of a reply: HEAD can only be the first line, and otherwise the default branch is
+-- used
 abbrev pub IsListedHead : List RefLine → ServerHead → Type 0
 IsListedHead [] head = head ≡ Branch default_branch
 IsListedHead (line ∷ lines) head =
     ((line.name ≡ head_name) × IsSymrefOf line.symref head)
     ⊎ ((line.name ≢ head_name) × (head ≡ Branch default_branch))
 
--- HEAD as a reply says: at a branch that is unborn, or as the first line says
+-- the HEAD of a clone for a reply, which reports an unborn HEAD or lists HEAD in its first line
 abbrev pub IsHead : Option Name → List RefLine → ServerHead → Type 0
 IsHead (Some target) lines head = IsUnbornHead target head
 IsHead None lines head = IsListedHead lines head

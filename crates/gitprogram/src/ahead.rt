@@ -5,7 +5,7 @@ ghost use Rattle.std.specs.Prelude.{◌≤◌, None, length};
 use gpkt::{Down, Source};
 use std::marker::Model;
 
-// The maximum number of bytes to peek at: the length of the first packet of an ls-refs request.
+// The maximum number of peeked bytes: the length of the packet `command=ls-refs`.
 const LOOK: usize = 20;
 
 // The number of digits of a packet length.
@@ -15,7 +15,7 @@ const LENGTH: usize = 4;
 #[derive(Drop)]
 pub(crate) struct Ahead<'s, S> {
     source: &'s mut S,
-    // The peeked bytes. Those from `start` to `end` are still to be read.
+    // The peeked bytes. The bytes from `start` to `end` have not been read by a caller.
     front: [u8; LOOK],
     start: usize,
     end: usize,
@@ -34,8 +34,8 @@ impl<'s, S: Source> Ahead<'s, S> {
         }
     }
 
-    /// Whether the next request may be a fetch: it is neither ls-refs, nor a lone flush packet, nor
-    /// the end of the input. This looks only at the first packet.
+    /// Returns whether the next request may be a fetch. A flush packet, the packet
+    /// `command=ls-refs` or the end of the input is certainly no fetch.
     pub(crate) fn may_ask_for_objects(&mut self) -> bool {
         self.look(LENGTH);
         match self.ahead() {
@@ -43,7 +43,7 @@ impl<'s, S: Source> Ahead<'s, S> {
                 self.look(LOOK);
                 self.ahead() != b"0014command=ls-refs\n".as_slice()
             }
-            // The line feed is optional.
+            // The line feed after the command is optional.
             b"0013" => {
                 self.look(LOOK - 1);
                 self.ahead() != b"0013command=ls-refs".as_slice()
@@ -52,12 +52,12 @@ impl<'s, S: Source> Ahead<'s, S> {
         }
     }
 
-    // Returns the peeked bytes that are still to be read.
+    // Returns the peeked bytes that no caller has read yet.
     fn ahead(&self) -> &[u8] {
         self.front.get(self.start..self.end).unwrap_or(b"")
     }
 
-    // Peeks at up to `count` bytes, including those that are still to be read.
+    // Peeks until `count` bytes are peeked, or the input ends.
     fn look(&mut self, count: usize) {
         if self.start == self.end {
             self.start = 0;
@@ -70,7 +70,8 @@ impl<'s, S: Source> Ahead<'s, S> {
         }
     }
 
-    // Peeks at more bytes, up to `count`. Returns whether there were any.
+    // Peeks at more bytes with one read, up to `count` bytes in total. Returns whether any bytes
+    // arrived.
     fn look_on(&mut self, count: usize) -> bool {
         let Some(room) = self.front.get_mut(self.end..count) else {
             return false;
@@ -88,7 +89,7 @@ impl<'s, S: Source> Ahead<'s, S> {
     }
 }
 
-// Copies as many bytes as there is room for, and returns how many.
+// Copies as many bytes as fit into `room`, and returns their number.
 fn copy_front(bytes: &[u8], room: &mut [u8]) -> usize
     ensures { result ≤ length room.new }
 {

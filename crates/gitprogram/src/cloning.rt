@@ -44,9 +44,9 @@ const DEFAULT_BRANCH: &[u8] = b"refs/heads/main";
 // The HEAD of a server.
 #[derive(Drop)]
 enum ServerHead {
-    // It points at this branch, possibly unborn.
+    // A HEAD that points at this branch, possibly unborn.
     Branch(Target<Global>),
-    // It is detached.
+    // A detached HEAD.
     Detached,
 }
 
@@ -57,8 +57,8 @@ struct Source {
     tips: Tips<Global>,
 }
 
-/// Clones a repository of a server into a new bare one. After a failure nothing remains. An
-/// existing empty directory may be used.
+/// Clones a server's repository into a new or empty directory, as a bare repository. If the clone
+/// fails, it removes all its files.
 pub(crate) fn clone_remote<R, E>(rt: &R, asked: &CloneArgs<'_>, errors: &mut E) -> Result<(), Fault>
 where
     R: Files + AllocGlobal + Net,
@@ -73,8 +73,8 @@ where
     outcome
 }
 
-// Returns the part of the server's refs that a clone keeps. It drops the names, which may use much
-// memory; they are listed again.
+// Returns the server's HEAD and the ids of its refs. The names of the refs, which may use much
+// memory, are dropped and listed again later.
 fn source_of<R: AllocGlobal + Net>(rt: &R, remote: &Remote) -> Result<Source, Fault> {
     let alloc = rt.alloc();
     let listed = list(rt, remote)?;
@@ -138,7 +138,7 @@ fn push_spec(alloc: Global, specs: &mut Vec<Spec>, text: &[u8]) -> Result<(), Fa
     }
 }
 
-// Returns HEAD as the server lists it.
+// Returns the server's HEAD, as its reply to ls-refs shows it.
 fn head_of(alloc: Global, reply: &LsReply<Global>) -> Result<ServerHead, Fault>
     ensures { IfOk result (IsHead reply.now.unborn reply.now.lines) }
 {
@@ -148,7 +148,7 @@ fn head_of(alloc: Global, reply: &LsReply<Global>) -> Result<ServerHead, Fault>
     }
 }
 
-// Returns the HEAD of a server with an unborn HEAD of this name.
+// Returns the HEAD of a server whose HEAD points at an unborn branch of this name.
 fn unborn_head(alloc: Global, name: &RefName<Global>) -> Result<ServerHead, Fault>
     ensures { IfOk result (IsUnbornHead name.now) }
 {
@@ -159,7 +159,8 @@ fn unborn_head(alloc: Global, name: &RefName<Global>) -> Result<ServerHead, Faul
     }
 }
 
-// Returns HEAD from the first line, if that is the line of HEAD.
+// Returns the HEAD that the first line of the reply shows, or the default branch if the first line
+// is not that of HEAD.
 fn listed_head(alloc: Global, reply: &LsReply<Global>) -> Result<ServerHead, Fault>
     ensures { IfOk result (IsListedHead reply.now.lines) }
 {
@@ -184,7 +185,7 @@ fn symref_of(alloc: Global, name: &RefName<Global>) -> Result<ServerHead, Fault>
     }
 }
 
-// Whether a name is a branch name.
+// Returns whether a name is a branch name.
 fn is_branch(name: &RefName<Global>) -> bool
     ensures { result ≡ is_branch name.now }
 {
@@ -220,7 +221,7 @@ fn default_target(alloc: Global) -> Result<Target<Global>, Fault>
     }
 }
 
-// Creates the repository from a server's refs.
+// Creates the repository, and fetches the server's refs into it.
 fn clone_source<R, E>(
     rt: &R,
     dir: &str,
@@ -248,8 +249,8 @@ where
     }
 }
 
-// Returns the fault of a repository that cannot be created. Another run may have created one there
-// meanwhile.
+// Returns the fault for a repository that cannot be created. The cause may be that another process
+// has just created one in the same directory.
 fn make_fault(alloc: Global, dir: &str, fault: &RepositoryFault<Global>) -> Fault {
     match fault {
         RepositoryFault::Refs(
@@ -262,7 +263,7 @@ fn make_fault(alloc: Global, dir: &str, fault: &RepositoryFault<Global>) -> Faul
     }
 }
 
-// Creates the repository. HEAD points at a branch at first.
+// Creates the repository, with a HEAD that points at a branch.
 fn make<'r, R: Files + AllocGlobal>(
     rt: &'r R,
     dir: &'r str,
@@ -277,7 +278,7 @@ fn make<'r, R: Files + AllocGlobal>(
     Ok(NewRepository::make(alloc, rt, dir, remote.url.as_str(), &branch))
 }
 
-// Fetches into the new repository, and keeps it.
+// Fetches into the new repository, and installs the pack and the refs.
 fn fill<R, E>(
     rt: &R,
     found: &Directories,
@@ -310,8 +311,8 @@ fn keep<R: Files>(
     }
 }
 
-// Returns the branches and tags, and a detached HEAD, peeled to a commit if it is at a tag. Any
-// other HEAD is already set.
+// Returns the branches and tags, and HEAD if it is detached. A HEAD at a tag is peeled to its
+// commit.
 fn kept_refs(alloc: Global, repo: &Repo<Global>) -> Result<(Refs<Global>, Head<Global>), Fault> {
     let mut kept = Refs::new(alloc);
     let mut head = Head::None;

@@ -9,8 +9,8 @@ use glsreply::{LsReply, RefLine};
 use std::alloc::Global;
 use std::rt::Files;
 
-/// Returns the report of a fetch without changes: each requested ref is already up to date and its
-/// object exists. Returns `None` for any other fetch. The history is not read.
+/// Returns the report of a fetch if each requested ref is already up to date and its object exists.
+/// Returns `None` for any other fetch. This check does not read the history.
 ///
 /// Fails if the repository cannot be opened.
 pub(crate) fn fetched_already<R>(
@@ -45,7 +45,8 @@ where
     Ok(Some(report_of(alloc, asks)?))
 }
 
-// Returns the asks of refspecs, in the order of a session, or `None` if one does not name a ref.
+// Returns the ref updates that the refspecs request, in the order of a fetch. Returns `None` if a
+// refspec does not yield a ref name.
 fn asks_of(
     alloc: Global,
     specs: &[Spec<Global>],
@@ -60,7 +61,8 @@ fn asks_of(
     Ok(Some(asks))
 }
 
-// Adds the asks of a refspec, line by line. Returns `false` if a destination is not a ref name.
+// Adds a ref update for each line that a refspec matches. Returns `false` if a destination is not a
+// ref name.
 fn add_asks(
     alloc: Global,
     asks: &mut Asks<Global>,
@@ -77,7 +79,7 @@ fn add_asks(
     Ok(true)
 }
 
-// Adds the ask of a refspec for a server ref, if the refspec maps it. Returns `false` if the
+// Adds the ref update for a server's ref, if the refspec matches it. Returns `false` if the
 // destination is not a ref name.
 fn add_ask(
     alloc: Global,
@@ -99,7 +101,7 @@ fn add_ask(
     }
 }
 
-// Whether each requested ref already has its id.
+// Returns whether each requested ref already has the requested id.
 fn are_set(asks: &Asks<Global>, refs: &Refs<Global>) -> bool {
     (0..asks.len()).all(|place| match asks.at(place) {
         Some((name, id)) => refs.get(name) == Some(id),

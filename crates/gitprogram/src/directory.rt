@@ -22,8 +22,8 @@ const MAX_LINK: u64 = 65_536;
 pub(crate) struct Directories {
     /// The Git directory, which contains HEAD.
     pub(crate) own: String,
-    /// The directory of objects and refs. It differs from `own` for a linked worktree
-    /// (git-worktree(1)).
+    /// The directory of objects and refs. A linked worktree shares this directory with its main
+    /// worktree (git-worktree(1)).
     pub(crate) common: String,
     /// Whether a `.git` file leads to `own`, as in a linked worktree or a submodule.
     pub(crate) is_linked: bool,
@@ -53,9 +53,9 @@ impl Directories {
         below(alloc, self.common.as_str(), "objects/pack")
     }
 
-    /// Whether there is a work tree: a `.git` file leads to the repository, or its configuration
-    /// says that it is not bare (git-config(1), "core.bare"). If the configuration does not say,
-    /// the name of the directory must be `.git`.
+    /// Returns whether the repository has a work tree. A repository has a work tree if a `.git`
+    /// file leads to the repository, or if `core.bare` is false (git-config(1)). If `core.bare` is
+    /// not set, a repository has a work tree if its directory is named `.git`.
     pub(crate) fn has_work_tree<R>(&self, rt: &R) -> Result<bool, Fault>
     where
         R: Files + AllocGlobal,
@@ -75,7 +75,8 @@ impl Directories {
     }
 }
 
-/// Returns the repository at a path: a bare one, or that of a work tree (git-upload-pack(1)).
+/// Returns the repository at a path, which is a bare repository or a work tree
+/// (git-upload-pack(1)).
 pub(crate) fn find_repository<R>(rt: &R, path: &str) -> Result<Directories, Fault>
 where
     R: Files + AllocGlobal,
@@ -93,14 +94,14 @@ where
 /// The served repositories.
 #[derive(Clone, Copy)]
 pub(crate) struct Exports<'a> {
-    /// The directory that contains them.
+    /// The directory that contains the served repositories.
     pub(crate) base: &'a str,
     /// Whether all repositories are served, even without `git-daemon-export-ok`.
     pub(crate) all: bool,
 }
 
-/// Returns the repository that a client's path names, or `None` if it does not name a served one
-/// (git-daemon(1)).
+/// Returns the repository that a client's path names, or `None` if no served repository has this
+/// path (git-daemon(1)).
 pub(crate) fn find_served<R>(
     rt: &R,
     exports: Exports<'_>,
@@ -129,7 +130,7 @@ fn served_path(path: &[u8]) -> Option<ServedPath<'_>> {
     }
 }
 
-// Returns the repository, if serving it is allowed.
+// Returns the repository if the server may serve it.
 fn exported_repository<R: Files + AllocGlobal>(
     rt: &R,
     exports: Exports<'_>,
@@ -142,7 +143,8 @@ fn exported_repository<R: Files + AllocGlobal>(
     }
 }
 
-// Returns the repository whose Git directory is at a path, or is named by the file there.
+// Returns the repository at a path, which is its Git directory or a file that names its Git
+// directory.
 fn look_at<R>(rt: &R, path: String) -> Result<Option<Directories>, Fault>
 where
     R: Files + AllocGlobal,
@@ -157,7 +159,7 @@ where
     }
 }
 
-// Returns the repository whose Git directory is named by a file in a directory.
+// Returns the repository whose Git directory is `target`, relative to `directory`.
 fn follow<R>(rt: &R, directory: &str, target: &[u8]) -> Result<Option<Directories>, Fault>
 where
     R: Files + AllocGlobal,
@@ -168,7 +170,8 @@ where
     }
 }
 
-// Returns the repository whose Git directory is at a path: it has HEAD, objects and refs.
+// Returns the repository with this Git directory, or `None` if HEAD, the objects or the refs are
+// missing.
 fn look_into<R>(rt: &R, own: String, is_linked: bool) -> Result<Option<Directories>, Fault>
 where
     R: Files + AllocGlobal,
@@ -190,14 +193,13 @@ where
     }
 }
 
-// Whether the last name in a path is `.git`. Slashes may end the path.
+// Returns whether the last component of a path is `.git`, ignoring slashes at the end.
 fn is_named_git(path: &str) -> bool {
     let path = path.trim_end_matches('/');
     path == ".git" || path.ends_with("/.git")
 }
 
-// Returns the common directory of a Git directory, or `None` if the file `commondir` does not name
-// one.
+// Returns the common directory of a Git directory, or `None` if its file `commondir` is malformed.
 fn common_of<R: Files + AllocGlobal>(rt: &R, own: &str) -> Result<Option<String>, Fault> {
     let path = below(rt.alloc(), own, "commondir")?;
     match read_link(rt, path.as_str())? {
@@ -209,13 +211,13 @@ fn common_of<R: Files + AllocGlobal>(rt: &R, own: &str) -> Result<Option<String>
     }
 }
 
-// A path that may lead to another directory.
+// The content of a path that may be a directory or a file that names one.
 #[derive(Drop)]
 enum Link {
-    // There is no such file.
+    // Neither a directory nor a short file.
     Absent,
     Directory,
-    // There is a file with this text.
+    // A file with this text.
     File(Vec<u8>),
 }
 
@@ -238,7 +240,7 @@ fn read_short<R: Files + AllocGlobal>(rt: &R, path: &str) -> io::Result<Link> {
     Ok(Link::File(fs::read(rt, path)?))
 }
 
-// Returns the path that a file in a directory names, or `None` if it is not UTF-8.
+// Returns the path of `target` relative to `directory`, or `None` if `target` is not UTF-8.
 fn target_path(
     alloc: Global,
     directory: &str,
@@ -262,8 +264,8 @@ fn parent_of(path: &str) -> &str {
     }
 }
 
-// Whether there is a file with this name in a directory. A dangling symbolic link counts, since Git
-// once made HEAD a symbolic link.
+// Returns whether a directory contains a file with this name. A dangling symbolic link counts,
+// since Git once made HEAD a symbolic link.
 fn exists<R: Files + AllocGlobal>(rt: &R, directory: &str, name: &str) -> Result<bool, Fault> {
     let path = below(rt.alloc(), directory, name)?;
     match rt.symlink_metadata(path.as_str()) {
@@ -273,12 +275,12 @@ fn exists<R: Files + AllocGlobal>(rt: &R, directory: &str, name: &str) -> Result
     }
 }
 
-/// Returns the fault of a file that the system cannot open.
+/// Returns the fault for a file that the system cannot open.
 pub(crate) fn open_fault(alloc: Global, path: &str, error: &io::Error) -> Fault {
     Fault::of(alloc, Sentence::Open { path, error })
 }
 
-// Whether an error means that there is no such file.
+// Returns whether an error means that the file does not exist.
 fn is_absent(kind: ErrorKind) -> bool {
     matches!(kind, ErrorKind::NotFound | ErrorKind::NotADirectory)
 }

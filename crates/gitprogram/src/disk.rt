@@ -1,4 +1,4 @@
-//! The disk, as seen by the connections of a server.
+//! The repositories on disk that a server can open.
 
 ghost use Rattle.std.specs.Prelude.{◌<◌, [], IfOk, MatchResult, Some, length};
 ghost use Rattle.gparts.specs.Parts.{Begins, GivesPart};
@@ -14,38 +14,38 @@ use std::alloc::Global;
 use std::rc::Rc;
 use std::time::SystemTime;
 
-/// The number of an open object store. The store stays open while a ticket with its number exists.
+/// A handle to an open object store. The store stays open while a ticket with its number exists.
 pub(crate) type Ticket = Rc<u64, Global>;
 
 /// The repositories on a disk, and the open object stores.
 pub(crate) trait Disk {
-    /// Returns the repository that a client's path names, or `None` if it does not name a served
-    /// one.
+    /// Returns the repository that a client's path names, or `None` if no served repository has
+    /// this path.
     fn find(&self, path: &[u8]) -> Result<Option<Directories>, Fault>;
 
     /// Returns the current refs and HEAD of a repository.
     fn list(&self, found: &Directories) -> Result<Listed, NotOpened>;
 
-    /// Returns as much of a repository as an ls-refs request for these refs needs.
+    /// Reads as much of a repository as is needed to answer ls-refs with these refs.
     fn show(&self, found: &Directories, listed: Listed) -> Result<Extent, NotOpened>;
 
-    /// Returns when the pack directory last changed, or `None` if unknown.
+    /// Returns the modification time of the pack directory, or `None` if unknown.
     fn change_time(&self, found: &Directories) -> Option<SystemTime>;
 
     /// Opens the objects of a repository.
     fn open_objects(&self, found: &Directories) -> Result<Ticket, NotOpened>;
 
-    /// Opens the objects of a repository with shown refs, and reads its history.
+    /// Opens the objects of a repository, and reads the history of the refs in `tips`.
     fn open_history(
         &self,
         found: &Directories,
         tips: &Server<Global>,
     ) -> Result<(Server<Global>, Ticket), NotOpened>;
 
-    /// Closes the object stores without a ticket.
+    /// Closes each object store for which no ticket exists.
     fn close_unused(&self);
 
-    /// Begins a pack of these entries, from the objects that are open with a ticket.
+    /// Begins a pack of these entries from the object store of a ticket.
     fn begin(
         &self,
         ticket: &Ticket,
@@ -55,7 +55,8 @@ pub(crate) trait Disk {
         ensures { IfOk result
             (λ parts. Begins packs_any fails_any entries.now (gives_rest parts) (most_left parts)) };
 
-    /// Copies the next bytes of a pack to the front of `out`, and returns how many: 0 at the end.
+    /// Copies the next bytes of a pack to the front of `out`, and returns their number, which is 0
+    /// at the end of the pack.
     fn part(
         &self,
         ticket: &Ticket,
@@ -68,6 +69,7 @@ pub(crate) trait Disk {
             (gives_rest parts.new) (most_left parts.new) count out.new)
             (λ fault. gives_rest parts.old [] (Some fault)) };
 
-    /// Takes the fault of the last call that returned `Other` for a ticket.
+    /// Removes and returns the detailed fault of the last call with this ticket that failed with
+    /// `Other`.
     fn take_fault(&self, ticket: &Ticket, found: &Directories) -> Option<Fault>;
 }

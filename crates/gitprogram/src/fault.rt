@@ -1,21 +1,21 @@
-//! Why a command fails.
+//! The faults of the commands.
 
 use crate::sentences::Sentence;
 use gname::OUT_OF_MEMORY_TEXT;
 use std::alloc::{AllocError, AllocFailed, Global};
 use std::fmt;
 
-/// Why a command fails. It is printed on one line after the program name.
+/// The reason for a failed command, which is printed on one line after the program name.
 #[derive(Debug, Drop)]
 pub(crate) enum Fault {
     /// Out of memory.
     Memory,
-    /// A sentence of the table.
+    /// The text of a [`Sentence`].
     Said(String),
 }
 
 impl Fault {
-    /// Returns the fault with this sentence.
+    /// Returns the fault with the text of this sentence.
     pub(crate) fn of(alloc: Global, sentence: Sentence<'_>) -> Fault {
         match format!(in alloc; "{sentence}") {
             Ok(text) => Fault::Said(text),
@@ -33,8 +33,7 @@ impl fmt::Display for Fault {
     }
 }
 
-// Writes a text on one line that is safe for a terminal, with a question mark for each control
-// character.
+// Writes a text with a question mark for each control character, so that it is safe on a terminal.
 fn write_shown<W: fmt::Write>(text: &str, f: &mut fmt::Formatter<W>) -> fmt::Result {
     for letter in text.chars() {
         f.write_char(if letter.is_control() { '?' } else { letter })?;

@@ -1,4 +1,4 @@
-//! `gitrepo fetch`, and the parts it shares with a clone.
+//! `gitrepo fetch`, and the code that it shares with `gitrepo clone`.
 
 use crate::current::fetched_already;
 use crate::directory::{Directories, find_repository};
@@ -38,7 +38,7 @@ const BRANCHES: &[u8] = b"refs/heads/";
 /// The parameters of a fetch.
 #[derive(Clone, Copy)]
 pub(crate) struct Wanted<'a> {
-    /// The repository of the server.
+    /// The server's repository.
     pub(crate) remote: &'a Remote,
     /// The refspecs.
     pub(crate) specs: &'a [Spec<Global>],
@@ -48,7 +48,7 @@ pub(crate) struct Wanted<'a> {
     pub(crate) head_ref: &'a [u8],
 }
 
-/// A client's repository, and its earlier refs.
+/// A client's repository, and its refs before the fetch.
 #[derive(Drop)]
 pub(crate) struct Client {
     /// The refs before the fetch.
@@ -57,7 +57,7 @@ pub(crate) struct Client {
     pub(crate) repo: Repo<Global>,
 }
 
-/// A fetch before its pack is installed and its refs are moved.
+/// A completed transfer, before the pack is installed and the refs are updated.
 #[derive(Drop)]
 pub(crate) struct Fetch {
     /// The repository.
@@ -75,8 +75,8 @@ struct Report {
     is_terminal: bool,
 }
 
-/// Fetches refs into a repository, and prints the result for each. On a terminal their names are
-/// cleaned.
+/// Fetches refs into a repository, and prints the result for each ref. On a terminal, non-printable
+/// bytes of ref names are replaced.
 pub(crate) fn fetch_remote<R, E>(
     rt: &R,
     asked: &FetchArgs<'_>,
@@ -112,8 +112,8 @@ where
     conclude(rt, &found, report, outcome)
 }
 
-// Returns the server's refs that refspecs may match. They must include each ref that a refspec
-// names.
+// Returns the server's refs that the refspecs may match. Fails if a refspec names a ref that the
+// server does not have.
 fn list_sources<R>(
     rt: &R,
     remote: &Remote,
@@ -128,7 +128,7 @@ where
     Ok(listed)
 }
 
-// Returns the prefixes of the ref names that refspecs may match.
+// Returns prefixes of the ref names that the refspecs match.
 fn prefixes_of(
     alloc: Global,
     remote: &Remote,
@@ -147,7 +147,7 @@ fn prefixes_of(
     Ok(prefixes)
 }
 
-// Returns the report of a fetch without changes; `None` for any other.
+// Returns the report of the fetch if all refs are already up to date, and `None` otherwise.
 fn find_current<R>(
     rt: &R,
     found: &Directories,
@@ -163,7 +163,7 @@ where
     }
 }
 
-// Keeps the fetched data, and prints the report.
+// Installs the pack, updates the refs, and prints the report.
 fn conclude<R>(
     rt: &R,
     found: &Directories,
@@ -214,12 +214,12 @@ fn check_sources(
     Ok(())
 }
 
-// Whether a refspec may match any number of refs.
+// Returns whether a refspec is a pattern, which may match any number of refs.
 fn is_pattern(spec: &Spec<Global>) -> bool {
     spec.prefix().as_bytes().ends_with(b"/")
 }
 
-// Whether the server has the source of a refspec, even as an unborn HEAD.
+// Returns whether the server has a ref that a refspec matches. An unborn HEAD counts as a ref.
 fn has_source(listed: &LsReply<Global>, spec: &Spec<Global>) -> bool {
     if spec.is_head() && listed.unborn().is_some() {
         return true;
@@ -230,8 +230,8 @@ fn has_source(listed: &LsReply<Global>, spec: &Spec<Global>) -> bool {
     })
 }
 
-// Installs the pack, and then moves the refs. If their names conflict, or there are too many, it
-// installs nothing.
+// Installs the pack, and then updates the refs. Installs nothing if ref names conflict or there are
+// too many refs.
 fn keep<R: Files + AllocGlobal>(rt: &R, found: &Directories, fetch: &Fetch) -> Result<(), Fault> {
     let client = &fetch.client;
     let updates = updates_of(rt.alloc(), &client.before, client.repo.refs())?;
@@ -280,7 +280,7 @@ fn check_branch(alloc: Global, branch: &RefName<Global>, updates: &[RefMove]) ->
     Ok(())
 }
 
-// Fails at the first ref name that is not UTF-8, since it has no path.
+// Fails at the first ref name that is not UTF-8, since such a ref has no file name.
 fn check_names(alloc: Global, updates: &[RefMove]) -> Result<(), Fault> {
     for update in updates {
         let name = update.name.as_bytes();
@@ -309,7 +309,7 @@ fn install_and_move<R: Files + AllocGlobal>(
     Ok(())
 }
 
-// Returns the moved refs.
+// Returns the refs that differ after the fetch.
 fn updates_of(
     alloc: Global,
     before: &Refs<Global>,
@@ -329,7 +329,7 @@ fn updates_of(
     Ok(updates)
 }
 
-// Fails if a ref was not moved because the update is not a fast-forward.
+// Fails if a ref was left unchanged because its update is not a fast-forward.
 fn check_moved(alloc: Global, fetched: &Fetched<Global>) -> Result<(), Fault> {
     let settled = &fetched.settled;
     for (place, update) in settled.updates.iter().enumerate() {
@@ -373,7 +373,7 @@ fn print_report<R: Print + AllocGlobal>(
     }
 }
 
-/// Fetches into a repository, without writing anything yet.
+/// Fetches into a repository in memory. This function writes nothing to disk.
 pub(crate) fn receive<R, E>(
     rt: &R,
     found: &Directories,
@@ -484,7 +484,7 @@ fn check_commits<R: Files>(
     Ok(())
 }
 
-// Fails if the HEAD of a clone, which is this object or its peeled object, is not a commit.
+// Fails if the HEAD of a clone, which is this object peeled, is not a commit.
 fn check_head_commit<R: Files>(
     alloc: Global,
     remote: &Remote,
@@ -500,7 +500,7 @@ fn check_head_commit<R: Files>(
     Err(Fault::of(alloc, Sentence::NoHeadCommit { url }))
 }
 
-// Whether a received or existing object is a commit.
+// Returns whether an object, received or already present, is a commit.
 fn is_commit<R: Files>(
     alloc: Global,
     remote: &Remote,
@@ -533,7 +533,7 @@ where
     }
 }
 
-// Returns the fault of a fetch, with the indexer's detail if there is one.
+// Returns the fault of a fetch, with details from the indexer if it failed.
 fn fetch_fault<R: Files>(
     alloc: Global,
     remote: &Remote,
@@ -551,7 +551,7 @@ fn refused_pack(alloc: Global, remote: &Remote, fault: &RepositoryFault<Global>)
     Fault::of(alloc, Sentence::RefusedPack { url, fault })
 }
 
-// Performs a fetch through buffers.
+// Performs a fetch over a buffered connection.
 fn converse_with<R, S, E>(
     alloc: Global,
     peer: &Peer<S, Silence>,
@@ -576,12 +576,12 @@ where
     let mut source = FromRead::new(&mut reader);
     let mut sink = ToWrite::new(&mut writer);
     let fetched = fetch_git(repo, &mut source, &mut sink, indexer, &fetch);
-    // Unwritten bytes are not retried.
+    // Buffered bytes that could not be written are dropped.
     let (_peer, _unwritten) = writer.into_parts();
     fetched
 }
 
-// Returns the fetch request: deltas may name their bases by offset.
+// Returns the parameters of the fetch, which allow offset deltas in the pack.
 fn fetch_of(wanted: Wanted<'_>, progress: bool) -> GitFetch<'_, Global> {
     GitFetch {
         hello: &wanted.remote.hello,

@@ -1,5 +1,5 @@
-//! Serving a repository to a client, starting with the advertisement. Its history is read once a
-//! request needs it.
+//! Serving a repository to a client, starting with the advertisement. The history is read only when
+//! a request needs it.
 
 ghost use Rattle.std.specs.Prelude.{⊤};
 
@@ -31,7 +31,7 @@ pub(crate) struct Conversation {
 }
 
 impl Conversation {
-    /// Returns a conversation without answered requests.
+    /// Returns a failed conversation in which no request was answered.
     pub(crate) fn without_answer(fault: Fault) -> Conversation {
         Conversation {
             requests: 0,
@@ -40,8 +40,8 @@ impl Conversation {
     }
 }
 
-// The number of answered requests, and how the connection ended, or `None` if the next request may
-// be a fetch.
+// The number of answered requests, and how the connection ended. The end is `None` if the next
+// request may be a fetch.
 #[derive(Drop)]
 struct Answered {
     requests: u32,
@@ -75,7 +75,7 @@ where
     }
 }
 
-// Reads the refs of a repository, and opens as much of it as ls-refs needs.
+// Reads the refs of a repository, and as many objects as ls-refs needs.
 fn open_extent<R: Files + AllocGlobal, F: ObjectFiles>(
     rt: &R,
     files: &F,
@@ -85,16 +85,17 @@ fn open_extent<R: Files + AllocGlobal, F: ObjectFiles>(
     open_shown(rt.alloc(), files, found, listed)
 }
 
-// A repository that can be served. It shows the refs and HEAD from when it was opened.
+// A repository with open objects. The refs and HEAD are those that were read when the repository
+// was opened.
 #[derive(Drop)]
 struct Opened<'f, F: ObjectFiles> {
     // The graph, the refs and HEAD.
     server: Server<Global>,
-    // The packer of its objects.
+    // The packer for the objects of the repository.
     packer: ObjectPacker<'f, F>,
 }
 
-// Opens the objects of a repository with shown refs, and reads its history unless it is known.
+// Opens the objects of a repository, and reads its history if `shown` lacks it.
 fn open_whole<'f, F: ObjectFiles>(
     alloc: Global,
     files: &'f F,
@@ -117,7 +118,7 @@ fn refuse<W: Sink>(alloc: Global, cause: NotOpened, requests: u32, sink: &mut W)
     }
 }
 
-// Advertises capabilities, and answers the requests before the first possible fetch.
+// Advertises capabilities, and answers all requests before the first that may be a fetch.
 fn show_refs<S: Source, W: Sink>(
     server: &Server<Global>,
     source: &mut Ahead<'_, S>,
@@ -172,7 +173,7 @@ fn advertise<W: Sink>(server: &Server<Global>, sink: &mut W) -> Result<(), End> 
     }
 }
 
-// Answers all requests starting with this number.
+// Answers the requests from number `first` on.
 fn answer_all<F: ObjectFiles, S: Source, W: Sink>(
     alloc: Global,
     found: &Directories,
@@ -199,7 +200,7 @@ fn answer_all<F: ObjectFiles, S: Source, W: Sink>(
     conversation_of(alloc, MAX_REQUESTS, End::Ended)
 }
 
-// Returns how a connection ends after an exchange.
+// Returns how an exchange ended the connection, or `None` if the connection goes on.
 fn end_after(exchange: ExchangeEnd) -> Option<End> {
     match exchange {
         ExchangeEnd::Answered => None,
@@ -220,7 +221,7 @@ fn conversation_of(alloc: Global, requests: u32, end: End) -> Conversation {
     Conversation { requests, outcome }
 }
 
-// A packer for requests without objects.
+// A packer for requests that need no objects.
 struct NoPacker;
 
 impl Packer<Global> for NoPacker {
@@ -233,8 +234,8 @@ impl Packer<Global> for NoPacker {
     }
 }
 
-// Tells the client that the repository cannot be opened, with the reason if its format is
-// unsupported.
+// Sends an error packet that the repository cannot be opened. If the format of the repository is
+// unsupported, the packet says so.
 fn send_not_opened<W: Sink>(
     alloc: Global,
     form: Option<FormFault>,
@@ -253,7 +254,7 @@ fn send_not_opened<W: Sink>(
     Ok(())
 }
 
-// Returns the fault of a refused request, with the packer's detail if there is one.
+// Returns the fault of a refused request, with details from the packer if it failed.
 fn request_fault<F: ObjectFiles>(
     alloc: Global,
     found: &Directories,

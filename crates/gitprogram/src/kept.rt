@@ -1,4 +1,4 @@
-//! Repositories that are kept between connections.
+//! The cache of repositories, which outlives connections.
 
 use crate::shared::{Shared, Shown};
 use ggraph::MAX_NODES;
@@ -6,16 +6,17 @@ use std::alloc::{AllocError, Global};
 use std::rc::{Rc, Weak};
 use std::time::SystemTime;
 
-// The maximum number of kept repositories.
+// The maximum number of cached repositories.
 const MAX_REPOSITORIES: usize = 64;
 
 // A repository.
 #[derive(Drop)]
 struct Kept {
     shown: Rc<Shown, Global>,
-    // Tickets for its objects, if connections hold any.
+    // A weak handle to the open objects, which close when no connection uses them.
     objects: Weak<u64, Global>,
-    // When the pack directory last changed before the objects were opened, or `None` if unknown.
+    // The modification time of the pack directory, read before the objects were opened, or `None`
+    // if unknown.
     changed: Option<SystemTime>,
 }
 
@@ -24,30 +25,30 @@ impl Kept {
         self.shown.found.own.as_str()
     }
 
-    // Returns another handle to it.
+    // Returns a handle to the repository for another connection.
     fn share<'d, D>(&self, alloc: Global, disk: &'d D) -> Result<Shared<'d, D>, AllocError> {
         let shown = self.shown.clone()?;
         Shared::new(alloc, disk, shown, self.objects.upgrade(), self.changed)
     }
 }
 
-/// The most recently read repositories, oldest first. Together they have at most 1,048,576 commits
-/// and tags. A connection may still use one that is no longer kept.
+/// The most recently read repositories, oldest first, with at most 1,048,576 commits and tags in
+/// total. A connection may still use a repository that the cache has dropped.
 #[derive(Drop)]
 pub(crate) struct KeptRepositories {
     kept: Vec<Kept>,
 }
 
 impl KeptRepositories {
-    /// Returns an empty list.
+    /// Returns an empty cache.
     pub(crate) fn new(alloc: Global) -> KeptRepositories {
         KeptRepositories {
             kept: Vec::new(alloc),
         }
     }
 
-    /// Returns the repository with this Git directory, for another connection, or `None` if it is
-    /// not kept. Fails only if out of memory.
+    /// Returns a handle to the cached repository with this Git directory, or `None` if there is
+    /// none. Fails only if out of memory.
     pub(crate) fn get<'d, D>(
         &self,
         alloc: Global,
@@ -60,9 +61,9 @@ impl KeptRepositories {
         }
     }
 
-    /// Keeps a repository and replaces the one with the same Git directory. The oldest are dropped
-    /// if there are too many. Fails only if out of memory, and then keeps no repository of this Git
-    /// directory.
+    /// Adds a repository, and removes an older entry with the same Git directory. A full cache
+    /// drops the oldest repositories. Fails only if out of memory, and then the cache has no entry
+    /// for this Git directory.
     pub(crate) fn put<D>(&mut self, shared: &Shared<'_, D>) -> Result<(), AllocError> {
         let path = shared.shown.found.own.as_str();
         if let Some(place) = self.kept.iter().position(|kept| kept.path() == path) {
@@ -104,7 +105,7 @@ impl KeptRepositories {
         }
     }
 
-    // Returns the total number of commits and tags.
+    // Returns the total number of commits and tags in the cache.
     fn nodes(&self) -> usize {
         let mut nodes: usize = 0;
         for kept in &self.kept {

@@ -15,7 +15,8 @@ use grequest::MAX_PREFIXES;
 use std::alloc::{AllocError, Global};
 use std::net::Net;
 
-/// Prints the refs of a server as git-ls-remote(1) does. On a terminal their names are cleaned.
+/// Prints the refs of a server as git-ls-remote(1) does. On a terminal, non-printable bytes of ref
+/// names are replaced.
 pub(crate) fn list_refs<R>(rt: &R, asked: &LsArgs<'_>, is_terminal: bool) -> Result<(), Fault>
 where
     R: Print + AllocGlobal + Net,
@@ -28,8 +29,8 @@ where
     print_peer(rt, is_terminal, text.as_slice())
 }
 
-// Returns the prefixes to request. If there are too many for a request, returns none, which
-// requests all refs.
+// Returns the prefixes to request, or no prefixes if there are too many for one request. A request
+// without prefixes lists all refs.
 fn prefixes_to_ask(prefixes: &[Prefix<Global>]) -> &[Prefix<Global>] {
     if prefixes.len() <= MAX_PREFIXES {
         prefixes
@@ -38,7 +39,7 @@ fn prefixes_to_ask(prefixes: &[Prefix<Global>]) -> &[Prefix<Global>] {
     }
 }
 
-// Returns the lines of the refs that begin with one of these prefixes, or of all refs if there are
+// Returns a line for each ref that begins with one of these prefixes, or for each ref if there are
 // no prefixes.
 fn reply_text(
     alloc: Global,
@@ -54,7 +55,7 @@ fn reply_text(
     Ok(text)
 }
 
-// Appends the lines of the ref at a position, if it is listed.
+// Appends the lines of the ref at a position if its name begins with one of the prefixes.
 fn put_at(
     text: &mut Vec<u8>,
     reply: &LsReply<Global>,
@@ -85,14 +86,14 @@ fn put_listed(
     }
 }
 
-// Whether a name begins with one of these prefixes, or there are no prefixes.
+// Returns whether a name begins with one of these prefixes, or there are no prefixes.
 fn is_listed(prefixes: &[Prefix<Global>], name: &[u8]) -> bool
     ensures { result ≡ is_listed prefixes.now name.now }
 {
     prefixes.is_empty() || begins_with_any(prefixes, name)
 }
 
-// Whether a name begins with one of these prefixes.
+// Returns whether a name begins with one of these prefixes.
 fn begins_with_any(prefixes: &[Prefix<Global>], name: &[u8]) -> bool
     ensures { result ≡ list_any (starts_with nat_eq name.now) prefixes.now }
 {
@@ -101,7 +102,7 @@ fn begins_with_any(prefixes: &[Prefix<Global>], name: &[u8]) -> bool
         .any(|prefix| name.starts_with(prefix.as_bytes()))
 }
 
-// Appends the line of a ref, and that of the peeled object of a tag.
+// Appends the line of a ref, and a second line with the peeled id if the ref is a tag.
 fn put_ref(text: &mut Vec<u8>, line: &RefLine<Global>) -> Result<(), AllocError>
     ensures { OnOk result (text.new.items ≡ text.old.items ++ ref_lines line.now) }
 {
@@ -112,7 +113,7 @@ fn put_ref(text: &mut Vec<u8>, line: &RefLine<Global>) -> Result<(), AllocError>
     }
 }
 
-// Appends a line of an id and a name with an ending.
+// Appends a line with an id, a tab, a ref name and its suffix.
 fn put_line(text: &mut Vec<u8>, id: &Oid, name: &[u8], ending: &[u8]) -> Result<(), AllocError>
     ensures { OnOk result (text.new.items ≡ text.old.items ++ id_line id.now (name.now ++ ending.now)) }
 {

@@ -1,22 +1,23 @@
-//! Log notes that are made while answering a message.
+//! Details for the log line of a connection.
 
 use crate::fault::Fault;
 use std::alloc::{AllocError, Global};
 use std::cell::{Cell, RefCell};
 
-/// Notes that the repositories make while answering a message, for the log line.
+/// Details for the log line of a connection, which `Repositories` records while it answers a
+/// message.
 #[derive(Drop)]
 pub(crate) struct Notes {
     alloc: Global,
-    // The path of the last first line, and the fault of the last failed call.
+    // The path in the last first line, and the fault of the last failed call.
     path: RefCell<Vec<u8>>,
     fault: RefCell<Option<Fault>>,
-    // Whether the next refusal is of a first line, not of a request.
+    // Whether the next refused message is a first line and not a request.
     is_first: Cell<bool>,
 }
 
 impl Notes {
-    /// Returns empty notes.
+    /// Returns `Notes` without details.
     pub(crate) fn new(alloc: Global) -> Notes {
         Notes {
             alloc,
@@ -26,7 +27,7 @@ impl Notes {
         }
     }
 
-    /// Records the path of a first line.
+    /// Records the path in the first line of a connection.
     pub(crate) fn note_path(&self, path: &[u8]) -> Result<(), AllocError> {
         let mut copy = Vec::new(self.alloc);
         copy.extend_from_slice(path)?;
@@ -34,22 +35,22 @@ impl Notes {
         Ok(())
     }
 
-    /// Records why a call failed.
+    /// Records the fault of a failed call.
     pub(crate) fn note_fault(&self, fault: Fault) {
         let _ = self.fault.try_replace(Some(fault));
     }
 
-    /// Records whether the next refusal is of a first line.
+    /// Records whether the next refused message is a first line.
     pub(crate) fn note_first(&self, is_first: bool) {
         self.is_first.set(is_first);
     }
 
-    /// Whether the next refusal is of a first line.
+    /// Returns whether the next refused message is a first line.
     pub(crate) fn is_first(&self) -> bool {
         self.is_first.get()
     }
 
-    /// Takes the path of the last first line.
+    /// Removes and returns the path in the last first line.
     pub(crate) fn take_path(&self) -> Vec<u8> {
         match self.path.try_replace(Vec::new(self.alloc)) {
             Ok(path) => path,
@@ -57,7 +58,7 @@ impl Notes {
         }
     }
 
-    /// Takes the fault of the last failed call.
+    /// Removes and returns the fault of the last failed call.
     pub(crate) fn take_fault(&self) -> Option<Fault> {
         match self.fault.try_replace(None) {
             Ok(fault) => fault,

@@ -1,4 +1,4 @@
-//! Opening a repository to serve it or to fetch into it.
+//! Opening a repository to serve or to fetch into.
 
 ghost use Rattle.std.specs.Prelude.{◌≡◌};
 ghost use Rattle.gitprogram.specs.Sharing.{server_in};
@@ -28,14 +28,14 @@ pub(crate) type ObjectPacker<'f, F> = StorePacker<'f, F, Global>;
 pub(crate) struct NotOpened {
     /// The fault.
     pub(crate) fault: Fault,
-    /// The format of the repository, if it is unsupported.
+    /// The reason if the format of the repository is unsupported.
     pub(crate) form: Option<FormFault>,
     /// Whether too many other repositories are open.
     pub(crate) is_busy: bool,
 }
 
 impl NotOpened {
-    /// Returns the fault of too many open repositories.
+    /// Returns the fault for too many open repositories.
     pub(crate) fn busy(alloc: Global) -> NotOpened {
         NotOpened {
             fault: Fault::of(alloc, Sentence::Busy),
@@ -55,12 +55,13 @@ impl From<AllocError> for NotOpened {
     }
 }
 
-/// How much of its repository a server has read.
+/// The part of a repository that a server has read.
 #[derive(Drop)]
 pub(crate) enum Extent {
-    /// It has the whole history.
+    /// The whole history.
     Whole(Server<Global>),
-    /// It has the objects that refs point to, and their peeled objects. It answers only ls-refs.
+    /// Only the objects that refs point to, and their peeled objects. A server with this extent can
+    /// answer only ls-refs.
     Tips(Server<Global>),
 }
 
@@ -75,7 +76,7 @@ impl Extent {
     }
 }
 
-/// The refs and HEAD of a repository, as in its Git directory.
+/// The refs and HEAD that were read from a Git directory.
 #[derive(Drop)]
 pub(crate) struct Listed {
     refs: Refs<Global>,
@@ -84,13 +85,13 @@ pub(crate) struct Listed {
 }
 
 impl Listed {
-    /// Whether a server has these refs and this HEAD. A server that left out a ref does not.
+    /// Returns whether a server has exactly these refs and this HEAD.
     pub(crate) fn is_of(&self, server: &Server<Global>) -> bool {
         has_refs(server, &self.refs, &self.head)
     }
 }
 
-/// Whether a server has these refs and this HEAD.
+/// Returns whether a server has these refs and this HEAD.
 pub(crate) fn has_refs(server: &Server<Global>, refs: &Refs<Global>, head: &Head<Global>) -> bool {
     server.refs().as_slice() == refs.as_slice() && is_same_head(server.head(), head)
 }
@@ -118,8 +119,8 @@ fn find_listed<R: Files, F: ObjectFiles>(
     Ok(found.refs(alloc, rt).read_peeled_refs()?)
 }
 
-/// Opens as much of a repository as ls-refs needs: the objects that refs point to. If one is not
-/// found quickly, the whole history is read.
+/// Reads the objects that refs point to, which is enough for ls-refs. If an object is not found
+/// quickly, the whole history is read.
 pub(crate) fn open_shown<F: ObjectFiles>(
     alloc: Global,
     files: &F,
@@ -133,12 +134,12 @@ pub(crate) fn open_shown<F: ObjectFiles>(
     }
 }
 
-// A repository opened for showing its refs.
+// A repository opened to answer ls-refs.
 #[derive(Drop)]
 enum Shown {
-    // The objects that refs point to were found.
+    // Only the objects that refs point to.
     Tips(Repository<Global>),
-    // Its history was read.
+    // The whole history.
     Whole(Repository<Global>),
 }
 
@@ -172,7 +173,7 @@ fn is_same_head(one: &Head<Global>, other: &Head<Global>) -> bool {
 }
 
 // Returns the objects that refs and HEAD point to, or `None` if one is not found quickly. No pack
-// stays open.
+// stays open after this call.
 fn find_tips<F: ObjectFiles>(
     alloc: Global,
     files: &F,
@@ -183,7 +184,7 @@ fn find_tips<F: ObjectFiles>(
     open_tips(&mut reader, &listed.peels, &listed.refs, &listed.head)
 }
 
-/// Opens the objects of a repository whose history is known.
+/// Opens the objects of a repository whose history has been read.
 pub(crate) fn open_objects<'f, F: ObjectFiles>(
     alloc: Global,
     files: &'f F,
@@ -195,7 +196,7 @@ pub(crate) fn open_objects<'f, F: ObjectFiles>(
     }
 }
 
-/// Opens the objects of a repository with shown refs, and reads its history.
+/// Opens the objects of a repository, and reads the history of the refs in `tips`.
 pub(crate) fn open_history<'f, F: ObjectFiles>(
     alloc: Global,
     files: &'f F,
@@ -208,7 +209,7 @@ pub(crate) fn open_history<'f, F: ObjectFiles>(
     }
 }
 
-// Returns the history of the shown refs and HEAD, and a reader of its objects.
+// Returns the history of the refs and HEAD in `tips`, and a reader of its objects.
 fn find_whole<'f, F: ObjectFiles>(
     alloc: Global,
     files: &'f F,
@@ -264,8 +265,8 @@ fn make_server(
     }
 }
 
-/// Opens a repository to fetch into it from a server whose refs have these ids. Extra refs precede
-/// its refs, so that it sends its newest objects as haves first.
+/// Opens a repository to fetch from a server whose refs have the ids in `tips`. Extra refs at the
+/// front make the client send its newest objects as haves first.
 pub(crate) fn open_client<'f, R: Files, F: ObjectFiles>(
     alloc: Global,
     rt: &R,
@@ -293,7 +294,7 @@ fn open_with_leaves<'f, R: Files, F: ObjectFiles>(
     Ok((repository, reader))
 }
 
-// Opens a repository: its graph with refs and HEAD, and a reader of its objects.
+// Returns the graph, refs and HEAD of a repository, and a reader of its objects.
 fn open<'f, R: Files, F: ObjectFiles>(
     alloc: Global,
     rt: &R,
@@ -317,7 +318,7 @@ pub(crate) fn open_reader<'f, F: ObjectFiles>(
     Ok(ObjectReader::new(store)?)
 }
 
-/// Returns the fault of the repository at a path.
+/// Returns the fault for the repository at a path.
 pub(crate) fn repository_fault(
     alloc: Global,
     path: &str,

@@ -6,10 +6,10 @@ use gitwords::{Shown, clean_byte};
 use std::io;
 use std::io::Write;
 
-// The number of bytes cleaned at a time.
+// The number of bytes that one write to a terminal copies at most.
 const PIECE: usize = 512;
 
-/// A writer of standard output. Bytes from a peer are cleaned if it is a terminal.
+/// A writer of standard output, which replaces non-printable bytes on a terminal.
 #[derive(Drop)]
 pub(crate) struct Output<W> {
     writer: W,
@@ -17,7 +17,7 @@ pub(crate) struct Output<W> {
 }
 
 impl<W: Write> Output<W> {
-    /// Returns an output with this writer.
+    /// Returns an `Output` that writes to `writer`.
     pub(crate) fn new(writer: W, is_terminal: bool) -> Output<W> {
         Output {
             writer,
@@ -49,7 +49,8 @@ pub(crate) fn print<R: Print + AllocGlobal>(rt: &R, text: &[u8]) -> Result<(), F
     print_peer(rt, false, text)
 }
 
-/// Writes a text with bytes from a peer to standard output. They are cleaned if it is a terminal.
+/// Writes a text with bytes from a peer to standard output. On a terminal, unsafe bytes are
+/// replaced.
 pub(crate) fn print_peer<R: Print + AllocGlobal>(
     rt: &R,
     is_terminal: bool,

@@ -1,29 +1,29 @@
-//! Observing the packets of a server's reply as they pass.
+//! Finding the pack and the messages in the bytes of a server's reply.
 
-// The packet before a pack (gitprotocol-v2(5), "fetch"); the line feed may be missing.
+// The packet before a pack (gitprotocol-v2(5), "fetch"). A server may omit the line feed.
 const PACKFILE: &[u8] = b"packfile\n";
 
-/// An interesting part of the packets.
+/// A part of the reply that is relevant for the progress.
 #[derive(Clone, Copy)]
 pub(crate) enum Seen<'b> {
-    /// Bytes of a pack.
+    /// Bytes of the pack.
     Pack(&'b [u8]),
-    /// Text of the server.
+    /// Bytes of a message from the server.
     Text(&'b [u8]),
-    /// The end of a pack.
+    /// The end of the pack.
     End,
     /// Nothing.
     Nothing,
 }
 
-// The current position in the packets.
+// The current position in a packet.
 #[derive(Clone, Copy)]
 enum PacketPosition {
-    // In the four length digits of a packet: how many have arrived, and their value.
+    // Among the four length digits of a packet: the number of digits read, and their value.
     Digits { count: u8, number: u16 },
-    // In a payload: how many bytes have arrived, and how many are left.
+    // In a payload: the number of bytes read, and the number of bytes left.
     Payload { before: u16, left: u16 },
-    // After a malformed packet. Nothing more is observed.
+    // After a malformed packet, where all further bytes are ignored.
     Lost,
 }
 
@@ -35,13 +35,13 @@ enum Band {
     Other,
 }
 
-/// An observer of packets. It stores no bytes.
+/// A parser that follows the packets of a reply without storing them.
 #[derive(Drop)]
 pub(crate) struct Packets {
     place: PacketPosition,
-    // Whether the payload so far is a prefix of `packfile`.
+    // Whether the payload read so far is a prefix of `packfile`.
     begins_packs: bool,
-    // Whether the packets are side-band packets of a pack.
+    // Whether the packets have side bands, since `packfile` was read.
     has_bands: bool,
     band: Band,
 }
@@ -52,7 +52,7 @@ const START: PacketPosition = PacketPosition::Digits {
 };
 
 impl Packets {
-    /// Returns an observer that has seen no bytes.
+    /// Returns a parser at the start of a reply.
     pub(crate) fn new() -> Packets {
         Packets {
             place: START,
@@ -62,8 +62,8 @@ impl Packets {
         }
     }
 
-    /// Examines some of the next bytes, and returns how many and what they are. The number is 0
-    /// only if there are no bytes.
+    /// Reads a prefix of `bytes`, and returns its length and its meaning. The length is 0 only if
+    /// `bytes` is empty.
     pub(crate) fn look<'b>(&mut self, bytes: &'b [u8]) -> (usize, Seen<'b>) {
         let Some((first, _)) = bytes.split_first() else {
             return (0, Seen::Nothing);
@@ -78,7 +78,7 @@ impl Packets {
         }
     }
 
-    // Examines a digit.
+    // Reads a digit of a packet length.
     fn look_at_digit<'b>(&mut self, byte: u8, count: u8, number: u16) -> Seen<'b> {
         let Some(digit) = char::from(byte).to_digit(16) else {
             self.place = PacketPosition::Lost;
@@ -95,7 +95,7 @@ impl Packets {
         self.begin_packet(number)
     }
 
-    // Begins a packet of `length` bytes, including its digits.
+    // Begins a packet of `length` bytes, including the four digits.
     fn begin_packet<'b>(&mut self, length: u16) -> Seen<'b> {
         self.begins_packs = true;
         self.band = Band::Other;
@@ -114,7 +114,7 @@ impl Packets {
         Seen::Nothing
     }
 
-    // Examines bytes of a payload.
+    // Reads bytes of a payload.
     fn look_at_payload<'b>(
         &mut self,
         bytes: &'b [u8],
@@ -167,7 +167,7 @@ impl Packets {
     }
 }
 
-// Returns the band that the first byte names.
+// Returns the side band that the first byte names.
 fn band_of(bytes: &[u8]) -> Band {
     match bytes.first() {
         Some(1) => Band::Pack,

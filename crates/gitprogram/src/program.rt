@@ -16,16 +16,17 @@ use std::net::Net;
 use std::rt::{Clock, Env, Files};
 use std::{env, io};
 
-// The exit statuses for a failed command, and for wrong arguments.
+// The exit status for a failed command.
 const FAILED: u8 = 1;
 
 const WRONG_USAGE: u8 = 2;
 
 /// Runs `gitrepo` with the arguments of the runtime, over its files, standard streams and sockets.
-/// Faults, progress and the lines about connections are written to `stderr`. If standard output is
-/// a terminal, bytes from a peer are cleaned.
+/// Error messages, progress and the connection log are written to `stderr`. If `is_terminal` is
+/// set, non-printable bytes from a peer are replaced on standard output.
 ///
-/// Returns the exit status: 0; 1 if a fault was printed; 2 if the arguments are wrong.
+/// Returns the exit status: 0 on success, 1 if a fault was printed, and 2 if the arguments are
+/// wrong.
 pub fn run_gitrepo<R, W>(rt: &R, is_terminal: bool, stderr: &mut W) -> u8
 where
     R: Env + Files + Input + Print + AllocGlobal + Clock + Net,
@@ -51,7 +52,7 @@ fn arguments<R: Env + AllocGlobal>(rt: &R) -> Result<Vec<String>, ErrorKind> {
     }
 }
 
-// Refuses arguments that the runtime cannot provide.
+// Prints why the arguments cannot be read, and returns the exit status.
 fn refuse_arguments<R: AllocGlobal, W: Write>(rt: &R, kind: ErrorKind, errors: &mut W) -> u8 {
     if kind == ErrorKind::OutOfMemory {
         return finish(Err(Fault::Memory), errors);
@@ -60,7 +61,7 @@ fn refuse_arguments<R: AllocGlobal, W: Write>(rt: &R, kind: ErrorKind, errors: &
     WRONG_USAGE
 }
 
-// Prints the answer that replaces a command, and returns its status.
+// Prints the help, version or usage text that replaces a command, and returns the exit status.
 fn print_answer<R: Print, W: Write>(rt: &R, answer: &Answer, errors: &mut W) -> u8 {
     if let Answer::Memory = answer {
         return finish(Err(Fault::Memory), errors);
@@ -79,7 +80,7 @@ fn print_answer<R: Print, W: Write>(rt: &R, answer: &Answer, errors: &mut W) -> 
     answer.status()
 }
 
-// Prints the fault, if there is one, and returns the exit status.
+// Prints the fault of a failed command, and returns the exit status.
 fn finish<W: Write>(outcome: Result<(), Fault>, errors: &mut W) -> u8
     ensures { MatchResult outcome (λ _. result ≡ 0) (λ _. result ≡ 1) }
 {

@@ -10,10 +10,10 @@ use std::{fmt, io};
 // objects.
 const HEADER: usize = 12;
 
-// The number of bytes between two updates of the progress.
+// The number of pack bytes between two updates of the progress line.
 const STEP: u64 = 262_144;
 
-// The prefix of each line from the server, as in Git.
+// The prefix of each line from the server, as Git prints it.
 const REMOTE: &[u8] = b"remote: ";
 
 /// Progress of a fetch.
@@ -23,29 +23,29 @@ pub(crate) struct Progress<'e, E> {
     is_shown: bool,
     packets: Packets,
     pack: PackSeen,
-    // The number of received bytes at the last update.
+    // The number of pack bytes at the last update.
     shown: u64,
     line: Line,
-    // The text to be printed.
+    // The text that is printed next.
     text: Vec<u8>,
 }
 
-// The open line on the terminal.
+// The unfinished line on the terminal.
 #[derive(Clone, Copy, PartialEq, Eq)]
 enum Line {
-    // There is none.
+    // No unfinished line.
     New,
     // An unfinished line from the server.
     Server,
-    // A line about a pack, which is updated as more bytes arrive.
+    // The progress line, which is rewritten as more bytes arrive.
     Pack,
 }
 
-// The observed part of a pack.
+// The part of a pack that has arrived.
 #[derive(Clone, Copy)]
 struct PackSeen {
     bytes: u64,
-    // The number of objects in the header, as far as it has arrived.
+    // The number of objects in the pack header, as far as the header has arrived.
     objects: u32,
 }
 
@@ -68,12 +68,12 @@ impl<'e, E: Write> Progress<'e, E> {
         }
     }
 
-    /// Whether the progress is shown.
+    /// Returns whether the progress is shown.
     pub(crate) fn is_shown(&self) -> bool {
         self.is_shown
     }
 
-    // Shows the progress for some bytes from the server. If out of memory, some output is left out.
+    // Shows the progress after more bytes from the server. Out of memory, some output is left out.
     fn watch(&mut self, bytes: &[u8]) {
         if !self.is_shown {
             return;
@@ -105,7 +105,7 @@ impl<'e, E: Write> Progress<'e, E> {
         }
     }
 
-    // Shows from time to time how much of a pack has arrived.
+    // Counts bytes of a pack, and updates the progress line after each `STEP` bytes.
     fn show_pack(&mut self, bytes: &[u8]) -> Result<(), AllocError> {
         self.pack.pass(bytes);
         if self.pack.bytes < self.shown.saturating_add(STEP) {
@@ -116,7 +116,7 @@ impl<'e, E: Write> Progress<'e, E> {
         self.put_pack("\r")
     }
 
-    // Ends the line about a pack.
+    // Ends the progress line.
     fn show_end(&mut self) -> Result<(), AllocError> {
         self.begin_line(Line::Pack)?;
         self.put_pack(", done.\n")?;
@@ -126,7 +126,7 @@ impl<'e, E: Write> Progress<'e, E> {
         Ok(())
     }
 
-    // Continues a line, or ends another open line.
+    // Ends an unfinished line of another kind, and then begins or continues a line of this kind.
     fn begin_line(&mut self, line: Line) -> Result<(), AllocError> {
         if self.line != Line::New && self.line != line {
             self.text.push(b'\n')?;
@@ -142,7 +142,7 @@ impl<'e, E: Write> Progress<'e, E> {
         self.text.extend_from_slice(line.as_bytes())
     }
 
-    // Shows a text from the server.
+    // Shows a message from the server.
     fn show_text(&mut self, text: &[u8]) -> Result<(), AllocError> {
         for piece in text.split_inclusive(|byte| is_line_end(*byte)) {
             self.show_piece(piece)?;
@@ -164,7 +164,7 @@ impl<'e, E: Write> Progress<'e, E> {
         Ok(())
     }
 
-    /// Ends the open line, if there is one.
+    /// Ends the unfinished line, if there is one.
     pub(crate) fn finish(&mut self) {
         if self.line != Line::New {
             let _ = self.errors.write_all(b"\n");
@@ -178,7 +178,7 @@ fn is_line_end(byte: u8) -> bool {
 }
 
 impl PackSeen {
-    // Counts bytes of the pack.
+    // Counts bytes of the pack, and reads the object count in its header.
     fn pass(&mut self, bytes: &[u8]) {
         for byte in bytes.iter().take(HEADER) {
             if 8 <= self.bytes && self.bytes < HEADER as u64 {
@@ -213,7 +213,7 @@ impl fmt::Display for Size {
     }
 }
 
-/// A reader whose bytes are observed.
+/// A reader that reports all bytes to a [`Progress`].
 #[derive(Drop)]
 pub(crate) struct Watched<'p, 'e, D, E> {
     reader: D,
@@ -221,7 +221,7 @@ pub(crate) struct Watched<'p, 'e, D, E> {
 }
 
 impl<'p, 'e, D, E> Watched<'p, 'e, D, E> {
-    /// Returns the reader, observed by `progress`.
+    /// Returns `reader`, reporting its bytes to `progress`.
     pub(crate) fn new(reader: D, progress: &'p mut Progress<'e, E>) -> Watched<'p, 'e, D, E> {
         Watched { reader, progress }
     }

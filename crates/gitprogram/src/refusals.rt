@@ -47,12 +47,12 @@ pub(crate) const FULL_OF_ADDRESS: &[u8] =
 pub(crate) const PACK_FAILED: &[u8] =
     b"upload-pack: pack failed: it would have more than 64 MiB, or an object is missing or refused here";
 
-// An error packet of the libraries that does not name the limit.
+// An error packet of the libraries that is replaced by a more precise one.
 #[derive(Clone, Copy)]
 enum Wording {
-    // A request exceeds a limit.
+    // The packet for a request that exceeds a limit.
     Request,
-    // A pack cannot be made.
+    // The packet for a pack that cannot be made.
     Pack,
 }
 
@@ -66,7 +66,7 @@ impl Wording {
         }
     }
 
-    // Returns the packet that is sent instead.
+    // Returns the more precise packet that is sent instead.
     fn refusal_packet(self) -> &'static [u8] {
         match self {
             Wording::Request =>
@@ -77,12 +77,12 @@ impl Wording {
     }
 }
 
-/// A writer that names the limits if a client is refused because of one. Other packets are
-/// unchanged.
+/// A writer that replaces general error packets by packets that name the limits. The writer does
+/// not change other packets.
 #[derive(Drop)]
 pub(crate) struct Worded<W> {
     writer: W,
-    // How many of the last bytes are held back, since they may begin the packet of this wording.
+    // The number of last bytes that are held back, because they may begin an error packet.
     held: usize,
     wording: Wording,
 }
@@ -97,12 +97,12 @@ impl<W> Worded<W> {
         }
     }
 
-    // Returns the held bytes.
+    // Returns the bytes that are held back.
     fn held_bytes(&self) -> &'static [u8] {
         self.wording.packet().get(..self.held).unwrap_or(&[])
     }
 
-    // Holds bytes back if they continue a packet with a wording. Returns whether they do.
+    // Holds bytes back if they may belong to an error packet. Returns whether bytes were held back.
     fn hold(&mut self, buf: &[u8]) -> bool {
         let held = self.held_bytes();
         for wording in WORDINGS {
@@ -119,7 +119,7 @@ impl<W> Worded<W> {
 }
 
 impl<W: Write> Worded<W> {
-    // Writes the held bytes, or the packet that replaces them.
+    // Writes the bytes that were held back, or the packet that replaces them.
     fn write_held(&mut self) -> io::Result<()> {
         let held = self.held_bytes();
         self.held = 0;

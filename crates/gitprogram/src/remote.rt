@@ -1,4 +1,4 @@
-//! A repository of a server.
+//! A repository on a server.
 
 use crate::fault::Fault;
 use crate::sentences::Sentence;
@@ -12,10 +12,10 @@ use gtcp::{connect_to, ls_on};
 use std::alloc::{AllocError, Global};
 use std::net::Net;
 
-/// A repository of a server.
+/// A repository on a server.
 #[derive(Drop)]
 pub(crate) struct Remote {
-    /// Its URL.
+    /// The URL of the repository.
     pub(crate) url: String,
     /// The first line of a connection to the repository.
     pub(crate) hello: Hello<Global>,
@@ -52,8 +52,8 @@ impl Remote {
         }
     }
 
-    /// Returns the refs of the repository that begin with one of these prefixes, or all refs if
-    /// there are no prefixes. The server may also list others.
+    /// Returns the refs that begin with one of these prefixes, or all refs if there are no
+    /// prefixes. The server may list further refs.
     pub(crate) fn list<N: Net>(
         &self,
         net: &N,
@@ -73,7 +73,7 @@ impl Remote {
         }
     }
 
-    /// Returns the fault of a conversation with the server.
+    /// Returns the fault for a failed conversation with the server.
     pub(crate) fn fault(&self, alloc: Global, fault: &FetchFault<Global>) -> Fault {
         Fault::of(
             alloc,
@@ -85,7 +85,7 @@ impl Remote {
     }
 }
 
-// Returns the text of a URL. The default port is left out.
+// Returns the text of a URL without the default port.
 fn url_text(alloc: Global, url: &GitUrl<'_>) -> Result<String, AllocError> {
     let GitUrl { host, port, path } = url;
     if *port == DEFAULT_PORT {
@@ -95,7 +95,7 @@ fn url_text(alloc: Global, url: &GitUrl<'_>) -> Result<String, AllocError> {
     }
 }
 
-/// Returns the ids of the refs in a reply, and the peeled ids of tags.
+/// Returns the ids of the refs in a reply to ls-refs, and the peeled ids of its tags.
 pub(crate) fn tips_of(alloc: Global, reply: &LsReply<Global>) -> Result<Tips<Global>, AllocError> {
     let mut ids = Vec::new(alloc);
     for place in 0..reply.len() {

@@ -1,4 +1,4 @@
-//! The repositories below a directory, for all connections of a server.
+//! The repositories of a server, shared by all connections.
 
 use crate::directory::Directories;
 use crate::disk::Disk;
@@ -18,9 +18,9 @@ use std::alloc::{AllocError, Global};
 use std::cell::RefCell;
 use std::time::SystemTime;
 
-/// Something that closes unused objects.
+/// A value that can close unused object stores.
 pub(crate) trait Closes {
-    /// Closes the objects that no connection uses.
+    /// Closes the object stores that no connection uses.
     fn close_unused(&self);
 }
 
@@ -34,7 +34,7 @@ pub(crate) struct Repositories<'d, D> {
 }
 
 impl<'d, D> Repositories<'d, D> {
-    /// Returns the repositories on a disk, none of them read yet.
+    /// Returns the repositories on a disk, with an empty cache.
     pub(crate) fn new(alloc: Global, disk: &'d D, notes: &'d Notes) -> Repositories<'d, D> {
         Repositories {
             alloc,
@@ -44,7 +44,7 @@ impl<'d, D> Repositories<'d, D> {
         }
     }
 
-    // Returns the kept repository, for another connection.
+    // Returns a handle to the cached repository in these directories, if there is one.
     fn find_kept(&self, found: &Directories) -> Result<Option<Shared<'d, D>>, AllocError> {
         match self.kept.try_borrow() {
             Ok(kept) => kept.get(self.alloc, self.disk, found.own.as_str()),
@@ -52,7 +52,7 @@ impl<'d, D> Repositories<'d, D> {
         }
     }
 
-    // Returns the kept repository if it has the same refs; otherwise returns `repo`.
+    // Returns the cached repository if it has the same refs as `repo`, and otherwise `repo`.
     fn find_same(&self, repo: &Shared<'d, D>) -> Result<Shared<'d, D>, AllocError> {
         let server = repo.server();
         if let Some(kept) = self.find_kept(&repo.shown.found)? {
@@ -63,7 +63,7 @@ impl<'d, D> Repositories<'d, D> {
         repo.handle()
     }
 
-    // Whether the kept repository has other, newer refs.
+    // Returns whether the refs of the cached repository differ from those of `opened`.
     fn has_others(&self, opened: &Shared<'d, D>) -> Result<bool, AllocError> {
         let server = opened.server();
         match self.find_kept(&opened.shown.found)? {
@@ -79,7 +79,7 @@ impl<'d, D> Repositories<'d, D> {
         }
     }
 
-    // Records why a repository cannot be opened, and returns the text for the client.
+    // Records why a repository cannot be opened, and returns the error text for the client.
     fn refuse(&self, cause: NotOpened) -> ErrText {
         let mut words = ErrText::new();
         match cause.form {
@@ -96,7 +96,7 @@ impl<'d, D> Repositories<'d, D> {
 }
 
 impl<'d, D: Disk> Repositories<'d, D> {
-    // Returns the repository at a path, or the text for the client if there is none.
+    // Returns the repository at a path, or the error text for the client if there is none.
     fn find_path(&self, path: &[u8]) -> Result<Directories, ErrText> {
         let fault = match self.disk.find(path) {
             Ok(Some(found)) => return Ok(found),
@@ -125,8 +125,8 @@ impl<'d, D: Disk> Repositories<'d, D> {
         Ok(shared)
     }
 
-    // Returns the repository with its history and its objects. Connections with the same refs share
-    // them while the pack directory is unchanged.
+    // Returns a repository with its history and open objects. Connections that see the same refs
+    // share both while the pack directory is unchanged.
     fn open_shared(&self, repo: &Shared<'d, D>) -> Result<Shared<'d, D>, NotOpened> {
         let changed = self.disk.change_time(&repo.shown.found);
         if repo.is_open_since(changed) {
@@ -143,7 +143,7 @@ impl<'d, D: Disk> Repositories<'d, D> {
         Ok(opened)
     }
 
-    // Opens the objects of a repository, and reads its history unless it is known.
+    // Opens the objects of a repository, and reads its history unless it was read before.
     fn open_now(
         &self,
         repo: &Shared<'d, D>,

@@ -1,5 +1,5 @@
-//! The sentences for failed commands. Each names the file or the URL and the cause, and says what
-//! to do if the cause does not.
+//! The error messages of failed commands. Each message names the file or URL, the cause, and
+//! usually a remedy.
 
 use ganswer::{BuildFault, ServeFault};
 use gclient::{ClientFault, FetchFault, MAX_SPECS, RepoFault};
@@ -17,16 +17,16 @@ use std::alloc::Global;
 use std::io::ErrorKind;
 use std::{fmt, io};
 
-/// A sentence, and what it names.
+/// An error message with its parameters.
 #[derive(Clone, Copy)]
 pub(crate) enum Sentence<'a> {
     /// An argument is not UTF-8.
     NotText,
-    /// A path does not lead to a Git directory.
+    /// A path does not lead to a Git repository.
     NoRepository {
         path: &'a str,
     },
-    /// The directory of a clone exists and is not empty.
+    /// The destination of a clone exists and is not an empty directory.
     Occupied {
         path: &'a str,
     },
@@ -35,18 +35,18 @@ pub(crate) enum Sentence<'a> {
         path: &'a str,
         error: &'a io::Error,
     },
-    /// A repository file or an object is refused.
+    /// A file or object of a repository is missing or malformed.
     Repository {
         path: &'a str,
         fault: &'a RepositoryFault<Global>,
     },
-    /// An object that a ref reaches is missing or refused.
+    /// An object that a ref reaches is missing or malformed.
     BrokenRef {
         path: &'a str,
         name: &'a [u8],
         fault: &'a RepositoryFault<Global>,
     },
-    /// The checked-out branch would move.
+    /// The fetch would update the checked-out branch.
     CheckedOut {
         name: &'a [u8],
     },
@@ -54,7 +54,7 @@ pub(crate) enum Sentence<'a> {
     NotForward {
         name: &'a [u8],
     },
-    /// A branch would move to an object that is not a commit.
+    /// The fetch would set a branch to an object that is not a commit.
     NoCommit {
         name: &'a [u8],
     },
@@ -62,7 +62,7 @@ pub(crate) enum Sentence<'a> {
     NoHeadCommit {
         url: &'a str,
     },
-    /// A ref with a name that is not UTF-8 would move.
+    /// The fetch would update a ref whose name is not UTF-8.
     NoFileName {
         name: &'a [u8],
     },
@@ -76,7 +76,7 @@ pub(crate) enum Sentence<'a> {
         path: &'a str,
         fault: &'a RepoFault<Global>,
     },
-    /// The first line of a connection cannot express the URL.
+    /// The first line of a connection cannot contain the path of the URL.
     Address {
         url: &'a str,
     },
@@ -105,7 +105,7 @@ pub(crate) enum Sentence<'a> {
         address: &'a str,
         error: &'a io::Error,
     },
-    /// No more connections are accepted.
+    /// The program can accept no more connections.
     Accept {
         error: &'a io::Error,
     },
@@ -113,11 +113,11 @@ pub(crate) enum Sentence<'a> {
     NotServed,
     /// A client's request is refused.
     Request(&'a ServeFault),
-    /// The client is gone.
+    /// The connection to the client was lost.
     ClientLost,
     /// The objects of too many repositories are open.
     Busy,
-    /// The client did not send its first line, or a request, in time.
+    /// The client did not send its first line or a request in time.
     ClientSilent,
     /// The client received no byte in time.
     ClientStalled,
@@ -125,7 +125,7 @@ pub(crate) enum Sentence<'a> {
     ClientSlow,
     /// The client of `upload-pack` did not request version 2.
     NoVersion2,
-    /// Standard output failed.
+    /// Writing to standard output failed.
     NoOutput,
 }
 
@@ -199,7 +199,7 @@ impl fmt::Display for Sentence<'_> {
     }
 }
 
-// Writes a refused system call.
+// Writes the message for a failed system call.
 fn write_refused<W: fmt::Write>(
     call: &str,
     name: &str,
@@ -210,7 +210,7 @@ fn write_refused<W: fmt::Write>(
     write_reason(error, f)
 }
 
-// Writes why the system refused a call: the kind of the error, unless it has none.
+// Writes why a system call failed, preferably as the kind of the error.
 fn write_reason<W: fmt::Write>(error: &io::Error, f: &mut fmt::Formatter<W>) -> fmt::Result {
     match error.kind() {
         ErrorKind::Other | ErrorKind::Uncategorized => fmt::Display::fmt(error, f),
@@ -219,7 +219,7 @@ fn write_reason<W: fmt::Write>(error: &io::Error, f: &mut fmt::Formatter<W>) -> 
     }
 }
 
-// ---- a repository here
+// ---- faults of local repositories
 
 fn write_repository<W: fmt::Write>(
     path: &str,
@@ -241,7 +241,7 @@ fn write_repository<W: fmt::Write>(
     }
 }
 
-// Writes a fault of an object file.
+// Writes the message for a fault of an object file.
 fn write_store_file<W: fmt::Write>(
     fault: &FileFault<Global>,
     f: &mut fmt::Formatter<W>,
@@ -259,7 +259,8 @@ fn write_store_file<W: fmt::Write>(
     }
 }
 
-/// Returns the text about an unsupported format, which follows the name of the repository.
+/// Returns the text about an unsupported format, which follows the name of the repository in a
+/// message.
 pub(crate) fn form_text(fault: FormFault) -> &'static str {
     match fault {
         FormFault::Shallow => "is shallow: 'git fetch --unshallow' makes it whole",
@@ -275,7 +276,7 @@ pub(crate) fn form_text(fault: FormFault) -> &'static str {
     }
 }
 
-// Writes a fault of a ref with a malformed file, or with a missing or refused object.
+// Writes the message for a ref whose file is malformed, or whose history is incomplete.
 fn write_broken_ref<W: fmt::Write>(
     path: &str,
     name: &[u8],
@@ -327,7 +328,7 @@ fn write_refs<W: fmt::Write>(
     }
 }
 
-// A ref file. Peers choose ref names, so the part of the path below the repository is cleaned.
+// The path of a ref file. Peers choose ref names, so their non-printable bytes are replaced.
 #[derive(Clone, Copy)]
 struct RefFile<'a> {
     repository: &'a str,
@@ -351,7 +352,7 @@ fn write_client_repo<W: fmt::Write>(
     write!(f, "cannot fetch into {path}: {fault}")
 }
 
-// ---- a server
+// ---- faults of a conversation with a server
 
 fn write_fetch<W: fmt::Write>(
     url: &str,
@@ -417,7 +418,7 @@ fn write_repo<W: fmt::Write>(fault: &RepoFault<Global>, f: &mut fmt::Formatter<W
     }
 }
 
-// Writes a refused packet of the server.
+// Writes the message for a malformed or unexpected packet from the server.
 fn write_message<W: fmt::Write>(frame: u64, why: &Why, f: &mut fmt::Formatter<W>) -> fmt::Result {
     match why {
         Why::RemoteErr(text) | Why::RemoteFatal(text) => {
@@ -448,7 +449,7 @@ fn write_message<W: fmt::Write>(frame: u64, why: &Why, f: &mut fmt::Formatter<W>
     }
 }
 
-// ---- a client
+// ---- faults of a request from a client
 
 fn write_request<W: fmt::Write>(fault: &ServeFault, f: &mut fmt::Formatter<W>) -> fmt::Result {
     match fault {
@@ -466,7 +467,7 @@ fn write_request<W: fmt::Write>(fault: &ServeFault, f: &mut fmt::Formatter<W>) -
     }
 }
 
-// Writes a refused packet of the client.
+// Writes the message for a malformed or unexpected packet from the client.
 fn write_request_message<W: fmt::Write>(
     frame: u64,
     why: &Why,
@@ -490,9 +491,9 @@ fn write_request_message<W: fmt::Write>(
     }
 }
 
-// ---- parts
+// ---- helpers
 
-/// Bytes from a peer, shown on one line that is safe for a terminal.
+/// Bytes from a peer, displayed on one line with a question mark for each non-printable byte.
 #[derive(Clone, Copy)]
 pub(crate) struct Clean<'a>(pub(crate) &'a [u8]);
 
@@ -505,7 +506,7 @@ impl fmt::Display for Clean<'_> {
     }
 }
 
-// A line feed and a tab do not belong on one line.
+// Replaces line feeds and tabs too, so that the text stays on one line.
 fn clean_char(byte: u8) -> char {
     match clean_byte(byte, Shown::Lines) {
         b'\n' | b'\t' => '?',

@@ -23,8 +23,8 @@ use std::io::{ErrorKind, Write};
 use std::net::{Net, ToSocketAddrs};
 use std::rt::{Clock, Files};
 
-/// Serves the repositories below a directory to many clients at once. A line about each connection
-/// is written to `errors`.
+/// Serves the repositories below a directory to many clients at once, and logs each connection to
+/// `errors`.
 pub(crate) fn serve<R, E>(rt: &R, asked: &ServeArgs<'_>, errors: &mut E) -> Result<(), Fault>
 where
     R: Files + Print + AllocGlobal + Clock + Net,
@@ -49,7 +49,7 @@ where
     }
 }
 
-// Serves the repositories in these files to clients.
+// Serves the repositories to clients, reading objects from `files`.
 fn serve_files<R, F, E>(
     rt: &R,
     files: &F,
@@ -95,7 +95,7 @@ where
     )
 }
 
-// Serves all clients that a loop accepts.
+// Serves clients, and stops the event loop afterwards.
 fn serve_all<'h, R, H, K, E>(
     rt: &R,
     host: &'h H,
@@ -114,7 +114,7 @@ where
     served
 }
 
-// Serves clients until no more are accepted, and all are gone.
+// Serves clients until the listener fails and all connections have ended.
 fn serve_each<'h, R, H, K, E>(
     rt: &R,
     host: &'h H,
@@ -136,7 +136,7 @@ where
     Ok(())
 }
 
-// Handles the next event. Returns `false` if there is none.
+// Handles the next event of the loop. Returns `false` if there are no more events.
 fn serve_next<'h, R, H, K, E>(
     rt: &R,
     host: &'h H,
@@ -166,7 +166,7 @@ where
     Ok(true)
 }
 
-// Returns the packet for a client over the connection limit.
+// Returns the error packet for a client that exceeds the connection limit.
 fn packet_of(why: Refusal) -> &'static [u8] {
     match why {
         Refusal::Full => FULL,
@@ -174,7 +174,7 @@ fn packet_of(why: Refusal) -> &'static [u8] {
     }
 }
 
-// Returns why a client is refused, for the log.
+// Returns the text for the log about a refused client.
 fn words_of(why: Refusal) -> &'static str {
     match why {
         Refusal::Full => "there are too many connections",
@@ -182,7 +182,7 @@ fn words_of(why: Refusal) -> &'static str {
     }
 }
 
-// Returns the limits of a server with these arguments.
+// Returns the limits that these arguments set.
 fn limits_of(asked: &ServeArgs<'_>) -> Limits {
     let mut limits = Limits::default();
     limits.accepted = asked.connections;
@@ -207,7 +207,7 @@ fn check_base<R: Files + AllocGlobal>(rt: &R, base: &str) -> Result<(), Fault> {
     }
 }
 
-// Listens at the first usable address of a text, HOST:PORT.
+// Listens at the first usable address of `address`, a text HOST:PORT.
 fn listen<R: Net>(rt: &R, address: &str) -> io::Result<TcpListener> {
     let mut last = io::Error::from(ErrorKind::AddrNotAvailable);
     for address in address.to_socket_addrs(rt)? {

@@ -17,18 +17,18 @@ use std::cell::RefCell;
 use std::rc::Rc;
 use std::time::SystemTime;
 
-/// The refs and HEAD of a repository, and the history read so far.
+/// A repository with the refs, HEAD and history read so far.
 #[derive(Drop)]
 pub(crate) struct Shown {
-    /// Its directories.
+    /// The directories of the repository.
     pub(crate) found: Directories,
-    /// Its server.
+    /// The server for the repository, with the history read so far.
     pub(crate) extent: Extent,
 }
 
-/// A handle that knows why the last call failed.
+/// A handle that records why its last call failed.
 pub(crate) trait Blames {
-    /// Takes the reason for the failure.
+    /// Removes and returns the recorded fault.
     fn take_fault(&self) -> Option<Fault>;
 }
 
@@ -38,11 +38,12 @@ pub(crate) struct Shared<'d, D> {
     alloc: Global,
     disk: &'d D,
     pub(crate) shown: Rc<Shown, Global>,
-    /// The ticket for its objects, once a connection needs them.
+    /// The ticket for the open objects, or `None` until a connection needs objects.
     pub(crate) objects: Option<Ticket>,
-    /// When the pack directory last changed before the objects were opened, or `None` if unknown.
+    /// The modification time of the pack directory, read before the objects were opened, or `None`
+    /// if unknown.
     pub(crate) changed: Option<SystemTime>,
-    // The fault of the packer, for all handles of one connection.
+    // The fault of the packer, which all handles of one connection share.
     fault: Rc<RefCell<Option<Fault>>, Global>,
 }
 
@@ -65,21 +66,22 @@ impl<'d, D> Shared<'d, D> {
         })
     }
 
-    /// Returns the repository without its objects, for a connection that does not need them.
+    /// Returns the handle without a ticket, for a connection that does not need objects.
     pub(crate) fn without_objects(self) -> Shared<'d, D> {
         let mut shared = self;
         shared.objects = None;
         shared
     }
 
-    /// Whether its objects are open, and the pack directory is unchanged since.
+    /// Returns whether the objects are open, and the pack directory has not changed since they were
+    /// opened.
     pub(crate) fn is_open_since(&self, changed: Option<SystemTime>) -> bool {
         self.objects.is_some() && changed.is_some() && self.changed == changed
     }
 }
 
 impl<D: Disk> Shared<'_, D> {
-    // Records why the packer failed, with its own detail.
+    // Records why the packer failed, with details from its object store.
     fn note(&self, ticket: &Ticket, fault: PackFault) -> PackFault {
         let cause = match fault {
             PackFault::Other => self.disk.take_fault(ticket, &self.shown.found),
@@ -103,7 +105,7 @@ impl<D> Blames for Shared<'_, D> {
     }
 }
 
-/// Returns a shared value. Fails only if out of memory, and the value is then dropped.
+/// Moves a value into an `Rc`. Fails only if out of memory, and then drops the value.
 pub(crate) fn share<T: Drop>(alloc: Global, value: T) -> Result<Rc<T, Global>, AllocError> {
     match Rc::new(alloc, value) {
         Ok(shared) => Ok(shared),

@@ -19,7 +19,7 @@ const ROW: u64 = 4;
 /// The maximum number of repositories whose objects are open at once.
 pub(crate) const MAX_OPEN: u64 = 16;
 
-// The content of a slot: nothing, or objects with these tickets.
+// The content of a slot: no object store, or an open one with its tickets.
 #[derive(Drop)]
 enum PacketPosition<'f, F: ObjectFiles> {
     Vacant,
@@ -27,7 +27,7 @@ enum PacketPosition<'f, F: ObjectFiles> {
 }
 
 impl<'f, F: ObjectFiles> PacketPosition<'f, F> {
-    // Whether a ticket for it exists.
+    // Returns whether a ticket for the object store exists.
     fn is_used(&self) -> bool {
         match self {
             PacketPosition::Vacant => false,
@@ -43,7 +43,7 @@ impl<'f, F: ObjectFiles> PacketPosition<'f, F> {
     }
 }
 
-/// A slot for objects that stay open while a ticket for them exists.
+/// A slot for an object store, which stays open while a ticket for it exists.
 #[derive(Drop)]
 pub(crate) struct Slot<'f, F: ObjectFiles> {
     place: RefCell<PacketPosition<'f, F>>,
@@ -56,7 +56,7 @@ impl<'f, F: ObjectFiles> Slot<'f, F> {
         }
     }
 
-    /// Whether other objects may use the slot.
+    /// Returns whether another object store may use the slot.
     pub(crate) fn is_free(&self) -> bool {
         match self.place.try_borrow() {
             Ok(place) => !place.is_used(),
@@ -64,7 +64,7 @@ impl<'f, F: ObjectFiles> Slot<'f, F> {
         }
     }
 
-    /// Closes the objects if no ticket for them exists.
+    /// Closes the object store if no ticket for it exists.
     pub(crate) fn close_unused(&self) {
         if let Ok(mut place) = self.place.try_borrow_mut() {
             if !place.is_used() {
@@ -73,7 +73,8 @@ impl<'f, F: ObjectFiles> Slot<'f, F> {
         }
     }
 
-    /// Puts objects with these tickets into the slot, and returns whether it did.
+    /// Puts an object store with its tickets into the slot. Returns `false` if the slot is
+    /// borrowed.
     pub(crate) fn fill(&self, tickets: Weak<u64, Global>, packer: ObjectPacker<'f, F>) -> bool {
         match self.place.try_borrow_mut() {
             Ok(mut place) => {
@@ -84,7 +85,7 @@ impl<'f, F: ObjectFiles> Slot<'f, F> {
         }
     }
 
-    /// Begins a pack of these entries from the objects.
+    /// Begins a pack of these entries from the object store in the slot.
     pub(crate) fn begin(
         &self,
         alloc: Global,
@@ -102,7 +103,8 @@ impl<'f, F: ObjectFiles> Slot<'f, F> {
         }
     }
 
-    /// Copies the next bytes of a pack to the front of `out`, and returns how many: 0 at the end.
+    /// Copies the next bytes of a pack to the front of `out`, and returns their number, which is 0
+    /// at the end of the pack.
     pub(crate) fn part(
         &self,
         parts: &mut StoreParts<Global>,
@@ -123,7 +125,7 @@ impl<'f, F: ObjectFiles> Slot<'f, F> {
         }
     }
 
-    /// Takes the fault of the last call that returned `Other`.
+    /// Removes and returns the detailed fault of the last call that failed with `Other`.
     pub(crate) fn take_fault(&self) -> Option<RepositoryFault<Global>> {
         match self.place.try_borrow() {
             Ok(place) => place.packer()?.take_fault(),
@@ -132,7 +134,8 @@ impl<'f, F: ObjectFiles> Slot<'f, F> {
     }
 }
 
-// A row of slots. They are fields, since the prover does not support dropping a vector of slots.
+// A row of slots. The slots are fields because the prover does not support dropping a vector of
+// slots.
 #[derive(Drop)]
 struct Row<'f, F: ObjectFiles> {
     a: Slot<'f, F>,
@@ -181,7 +184,7 @@ impl<'f, F: ObjectFiles> Slots<'f, F> {
         }
     }
 
-    /// Returns the slot with a number.
+    /// Returns the slot with this number.
     pub(crate) fn at(&self, number: u64) -> &Slot<'f, F> {
         let row = match number / ROW {
             0 => &self.a,

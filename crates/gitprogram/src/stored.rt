@@ -1,4 +1,4 @@
-//! The repositories below a directory, and the open object stores.
+//! The served repositories on disk, and the open object stores.
 
 use crate::directory::{Directories, Exports, find_served};
 use crate::disk::{Disk, Ticket};
@@ -17,8 +17,8 @@ use std::rc::Rc;
 use std::rt::Files;
 use std::time::SystemTime;
 
-/// The repositories below a directory. Each open pack uses a descriptor, so objects are open only
-/// while a ticket for them exists.
+/// The served repositories on disk. Each open pack uses a file descriptor, so an object store is
+/// open only while a ticket for it exists.
 #[derive(Drop)]
 pub(crate) struct Stored<'f, 'r, R: Files, F: ObjectFiles> {
     rt: &'r R,
@@ -28,7 +28,7 @@ pub(crate) struct Stored<'f, 'r, R: Files, F: ObjectFiles> {
 }
 
 impl<'f, 'r, R: Files + AllocGlobal, F: ObjectFiles> Stored<'f, 'r, R, F> {
-    /// Returns the repositories that `exports` names, none of them open.
+    /// Returns the repositories that `exports` names, without open object stores.
     pub(crate) fn new(rt: &'r R, files: &'f F, exports: Exports<'f>) -> Stored<'f, 'r, R, F> {
         Stored {
             rt,
@@ -38,7 +38,7 @@ impl<'f, 'r, R: Files + AllocGlobal, F: ObjectFiles> Stored<'f, 'r, R, F> {
         }
     }
 
-    // Returns the number of a slot for other objects.
+    // Returns the number of a free slot.
     fn free(&self) -> Result<u64, NotOpened> {
         for number in 0..MAX_OPEN {
             if self.slots.at(number).is_free() {
@@ -48,7 +48,7 @@ impl<'f, 'r, R: Files + AllocGlobal, F: ObjectFiles> Stored<'f, 'r, R, F> {
         Err(NotOpened::busy(self.rt.alloc()))
     }
 
-    // Keeps a packer in a slot, and returns a ticket for it.
+    // Stores a packer in a slot, and returns a ticket for it.
     fn keep(&self, number: u64, packer: ObjectPacker<'f, F>) -> Result<Ticket, AllocError> {
         let Ok(ticket) = Rc::new(self.rt.alloc(), number) else {
             return Err(AllocError);

@@ -14,7 +14,7 @@ use std::io::{BufReader, BufWriter};
 use std::rt::{Env, Files};
 use std::{env, io};
 
-/// The number of reply bytes sent in one write.
+/// The size of the buffer for reply bytes.
 pub(crate) const REPLY_BUFFER: usize = 65_536;
 
 // The error line for a client with an older protocol.
@@ -40,12 +40,12 @@ where
     let mut worded = Worded::new(&mut writer);
     let mut sink = ToWrite::new(&mut worded);
     let upload = upload_to(rt, dir, &mut source, &mut sink);
-    // Unwritten bytes are not retried.
+    // Buffered bytes that could not be written are dropped.
     let (_writer, _unwritten) = writer.into_parts();
     upload
 }
 
-// Serves the repository with a source and a sink.
+// Serves the repository, reading requests from `source` and writing replies to `sink`.
 fn upload_to<R, S: Source, W: Sink>(
     rt: &R,
     dir: &str,
@@ -69,7 +69,7 @@ where
     }
 }
 
-// Expands a `~` before a slash to HOME, since ssh does not expand it.
+// Replaces a leading `~/` by the HOME directory, since the shell does not expand a quoted path.
 fn expand_home<R: Env + AllocGlobal>(rt: &R, dir: &str) -> Result<String, AllocError> {
     let Some(rest) = dir.strip_prefix("~/") else {
         return String::from_str(rt.alloc(), dir);
@@ -83,7 +83,7 @@ fn expand_home<R: Env + AllocGlobal>(rt: &R, dir: &str) -> Result<String, AllocE
     }
 }
 
-// Whether the client speaks version 2 of the protocol (gitprotocol-v2(5), "SSH and File
+// Returns whether the client requests version 2 of the protocol (gitprotocol-v2(5), "SSH and File
 // Transport").
 fn has_version_2<R: Env + AllocGlobal>(rt: &R) -> bool {
     match env::var(rt, "GIT_PROTOCOL") {
@@ -92,7 +92,7 @@ fn has_version_2<R: Env + AllocGlobal>(rt: &R) -> bool {
     }
 }
 
-// Whether one of the colon-separated keys selects version 2.
+// Returns whether one of the colon-separated keys is `version=2`.
 fn names_version_2(keys: &str) -> bool
     ensures { result ≡ names_version_2 keys.now }
 {

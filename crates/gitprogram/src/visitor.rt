@@ -1,4 +1,4 @@
-//! The server's side of a connection, with its log data.
+//! The server's side of a connection, with the details for its log line.
 
 ghost use Rattle.std.specs.Prelude.{◌≡◌, ◌⊎◌, []};
 
@@ -10,19 +10,19 @@ use gparts::PartPacker;
 use gserver::{ServedRepository, ServerReply, Speech};
 use std::alloc::Global;
 
-/// The server's side of a connection, and the data for the log.
+/// The server's side of a connection, with the details for its log line.
 #[derive(Drop)]
 pub(crate) struct Visitor<'n, S> {
     side: S,
     notes: &'n Notes,
-    // Whether a first line was received.
+    // Whether the first line was received.
     has_path: bool,
     path: Vec<u8>,
     fault: Option<Fault>,
 }
 
 impl<'n, S> Visitor<'n, S> {
-    /// Returns a side that has received nothing.
+    /// Returns a `Visitor` that has received no message.
     pub(crate) fn new(side: S, notes: &'n Notes) -> Visitor<'n, S>
         ensures { result.side ≡ side }
     {
@@ -35,8 +35,8 @@ impl<'n, S> Visitor<'n, S> {
         }
     }
 
-    /// Returns the side, the requested path, and the repositories' fault. The path is empty if the
-    /// client did not request one.
+    /// Returns the side, the requested path, and the fault that was recorded for the log. The path
+    /// is empty if the client sent none.
     pub(crate) fn into_parts(self) -> (S, Vec<u8>, Option<Fault>)
     where
         S: Drop,
@@ -50,7 +50,7 @@ impl<'n, S> Visitor<'n, S> {
         (side, path, fault)
     }
 
-    // Takes the notes of the last call.
+    // Moves the details of the last call from the notes into this visitor.
     fn take_notes(&mut self)
         ensures { self.new.side ≡ self.old.side }
     {
@@ -93,7 +93,7 @@ where
         answer
     }
 
-    // A client may end the connection between two requests.
+    // A client that ends the connection between two requests is not an error.
     fn refuse(&mut self, fault: MessageFault) -> ServerReply<Global, K, K::Parts> {
         if self.has_path && fault.frame == 0 && matches!(fault.why, Why::Ended) {
             return ServerReply::Speech(Speech::silent());

@@ -1,4 +1,4 @@
-//! The connections of the server, and the log line about each.
+//! The connections of the server, and the log line for each.
 
 ghost use Rattle.gtalk.specs.Talks.{no_talk};
 
@@ -18,14 +18,14 @@ use std::io::Write;
 use std::net::SocketAddr;
 use std::{fmt, time};
 
-/// A connection, as the server holds it.
+/// The state of one connection.
 pub(crate) type Held<'h, H, K> = Dialogue<
     Visitor<'h, ServerSide<'h, Global, H, K>>,
     Heard<Global>,
     ServerReply<Global, K, <K as PartPacker<Global>>::Parts>,
 >;
 
-/// Begins a connection.
+/// Returns a new connection.
 pub(crate) fn begin<'h, H, K>(alloc: Global, host: &'h H, notes: &'h Notes) -> Held<'h, H, K>
 where
     H: Host<Global, K>,
@@ -36,7 +36,7 @@ where
     Dialogue::new(Visitor::new(side, notes))
 }
 
-/// Writes the log line about an ended connection.
+/// Writes the log line for an ended connection.
 pub(crate) fn log_ended<H, K, E>(
     alloc: Global,
     ended: Ended<Held<'_, H, K>, Global>,
@@ -69,7 +69,7 @@ where
     let _ = writeln!(errors, "{line}");
 }
 
-// Returns why a connection was not served to its end, if it was not.
+// Returns why a connection failed, or `None` if it was served to its end.
 fn fault_of<H, K: Blames>(
     alloc: Global,
     side: &ServerSide<'_, Global, H, K>,
@@ -93,7 +93,7 @@ fn fault_of<H, K: Blames>(
     Some(Fault::of(alloc, said))
 }
 
-// Returns why a request was refused, if one was.
+// Returns why a request was refused, or `None` if none was.
 fn fault_of_side<H, K: Blames>(
     alloc: Global,
     side: &ServerSide<'_, Global, H, K>,
@@ -107,11 +107,11 @@ fn fault_of_side<H, K: Blames>(
     Some(Fault::of(alloc, Sentence::Request(fault)))
 }
 
-// The line about a connection.
+// The log line for a connection.
 #[derive(Clone, Copy)]
 struct Line<'p, 'f> {
     address: SocketAddr,
-    // The requested path; empty if the client did not request one.
+    // The requested path, or an empty slice if the client sent none.
     path: &'p [u8],
     // The number of requests received.
     requests: u32,

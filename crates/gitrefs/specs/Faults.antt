@@ -1,4 +1,4 @@
--- Why the text of a file is not read.
+-- The faults of parsing a file, and the displayed texts of faults.
 use Rattle.std.specs.Prelude.{⊤, ℕ, Option, Some, None, List, ◌++◌, codes, string_bytes}
 use Rattle.std.specs.Option.{option_map}
 use Rattle.gname.specs.Faults.{out_of_memory_text}
@@ -9,17 +9,18 @@ use Rattle.gitrefs.specs.declared.fault.Cause.TheVariants as cause
 use Rattle.gitrefs.specs.declared.fault.RefFault.{RefFault}
 use Rattle.gitrefs.specs.declared.fault.RefFault.TheVariants as fault
 
--- the text has no reading, or there is no memory
+-- a parse fault is correct: the fault `Malformed` requires a text with no valid reading, and the fault `Memory` is
+-- always possible
 abbrev pub IsTextFault : Type 0 → TextFault → Type 0
 IsTextFault Reading Malformed = ¬ Reading
 IsTextFault Reading Memory = ⊤
 
--- the text that is printed of a fault
+-- the displayed text of a fault
 abbrev pub text_fault_text : TextFault → List ℕ
 text_fault_text Malformed = codes "the text is malformed"
 text_fault_text Memory = out_of_memory_text
 
--- the text that is printed of a cause; that of a system's error is not known
+-- the displayed text of a cause, which is unspecified for a system error
 abbrev pub cause_text : Cause → Option (List ℕ)
 cause_text cause.Malformed = Some (codes "the file is malformed")
 cause_text cause.Locked = Some (codes "the file is locked")
@@ -33,7 +34,7 @@ cause_text cause.Refs = Some (codes "the ref can't be set")
 cause_text cause.Format = Some (codes "the new id is none of SHA-1")
 cause_text (cause.System error) = None
 
--- the path of the file and the cause
+-- the displayed text of a ref fault: the path of the file, a colon and the cause
 abbrev pub ref_fault_text : {A : Type 0} → RefFault A → Option (List ℕ)
 ref_fault_text fault.Memory = Some out_of_memory_text
 ref_fault_text (fault.File path cause) = option_map (λ text. string_bytes path ++ codes ": " ++ text) (cause_text cause)

@@ -1,11 +1,11 @@
--- The files that lead to another directory (gitrepository-layout(5), "commondir"; git-worktree(1), "DETAILS").
+-- Files that name another directory (gitrepository-layout(5), "commondir"; git-worktree(1), "DETAILS").
 use Rattle.std.specs.Prelude.{◌≡◌, ℕ, Bool, List, [], ◌∷◌, ◌++◌, ◌||◌, ◌==◌, All, codes, true, false}
 
--- a line feed or a carriage return
+-- whether a byte is a line feed or a carriage return
 abbrev pub is_line_end : ℕ → Bool
 is_line_end b = (b == 10) || (b == 13)
 
--- the text is a path, and then line ends alone; no line end is the last byte of the path
+-- a text that consists of a path and any number of line ends; the last byte of the path is not a line end
 pub record IsPathFile (text path : List ℕ) : Type 0 where
   pub front : List ℕ
   pub last : ℕ
@@ -15,6 +15,6 @@ pub record IsPathFile (text path : List ℕ) : Type 0 where
   pub all_ends : All (λ b. is_line_end b ≡ true) ends
   pub parts : text ≡ path ++ ends
 
--- a file `.git`: `gitdir: ` and a path
+-- the text of a `.git` file: `gitdir: ` and a path
 abbrev pub IsGitFile : List ℕ → List ℕ → Type 0
 IsGitFile text path = (rest : List ℕ) × (text ≡ codes "gitdir: " ++ rest) × IsPathFile rest path

@@ -1,5 +1,5 @@
--- The file of a loose ref (gitrepository-layout(5), "refs"; git-symbolic-ref(1)): an id, or `ref: `
--- and the name of another ref.
+-- The text of a loose ref file (gitrepository-layout(5), "refs"; git-symbolic-ref(1)): an id, or `ref: ` and the name
+-- of another ref.
 use Rattle.std.specs.Prelude.{◌≡◌, ◌⊎◌, ℕ, List, ◌++◌, codes}
 use Rattle.gname.specs.Ids.{Id}
 use Rattle.gname.specs.Names.{Name, IsRefName}
@@ -8,11 +8,11 @@ use Rattle.gitrefs.specs.Spaces.{EndsWord, IsBlank}
 use Rattle.gitrefs.specs.declared.loose.LooseRef.{LooseRef}
 use Rattle.gitrefs.specs.declared.loose.LooseRef.TheVariants as loose
 
--- the text is an id, and perhaps white space and anything after it
+-- the text of a ref file with an id; white space and then any bytes may follow the id
 abbrev pub IsIdFile : List ℕ → Id → Type 0
 IsIdFile text id = (rest : List ℕ) × BeginsWithId text id rest × EndsWord rest
 
--- the text is a ref name, with white space around it
+-- a ref name that white space may surround
 pub record IsTarget (text : List ℕ) (name : Name) : Type 0 where
   pub before : List ℕ
   pub after : List ℕ
@@ -21,15 +21,15 @@ pub record IsTarget (text : List ℕ) (name : Name) : Type 0 where
   pub blank_after : IsBlank after
   pub parts : text ≡ before ++ (name ++ after)
 
--- the text is the word `ref:` and a ref name
+-- the text of a symbolic ref file: `ref:` and a ref name
 abbrev pub IsSymrefFile : List ℕ → Name → Type 0
 IsSymrefFile text name = (target : List ℕ) × (text ≡ codes "ref:" ++ target) × IsTarget target name
 
--- what the file of a ref says
+-- the value of a ref file: an id, or the name of another ref
 abbrev pub LooseRefOf : {A : Type 0} → List ℕ → LooseRef A → Type 0
 LooseRefOf text (loose.Id id) = IsIdFile text id
 LooseRefOf text (loose.Symref name) = IsSymrefFile text name
 
--- the file says something
+-- a valid text of a ref file
 abbrev pub IsLooseRefFile : List ℕ → Type 0
 IsLooseRefFile text = ((id : Id) × IsIdFile text id) ⊎ ((name : Name) × IsSymrefFile text name)

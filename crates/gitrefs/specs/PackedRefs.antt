@@ -7,64 +7,63 @@ use Rattle.gname.specs.Names.{name_fault}
 use Rattle.gitrefs.specs.Ids.{BeginsWithId}
 use Rattle.gitrefs.specs.declared.packed.PackedRef.{PackedRef}
 
--- a line: a name and its id; and the id of the line `^ID` after it, to whose object the tag leads
+-- the line of a ref: the name, the id, and the peeled id if a line `^ID` follows
 pub record PackedLine : Type 0 where
   pub name : List ℕ
   pub id : Id
   pub peeled : Option Id
 
--- the text begins with an id, a space and a name, and the rest comes after the line
+-- the text begins with a line of an id, a space and a name, and `rest` follows this line
 pub record BeginsWithRef (text : List ℕ) (line : PackedLine) (rest : List ℕ) : Type 0 where
   pub after_id : List ℕ
   pub id : BeginsWithId text line.id after_id
   pub clean : All (λ b. b ≢ 10) line.name
   pub parts : after_id ≡ 32 ∷ (line.name ++ 10 ∷ rest)
 
--- the text begins with `^` and an id, and the rest comes after the line; or it has no such line
+-- the text begins with a line of `^` and a peeled id, and `rest` follows this line; without a peeled id, `rest` is the
+-- text
 abbrev pub BeginsWithPeeled : List ℕ → Option Id → List ℕ → Type 0
 BeginsWithPeeled text None rest = (text ≡ rest) × ((more : List ℕ) → ¬ (text ≡ codes "^" ++ more))
 BeginsWithPeeled text (Some id) rest =
     (line : List ℕ) × (text ≡ codes "^" ++ line) × BeginsWithId line id (10 ∷ rest)
 
--- the text begins with the line of a ref, and with that of the object to which it leads, if there
--- is one
+-- the text begins with the line of a ref and the line of its peeled id, if it has one, and `rest` follows
 abbrev pub BeginsWithLine : List ℕ → PackedLine → List ℕ → Type 0
 BeginsWithLine text line rest =
     (next : List ℕ) × BeginsWithRef text line next × BeginsWithPeeled next line.peeled rest
 
--- the text has these lines and no others
+-- the text consists of exactly these lines
 abbrev pub HasPackedLines : List ℕ → List PackedLine → Type 0
 HasPackedLines text [] = text ≡ []
 HasPackedLines text (line ∷ lines) =
     (rest : List ℕ) × BeginsWithLine text line rest × HasPackedLines rest lines
 
--- the text begins with a header of these words, which say how it was written, and the rest comes
--- after it
+-- the text begins with a header that contains `words`, and `rest` follows the header
 pub record HasHeader (text words rest : List ℕ) : Type 0 where
   pub clean : All (λ b. b ≢ 10) words
   pub parts : text ≡ codes "# pack-refs with:" ++ (words ++ 10 ∷ rest)
 
--- the text begins with a header, or it has none
+-- the text may begin with a header, and `rest` follows the header; without a header, `rest` is the text
 abbrev pub BeginsWithHeader : List ℕ → List ℕ → Type 0
 BeginsWithHeader text rest = ((words : List ℕ) × HasHeader text words rest)
     ⊎ ((text ≡ rest) × ((more : List ℕ) → ¬ (text ≡ codes "#" ++ more)))
 
--- whether a name is that of a ref below refs/; all other lines are left out here
+-- whether the name in a line is a ref name below refs/; a parser ignores all other lines
 abbrev pub names_ref : PackedLine → Bool
 names_ref line = is_none (name_fault line.name) && starts_with nat_eq line.name (codes "refs/")
 
--- the refs of the text, in the order of its lines
+-- the refs in the text of packed-refs, in the order of the lines
 abbrev pub PackedLinesOf : List ℕ → List PackedLine → Type 0
 PackedLinesOf text refs = (rest : List ℕ) × (lines : List PackedLine) × BeginsWithHeader text rest
     × HasPackedLines rest lines × (refs ≡ filter names_ref lines)
 
--- the line of a ref
+-- the parsed line for a ref of `packed-refs`
 abbrev pub line_of : {A : Type 0} → PackedRef A → PackedLine
 line_of ref = record { name = ref.name; id = ref.id; peeled = ref.peeled }
 
 abbrev pub PackedRefsOf : {A : Type 0} → List ℕ → List (PackedRef A) → Type 0
 PackedRefsOf text refs = PackedLinesOf text (map line_of refs)
 
--- the text has the form of packed-refs
+-- a valid text of packed-refs
 abbrev pub IsPackedRefsFile : List ℕ → Type 0
 IsPackedRefsFile text = (refs : List PackedLine) × PackedLinesOf text refs

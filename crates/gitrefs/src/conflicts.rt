@@ -1,12 +1,14 @@
-//! Directory/file conflicts between ref names.
+//! Conflicts between a ref and a directory of refs with the same name.
 
 use gname::RefName;
 use std::alloc::{AllocError, Allocator};
 
-/// Returns the first of these sorted names with a parent directory that is also one of the names.
+/// Returns the first name that has another of these names as a parent directory. The caller must
+/// sort the names.
 ///
-/// The prefixes of a name sort before it, and only names with the same prefix are between them. So
-/// each name is compared only with these prefixes. Fails only if out of memory.
+/// A prefix of a name sorts before the name, and all names between the two have the same prefix. So
+/// each name is compared only with its prefixes among the earlier names. Fails only if out of
+/// memory.
 pub(crate) fn first_conflict<'n, A: Allocator + Copy>(
     alloc: A,
     names: &[&'n RefName<A>],
@@ -23,7 +25,8 @@ pub(crate) fn first_conflict<'n, A: Allocator + Copy>(
     Ok(None)
 }
 
-// Removes the texts that are not prefixes of `text`. Each text is a prefix of the next one.
+// Removes the names that are not prefixes of `text`. Each name in `fronts` must be a prefix of the
+// next.
 fn keep_fronts<A: Allocator + Copy>(fronts: &mut Vec<&[u8], A>, text: &[u8]) {
     for _ in 0..fronts.len() {
         match fronts.last() {
@@ -35,7 +38,7 @@ fn keep_fronts<A: Allocator + Copy>(fronts: &mut Vec<&[u8], A>, text: &[u8]) {
     }
 }
 
-// Whether a slash follows one of these prefixes in a text.
+// Returns whether one of these prefixes is followed by a slash in `text`.
 fn lies_in_one(fronts: &[&[u8]], text: &[u8]) -> bool {
     for front in fronts {
         if text.get(front.len()) == Some(&b'/') {

@@ -1,4 +1,4 @@
-//! The refs of a Git directory.
+//! Git directories and their refs.
 
 use crate::fault::{Cause, RefFault};
 use crate::git_file::{GitFile, sync_directory};
@@ -20,14 +20,15 @@ pub struct GitDirectory<'r, R: Files, A: Allocator + Copy = Global> {
     pub(crate) files: &'r R,
     pub(crate) alloc: A,
     pub(crate) path: &'r str,
-    // The directory of HEAD: that of a linked worktree, or the Git directory itself.
+    // The directory that contains HEAD, which differs from `path` for a linked worktree.
     head_path: &'r str,
 }
 
-// The first directory of a new repository: the run that creates it makes the repository.
+// The first directory of a new repository. If several processes create a repository at once, the
+// process that creates this directory wins.
 const OBJECTS: &str = "objects";
 
-// The other directories, each after its parent.
+// The other directories of a new repository, in the order in which they are created.
 const DIRECTORIES: [&str; 5] = [
     "objects/info",
     "objects/pack",
@@ -40,14 +41,14 @@ const DIRECTORIES: [&str; 5] = [
 // repository.
 const FILES: [&str; 3] = ["HEAD", "config", "packed-refs"];
 
-// The folders of a new repository to remove. `objects` is removed last: until then no other run can
-// make a repository here.
+// The directories that are removed with a new repository. While `objects` exists, no other process
+// can create a repository here, so `objects` is removed last.
 const FOLDERS: [&str; 2] = ["refs", OBJECTS];
 
-/// Whether the directory of a new repository was created.
+/// The earlier state of the directory of a new repository.
 #[derive(Clone, Copy, Debug, PartialEq, Eq, Drop)]
 pub enum Origin {
-    /// The directory was created.
+    /// The directory did not exist, and was created.
     Made,
     /// The directory existed, and was empty.
     Found,
@@ -65,7 +66,7 @@ impl<'r, R: Files, A: Allocator + Copy> GitDirectory<'r, R, A> {
     }
 
     /// Returns the Git directory of a linked worktree (git-worktree(1)), without opening anything.
-    /// HEAD is in its own directory, and all refs below `refs/` are in the common one.
+    /// HEAD is in the directory `own`, and all refs below `refs/` are in the directory `common`.
     pub fn linked_worktree(
         alloc: A,
         files: &'r R,
@@ -89,13 +90,13 @@ impl<'r, R: Files, A: Allocator + Copy> GitDirectory<'r, R, A> {
         }
     }
 
-    /// Creates a repository with this configuration, whose HEAD points at this branch
-    /// (git-init(1)). It has no objects or refs. Its directory is created with its parents, or
-    /// exists and is empty. Everything is synced.
+    /// Creates a repository without objects or refs (git-init(1)). HEAD points at `branch`, and the
+    /// file `config` contains `config`. The directory must be empty, or is created with its
+    /// parents. All files and directories are synced.
     ///
-    /// Fails with `Exists` and changes nothing if the directory has a file, or if its path is not a
-    /// directory. The same happens if another run was first to make a repository there. Fails with
-    /// `System` if a system call fails, and removes the repository again.
+    /// Fails with `Exists` and changes nothing if the directory is not empty, or if the path is not
+    /// a directory. Fails with `Exists` too if another process creates a repository there at the
+    /// same time. Fails with `System` if a system call fails, and removes the repository again.
     pub fn make(&self, config: &[u8], branch: &Target<A>) -> Result<Origin, RefFault<A>> {
         let origin = self.make_own()?;
         if let Err(fault) = self.claim() {
@@ -111,8 +112,8 @@ impl<'r, R: Files, A: Allocator + Copy> GitDirectory<'r, R, A> {
         }
     }
 
-    /// Removes a new repository, as far as the system permits. An existing directory remains, and
-    /// is empty again.
+    /// Removes a new repository, as far as the system permits. A directory that existed before
+    /// remains, and is empty again.
     pub fn unmake(&self, origin: Origin) {
         match origin {
             Origin::Made => {
@@ -124,7 +125,8 @@ impl<'r, R: Files, A: Allocator + Copy> GitDirectory<'r, R, A> {
         }
     }
 
-    // Creates the directory and its parents, unless it exists and is empty.
+    // Creates the directory and its parents. Fails with `Exists` if the directory exists and is not
+    // empty.
     fn make_own(&self) -> Result<Origin, RefFault<A>> {
         if let Some(parent) = Path::new(self.path).parent() {
             if let Err(error) = fs::create_dir_all(self.files, parent) {
@@ -144,8 +146,8 @@ impl<'r, R: Files, A: Allocator + Copy> GitDirectory<'r, R, A> {
         }
     }
 
-    // Creates the first directory of a new repository. If two runs do so at the same time, one
-    // fails with `Exists` and changes nothing.
+    // Creates the first directory of a new repository. Fails with `Exists` if another process has
+    // created it.
     fn claim(&self) -> Result<(), RefFault<A>> {
         let path = self.path_below(OBJECTS)?;
         match fs::create_dir(self.files, path.as_str()) {
@@ -157,14 +159,14 @@ impl<'r, R: Files, A: Allocator + Copy> GitDirectory<'r, R, A> {
         }
     }
 
-    // Removes the created directory, if it is still empty.
+    // Removes the directory of the repository if this process created it and it is still empty.
     fn leave(&self, origin: Origin) {
         if origin == Origin::Made {
             let _ = fs::remove_dir(self.files, self.path);
         }
     }
 
-    // Whether the path names a directory without files.
+    // Returns whether the path names an empty directory.
     fn is_empty(&self) -> bool {
         match fs::read_dir(&(self.files, &self.alloc), self.path) {
             Ok(mut entries) => entries.next().is_none(),
@@ -214,7 +216,7 @@ impl<'r, R: Files, A: Allocator + Copy> GitDirectory<'r, R, A> {
         }
     }
 
-    // Syncs the name of a file or a directory.
+    // Syncs the parent directory of a path, so that a new name survives a crash.
     fn sync_name(&self, path: &str) -> Result<(), RefFault<A>> {
         match sync_directory(self.files, path) {
             Ok(()) => Ok(()),
@@ -241,10 +243,11 @@ impl<'r, R: Files, A: Allocator + Copy> GitDirectory<'r, R, A> {
         self.lock(path)?.replace(text.as_slice())
     }
 
-    /// Checks whether these can be the refs of a repository. [`GitDirectory::write_packed_refs`]
-    /// begins with this check. A caller can make it before receiving objects.
+    /// Checks that the names of these refs do not conflict. [`GitDirectory::write_packed_refs`]
+    /// makes the same check, but a caller can check before it receives objects.
     ///
-    /// Fails with `Conflict` if one ref has the name of another's directory, and with `Memory`.
+    /// Fails with `Conflict` if the name of a ref is also a directory of another ref, and with
+    /// `Memory`.
     pub fn check_refs(&self, refs: &Refs<A>) -> Result<(), RefFault<A>> {
         let mut names = Vec::new(self.alloc);
         for pair in refs.as_slice() {
@@ -253,13 +256,13 @@ impl<'r, R: Files, A: Allocator + Copy> GitDirectory<'r, R, A> {
         self.check_apart(names.as_slice())
     }
 
-    /// Writes `packed-refs` in a repository that has none, as a clone does (git-pack-refs(1)). The
-    /// peeled ids are given by the names of their tags. Without them, the header does not claim
-    /// peeled ids.
+    /// Writes `packed-refs` in a repository that has none, as a clone does (git-pack-refs(1)).
+    /// `peeled` maps the names of tags to their peeled ids. If `peeled` is `None`, the header does
+    /// not contain `peeled`.
     ///
-    /// Fails with `Conflict` if one ref has the name of another's directory, and with `Exists` if
-    /// `packed-refs` exists. Also fails with `Missing`, `Locked`, `System` or `Memory`. The new
-    /// file is then either missing or complete. Its lock is removed.
+    /// Fails with `Conflict` if the name of a ref is also a directory of another ref, and with
+    /// `Exists` if `packed-refs` exists. Also fails with `Missing`, `Locked`, `System` or `Memory`.
+    /// After a fault, `packed-refs` is either missing or complete, and its lock is removed.
     pub fn write_packed_refs(
         &self,
         refs: &Refs<A>,
@@ -278,7 +281,7 @@ impl<'r, R: Files, A: Allocator + Copy> GitDirectory<'r, R, A> {
         packed.replace(text.as_slice())
     }
 
-    // Checks that there is a `HEAD`, as in every Git directory.
+    // Checks that `HEAD` exists, as in every Git directory.
     pub(crate) fn check_repository(&self) -> Result<(), RefFault<A>> {
         let path = self.path_of(&RefName::head(self.alloc)?)?;
         match self.files.symlink_metadata(path.as_str()) {
@@ -290,7 +293,7 @@ impl<'r, R: Files, A: Allocator + Copy> GitDirectory<'r, R, A> {
         }
     }
 
-    // Returns the fault of a ref file.
+    // Returns the fault with this cause for the file of a ref.
     pub(crate) fn fault_of(&self, name: &RefName<A>, cause: Cause) -> RefFault<A> {
         match self.path_of(name) {
             Ok(path) => RefFault::at(self.alloc, path.as_str(), cause),
@@ -298,14 +301,14 @@ impl<'r, R: Files, A: Allocator + Copy> GitDirectory<'r, R, A> {
         }
     }
 
-    // Locks a file in the directory, and reads it.
+    // Locks and reads a file of the Git directory.
     pub(crate) fn lock(&self, path: FilePath<A>) -> Result<LockedFile<'r, R, A>, RefFault<A>> {
         let file = GitFile::new(self.alloc, self.files, path)?;
         LockedFile::lock(self.alloc, file)
     }
 
-    // Returns the text of a file in the directory, or `None` if it does not exist. A pipe is not
-    // opened, since that might block forever.
+    // Returns the text of a file, or `None` if the file does not exist. A pipe is refused, since
+    // opening it might block forever.
     pub(crate) fn read(&self, path: &FilePath<A>) -> Result<Option<Vec<u8, A>>, RefFault<A>> {
         if is_special(self.files, path.as_str()) {
             return Err(RefFault::at(self.alloc, path.as_str(), Cause::Malformed));
@@ -323,7 +326,7 @@ impl<'r, R: Files, A: Allocator + Copy> GitDirectory<'r, R, A> {
     }
 }
 
-// Whether a path names something other than a file or a directory.
+// Returns whether a path names something other than a file or a directory.
 fn is_special<R: Files>(files: &R, path: &str) -> bool {
     match files.metadata(path) {
         Ok(metadata) => !metadata.is_file() && !metadata.is_dir(),

@@ -9,58 +9,58 @@ use std::alloc::{AllocError, AllocFailed, Allocator, Global};
 use std::error::Error;
 use std::{fmt, io};
 
-/// Why the text of a file cannot be parsed.
+/// The reason why a file cannot be parsed.
 #[derive(Clone, Copy, Debug, PartialEq, Eq, Drop)]
 pub enum TextFault {
-    /// The text has the wrong form.
+    /// The text is malformed.
     Malformed,
     /// Out of memory.
     Memory,
 }
 
-/// Why a file of a Git directory cannot be read or written.
+/// The reason why a file of a Git directory cannot be read or written.
 #[derive(Debug, Drop)]
 pub enum Cause {
-    /// Its text has the wrong form.
+    /// The text of the file is malformed.
     Malformed,
-    /// Its lockfile already exists.
+    /// The lockfile of the file already exists.
     Locked,
-    /// It already exists.
+    /// The file already exists.
     Exists,
-    /// There is no `HEAD`, so this is not a Git directory.
+    /// The file is `HEAD` and is missing, so the directory is not a Git directory.
     Missing,
-    /// The ref has moved.
+    /// The ref does not have the expected old id.
     Moved,
     /// The ref is symbolic, or its file is a symbolic link.
     Symbolic,
-    /// Its name is that of a ref directory, or its directory has the name of a ref.
+    /// The name of the ref is also a directory of another ref, or the reverse.
     Conflict,
-    /// Its name is not UTF-8, so it has no path.
+    /// The name of the ref is not UTF-8, so the ref has no path.
     Utf8,
-    /// There would be more than 65,536 refs, or the ref is `HEAD`.
+    /// The update would result in more than 65,536 refs, or it would change `HEAD`.
     Refs,
-    /// Its new id is not a SHA-1 id.
+    /// The new id of the ref is not a SHA-1 id.
     Format,
-    /// The system refused a call.
+    /// A system call failed.
     System(io::Error),
 }
 
-/// Why refs cannot be read or written.
+/// The reason why refs cannot be read or written.
 #[derive(Drop)]
 pub enum RefFault<A: Allocator + Copy = Global> {
     /// Out of memory.
     Memory,
-    /// Something is wrong with a file.
+    /// A file cannot be read or written.
     File {
-        /// Its path.
+        /// The path of the file.
         path: String<A>,
-        /// The cause.
+        /// The reason for the failure.
         cause: Cause,
     },
 }
 
 impl<A: Allocator + Copy> RefFault<A> {
-    /// Returns the fault of the file with this path.
+    /// Returns the fault with this cause for the file at a path.
     pub(crate) fn at(alloc: A, path: &str, cause: Cause) -> RefFault<A> {
         match String::from_str(alloc, path) {
             Ok(path) => RefFault::File { path, cause },
@@ -68,7 +68,7 @@ impl<A: Allocator + Copy> RefFault<A> {
         }
     }
 
-    /// Returns the fault of a refused system call on this file.
+    /// Returns the fault for a failed system call on the file at a path.
     pub(crate) fn system(alloc: A, path: &str, error: io::Error) -> RefFault<A> {
         if error.kind() == io::ErrorKind::OutOfMemory {
             RefFault::Memory

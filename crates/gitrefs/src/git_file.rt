@@ -1,4 +1,4 @@
-//! A file of a Git directory, and its lockfile.
+//! Files of a Git directory that can be locked and replaced.
 //!
 //! Unlike `StoredFile` of `glockfile`, this storage allows a missing file, refuses a symbolic link,
 //! and keeps the cause of a failure.
@@ -16,16 +16,16 @@ use std::marker::Model;
 use std::path::Path;
 use std::{fs, io};
 
-/// A file of a Git directory, and its lockfile, named like the file with `.lock` appended. A
-/// missing file has no text. Its parent directories are created with the lockfile. The lockfile is
-/// open only while it is written, so a thousand locks need one descriptor.
+/// A file of a Git directory, and its lockfile, which has the suffix `.lock`. A missing file counts
+/// as empty, and locking the file creates its parent directories. The lockfile is open only while
+/// it is written, so a thousand locks need only one file descriptor.
 #[derive(Drop)]
 pub(crate) struct GitFile<'r, R: Files, A: Allocator + Copy = Global> {
     files: &'r R,
     alloc: A,
     path: FilePath<A>,
     lock_path: String<A>,
-    // The lockfile, from when it is written until it is synced.
+    // The open lockfile, between writing and syncing.
     lock: Option<R::File>,
     is_locked: bool,
     lockfile: Lockfile,
@@ -41,7 +41,7 @@ impl<'r, R: Files, A: Allocator + Copy> Model for GitFile<'r, R, A> {
 }
 
 impl<'r, R: Files, A: Allocator + Copy> GitFile<'r, R, A> {
-    /// Returns the file with this path, without opening it. Fails only if out of memory.
+    /// Returns the `GitFile` at this path, without opening it. Fails only if out of memory.
     pub(crate) fn new(
         alloc: A,
         files: &'r R,
@@ -68,7 +68,7 @@ impl<'r, R: Files, A: Allocator + Copy> GitFile<'r, R, A> {
         self.path.as_str()
     }
 
-    /// Returns the fault of the file after a failed call.
+    /// Returns the fault of a failed call, with the stored cause.
     pub(crate) fn into_fault(self, fault: StorageFault) -> RefFault<A> {
         match (fault, self.cause) {
             (StorageFault::Failed, Some(cause)) => {
@@ -78,7 +78,7 @@ impl<'r, R: Files, A: Allocator + Copy> GitFile<'r, R, A> {
         }
     }
 
-    // Keeps the error of a refused system call.
+    // Stores the error of a failed system call as the cause.
     fn refuse(&mut self, error: io::Error) -> StorageFault
         ensures { self.new ≡ self.old }
     {
@@ -89,7 +89,7 @@ impl<'r, R: Files, A: Allocator + Copy> GitFile<'r, R, A> {
         StorageFault::Failed
     }
 
-    // Keeps the cause of a failed call.
+    // Stores the cause of a failed call.
     fn fail(&mut self, cause: Cause) -> StorageFault
         ensures { self.new ≡ self.old }
     {
@@ -97,7 +97,7 @@ impl<'r, R: Files, A: Allocator + Copy> GitFile<'r, R, A> {
         StorageFault::Failed
     }
 
-    // Whether the path names a symbolic link.
+    // Returns whether the path names a symbolic link.
     fn is_symlink(&self) -> bool {
         match self.files.symlink_metadata(self.path.as_str()) {
             Ok(metadata) => metadata.is_symlink(),
@@ -105,7 +105,8 @@ impl<'r, R: Files, A: Allocator + Copy> GitFile<'r, R, A> {
         }
     }
 
-    // Removes an empty directory with the name of the file.
+    // Removes a directory at the path of the file. Fails with the cause `Conflict` if the directory
+    // is not empty.
     fn clear_directory(&mut self) -> Result<(), StorageFault>
         ensures { self.new ≡ self.old }
     {
@@ -128,12 +129,12 @@ fn make_parents<R: Files>(files: &R, path: &str) -> Result<(), Cause> {
     }
 }
 
-// Whether an error means that a part of a path is a file.
+// Returns whether an error means that a parent in the path is a file.
 fn is_no_directory(kind: ErrorKind) -> bool {
     kind == ErrorKind::AlreadyExists || kind == ErrorKind::NotADirectory
 }
 
-/// Syncs the directory that holds a new name.
+/// Syncs the parent directory of a path.
 pub(crate) fn sync_directory<R: Files>(files: &R, path: &str) -> io::Result<()> {
     let parent = match Path::new(path).parent() {
         Some(parent) if parent.as_str().is_empty() => Path::new("."),
@@ -217,7 +218,7 @@ impl<R: Files, A: Allocator + Copy> Storage for GitFile<'_, R, A> {
         if let Err(error) = fs::rename(self.files, self.lock_path.as_str(), self.path.as_str()) {
             return Err(self.refuse(error));
         }
-        // The file is replaced even if its directory cannot be synced.
+        // A failure to sync the directory is ignored, since the file is already replaced.
         let _ = sync_directory(self.files, self.path.as_str());
         self.lock = None;
         self.is_locked = false;

@@ -1,5 +1,5 @@
-//! Laws of the files of refs. Each function does nothing, and its contract is the law: a caller may
-//! rely on the law after the call.
+//! Proved laws of ref files. Each function does nothing, and its contract states a law that holds
+//! for the caller afterwards.
 
 ghost use Rattle.gitrefs.specs.PackedTexts.{WrittenRefsReadBack};
 ghost use Rattle.gitrefs.specs.Paths.{NamesDescend};
@@ -9,7 +9,8 @@ use gname::laws::{
     texts_have_one_reading,
 };
 
-/// The `packed-refs` text written for refs reads back as these refs, with or without peeled ids.
+/// States that the written text of `packed-refs` reads back as the same refs, with or without
+/// peeled ids.
 pub fn written_refs_read_back()
     ensures { WrittenRefsReadBack }
 {
@@ -20,8 +21,8 @@ pub fn written_refs_read_back()
     texts_have_one_reading();
 }
 
-/// No part of a ref name is empty, `.` or `..`. So the path of its file descends from the Git
-/// directory.
+/// States that no component of a ref name is empty, `.` or `..`. So the file of a ref is always
+/// below the Git directory.
 pub fn names_descend()
     ensures { NamesDescend }
 {

@@ -1,78 +1,81 @@
-//! The refs of a Git directory as files: loose refs, `packed-refs`, symbolic refs, HEAD and locks.
-//! This crate does not read objects.
+//! Reading and updating the refs of a Git directory: loose refs, `packed-refs`, symbolic refs and
+//! HEAD, with lockfiles. This crate does not read objects.
 //!
 //! # Proved
 //!
-//! - [`parse_loose_ref`] and [`parse_packed_refs`] accept exactly the texts of the form in
-//!   `specs/`, and refuse all others. They return the contents: an id or the name of another ref,
-//!   or the refs of the lines, in order, with the peeled ids.
-//! - [`parse_common_dir`] accepts exactly the texts that name a path in `specs/`, and returns that
-//!   path. [`parse_git_file`] returns a path only for such a text, but might refuse one.
+//! - [`parse_loose_ref`] and [`parse_packed_refs`] accept exactly the file formats of `specs/`.
+//!   `parse_loose_ref` returns the id, or the name of the other ref. `parse_packed_refs` returns
+//!   the refs with their peeled ids, in the order of the lines.
+//! - [`parse_common_dir`] accepts exactly the format of `commondir` files in `specs/`, and returns
+//!   the path in the file. The function [`parse_git_file`] returns a path only for a valid `.git`
+//!   file, but might refuse a valid file.
 //! - [`packed_refs_text`] and [`peeled_refs_text`] write a header and a line for each ref, sorted
-//!   by name, since `Refs` are in that order. If all ids are SHA-1, the text reads back as these
-//!   refs: [`laws`].
+//!   by name. If all ids are SHA-1, the text reads back as the same refs ([`laws`]).
 //! - The written text of a HEAD that points at a branch reads back as that branch.
-//! - [`prepare_ref`] writes the text of an id to the lockfile of a ref file, over any `Storage` of
-//!   `glockfile`, and does not change the file. [`commit_file`] replaces the file: it then has the
-//!   old text or the whole new one, and at `Ok` the new one. No lockfile is held afterwards.
-//! - The path of a ref file is the Git directory, a slash and the ref name. No part of a name is
-//!   empty, `.` or `..`: [`laws`].
-//! - Before a file is replaced, it is read only under its lock. A lockfile is renamed only once it
-//!   is written and synced.
-//! - A fault prints the text of `specs/Faults.antt`: the path of the file and the cause. No clause
-//!   covers the text of a system error.
+//! - [`prepare_ref`] writes an id to the lockfile of a ref file, with any `Storage` of `glockfile`,
+//!   and does not change the file. The function [`commit_file`] replaces the file atomically, and
+//!   always releases the lock. After `Ok`, the file has the new text.
+//! - The path of a ref file is the Git directory, a slash and the ref name. No component of a ref
+//!   name is empty, `.` or `..` ([`laws`]).
+//! - A file that will be replaced is read only while it is locked. A lockfile is renamed only after
+//!   it is written and synced.
+//! - A fault is displayed as the path of the file and the cause, as `specs/Faults.antt` defines. No
+//!   clause covers the text of a system error.
 //! - No call panics, overflows or reads out of bounds, and every call returns, whatever the files
 //!   contain.
 //!
 //! # Differences from Git
 //!
-//! - Git ends the text of a loose ref at a NUL. Here a NUL is an ordinary byte, which may only
-//!   follow white space.
-//! - Git accepts any white space between an id and a name in `packed-refs`. This crate requires one
-//!   space.
-//! - Git dies if a name in `packed-refs` climbs, such as `refs/../x`. Here the line is left out,
-//!   like a line with any other invalid ref name.
-//! - A name has at most 1,000 bytes. There are at most 65,536 refs.
-//! - A loose ref whose name is not UTF-8 is left out, and cannot be moved. In `packed-refs` it is
-//!   read.
+//! - Git ignores everything after a NUL in a loose ref file. This crate accepts a NUL in a loose
+//!   ref file only after an id and white space.
+//! - Git accepts any white space between an id and a name in `packed-refs`. This crate requires
+//!   exactly one space.
+//! - Git dies if a name in `packed-refs` contains `..`, such as `refs/../x`. This crate ignores
+//!   each line with an invalid ref name.
+//! - A ref name has at most 1,000 bytes, and a repository has at most 65,536 refs.
+//! - A loose ref whose name is not UTF-8 is ignored, and cannot be updated. In `packed-refs`, names
+//!   that are not UTF-8 are accepted.
 //! - Git cannot resolve HEAD if it leads to a malformed ref file, or through too many symbolic
-//!   refs. Here such a HEAD points at the last name.
-//! - Git updates a symbolic ref by moving its target. This crate does not move symbolic refs or
-//!   symbolic links.
-//! - A ref cannot replace a directory that contains empty directories; Git removes these.
-//! - Git skips a ref whose file cannot be read, or whose link is cyclic. Here reading fails.
-//! - Git dies if a directory has neither HEAD nor `refs`. Here such a directory has no refs.
-//! - Git follows a symbolic ref to a name outside `refs/`, such as `ORIG_HEAD`. Here it is left
-//!   out.
+//!   refs. This crate returns the last ref name that such a HEAD leads to.
+//! - Git updates a symbolic ref by updating its target. This crate updates neither symbolic refs
+//!   nor symbolic links.
+//! - A ref cannot replace a directory that contains empty directories. Git removes empty
+//!   directories first.
+//! - Git skips a ref whose file cannot be read, or whose symbolic link is cyclic. This crate fails
+//!   on such a ref.
+//! - Git dies if a directory has neither HEAD nor `refs`. This crate finds no refs in such a
+//!   directory.
+//! - Git follows a symbolic ref to a name outside `refs/`, such as `ORIG_HEAD`. This crate ignores
+//!   such a symbolic ref.
 //! - Git refuses a ref to a missing object, and a branch that does not point to a commit. This
-//!   crate does not see objects.
-//! - The configuration is not read: no SHA-256, no reftable, no shared permissions. Reflogs are not
-//!   changed. A linked worktree has only its own HEAD; in Git it also has its own `refs/bisect` and
-//!   a few more.
+//!   crate does not check the objects of refs.
+//! - The configuration is not read, so SHA-256, reftables and shared permissions are not supported.
+//!   Reflogs are not changed. A linked worktree has only its own HEAD; in Git, it also has its own
+//!   `refs/bisect` and a few other refs.
 //!
 //! # What the contracts do not rule out
 //!
 //! No contract can describe the contents of a system file, so [`GitDirectory`] is only tested,
-//! against Git. This includes the files it opens, the precedence of loose refs, and symbolic refs.
-//! It also includes the updates that it refuses, and the locks that it removes. A lockfile is
-//! removed when its guard is dropped; no clause says so.
+//! against Git. No clause covers the files that [`GitDirectory`] opens, the precedence of loose
+//! refs, and symbolic refs. No clause covers the updates that [`GitDirectory`] refuses, and the
+//! removal of locks. A lockfile is removed when its guard is dropped, but no clause says so.
 //!
-//! [`PackedPeels`] may say anything about an object. It should repeat `packed-refs`, and that file
-//! may be wrong.
+//! The contracts let [`PackedPeels`] contain any data. In fact it contains the peeled ids of
+//! `packed-refs`, which may be wrong.
 //!
-//! Name conflicts are checked before the locks are taken, so a ref that is packed meanwhile may be
-//! missed. If two lines of `packed-refs` have one name, the first counts.
+//! Name conflicts are checked before files are locked, so a conflict with a ref that is packed
+//! meanwhile is missed. If two lines of `packed-refs` have the same name, the first line wins.
 //!
-//! Any call that allocates may fail if out of memory; the contracts do not say when. A killed
-//! process can leave a lockfile. If two paths name the same Git directory, for example by symbolic
-//! links, this is not noticed.
+//! Any call that allocates may fail with out-of-memory. The contracts do not say when. A killed
+//! process can leave its lockfile on disk. The crate does not notice that two paths name the same
+//! Git directory, for example through symbolic links.
 //!
-//! There are no tests here.
+//! This crate contains no tests.
 //!
 //! # Stands on
 //!
-//! `gname` for names and ids, `grefs` for lists of refs and HEAD, `glockfile` to replace a file,
-//! `memchr` for searches.
+//! `gname` has names and ids, `grefs` has lists of refs and HEAD, `glockfile` replaces files, and
+//! `memchr` searches bytes.
 #![tactic(auto)]
 
 mod conflicts;

@@ -1,4 +1,4 @@
-//! Files that lead to another directory.
+//! Files that name another directory.
 
 ghost use Rattle.std.specs.Prelude.{◌≡◌, List, ℕ, IfSome, MatchOption};
 ghost use Rattle.gitrefs.specs.Links.{IsGitFile, IsPathFile, is_line_end};
@@ -6,8 +6,8 @@ ghost use Rattle.gitrefs.specs.Links.{IsGitFile, IsPathFile, is_line_end};
 use crate::words::strip;
 
 /// Returns the path of the Git directory that a file `.git` names, as in a linked worktree
-/// (git-worktree(1)) or a submodule (gitsubmodules(7)). Returns `None` if the file has another
-/// form. A relative path begins at the directory of the file.
+/// (git-worktree(1)) or a submodule (gitsubmodules(7)). Returns `None` if the text is not a valid
+/// `.git` file. A relative path starts at the directory of the file.
 pub fn parse_git_file(text: &[u8]) -> Option<&[u8]>
     ensures { IfSome result (λ path. IsGitFile text.now path.now) }
 {
@@ -17,8 +17,9 @@ pub fn parse_git_file(text: &[u8]) -> Option<&[u8]>
     }
 }
 
-/// Returns the path of the directory that a file `commondir` names (gitrepository-layout(5)), or
-/// `None` if the file has another form. A relative path begins at the Git directory.
+/// Returns the path of the directory that a file `commondir` names (gitrepository-layout(5)).
+/// Returns `None` if the text is not a valid `commondir` file. A relative path starts at the Git
+/// directory.
 pub fn parse_common_dir(text: &[u8]) -> Option<&[u8]>
     ensures { MatchOption result ((path : List ℕ) → ¬ (IsPathFile text.now path))
         (λ path. IsPathFile text.now path.now) }

@@ -1,4 +1,4 @@
-//! Files that this run has locked.
+//! Files that this process has locked.
 
 ghost use Rattle.std.specs.Prelude.{◌≡◌, MatchResult, OnOk};
 ghost use Rattle.glockfile.specs.Storing.{HasWritten, KeepsStates, Renames, WhereKnown};
@@ -13,7 +13,7 @@ use gname::Oid;
 use std::alloc::Allocator;
 use std::fs::Files;
 
-/// A file that this run has locked, and its text. Its lockfile is removed on drop.
+/// A file that this process has locked, with its text. The lockfile is removed on drop.
 pub(crate) struct LockedFile<'r, R: Files, A: Allocator + Copy> {
     file: GitFile<'r, R, A>,
     text: Vec<u8, A>,
@@ -46,12 +46,12 @@ impl<'r, R: Files, A: Allocator + Copy> LockedFile<'r, R, A> {
         self.file.path()
     }
 
-    /// Returns the text of the file; it is empty if the file does not exist.
+    /// Returns the text of the file, which is empty if the file does not exist.
     pub(crate) fn text(&self) -> &[u8] {
         self.text.as_slice()
     }
 
-    /// Replaces the text of the file.
+    /// Replaces the text of the file, and unlocks the file.
     pub(crate) fn replace(self, new: &[u8]) -> Result<(), RefFault<A>> {
         let LockedFile { mut file, text } = self;
         match replace_file(&mut file, text.as_slice(), new) {
@@ -60,7 +60,7 @@ impl<'r, R: Files, A: Allocator + Copy> LockedFile<'r, R, A> {
         }
     }
 
-    /// Writes the text of an id to the lockfile, and syncs it. The file is unchanged.
+    /// Writes an id to the lockfile, and syncs the lockfile. The file itself is unchanged.
     pub(crate) fn prepare(self, alloc: A, id: &Oid) -> Result<PreparedFile<'r, R, A>, RefFault<A>> {
         let LockedFile { mut file, text: _ } = self;
         match prepare_ref(alloc, &mut file, id) {
@@ -70,7 +70,7 @@ impl<'r, R: Files, A: Allocator + Copy> LockedFile<'r, R, A> {
     }
 }
 
-/// A file whose new text is in its synced lockfile. The lockfile is removed on drop.
+/// A locked file whose new text is already in the synced lockfile. The lockfile is removed on drop.
 pub(crate) struct PreparedFile<'r, R: Files, A: Allocator + Copy> {
     file: GitFile<'r, R, A>,
     ghost prepared: { file ≡ Synced },
@@ -84,7 +84,7 @@ impl<R: Files, A: Allocator + Copy> Drop for PreparedFile<'_, R, A> {
 }
 
 impl<'r, R: Files, A: Allocator + Copy> PreparedFile<'r, R, A> {
-    /// Gives the file its new text.
+    /// Replaces the file with its lockfile.
     pub(crate) fn commit(self) -> Result<(), RefFault<A>> {
         let PreparedFile { mut file } = self;
         match commit_file(&mut file) {
@@ -94,9 +94,9 @@ impl<'r, R: Files, A: Allocator + Copy> PreparedFile<'r, R, A> {
     }
 }
 
-/// Writes the text of an id to the lockfile of a locked ref file, and syncs it (git-update-ref(1)).
+/// Writes an id to the lockfile of a locked ref file, and syncs the lockfile (git-update-ref(1)).
 ///
-/// Fails with `Failed` or `Memory`; the lockfile is removed then. The file is unchanged.
+/// Fails with `Failed` or `Memory`, and then removes the lockfile. The ref file is unchanged.
 pub fn prepare_ref<A: Allocator + Copy, T: Storage>(
     alloc: A,
     file: &mut T,
@@ -117,7 +117,7 @@ pub fn prepare_ref<A: Allocator + Copy, T: Storage>(
     }
 }
 
-// Writes a text to the lockfile, syncs it, and removes the lockfile on failure.
+// Writes a text to the lockfile, and syncs the lockfile. Removes the lockfile on failure.
 fn prepare_text<T: Storage>(file: &mut T, text: &[u8]) -> Result<(), StorageFault>
     requires { T.lockfile file.old ≡ Empty }
     ensures written { OnOk result (HasWritten (T.texts file.new) text.now) }
@@ -134,7 +134,7 @@ fn prepare_text<T: Storage>(file: &mut T, text: &[u8]) -> Result<(), StorageFaul
     }
 }
 
-// Writes a text to the lockfile, and syncs it.
+// Writes a text to the lockfile, and syncs the lockfile.
 fn write_text<T: Storage>(file: &mut T, text: &[u8]) -> Result<(), StorageFault>
     requires { T.lockfile file.old ≡ Empty }
     ensures written { OnOk result (HasWritten (T.texts file.new) text.now) }
@@ -146,10 +146,10 @@ fn write_text<T: Storage>(file: &mut T, text: &[u8]) -> Result<(), StorageFault>
     file.sync()
 }
 
-/// Replaces a file with its lockfile, and unlocks it.
+/// Replaces a file with its lockfile, which unlocks the file.
 ///
-/// Fails with `Failed` or `Memory`; the file then has the old text or the whole new one. This run
-/// holds no lockfile afterwards.
+/// Fails with `Failed` or `Memory`. A failed call leaves either the old text or the whole new text
+/// in the file. The file is unlocked in any case.
 pub fn commit_file<T: Storage>(file: &mut T) -> Result<(), StorageFault>
     requires { T.lockfile file.old ≡ Synced }
     ensures states { WhereKnown (T.texts file.old) (T.texts file.new)

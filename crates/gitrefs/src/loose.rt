@@ -11,20 +11,20 @@ use gname::laws::{names_are_clean, texts_have_one_reading};
 use gname::{NameFault, Oid, RefName};
 use std::alloc::{Allocator, Global};
 
-/// The value of a ref file (gitrepository-layout(5), "refs").
+/// The value in a ref file (gitrepository-layout(5), "refs").
 #[derive(Debug, Drop)]
 pub enum LooseRef<A: Allocator + Copy = Global> {
-    /// The ref points to this id.
+    /// The ref points to the object with this id.
     Id(Oid),
     /// The ref is symbolic and points at the ref with this name (git-symbolic-ref(1)).
     Symref(RefName<A>),
 }
 
-/// Parses the text of a loose ref file, or of `HEAD`: forty hexadecimal digits, or `ref:` and the
-/// name of another ref. White space may surround the name. It may also follow the digits, and
-/// anything may follow that.
+/// Parses the text of a loose ref file, or of `HEAD`. The text is `ref:` and a ref name, which
+/// white space may surround, or forty hexadecimal digits. White space may follow the digits, and
+/// then any bytes.
 ///
-/// Fails with `Malformed` if the text has another form, and with `Memory`.
+/// Fails with `Malformed` if the text is not a valid ref file. Also fails with `Memory`.
 pub fn parse_loose_ref<A: Allocator + Copy>(alloc: A, text: &[u8]) -> Result<LooseRef<A>, TextFault>
     ensures { MatchResult result (λ value. LooseRefOf text.now value)
         (IsTextFault (IsLooseRefFile text.now)) }
@@ -47,7 +47,7 @@ pub fn parse_loose_ref<A: Allocator + Copy>(alloc: A, text: &[u8]) -> Result<Loo
     }
 }
 
-// Returns the name after `ref:`.
+// Returns the ref name in a text, without the surrounding white space.
 fn parse_target<A: Allocator + Copy>(alloc: A, text: &[u8]) -> Result<RefName<A>, TextFault>
     ensures { MatchResult result (λ name. IsTarget text.now name)
         (IsTextFault ((name : Name) × IsTarget text.now name)) }

@@ -13,18 +13,18 @@ use gname::{Oid, RefName};
 use grefs::is_below_refs;
 use std::alloc::{Allocator, Global};
 
-/// A ref of `packed-refs`.
+/// A ref in `packed-refs`.
 #[derive(Debug, Drop)]
 pub struct PackedRef<A: Allocator + Copy = Global> {
-    /// Its name, which is below `refs/`.
+    /// The name of the ref, which is below `refs/`.
     pub name: RefName<A>,
-    /// Its id.
+    /// The id that the ref points to.
     pub id: Oid,
-    /// The peeled object of the tag with that id, if the file lists it.
+    /// The id of the peeled object, if the ref points to a tag and the file lists the peeled id.
     pub peeled: Option<Oid>,
 }
 
-// A line, and the id of the peeled line after it.
+// The line of a ref, and the id in the peeled line after it.
 #[derive(Clone, Copy)]
 struct Line<'a> {
     name: &'a [u8],
@@ -32,12 +32,12 @@ struct Line<'a> {
     peeled: Option<Oid>,
 }
 
-/// Parses the text of `packed-refs` (git-pack-refs(1)): an optional header, and for each ref a line
-/// of an id, a space and a name. A peeled line of `^` and an id may follow. The refs may be in any
-/// order.
+/// Parses the text of `packed-refs` (git-pack-refs(1)). After an optional header, each ref has a
+/// line with an id, a space and a name. A second line with `^` and the peeled id may follow. The
+/// refs may be in any order.
 ///
-/// A line whose name is not a ref name below `refs/` is left out. Fails with `Malformed` if the
-/// text has another form, and with `Memory`.
+/// A line whose name is not a ref name below `refs/` is ignored. Fails with `Malformed` if the text
+/// is not valid. Also fails with `Memory`.
 pub fn parse_packed_refs<A: Allocator + Copy>(
     alloc: A,
     text: &[u8],
@@ -54,8 +54,8 @@ pub fn parse_packed_refs<A: Allocator + Copy>(
     }
 }
 
-// Returns the text after the header, or the whole text if it has none, or `None` if the header is
-// malformed.
+// Returns the text after the header, or the whole text if there is no header. Returns `None` if the
+// header is malformed.
 fn after_header(text: &[u8]) -> Option<&[u8]>
     ensures { MatchOption result ((rest : List ℕ) → ¬ (BeginsWithHeader text.now rest))
         (λ rest. BeginsWithHeader text.now rest.now) }
@@ -72,7 +72,7 @@ fn after_header(text: &[u8]) -> Option<&[u8]>
     }
 }
 
-// Returns the refs of the lines.
+// Returns the refs in the lines of `packed-refs`.
 fn parse_lines<A: Allocator + Copy>(
     alloc: A,
     text: &[u8],
@@ -95,14 +95,14 @@ fn parse_lines<A: Allocator + Copy>(
     Ok(refs)
 }
 
-// Whether no bytes are left.
+// Returns whether the text is empty.
 fn is_over(text: &[u8]) -> bool
     ensures { IsTrue result ↔ (text.now ≡ []) }
 {
     text.is_empty()
 }
 
-// Returns the first line of a text with its peeled line, and the text that follows.
+// Returns the first line of a text with its peeled line, and the rest of the text.
 fn cut_ref(text: &[u8]) -> Option<(Line<'_>, &[u8])>
     ensures line { MatchOption result
         ((line : PackedLine) (rest : List ℕ) → ¬ (BeginsWithLine text.now line rest))
@@ -129,8 +129,8 @@ fn cut_ref(text: &[u8]) -> Option<(Line<'_>, &[u8])>
     Some((line, peeled.1))
 }
 
-// Returns the id of the peeled line at the start of the text, if any, and the text after it.
-// Returns `None` if that line is malformed.
+// Returns the id in the peeled line at the start of the text, if there is such a line, and the rest
+// of the text. Returns `None` if the peeled line is malformed.
 fn cut_peeled(text: &[u8]) -> Option<(Option<Oid>, &[u8])>
     ensures line { MatchOption result
         ((peeled : Option Id) (rest : List ℕ) → ¬ (BeginsWithPeeled text.now peeled rest))
@@ -149,7 +149,7 @@ fn cut_peeled(text: &[u8]) -> Option<(Option<Oid>, &[u8])>
     }
 }
 
-// Appends the ref of a line, if its name is below `refs/`. Fails only with `Memory`.
+// Appends the ref of a line if it is a valid ref name below `refs/`. Fails only with `Memory`.
 fn push_ref<A: Allocator + Copy>(
     alloc: A,
     refs: &mut Vec<PackedRef<A>, A>,

@@ -25,8 +25,9 @@ pub fn packed_refs_text<A: Allocator + Copy>(
     Ok(text)
 }
 
-/// Returns the text of `packed-refs` with peeled ids, given by the names of their tags. If a ref
-/// has a peeled id, a line of `^` and that id follows its line. Fails only if out of memory.
+/// Returns the text of `packed-refs` with peeled ids. `peeled` maps the names of tags to their
+/// peeled ids. Each peeled id has a line with `^` and the id after the line of its ref. Fails only
+/// if out of memory.
 pub fn peeled_refs_text<A: Allocator + Copy>(
     alloc: A,
     refs: &Refs<A>,

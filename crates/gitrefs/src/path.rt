@@ -9,7 +9,7 @@ use std::alloc::{AllocError, Allocator, Global};
 use std::io::ErrorKind;
 use std::marker::Model;
 
-/// The path of a file of a Git directory: a ref, `HEAD`, `packed-refs` or `config`.
+/// The path of a file in a Git directory: a ref, `HEAD`, `packed-refs` or `config`.
 #[derive(Debug, Drop)]
 pub(crate) struct FilePath<A: Allocator + Copy = Global> {
     text: String<A>,
@@ -24,7 +24,7 @@ impl<A: Allocator + Copy> Model for FilePath<A> {
 }
 
 impl<A: Allocator + Copy> FilePath<A> {
-    /// Returns the path of the file of a ref, or of `HEAD`.
+    /// Returns the path of the file for a ref or for `HEAD`.
     ///
     /// Fails with `Utf8` if the name is not UTF-8, and with `Memory`.
     pub(crate) fn of_ref(
@@ -62,7 +62,7 @@ impl<A: Allocator + Copy> FilePath<A> {
     }
 }
 
-// Returns the path of a file of the Git directory.
+// Returns the path of the file with this name in the Git directory.
 fn join<A: Allocator + Copy>(alloc: A, git_dir: &str, name: &str) -> Result<FilePath<A>, AllocError>
     ensures { IfOk result (λ path. PathIsBelow git_dir.now path name.now) }
 {
@@ -72,8 +72,8 @@ fn join<A: Allocator + Copy>(alloc: A, git_dir: &str, name: &str) -> Result<File
     Ok(FilePath { text })
 }
 
-/// Whether an error means that a path does not exist. A part of the path may be a file, or have
-/// become one.
+/// Returns whether an error means that a path does not exist. A path with a file as a parent
+/// directory does not exist either.
 pub(crate) fn is_absent(kind: ErrorKind) -> bool {
     matches!(kind, ErrorKind::NotFound | ErrorKind::NotADirectory)
 }

@@ -1,36 +1,36 @@
-//! The `packed-refs` data about the objects that refs point to.
+//! The peeled objects that `packed-refs` lists.
 
 use crate::packed::PackedRef;
 use crate::words::{cut_line, strip};
 use gname::Oid;
 use std::alloc::{AllocError, Allocator, Global};
 
-/// The `packed-refs` data about an object that a ref points to.
+/// The peeled object of an object in `packed-refs`.
 #[derive(Clone, Copy, Debug, PartialEq, Eq, Drop)]
 pub enum Peel {
-    /// It is not a tag.
+    /// The object itself, since it is not a tag.
     Itself,
-    /// It is a tag that peels to this object.
+    /// The object with this id, to which a tag peels.
     To(Oid),
 }
 
-/// The `packed-refs` data about all objects that its refs point to.
+/// The objects that the refs in `packed-refs` point to, with their peeled objects.
 #[derive(Drop)]
 pub struct PackedPeels<A: Allocator + Copy = Global> {
-    // The objects, sorted by id.
+    // The objects and their peeled objects, sorted by the id of the object.
     peels: Vec<(Oid, Peel), A>,
 }
 
 impl<A: Allocator + Copy> PackedPeels<A> {
-    /// Returns an empty list.
+    /// Returns a `PackedPeels` without objects.
     pub(crate) fn none(alloc: A) -> PackedPeels<A> {
         PackedPeels {
             peels: Vec::new(alloc),
         }
     }
 
-    /// Returns the data of a file with these refs, whose header claims peeled tags. Fails only if
-    /// out of memory.
+    /// Returns the objects of these refs. The refs must come from a `packed-refs` file that lists
+    /// all peeled ids. Fails only if out of memory.
     pub(crate) fn of_refs(alloc: A, refs: &[PackedRef<A>]) -> Result<PackedPeels<A>, AllocError> {
         let mut peels = Vec::with_capacity(alloc, refs.len())?;
         for packed in refs {
@@ -47,14 +47,15 @@ impl<A: Allocator + Copy> PackedPeels<A> {
         Ok(PackedPeels { peels })
     }
 
-    /// Returns the objects that refs point to and the peeled objects, sorted by id. Two entries may
-    /// be the same.
+    /// Returns the objects that refs point to and the peeled objects, sorted by id. An object may
+    /// occur twice.
     pub fn as_slice(&self) -> &[(Oid, Peel)] {
         self.peels.as_slice()
     }
 }
 
-/// Whether the header of a text claims that each tag has its peeled id.
+/// Returns whether the header of `packed-refs` contains `fully-peeled`, which claims that each tag
+/// has its peeled id.
 pub(crate) fn is_fully_peeled(text: &[u8]) -> bool {
     let Some(words) = strip(b"# pack-refs with:", text) else {
         return false;

@@ -14,30 +14,30 @@ use std::fs::{DirEntry, Files, Metadata};
 use std::io::ErrorKind;
 use std::{fs, io};
 
-// The directory of all loose refs.
+// The directory that contains all loose refs.
 const REFS: &str = "refs";
 
-// The kind of file at the path of a ref.
+// The result of looking up the path of a ref.
 #[derive(Drop)]
 enum RefEntry<A: Allocator + Copy = Global> {
-    // There is no file.
+    // The path does not exist.
     Empty,
     // A directory of refs.
     Directory,
-    // The file of a ref, or `None` if it is broken.
+    // A ref file with its value, or `None` if the file is malformed.
     Ref(Option<LooseRef<A>>),
 }
 
-/// The refs of `packed-refs`.
+/// The content of `packed-refs`.
 #[derive(Drop)]
 pub(crate) struct PackedRefs<A: Allocator + Copy> {
-    /// The refs, in file order.
+    /// The refs, in the order of the file.
     pub(crate) refs: Vec<PackedRef<A>, A>,
-    /// Whether its header claims that each tag has its peeled id.
+    /// Whether the header claims that each tag has its peeled id.
     pub(crate) are_peeled: bool,
 }
 
-/// The refs of a Git directory, its HEAD, and what `packed-refs` says about its objects.
+/// The refs and HEAD of a Git directory, and the peeled objects in its `packed-refs`.
 #[derive(Drop)]
 pub struct PeeledRefs<A: Allocator + Copy = Global> {
     /// The refs below `refs/`.
@@ -48,7 +48,7 @@ pub struct PeeledRefs<A: Allocator + Copy = Global> {
     pub peels: PackedPeels<A>,
 }
 
-// The directories still to be read, and the refs so far.
+// The state of reading all loose refs: the directories to read, and the refs read so far.
 #[derive(Drop)]
 struct Walk<A: Allocator + Copy> {
     directories: Vec<String<A>, A>,
@@ -57,21 +57,22 @@ struct Walk<A: Allocator + Copy> {
 
 impl<R: Files, A: Allocator + Copy> GitDirectory<'_, R, A> {
     /// Reads the refs below `refs/`, and HEAD (gitrepository-layout(5)). A loose ref takes
-    /// precedence over a line of `packed-refs`. A symbolic ref has the id that it resolves to. HEAD
-    /// points at the last name that it leads to, whether or not that ref exists.
+    /// precedence over a line of `packed-refs`. A symbolic ref is returned with the id that it
+    /// resolves to. The returned HEAD points at the last ref name that HEAD leads to, even if that
+    /// ref does not exist.
     ///
-    /// A ref is left out if its name is invalid, its file is malformed, its id is all zeros, or it
-    /// resolves to no id. Fails with `Malformed` if `packed-refs` or `HEAD` is malformed, with
-    /// `Refs` if there are too many refs, with `System` or `Memory`.
+    /// A ref is ignored if its name is invalid, its file is malformed, its id is all zeros, or it
+    /// does not resolve to an id. Fails with `Malformed` if `packed-refs` or `HEAD` is malformed,
+    /// and with `Refs` if there are too many refs. Also fails with `System` or `Memory`.
     pub fn read_refs(&self) -> Result<(Refs<A>, Head<A>), RefFault<A>> {
         let mut values = self.read_loose_values()?;
         add_packed(&mut values, self.packed_refs()?.refs)?;
         self.refs_and_head(values)
     }
 
-    /// Reads the refs below `refs/` and HEAD, as [`GitDirectory::read_refs`] does, and what
-    /// `packed-refs` says about its objects. It says nothing if its header lacks `fully-peeled`, or
-    /// if the file does not exist.
+    /// Reads the refs below `refs/` and HEAD, as [`GitDirectory::read_refs`] does, and the peeled
+    /// objects in `packed-refs`. No peeled objects are returned if the file is missing, or if its
+    /// header lacks `fully-peeled`.
     pub fn read_peeled_refs(&self) -> Result<PeeledRefs<A>, RefFault<A>> {
         let mut values = self.read_loose_values()?;
         let packed = self.packed_refs()?;
@@ -85,7 +86,7 @@ impl<R: Files, A: Allocator + Copy> GitDirectory<'_, R, A> {
         Ok(PeeledRefs { refs, head, peels })
     }
 
-    // Returns the refs below `refs/` and HEAD, from these values.
+    // Resolves the refs below `refs/` and HEAD from the values of all refs.
     fn refs_and_head(&self, values: Values<A>) -> Result<(Refs<A>, Head<A>), RefFault<A>> {
         let head = head_of(self.alloc, &values)?;
         let refs = match refs_of(self.alloc, values) {
@@ -99,10 +100,11 @@ impl<R: Files, A: Allocator + Copy> GitDirectory<'_, R, A> {
         }
     }
 
-    /// Returns the first ref, by name, whose file is malformed or whose id is all zeros, and its
-    /// fault. Returns `None` if there is none. [`GitDirectory::read_refs`] leaves such refs out.
+    /// Returns the first ref in the order of names whose file is malformed or whose id is all
+    /// zeros, with its fault. Returns `None` if there is no such ref. [`GitDirectory::read_refs`]
+    /// ignores such refs.
     ///
-    /// Fails with `Malformed` if `packed-refs` is malformed, with `System` or `Memory`.
+    /// Fails with `Malformed` if `packed-refs` is malformed. Also fails with `System` or `Memory`.
     pub fn broken_ref(&self) -> Result<Option<(RefName<A>, RefFault<A>)>, RefFault<A>> {
         let mut values = self.read_loose_values()?;
         add_packed(&mut values, self.packed_refs()?.refs)?;
@@ -115,7 +117,7 @@ impl<R: Files, A: Allocator + Copy> GitDirectory<'_, R, A> {
         Ok(None)
     }
 
-    // Reads HEAD and the loose refs below `refs/`, unresolved.
+    // Reads HEAD and the loose refs below `refs/`, without resolving symbolic refs.
     fn read_loose_values(&self) -> Result<Values<A>, RefFault<A>> {
         let mut walk = Walk {
             directories: Vec::new(self.alloc),
@@ -129,7 +131,7 @@ impl<R: Files, A: Allocator + Copy> GitDirectory<'_, R, A> {
         Ok(walk.values)
     }
 
-    /// Returns the refs of `packed-refs`; none if the file does not exist.
+    /// Reads the file `packed-refs`. Returns no refs if the file does not exist.
     pub(crate) fn packed_refs(&self) -> Result<PackedRefs<A>, RefFault<A>> {
         let path = FilePath::of_packed_refs(self.alloc, self.path)?;
         let Some(text) = self.read(&path)? else {
@@ -148,7 +150,7 @@ impl<R: Files, A: Allocator + Copy> GitDirectory<'_, R, A> {
         }
     }
 
-    // Reads the files below `refs`, directory by directory.
+    // Reads all files below `refs`, directory by directory.
     fn read_loose(&self, walk: &mut Walk<A>) -> Result<(), RefFault<A>> {
         walk.directories.push(String::from_str(self.alloc, REFS)?)?;
         for _ in 0..u64::MAX {
@@ -160,8 +162,8 @@ impl<R: Files, A: Allocator + Copy> GitDirectory<'_, R, A> {
         Ok(())
     }
 
-    // Reads the files of a directory. A file whose name is not UTF-8 is left out. The directory may
-    // be a file by now, unless it is `refs` itself.
+    // Reads the files of a directory. A file whose name is not UTF-8 is ignored. A directory that
+    // another process has removed or replaced by a file is ignored, unless it is `refs` itself.
     fn read_directory(&self, directory: &str, walk: &mut Walk<A>) -> Result<(), RefFault<A>> {
         let mut path = String::from_str(self.alloc, self.path)?;
         path.push_str("/")?;
@@ -182,8 +184,8 @@ impl<R: Files, A: Allocator + Copy> GitDirectory<'_, R, A> {
         Ok(())
     }
 
-    // Reads a file of a directory, or keeps it for later if it is a directory. A dangling symbolic
-    // link is left out.
+    // Reads one entry of a directory. A subdirectory is read later, and a dangling symbolic link is
+    // ignored.
     fn read_entry(
         &self,
         directory: &str,
@@ -210,7 +212,7 @@ impl<R: Files, A: Allocator + Copy> GitDirectory<'_, R, A> {
         }
     }
 
-    // Returns the ref name with this text, if it is one.
+    // Returns the ref name with these bytes, or `None` if they are not a ref name.
     fn ref_name(&self, text: &[u8]) -> Result<Option<RefName<A>>, RefFault<A>> {
         match name_of(self.alloc, text) {
             Ok(name) => Ok(name),
@@ -218,8 +220,8 @@ impl<R: Files, A: Allocator + Copy> GitDirectory<'_, R, A> {
         }
     }
 
-    // Looks up the path of a ref. A symbolic link to a ref name is a symbolic ref, as Git once made
-    // them; any other link is followed.
+    // Looks up the path of a ref. A symbolic link to a ref name counts as a symbolic ref, since old
+    // versions of Git wrote such links. Any other link is followed.
     fn look(&self, name: &RefName<A>) -> Result<RefEntry<A>, RefFault<A>> {
         let path = self.path_of(name)?;
         let Some(metadata) = self.metadata_of(&path, self.files.symlink_metadata(path.as_str()))?
@@ -251,7 +253,7 @@ impl<R: Files, A: Allocator + Copy> GitDirectory<'_, R, A> {
         }
     }
 
-    // Returns the ref name that a symbolic link points to, if it is below `refs/`.
+    // Returns the target of a symbolic link if it is a ref name below `refs/`.
     fn link_target(&self, path: &FilePath<A>) -> Result<Option<RefName<A>>, RefFault<A>> {
         match self.files.read_link(self.alloc, path.as_str()) {
             Ok(target) if target.as_str().starts_with("refs/") => {
@@ -261,7 +263,7 @@ impl<R: Files, A: Allocator + Copy> GitDirectory<'_, R, A> {
         }
     }
 
-    // Looks up a path that is not a symbolic link.
+    // Reads the file at a path that is not a symbolic link and has this metadata.
     fn look_at(&self, path: &FilePath<A>, metadata: &Metadata) -> Result<RefEntry<A>, RefFault<A>> {
         if metadata.is_dir() {
             return Ok(RefEntry::Directory);
@@ -280,7 +282,7 @@ impl<R: Files, A: Allocator + Copy> GitDirectory<'_, R, A> {
     }
 }
 
-// Adds the refs of `packed-refs` that are not loose.
+// Adds the refs of `packed-refs`, over which loose refs take precedence.
 fn add_packed<A: Allocator + Copy>(
     values: &mut Values<A>,
     refs: Vec<PackedRef<A>, A>,

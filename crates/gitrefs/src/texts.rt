@@ -8,7 +8,7 @@ use gname::Oid;
 use grefs::Target;
 use std::alloc::{AllocError, Allocator};
 
-/// Returns the text of a ref file: the digits of its id, and an LF.
+/// Returns the text of a ref file, which is the hexadecimal digits of an id and an LF.
 pub(crate) fn ref_text<A: Allocator + Copy>(alloc: A, id: &Oid) -> Result<Vec<u8, A>, AllocError>
     ensures { IfOk result (λ text. text.items ≡ ref_text id.now) }
 {

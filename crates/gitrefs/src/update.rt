@@ -1,4 +1,4 @@
-//! Moving refs: all or none, as far as can be checked in advance.
+//! Updating refs: either all or none, as far as this can be checked in advance.
 
 use crate::conflicts::first_conflict;
 use crate::directory::GitDirectory;
@@ -10,27 +10,29 @@ use grefs::{MAX_REFS, Refs, RefsFault};
 use std::alloc::{Allocator, Global};
 use std::fs::Files;
 
-/// A ref to be moved (git-update-ref(1)).
+/// An update of a ref (git-update-ref(1)).
 #[derive(Debug, Drop)]
 pub struct RefUpdate<A: Allocator + Copy = Global> {
-    /// Its name, which is below `refs/`.
+    /// The name of the ref, which is below `refs/`.
     pub name: RefName<A>,
-    /// Its old id, which is checked under the lock, or `None` if the ref must not exist.
+    /// The expected old id, which is checked while the ref is locked. `None` means that the ref
+    /// must not exist.
     pub old: Option<Oid>,
-    /// Its new id.
+    /// The new id of the ref.
     pub new: Oid,
 }
 
 impl<R: Files, A: Allocator + Copy> GitDirectory<'_, R, A> {
-    /// Moves refs (git-update-ref(1)). Each ref is locked and read. If all have their old ids, each
-    /// is replaced. A ref that is not loose has its id from `packed-refs`. Reflogs are not changed.
+    /// Updates refs (git-update-ref(1)). First, all refs are locked and compared with their
+    /// expected old ids. If all ids match, all ref files are replaced. The old id of a ref without
+    /// a file is that in `packed-refs`. Reflogs are not changed.
     ///
     /// Fails with `Format` if a new id is not a SHA-1 id, and with `Conflict` if one ref has the
-    /// name of another's directory. Fails with `Missing`, `Refs`, `Locked`, `Moved`, `Symbolic`,
-    /// `Malformed` or `Utf8`. No ref has moved after any of these. Fails with `System` or `Memory`;
-    /// no ref has moved after these either, unless the system refuses to rename a file. Each ref
-    /// has its old or its new id. The new locks are removed; directories created for them may
-    /// remain.
+    /// name of another's directory. Also fails with `Missing`, `Refs`, `Locked`, `Moved`,
+    /// `Symbolic`, `Malformed` or `Utf8`. No ref is changed after any of these faults. Fails with
+    /// `System` or `Memory`, and then refs are changed only if the renaming of a file failed. After
+    /// any fault, each ref has its old or its new id. All locks of this call are removed, but
+    /// directories created for them may remain.
     pub fn update_refs(&self, updates: &[RefUpdate<A>]) -> Result<(), RefFault<A>> {
         self.check_updates(updates)?;
         let mut locked = Vec::new(self.alloc);
@@ -45,9 +47,9 @@ impl<R: Files, A: Allocator + Copy> GitDirectory<'_, R, A> {
         self.move_all(locked, updates)
     }
 
-    /// Checks the names of refs to be moved, before anything is locked.
-    /// [`GitDirectory::update_refs`] begins with this check. A caller can make it before it fetches
-    /// objects. Old ids, links and locks are not checked.
+    /// Checks the names, new ids and number of refs before an update. [`GitDirectory::update_refs`]
+    /// makes the same check, but a caller can check before it fetches objects. Old ids, symbolic
+    /// links and locks are not checked.
     ///
     /// Fails with `Missing`, `Format`, `Conflict`, `Refs`, `Malformed`, `Utf8`, `System` or
     /// `Memory`.
@@ -59,8 +61,8 @@ impl<R: Files, A: Allocator + Copy> GitDirectory<'_, R, A> {
         self.check_conflicts(&refs, updates)
     }
 
-    // Replaces ref files. All new texts are synced before the first file is replaced, so no ref
-    // moves if the disk is full.
+    // Replaces locked ref files. All lockfiles are synced before the first file is replaced, so no
+    // ref changes if the disk is full.
     fn move_all(
         &self,
         locked: Vec<LockedFile<'_, R, A>, A>,
@@ -76,7 +78,7 @@ impl<R: Files, A: Allocator + Copy> GitDirectory<'_, R, A> {
         Ok(())
     }
 
-    // Checks that the new ids are SHA-1 ids, like all ids of the directory.
+    // Checks that all new ids are SHA-1 ids.
     fn check_formats(&self, updates: &[RefUpdate<A>]) -> Result<(), RefFault<A>> {
         for update in updates {
             if update.new.format() != Format::Sha1 {
@@ -86,7 +88,7 @@ impl<R: Files, A: Allocator + Copy> GitDirectory<'_, R, A> {
         Ok(())
     }
 
-    // Checks that there are not too many refs afterwards, and that HEAD is not moved.
+    // Checks that the updates do not result in too many refs, and do not change HEAD.
     fn check_count(&self, refs: &Refs<A>, updates: &[RefUpdate<A>]) -> Result<(), RefFault<A>> {
         let mut count = refs.len();
         for update in updates {
@@ -100,7 +102,7 @@ impl<R: Files, A: Allocator + Copy> GitDirectory<'_, R, A> {
         Ok(())
     }
 
-    // Checks that no two of the resulting refs are a file and its directory.
+    // Checks that no ref, after the updates, has the name of a directory of another ref.
     fn check_conflicts(&self, refs: &Refs<A>, updates: &[RefUpdate<A>]) -> Result<(), RefFault<A>> {
         let mut names = Vec::new(self.alloc);
         for pair in refs.as_slice() {
@@ -113,8 +115,8 @@ impl<R: Files, A: Allocator + Copy> GitDirectory<'_, R, A> {
         self.check_apart(names.as_slice())
     }
 
-    /// Checks that none of these sorted names is the directory of another. Fails with `Conflict` or
-    /// `Memory`.
+    /// Checks that none of these names is a directory of another name. The caller must sort the
+    /// names. Fails with `Conflict` or `Memory`.
     pub(crate) fn check_apart(&self, names: &[&RefName<A>]) -> Result<(), RefFault<A>> {
         match first_conflict(self.alloc, names)? {
             Some(name) => Err(self.fault_of(name, Cause::Conflict)),
@@ -122,7 +124,8 @@ impl<R: Files, A: Allocator + Copy> GitDirectory<'_, R, A> {
         }
     }
 
-    // Returns the refs of `packed-refs`. The first line for a name counts, as in `read_refs`.
+    // Returns the refs of `packed-refs`. If a name occurs twice, the first line wins, as in
+    // `read_refs`.
     fn packed_ids(&self) -> Result<Refs<A>, RefFault<A>> {
         let mut refs = Refs::new(self.alloc);
         for packed in self.packed_refs()?.refs {
@@ -140,7 +143,7 @@ impl<R: Files, A: Allocator + Copy> GitDirectory<'_, R, A> {
         Ok(refs)
     }
 
-    // Checks that the ref of a locked file has its old id.
+    // Checks that the ref of a locked file has the expected old id.
     fn check_unmoved(
         &self,
         file: &LockedFile<'_, R, A>,
@@ -159,7 +162,8 @@ impl<R: Files, A: Allocator + Copy> GitDirectory<'_, R, A> {
         }
     }
 
-    // Returns the id of a loose ref with a locked file.
+    // Returns the id of a loose ref whose file is locked. Fails with `Symbolic` if the ref is
+    // symbolic.
     fn loose_id(&self, file: &LockedFile<'_, R, A>) -> Result<Oid, RefFault<A>> {
         let value = match parse_loose_ref(self.alloc, file.text()) {
             Ok(value) => value,

@@ -1,4 +1,4 @@
-//! The values of refs, and the ids that symbolic refs resolve to.
+//! The values in ref files, and resolving symbolic refs.
 
 use crate::loose::LooseRef;
 use gname::{Oid, RefName};
@@ -6,25 +6,27 @@ use grefs::{Head, MAX_REFS, Refs, RefsFault, Target, is_below_refs};
 use std::alloc::{AllocError, Allocator};
 use std::iter::zip;
 
-// The maximum number of refs read to resolve a ref, including itself (git's `SYMREF_MAXDEPTH`).
+// The maximum number of refs in a chain of symbolic refs, including both ends (Git's
+// `SYMREF_MAXDEPTH`).
 const MAX_DEPTH: usize = 5;
 
-/// The values of ref files, including `HEAD`, with the names of the refs.
+/// The names of refs and `HEAD`, each with its unresolved value.
 #[derive(Drop)]
 pub(crate) struct Values<A: Allocator + Copy> {
-    // Sorted by name after `sort`. A broken ref has no value.
+    // The refs, sorted by name after a call of `sort`. A malformed ref has the value `None`.
     values: Vec<(RefName<A>, Option<LooseRef<A>>), A>,
 }
 
 impl<A: Allocator + Copy> Values<A> {
-    /// Returns a list without refs.
+    /// Returns a `Values` without refs.
     pub(crate) fn new(alloc: A) -> Values<A> {
         Values {
             values: Vec::new(alloc),
         }
     }
 
-    /// Adds a ref, with `None` if it is broken. An earlier ref with the same name takes precedence.
+    /// Adds a ref, with the value `None` if its file is malformed. A ref with the same name that
+    /// was added earlier takes precedence.
     pub(crate) fn push(
         &mut self,
         name: RefName<A>,
@@ -34,7 +36,7 @@ impl<A: Allocator + Copy> Values<A> {
         Ok(())
     }
 
-    /// Sorts the refs by name. This must precede all other calls except `push`.
+    /// Sorts the refs by name. A caller must call `sort` before any function except `push`.
     pub(crate) fn sort(&mut self) -> Result<(), AllocError> {
         if self.values.is_sorted_by(|one, next| one.0 < next.0) {
             return Ok(());
@@ -49,7 +51,7 @@ impl<A: Allocator + Copy> Values<A> {
         self.values.as_slice()
     }
 
-    // Returns the value of the ref with this name, or `None` if there is none.
+    // Returns the value of the ref with this name, or `None` if there is no such ref.
     fn get(&self, name: &RefName<A>) -> Option<&Option<LooseRef<A>>> {
         let place = self
             .values
@@ -58,8 +60,8 @@ impl<A: Allocator + Copy> Values<A> {
         Some(&self.values.get(place)?.1)
     }
 
-    // Returns the ids that the refs resolve to, in the same order; `None` for an unresolved ref,
-    // and for `HEAD`.
+    // Returns the id that each ref resolves to, in the same order. The id is `None` if a ref does
+    // not resolve, and for `HEAD`.
     fn ids(&self, alloc: A) -> Result<Vec<Option<Oid>, A>, AllocError> {
         let mut ids = Vec::with_capacity(alloc, self.values.len())?;
         for value in &self.values {
@@ -74,12 +76,12 @@ impl<A: Allocator + Copy> Values<A> {
     }
 }
 
-/// Returns the value of a file, unless it is the all-zero id, which no object has.
+/// Returns `value`, or `None` if it is the all-zero id, which no object has.
 pub(crate) fn unless_null<A: Allocator + Copy>(value: LooseRef<A>) -> Option<LooseRef<A>> {
     if is_null(&value) { None } else { Some(value) }
 }
 
-// Whether a ref has the all-zero id.
+// Returns whether a value is the all-zero id.
 fn is_null<A: Allocator + Copy>(value: &LooseRef<A>) -> bool {
     match value {
         LooseRef::Id(id) => id.as_bytes().iter().all(|byte| *byte == 0),
@@ -87,7 +89,7 @@ fn is_null<A: Allocator + Copy>(value: &LooseRef<A>) -> bool {
     }
 }
 
-// Returns the id that a ref with this value resolves to, or `None` if there is none.
+// Returns the id that a ref with this value resolves to, or `None` if it does not resolve.
 fn resolve<A: Allocator + Copy>(values: &Values<A>, meaning: &Option<LooseRef<A>>) -> Option<Oid> {
     let mut value = meaning;
     for _ in 0..MAX_DEPTH {
@@ -115,7 +117,7 @@ pub(crate) fn refs_of<A: Allocator + Copy>(
     Ok(refs)
 }
 
-// Adds a ref. The search is skipped if its name sorts after the others.
+// Adds a ref. If its name sorts after all other names, it is appended without a search.
 fn add_ref<A: Allocator + Copy>(
     refs: &mut Refs<A>,
     name: RefName<A>,
@@ -129,8 +131,8 @@ fn add_ref<A: Allocator + Copy>(
     refs.set(name, id)
 }
 
-/// Returns the last name that HEAD leads to, or its id, or `None` if HEAD is broken or leads to
-/// `HEAD`. Fails only if out of memory.
+/// Returns the last ref name that HEAD leads to, or the id of a detached HEAD. Returns `None` if
+/// HEAD is malformed or leads to itself. Fails only if out of memory.
 pub(crate) fn head_of<A: Allocator + Copy>(
     alloc: A,
     values: &Values<A>,

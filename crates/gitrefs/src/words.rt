@@ -1,4 +1,4 @@
-//! The parts of ref files: words, lines and white space.
+//! Parsing the parts of ref files: words, lines and white space.
 
 ghost use Rattle.std.specs.Prelude.{◌≡◌, ◌≢◌, ◌++◌, ◌∷◌, ◌<◌, ◌↔◌, List, ℕ, All, IfSome, IsTrue, MatchOption, length, position, true, false};
 ghost use Rattle.gname.specs.Ids.{Id};
@@ -9,10 +9,10 @@ use gname::Oid;
 use gname::laws::texts_have_one_reading;
 use memchr::memchr;
 
-// The number of digits of an id.
+// The number of hexadecimal digits of an id.
 const ID_TEXT: usize = 40;
 
-/// Returns the rest of a text that begins with the word; `None` for any other text.
+/// Returns the text without the prefix `word`, or `None` if the text does not begin with `word`.
 pub(crate) fn strip<'a>(word: &[u8], text: &'a [u8]) -> Option<&'a [u8]>
     ensures { MatchOption result ((rest : List ℕ) → ¬ (text.now ≡ word.now ++ rest))
         (λ rest. text.now ≡ word.now ++ rest.now) }
@@ -32,7 +32,8 @@ pub(crate) fn cut_line(text: &[u8]) -> Option<(&[u8], &[u8])>
     }
 }
 
-/// Returns the id at the start of the text, and the text after it, or `None` if there is none.
+/// Returns the id at the start of the text, and the rest of the text. Returns `None` if the text
+/// does not begin with an id.
 pub(crate) fn cut_id(text: &[u8]) -> Option<(Oid, &[u8])>
     ensures { MatchOption result
         ((id : Id) (rest : List ℕ) → ¬ (BeginsWithId text.now id rest))
@@ -49,7 +50,8 @@ pub(crate) fn cut_id(text: &[u8]) -> Option<(Oid, &[u8])>
     }
 }
 
-// Returns the first `count` bytes of a text, and the rest, or `None` if the text is shorter.
+// Returns the first `count` bytes of a text, and the rest. Returns `None` if the text is shorter
+// than `count` bytes.
 fn split_front(count: usize, text: &[u8]) -> Option<(&[u8], &[u8])>
     ensures { MatchOption result (length text.now < count)
         (λ parts. (length parts.0.now ≡ count) × (text.now ≡ parts.0.now ++ parts.1.now)) }
@@ -57,21 +59,21 @@ fn split_front(count: usize, text: &[u8]) -> Option<(&[u8], &[u8])>
     text.split_at_checked(count)
 }
 
-// Whether a byte is white space for Git.
+// Returns whether Git treats a byte as white space in ref files.
 pub(crate) fn is_space(byte: u8) -> bool
     ensures { result ≡ is_space byte }
 {
     byte == b'\t' || byte == b'\n' || byte == b'\r' || byte == b' '
 }
 
-/// Whether a text has only white space.
+/// Returns whether a text contains only white space.
 pub(crate) fn is_blank(text: &[u8]) -> bool
     ensures { IsTrue result ↔ IsBlank text.now }
 {
     text.iter().all(|byte| is_space(*byte))
 }
 
-/// Whether a word ends before this text: it is empty, or begins with white space.
+/// Returns whether the text is empty or begins with white space, so that a word can end before it.
 pub(crate) fn ends_word(text: &[u8]) -> bool
     ensures { IsTrue result ↔ EndsWord text.now }
 {
@@ -81,21 +83,21 @@ pub(crate) fn ends_word(text: &[u8]) -> bool
     }
 }
 
-// Returns the index of the first white-space byte.
+// Returns the position of the first white-space byte.
 fn space_at(text: &[u8]) -> Option<usize>
     ensures { result ≡ position is_space text.now }
 {
     text.iter().position(|byte| is_space(*byte))
 }
 
-// Returns the index of the first byte that is not white space.
+// Returns the position of the first byte that is not white space.
 fn other_at(text: &[u8]) -> Option<usize>
     ensures { result ≡ position is_other text.now }
 {
     text.iter().position(|byte| !is_space(*byte))
 }
 
-/// Returns the white space at the front of a text, and the text after it.
+/// Splits a text after its leading white space.
 pub(crate) fn skip_blank(text: &[u8]) -> (&[u8], &[u8])
     ensures parts { text.now ≡ result.0.now ++ result.1.now }
     ensures blank { IsBlank result.0.now }
@@ -107,7 +109,7 @@ pub(crate) fn skip_blank(text: &[u8]) -> (&[u8], &[u8])
     }
 }
 
-/// Returns the word at the front of a text, and the text after it.
+/// Splits a text after its first word.
 pub(crate) fn cut_word(text: &[u8]) -> (&[u8], &[u8])
     ensures parts { text.now ≡ result.0.now ++ result.1.now }
     ensures word { All (λ b. is_space b ≡ false) result.0.now }

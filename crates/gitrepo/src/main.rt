@@ -1,22 +1,23 @@
-//! The program `gitrepo`: `gitprogram` over the system's runtime.
+//! The program `gitrepo`, which runs [`run_gitrepo`] on the operating system.
 //!
 //! # Proved
 //!
-//! No call panics, overflows or reads out of bounds, and every call returns, whatever the
-//! arguments, files and peers.
+//! The program terminates without panics, overflows or reads out of bounds, whatever the arguments,
+//! files and peers contain.
 //!
 //! # Only tested
 //!
-//! One run of `--version` (`args`, `stdout`), which shows that the runtime is passed to
-//! `gitprogram`. All commands are tested with Git as the peer (`examples/with-git.sh`).
+//! One test runs `--version` (`args`, `stdout`), and so tests that `gitprogram` gets the runtime.
+//! All commands are tested with Git as the peer (`examples/with-git.sh`).
 //!
 //! # What the contracts do not rule out
 //!
-//! Anything else: no contract can describe a file, a stream or a socket.
+//! The contracts say nothing more, because no contract can describe a file, a stream or a socket of
+//! the system.
 //!
 //! # Stands on
 //!
-//! `gitprogram` alone.
+//! This crate uses only `gitprogram`.
 #![tactic(auto)]
 
 use gitprogram::run_gitrepo;

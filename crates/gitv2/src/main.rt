@@ -1,24 +1,24 @@
-//! The program `gitv2`: `gprogram` over the system's runtime.
+//! The program `gitv2`, which runs [`run_gitv2`] on the operating system.
 //!
 //! # Proved
 //!
-//! It ends, with no index out of range, no overflow and no use after free, whatever the arguments,
-//! the files and the streams are.
+//! The program terminates without panics, overflows or use after free, whatever the arguments,
+//! files and streams contain.
 //!
 //! # Only tested
 //!
-//! One run of `ls --stdio-server` (`args`, `stdin`, `stdout`, `data/`), which shows that the
-//! runtime is passed to `gprogram`. The program `conformance` tries the commands, through the same
-//! call.
+//! One test runs `ls --stdio-server` (`args`, `stdin`, `stdout`, `data/`), and so tests that
+//! `gprogram` gets the runtime. The program `conformance` tests the commands through the same
+//! function.
 //!
 //! # What the contracts do not rule out
 //!
-//! Anything else: no contract can say what a file, a stream or a socket of the system gives or
-//! takes.
+//! The contracts say nothing more, because no contract can describe a file, a stream or a socket of
+//! the system.
 //!
 //! # Stands on
 //!
-//! `gprogram` alone.
+//! This crate uses only `gprogram`.
 #![tactic(auto)]
 
 use gprogram::run_gitv2;

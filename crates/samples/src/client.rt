@@ -1,4 +1,4 @@
-//! A client that fetches by refspecs.
+//! An example of a client that fetches refs.
 
 use gclient::{Repo, Spec, fetch_over};
 use gcmd::{PackLimit, ProgramFault};
@@ -7,11 +7,11 @@ use ggraph::{Order, PlainPack, load};
 use gpkt::{Sink, Source};
 use std::alloc::Allocator;
 
-/// Fetches by refspecs from a server (gitprotocol-v2(5)) into the client's repository whose text is
-/// `text`, and returns that repository.
+/// Parses the client's repository from `text`, fetches the refs that `specs` match from a server
+/// (gitprotocol-v2(5)), and returns the repository.
 ///
-/// Fails with `Text` if the text is not that of a repository, and with `Fetch` if a ref is not
-/// connected or the conversation fails. HEAD is dropped.
+/// Fails with `Text` if `text` is not a valid repository. Fails with `Fetch` if a ref is not
+/// connected or the conversation fails. The returned repository has no HEAD.
 pub fn fetch_into<A: Allocator + Copy, S: Source, W: Sink>(
     alloc: A,
     text: &[u8],

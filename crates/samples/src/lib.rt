@@ -1,19 +1,19 @@
-//! The code of the documentation: a server and a client in a few lines each (README), and a packer
-//! and an indexer (`docs/PACKERS.md`).
+//! Examples for the documentation: a short server and a short client (README), and a packer and an
+//! indexer (`docs/PACKERS.md`).
 //!
 //! # Proved
 //!
-//! Each call is safe and ends. After [`fetch_records`] each ref of the repository is connected. The
-//! other promises are the contracts of the calls below.
+//! Each function is memory-safe and returns. After [`fetch_records`], each ref of the repository is
+//! connected. Further guarantees are the contracts of the called functions.
 //!
 //! # What the contracts do not rule out
 //!
-//! [`Records`] may pack and read anything.
+//! The contracts let [`Records`] write any pack, and read any objects from a pack.
 //!
 //! # Stands on
 //!
-//! `gserve` and `gclient` for the conversations, `ggraph` for repositories and packs, `gcmd` for
-//! one type of all faults.
+//! `gserve` and `gclient` run the conversations, `ggraph` has repositories and packs, and `gcmd`
+//! has one type for all faults.
 #![tactic(auto)]
 
 mod client;

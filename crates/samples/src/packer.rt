@@ -1,4 +1,4 @@
-//! A packer and an indexer of another kind of pack, and a fetch over them.
+//! A packer and an indexer for a custom pack format, and a fetch that uses both.
 
 ghost use Rattle.std.specs.Prelude.{⊤};
 ghost use Rattle.gclientrepo.specs.Repos.{IsConnectedRepo};
@@ -11,11 +11,11 @@ use gname::{MAX_PACK, Oid};
 use gpkt::{Sink, Source};
 use std::alloc::Allocator;
 
-/// The bytes of a record: a letter, and an id of SHA-1.
+/// The length of a record in bytes: one letter, and a SHA-1 id.
 const RECORD: usize = 21;
 
-/// Packs of records. A record `c` or `t` begins a commit or a tag with its id, and `p` adds a
-/// parent to it.
+/// A pack format of records, which are a letter and an id. A record `c` or `t` begins a commit or a
+/// tag, and a record `p` adds a parent to the last commit or tag.
 #[derive(Clone, Copy, Drop)]
 pub struct Records;
 
@@ -77,10 +77,10 @@ impl<A: Allocator + Copy> Indexer<A> for Records {
     }
 }
 
-/// Fetches by refspecs from a server that sends such packs. The repository is connected afterwards,
-/// whatever the server sends.
+/// Fetches the refs that `specs` match from a server that sends packs of [`Records`]. The
+/// repository is connected afterwards, whatever the server sends.
 ///
-/// Fails as `fetch_over` does. The refs are then unchanged.
+/// Fails as `fetch_over` does, and then leaves the refs unchanged.
 pub fn fetch_records<A: Allocator + Copy, S: Source, W: Sink>(
     repo: &mut Repo<A>,
     specs: &[Spec<A>],

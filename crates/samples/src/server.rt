@@ -1,4 +1,4 @@
-//! A server of one connection.
+//! An example of a server for one connection.
 
 use gcmd::ProgramFault;
 use ggrammar::Ends;
@@ -7,11 +7,11 @@ use gpkt::{Sink, Source};
 use gserve::{OnePack, Served, Server, serve};
 use std::alloc::Allocator;
 
-/// Serves one connection of the repository whose text is `text` (gitprotocol-v2(5)), and returns
-/// how it ended.
+/// Parses a repository from `text`, serves one connection (gitprotocol-v2(5)), and returns how the
+/// connection ended.
 ///
-/// Fails with `Text` or `Build` if the text is not that of a repository that can be served; nothing
-/// is read then.
+/// Fails with `Text` if `text` is not a valid repository, and with `Build` if the repository cannot
+/// be served. After a fault, nothing was read from `source`.
 pub fn serve_text<A: Allocator + Copy, S: Source, W: Sink>(
     alloc: A,
     text: &[u8],

@@ -1,16 +1,16 @@
--- Steps of the fan-out table of a pack index.
+-- Definitions for writing the fan-out table of a pack index.
 use Rattle.std.specs.Prelude.{ℕ, zero, suc, Bool, nat_eq, List, slice_index, count_by}
 use Rattle.gitpack.specs.Indexes.{ids_within}
 use Rattle.gitpack.specs.declared.index.IndexEntry.{IndexEntry}
 
--- how many ids begin with this byte
+-- whether the id of an entry begins with this byte
 abbrev pub begins_with : ℕ → IndexEntry → Bool
 begins_with byte e = nat_eq (slice_index e.id 0) byte
 
 abbrev pub ids_beginning : ℕ → List IndexEntry → ℕ
 ids_beginning byte entries = count_by (begins_with byte) entries
 
--- how many ids begin with a lower byte
+-- the number of ids that begin with a lower byte
 abbrev pub ids_below : ℕ → List IndexEntry → ℕ
 ids_below zero entries = 0
 ids_below (suc byte) entries = ids_within byte entries

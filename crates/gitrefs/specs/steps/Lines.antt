@@ -1,7 +1,7 @@
--- Steps of the reading of packed-refs.
+-- Definitions for parsing packed-refs.
 use Rattle.gitrefs.specs.PackedRefs.{PackedLine}
 use Rattle.gitrefs.specs.declared.packed.Line.{Line}
 
--- the line that a value of the code shows
+-- the line of `packed-refs` that a `Line` of the code represents
 abbrev pub line_at : Line → PackedLine
 line_at line = record { name = line.name.now; id = line.id; peeled = line.peeled }
