@@ -1,5 +1,6 @@
--- A client's conversation with a server, from the advertisement to the update of the local refs: the bytes that the
--- client writes for the bytes that it reads (gitprotocol-v2(5), "Initial Client Request" and "Command Request").
+-- A client's conversation with a server, from the advertisement to the update of the local refs (gitprotocol-v2(5),
+-- "Initial Client Request" and "Command Request"). The definitions relate the bytes that the client writes to the bytes
+-- that it reads.
 use Rattle.std.specs.Prelude.{◌≡◌, ◌⊎◌, ℕ, ◌≤◌, false, List, [], ◌∷◌, ◌++◌, length, Option, None, Some, Result, Ok, Err}
 use Rattle.std.specs.List.{flat_map}
 use Rattle.gname.specs.declared.formats.Format.{Format}
@@ -141,7 +142,7 @@ module _ {A : Type 0} (indexes : Indexes A) (index_fails : IndexFails) (start : 
         (packets ++ flat_map (λ turn. turn.reply) talk)
     pub rest : Rest (rest_of input between)
 
-  -- ---- the whole
+  -- ---- the complete conversation
 
   -- the bytes of a complete conversation: the requests of the turns, and a lone flush packet (gitprotocol-v2(5),
   -- "Command Request": `empty-request`)

@@ -107,7 +107,7 @@ module _ (asked : LsRefsAsked) where
   Lists input output (Ok reply) = HasListed input output reply
   Lists input output (Err fault) = FailsToList input output fault
 
-  -- ---- the whole
+  -- ---- the complete listing
 
   -- the result and the effects of a listing over the `git://` transport, with a first line
   abbrev pub ListsGit : {A : Type 0} → Hello → Input → Output → Result ls.LsReply (FetchFault A) → Type 0

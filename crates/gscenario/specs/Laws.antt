@@ -31,7 +31,7 @@ IsSame (event.ClientAdd entry) (event.ClientAdd other) = entry ≡ other
 IsSame (event.ClientRef name id) (event.ClientRef other at) = (name ≡ other) × (id ≡ at)
 IsSame _ _ = ⊥
 
--- a text is the text of at most one list of events
+-- no text is the text of two different lists of events
 abbrev pub TextsHaveOneReading : Type 0 → Type 0
 TextsHaveOneReading A =
     (text : List ℕ) (a b : List (Event A)) → IsScenario text a → IsScenario text b → AllZip IsSame a b

@@ -54,7 +54,7 @@ fn alone<A: Allocator + Copy>(tail: &[u8], event: Event<A>) -> Option<Event<A>>
     if no_word(tail) { Some(event) } else { None }
 }
 
-// ---- one event each
+// ---- one function for each kind of event
 
 fn begin<A: Allocator + Copy>(alloc: A, tail: &[u8]) -> Result<Option<Event<A>>, AllocError>
     ensures { ReadsArguments EventWord.Begin (words_after tail.now) result }
@@ -150,7 +150,7 @@ fn client_ref<A: Allocator + Copy>(alloc: A, tail: &[u8]) -> Result<Option<Event
     }
 }
 
-// ---- parts of several events
+// ---- arguments that several kinds of event share
 
 // Returns the number in `tail`, if it is the only argument.
 fn number_alone(tail: &[u8]) -> Option<usize>

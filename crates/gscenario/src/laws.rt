@@ -6,7 +6,7 @@ use gname::laws::texts_spell_one_id;
 use grefs::refspec::laws::one_reading;
 use std::alloc::Allocator;
 
-/// A text is the text of at most one list of events.
+/// No text is the text of two different lists of events.
 #[tactic(auto, using(crate::proofs::SameEvents::scenario_one))]
 pub fn texts_have_one_reading<A: Allocator + Copy>()
     ensures { TextsHaveOneReading A }

@@ -7,8 +7,8 @@
 //!   other text it reports the first line that is not the line of an event, or has no line feed.
 //!   `Scenario::read` runs out of memory only at a line that begins with a command. All lines
 //!   before that line are lines of events.
-//! - A text is the text of at most one list of events ([`laws`]). The number of its first malformed
-//!   line is unique. A text with a malformed line is not the text of any list of events.
+//! - No text is the text of two different lists of events ([`laws`]). The number of a text's first
+//!   malformed line is unique. A text with a malformed line is not the text of any list of events.
 //! - Each fault has the number, the name and the text of its row in `specs/Faults.antt`.
 //! - No call panics, overflows or reads out of bounds, and each call returns.
 //!

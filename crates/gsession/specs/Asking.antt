@@ -36,7 +36,7 @@ abbrev pub with_asks : {A : Type 0} → List (Ask A) → List (Ask A) → List (
 with_asks asks [] = asks
 with_asks asks (ask ∷ more) = with_asks (with_ask asks ask) more
 
--- the asks of the session: of several asks for the same ref only the first
+-- the asks of the session, with only the first of several asks for the same ref
 abbrev pub asked_of : {A : Type 0} → List Refspec → List RefLine → List (Ask A)
 asked_of specs lines = with_asks [] (asks_by_all specs lines)
 

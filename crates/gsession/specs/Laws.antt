@@ -107,7 +107,7 @@ ListingIsDecided A =
     (result : Result (LsTaken A) (ClientFault A)) → TakesLs old g (known_bytes bytes left) one result
     → TakesLs old g (known_bytes bytes also) other result → one ≡ other
 
--- the session and the graph determine the next request, and the session that waits for the reply
+-- the session and the graph determine the next request, and the state of the session after it
 abbrev pub OneNext : Type 0 → Type 0
 OneNext A =
     (g : List (Entry A)) (old new other : SessionState A) (asked also : Asked) → MakesNext old g new asked

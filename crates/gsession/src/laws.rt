@@ -145,7 +145,7 @@ pub fn wants_are_exact<A: Allocator + Copy>()
     distinct_are_once();
 }
 
-/// The session and the graph determine the next request, and the session that waits for the reply.
+/// The session and the graph determine the next request, and the state of the session after it.
 pub fn one_next<A: Allocator + Copy>()
     ensures { OneNext A }
 {

@@ -18,8 +18,8 @@
 //! - [`Session::take_ls`] reads one reply to ls-refs to its end, and nothing after it. Each local
 //!   ref to which a refspec maps a line of the reply gets exactly one ask. The first refspec that
 //!   leads to the ref, and its first such line, determine the ask ([`laws`]). The wants are the
-//!   asked ids that are not connected. The fault for an invalid name of a local ref names the
-//!   reply's last packet. This fault precedes too many wants and out of memory.
+//!   asked ids that are not connected. If the name of a local ref would be invalid, the fault gives
+//!   the position of the reply's last packet. This fault precedes too many wants and out of memory.
 //! - [`Session::take_reply`] reads one reply to fetch to its end, and nothing after it. Each id
 //!   that becomes common was a have of the request. The repository gains all objects that the
 //!   indexer returns for the pack, or none. The order of faults is: a malformed packet, an
@@ -68,9 +68,9 @@
 //! indexer more often than necessary, or pass it bytes after a fault. A call may take any time, and
 //! more memory than it needs. Formatting a fault may return `fmt::Error` without a cause.
 //!
-//! No clause bounds the time of a call. [`Session::request`] starts each walk at the tips.
-//! [`Session::request_on`] continues the walk of the previous request, so all requests over the
-//! same graph cost as much as one walk. For an asked id that is absent, or that the local refs
+//! No clause bounds the time of a call. The method [`Session::request`] starts each walk at the
+//! tips. [`Session::request_on`] continues the walk of the previous request, so all requests over
+//! the same graph cost as much as one walk. For an asked id that is absent, or that the local refs
 //! reach, a look-up decides whether it is connected. A look-up is also enough if the graph stores
 //! parents first. Any other asked id needs a walk, which stops at objects that the local refs
 //! reach. A set speeds up the check of acknowledged ids.

@@ -24,8 +24,8 @@ StepsKeep {A} tools =
     → IsSound tools w → Step tools w event outcome new
     → IsSound tools new × Promises tools w event outcome new
 
--- Invariants that the types of server, repository and session guarantee, but that the definition of a step leaves open:
--- refs are sorted by name, and the session satisfies its invariant.
+-- Invariants that the types of server, repository and session guarantee: refs are sorted by name, and the session is
+-- valid. The definition of a step does not imply them.
 pub record AreListed {A : Type 0} (w : WorldState A) : Type 0 where
   pub server : IsRefs w.server.refs
   pub client : IsRefs w.repo.refs
@@ -129,7 +129,7 @@ LeavesServer (event.ServerAdd entry) = ⊥
 LeavesServer (event.ServerRef name id) = ⊥
 LeavesServer _ = ⊤
 
--- a run leaves the refs of an end, or the whole server, unchanged if none of its events may change them
+-- a run leaves the client's refs, the server's refs or the server unchanged if no event of the run may change them
 pub record OthersLeaveRefs {A : Type 0} (tools : PackTools A) : Type 0 where
   pub client : (w new : WorldState A) (events : List (Event A)) (outcomes : List Outcome) →
       All LeavesClientRefs events → Run tools w events outcomes new → new.repo.refs ≡ w.repo.refs

@@ -80,8 +80,8 @@ module _ {A : Type 0} (tools : PackTools A) where
     pub faithful : LosesNothing tools.packs tools.pack_fails tools.indexes tools.index_fails image
     pub unforged : w.forged ≡ false
 
-  -- an answered session is ready to settle, and without forged bytes and with faithful tools its asked ids are
-  -- connected
+  -- a session that is marked as answered can settle, and its asked ids are connected if no bytes were forged and the
+  -- tools are faithful
   pub record IsAnswered (w : WorldState A) (s : SessionState A) : Type 0 where
     pub stage : s.stage ≡ Settling
     pub connected : IsUnforgedAndFaithful w → All (IsConnected w.repo.graph.entries) (asked_ids s.asks)

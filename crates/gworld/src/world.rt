@@ -73,9 +73,9 @@ impl<K: Packer<A> + Indexer<A> + Drop, A: Allocator + Copy> World<K, A> {
     ///   remains.
     /// - `Ask`: 83 (`NoOpenRequest`) if there is no session or no request to make, or 64
     ///   (`Memory`). Fault 64 ends the session.
-    /// - `Serve`: 93 if there is no request at this index, 74 (`NotOurs`) if the server does not
-    ///   hold a want, 64 (`Memory`), or 65 (`Pack`) if the packer fails. Fault 74 needs forged
-    ///   bytes. The world is unchanged.
+    /// - `Serve`: 93 if there is no request at this index, or 74 (`NotOurs`) if the server does not
+    ///   hold a want. Otherwise 64 (`Memory`), or 65 (`Pack`) if the packer fails. Fault 74 occurs
+    ///   only after forged bytes. The world is unchanged.
     /// - `Deliver`: 93 if there is no reply at this index. The other faults are the faults of
     ///   `Forge`.
     /// - `Forge`: 83 (`NoOpenRequest`) if no request is open. Otherwise the fault of reading or
