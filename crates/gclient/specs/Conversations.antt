@@ -1,5 +1,6 @@
--- A client's conversation with a server, from the advertisement to the refs here that move: what is written for the
--- bytes that are read (gitprotocol-v2(5), "Initial Client Request" and "Command Request").
+-- A client's conversation with a server, from the advertisement to the update of the local refs (gitprotocol-v2(5),
+-- "Initial Client Request" and "Command Request"). The definitions relate the bytes that the client writes to the bytes
+-- that it reads.
 use Rattle.std.specs.Prelude.{◌≡◌, ◌⊎◌, ℕ, ◌≤◌, false, List, [], ◌∷◌, ◌++◌, length, Option, None, Some, Result, Ok, Err}
 use Rattle.std.specs.List.{flat_map}
 use Rattle.gname.specs.declared.formats.Format.{Format}
@@ -32,7 +33,8 @@ use Rattle.gclient.specs.declared.fault.FetchFault.{FetchFault}
 use Rattle.gclient.specs.declared.fetched.Fetched.{Fetched}
 use Rattle.gclient.specs.declared.fault.FetchFault.TheVariants as fetch
 
--- what a conversation begins with: the client's repository, what it fetches and how, and how it asks for packs
+-- the inputs of a conversation: the repository, the refspecs, the limit of a pack, the end of replies and the pack
+-- options
 pub record Start (A : Type 0) : Type 0 where
   pub repo : RepoState A
   pub refspecs : List Refspec
@@ -46,32 +48,33 @@ pub record Start (A : Type 0) : Type 0 where
 abbrev pub request_bytes : Format → Asked → Bytes
 request_bytes format asked = canonical_all (canonical_request format asked)
 
--- the bytes of the requests of some turns
+-- the bytes of the requests of the turns, in order
 abbrev pub requests_bytes : Format → List Turn → Bytes
 requests_bytes format turns = flat_map (λ turn. request_bytes format turn.asked) turns
 
--- the requests of some turns were passed on; before the first nothing was written
+-- the requests of the turns were written and flushed, and nothing was written before them
 abbrev pub HasAsked : Format → Output → List Turn → Type 0
 HasAsked format output [] = IsUnwritten output
 HasAsked format output (turn ∷ turns) = Passes output (requests_bytes format (turn ∷ turns))
 
--- The sink failed as these bytes were to be sent: a beginning of them stands, and what was passed on before still is.
+-- The sink failed while the client sent these bytes. A prefix of the bytes was written, and bytes flushed before remain
+-- flushed.
 abbrev pub FailsToSend : Output → Bytes → Type 0
 FailsToSend output due = SendsSome output due × KeepsPassed output.passed_on
 
--- the requests of some turns were passed on, and the sink failed as the next bytes were to be sent
+-- the requests of the turns were flushed, and the sink failed while the client sent the next bytes
 abbrev pub FailsToAsk : Format → Output → List Turn → Bytes → Type 0
 FailsToAsk format output [] due = FailsToSend output due
 FailsToAsk format output (turn ∷ turns) due = SendsAndFails output (requests_bytes format (turn ∷ turns)) due
 
 -- ---- what is read
 
--- the packets are an advertisement of a server with which a client of this format can go on
+-- the packets are the advertisement of a server that a client of this object format supports
 pub record Advertises (format : Format) (packets : List Packet) (capabilities : List Capability) : Type 0 where
   pub says : advert.Says packets capabilities
   pub fits : check_fault format capabilities ≡ None
 
--- an advertisement is read, and the client can't go on with the server
+-- the client reads an advertisement, and does not support the server
 pub record Mismatches (format : Format) (input : Input) (cause : MessageFault) : Type 0 where
   pub packets : List Packet
   pub capabilities : List Capability
@@ -81,43 +84,43 @@ pub record Mismatches (format : Format) (input : Input) (cause : MessageFault) :
   pub frame : cause.frame ≡ 0
   pub up : IsUp input
 
--- it is refused as it is read, at the first packet that does not fit; the fault is the source's exactly where that is
--- down
+-- reading the advertisement fails at its first invalid packet, with the fault of the source exactly if the source
+-- failed
 pub record RefusesToRead (input : Input) (cause : MessageFault) : Type 0 where
   pub front : List Packet
   pub refused : ReadsRefused advert.judge advert.brings front input.read cause
   pub source : IsReadFailure false input.is_down cause.why
 
--- why the client does not begin to ask: the advertisement is refused as it is read, or the client can't go on with it
+-- a reason to send no request: reading the advertisement fails, or the client does not support the server
 abbrev pub RefusesAdvert : Format → Input → MessageFault → Type 0
 RefusesAdvert format input cause =
     RefusesToRead input cause ⊎ Mismatches format input cause
 
--- nothing more is read, and the source is well
+-- nothing more is read, and the source has not failed
 pub record IsLeft (rest : Input) : Type 0 where
   pub unread : rest.read.new ≡ rest.read.old
   pub up : IsUp rest
 
 -- ---- a conversation so far
 
--- what a conversation over this repository begins with, with options for packs
+-- the inputs of a conversation over this repository, with pack options
 abbrev pub start_for : {A : Type 0} → RepoState A → List Refspec → ℕ → Ends → PackOptions → Start A
 start_for repo refspecs limit ends options =
     record { repo = repo; refspecs = refspecs; limit = limit; ends = ends; options = options }
 
--- and without them
+-- the inputs of a conversation over this repository, with the default pack options
 abbrev pub start_of : {A : Type 0} → RepoState A → List Refspec → ℕ → Ends → Start A
 start_of repo refspecs limit ends = start_for repo refspecs limit ends no_options
 
 module _ {A : Type 0} (start : Start A) where
-  -- the session as it begins
+  -- the session at the beginning of the conversation
   abbrev pub begin_session : SessionState A
   begin_session =
       record (new_session start.repo.graph.format start.refspecs start.limit start.ends (tips_of start.repo)) {
         options = start.options;
       }
 
-  -- the client that has heard the server's advertisement
+  -- the client after it read the server's advertisement
   abbrev pub hear_advert : List Capability → ClientState A
   hear_advert capabilities = record {
     session = record begin_session { offers_unborn = tells_unborn capabilities };
@@ -126,8 +129,8 @@ module _ {A : Type 0} (start : Start A) where
   }
 
 module _ {A : Type 0} (indexes : Indexes A) (index_fails : IndexFails) (start : Start A) where
-  -- The advertisement is read, and then the replies of these turns, which make the client this one; and this holds of
-  -- the rest of the input.
+  -- The client reads the advertisement and the replies of the turns, and `last` is its state afterwards. `Rest` holds
+  -- of the remaining input.
   pub record Converses (input : Input) (talk : List Turn) (last : ClientState A) (Rest : Input → Type 0) : Type 0 where
     pub few : length start.refspecs ≤ max_specs
     pub packets : List Packet
@@ -139,16 +142,16 @@ module _ {A : Type 0} (indexes : Indexes A) (index_fails : IndexFails) (start : 
         (packets ++ flat_map (λ turn. turn.reply) talk)
     pub rest : Rest (rest_of input between)
 
-  -- ---- the whole
+  -- ---- the complete conversation
 
-  -- a lone flush ends the conversation, once there is nothing more to ask (gitprotocol-v2(5), "Command Request":
-  -- `empty-request`)
+  -- the bytes of a complete conversation: the requests of the turns, and a lone flush packet (gitprotocol-v2(5),
+  -- "Command Request": `empty-request`)
   abbrev pub talk_bytes : List Turn → Bytes
   talk_bytes talk =
       requests_bytes start.repo.graph.format talk ++ request_bytes start.repo.graph.format Empty
 
-  -- All replies were taken, the requests and the lone flush are passed on, and the refs are settled. The count is that
-  -- of the requests for objects.
+  -- The client accepted all replies, flushed the requests and the lone flush packet, and updated the refs. `fetched`
+  -- has the number of requests for objects.
   pub record HasFetched (input : Input) (output : Output) (new : RepoState A) (fetched : Fetched A) : Type 0 where
     pub talk : List Turn
     pub last : ClientState A
@@ -160,52 +163,52 @@ module _ {A : Type 0} (indexes : Indexes A) (index_fails : IndexFails) (start : 
     pub count : fetched.requests ≡ last.session.rounds
     pub unborn : fetched.unborn ≡ last.unborn
 
-  -- what is to be written next: the next request, or the lone flush where there is none
+  -- the message that the client writes next: the next request, or the lone flush packet after the last request
   pub data IsDue (last : ClientState A) : Asked → Type 0 where
     request : (asked : Asked) (waiting : SessionState A) → AsksNext last asked waiting → IsDue last asked
     ending : last.session.stage ≡ Settling → IsDue last Empty
 
-  -- Why a conversation failed. Each fault comes where all went well before it; the repository is then as the turns so
-  -- far left it.
+  -- The reasons for a conversation to fail. All steps before the fault succeeded, and the repository keeps the effects
+  -- of the completed turns.
   pub data Fails (input : Input) (output : Output) (new : RepoState A) : FetchFault A → Type 0 where
-    -- the session can't begin, and nothing is read
+    -- the session can't begin, and the client reads nothing
     cannot_begin : (cause : ClientFault A) → Begins start.repo start.refspecs start.limit start.ends (Err cause)
         → IsUnread input → IsUnwritten output → new ≡ start.repo → Fails input output new (fetch.Client cause)
-    -- out of memory for the reader's buffer, and nothing is read
+    -- the client has not enough memory for the reader's buffer, and reads nothing
     no_buffer : length start.refspecs ≤ max_specs → IsUnread input → IsUnwritten output → new ≡ start.repo
         → Fails input output new fetch.NoBuffer
-    -- the advertisement is refused
+    -- the client rejects the advertisement
     cannot_hear : (cause : MessageFault) → length start.refspecs ≤ max_specs
         → RefusesAdvert start.repo.graph.format input cause → IsUnwritten output → new ≡ start.repo
         → Fails input output new (fetch.Client (client.Message cause))
-    -- out of memory for the next request
+    -- the client has not enough memory for the next request
     cannot_ask : (talk : List Turn) (last : ClientState A) (after : SessionState A) → Converses input talk last IsLeft
         → Requests last.session last.repo.graph.entries after (Err no_memory)
         → HasAsked start.repo.graph.format output talk → new ≡ last.repo
         → Fails input output new (fetch.Client no_memory)
-    -- what is due next can't be written, or not be passed on
+    -- the client can't write or flush the next message
     cannot_send : (talk : List Turn) (last : ClientState A) (asked : Asked) → Converses input talk last IsLeft
         → IsDue last asked
         → FailsToAsk start.repo.graph.format output talk (request_bytes start.repo.graph.format asked)
         → new ≡ last.repo → Fails input output new fetch.WriteFailed
-    -- the reply to a request is refused
+    -- the client rejects the reply to a request
     cannot_take : (talk : List Turn) (last : ClientState A) (asked : Asked) (waiting : SessionState A)
         (cause : ClientFault A) → AsksNext last asked waiting
         → Converses input talk last (λ rest. Refuses indexes index_fails waiting asked last.repo rest cause)
         → Passes output (requests_bytes start.repo.graph.format talk ++ request_bytes start.repo.graph.format asked)
         → new ≡ last.repo → Fails input output new (fetch.Client cause)
-    -- the refs can't be settled
+    -- the client can't update the refs
     cannot_settle : (talk : List Turn) (last : ClientState A) (cause : RepoFault A) → Converses input talk last IsLeft
         → last.session.stage ≡ Settling → Passes output (talk_bytes talk)
         → SettlesAsks last.repo last.session.asks new (Err cause)
         → Fails input output new (fetch.Client (client.Repo cause))
 
-  -- what a conversation answers, and what it did
+  -- the result and the effects of a conversation
   abbrev pub FetchesOver : Input → Output → RepoState A → Result (Fetched A) (FetchFault A) → Type 0
   FetchesOver input output new (Ok fetched) = HasFetched input output new fetched
   FetchesOver input output new (Err fault) = Fails input output new fault
 
--- what a call did that was to write these bytes and to pass them on
+-- the effect of a call that writes and flushes these bytes
 abbrev pub HasPassed : {E : Type 0} → Output → Result (Unit {0}) E → Bytes → Type 0
 HasPassed output (Ok done) bytes = Passes output bytes
 HasPassed output (Err failed) bytes = FailsToSend output bytes

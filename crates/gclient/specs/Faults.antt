@@ -1,4 +1,4 @@
--- The table of faults: the number, the name and the text of each.
+-- The table of faults: the number, the name and the text of each fault.
 use Rattle.gname.specs.Faults.{FaultRow}
 use Rattle.gpkt.specs.Faults.{packet_fault_row, packet_fault_text, write_fault_row, write_fault_text}
 use Rattle.gpkt.specs.declared.fault.PacketFault.TheVariants as line
@@ -8,13 +8,13 @@ use Rattle.gsession.specs.Faults.{client_fault_row, client_fault_text}
 use Rattle.gclient.specs.declared.fault.FetchFault.{FetchFault}
 use Rattle.gclient.specs.declared.fault.FetchFault.TheVariants.{Client, NoBuffer, WriteFailed}
 
--- why a conversation failed; a fault of the session or of a message has its own row
+-- the number and the name of each fault of a conversation; a fault of the session or of a message keeps its own row
 abbrev pub fetch_fault_row : {A : Type 0} → FetchFault A → FaultRow
 fetch_fault_row (Client fault) = client_fault_row fault
 fetch_fault_row NoBuffer = packet_fault_row line.Memory
 fetch_fault_row WriteFailed = write_fault_row write.Io
 
--- ---- their texts
+-- ---- the texts of the faults
 abbrev pub fetch_fault_text : {A : Type 0} → FetchFault A → Bytes
 fetch_fault_text (Client fault) = client_fault_text fault
 fetch_fault_text NoBuffer = packet_fault_text line.Memory

@@ -1,4 +1,4 @@
--- A client's conversation over the `git://` transport: the first line, and then what a conversation is without it
+-- A client's conversation over the `git://` transport: the first line, and then a conversation without a first line
 -- (gitprotocol-pack(5), "Git Transport").
 use Rattle.std.specs.Prelude.{◌≡◌, ◌⊎◌, Result, Err}
 use Rattle.gpkt.specs.Sending.{Input, Output}
@@ -12,7 +12,7 @@ use Rattle.gclient.specs.declared.fetched.Fetched.{Fetched}
 use Rattle.gclient.specs.Greetings.{CannotGreet, HasGreeted}
 
 module _ {A : Type 0} (indexes : Indexes A) (index_fails : IndexFails) (start : Start A) (hello : Hello) where
-  -- what a conversation answers, and what it did
+  -- the result and the effects of a conversation over the `git://` transport
   abbrev pub FetchesGit : Input → Output → RepoState A → Result (Fetched A) (FetchFault A) → Type 0
   FetchesGit input output new result =
       HasGreeted hello output (λ rest. FetchesOver indexes index_fails start input rest new result)

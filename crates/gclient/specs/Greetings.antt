@@ -5,11 +5,11 @@ use Rattle.gpkt.specs.Sending.{Input, Output, IsUnread, Passes}
 use Rattle.ghello.specs.Hello.{Hello, canonical_hello}
 use Rattle.gclient.specs.Conversations.{FailsToSend}
 
--- its bytes
+-- the bytes of the first line
 abbrev pub hello_bytes : Hello → Bytes
 hello_bytes hello = canonical_all (canonical_hello hello)
 
--- the output up to a point, with the sink well there
+-- the part of the output before a point at which the sink had not failed
 abbrev pub head_of : Output → Option Bytes → Option Bytes → Output
 head_of output written passed = record {
   written = record { old = output.written.old; new = written };
@@ -18,7 +18,7 @@ head_of output written passed = record {
   is_down = false;
 }
 
--- the output from there on
+-- the part of the output after a point at which the sink had not failed
 abbrev pub tail_of : Output → Option Bytes → Option Bytes → Output
 tail_of output written passed = record {
   written = record { old = written; new = output.written.new };
@@ -27,14 +27,14 @@ tail_of output written passed = record {
   is_down = output.is_down;
 }
 
--- the first line is passed on, and then this holds of the rest of the output
+-- the client writes and flushes the first line, and `Rest` holds of the rest of the output
 pub record HasGreeted (hello : Hello) (output : Output) (Rest : Output → Type 0) : Type 0 where
   pub written : Option Bytes
   pub passed : Option Bytes
   pub greets : Passes (head_of output written passed) (hello_bytes hello)
   pub rest : Rest (tail_of output written passed)
 
--- the sink failed as it was to be sent, and nothing is read
+-- the sink failed while the client sent the first line, and the client reads nothing
 pub record CannotGreet (hello : Hello) (input : Input) (output : Output) : Type 0 where
   pub fails : FailsToSend output (hello_bytes hello)
   pub unread : IsUnread input

@@ -1,4 +1,4 @@
--- What holds of every conversation, whatever its end.
+-- Properties of every conversation, completed or failed.
 use Rattle.std.specs.Prelude.{◌≡◌, ℕ, ◌+◌, ◌≤◌, List, [], ◌∷◌, ◌++◌, length, map, Result, OnErr, flat_map}
 use Rattle.std.specs.Io.KnownBytes.{Appends}
 use Rattle.gname.specs.declared.formats.Format.{Format}
@@ -16,30 +16,30 @@ use Rattle.gclient.specs.Turns.{AreTurns, AsksNext, ClientState, Turn}
 use Rattle.gclient.specs.declared.fault.FetchFault.{FetchFault}
 use Rattle.gclient.specs.declared.fetched.Fetched.{Fetched}
 
--- ---- how often objects are asked for
+-- ---- the number of requests for objects
 
--- whether a request asks for objects, as a number
+-- 1 for a request for objects, and 0 for any other request
 abbrev pub count_of : Asked → ℕ
 count_of (Fetches asked) = 1
 count_of asked = 0
 
--- how many requests ask for objects
+-- the number of requests for objects in the list
 abbrev pub objects_asked : List Asked → ℕ
 objects_asked [] = 0
 objects_asked (asked ∷ requests) = count_of asked + objects_asked requests
 
--- the requests of some turns
+-- the requests of the turns
 abbrev pub asked_in : List Turn → List Asked
 asked_in talk = map (λ turn. turn.asked) talk
 
--- the rounds of the session are the requests for objects among the turns
+-- the session counts as many rounds as the turns have requests for objects
 abbrev pub RoundsAreAsked : {A : Type 0} → Indexes A → IndexFails → Type 0
 RoundsAreAsked {A} indexes index_fails =
     (start : Start A) (capabilities : List Capability) (talk : List Turn) (last : ClientState A)
     → AreTurns indexes index_fails (hear_advert start capabilities) talk last
     → last.session.rounds ≡ objects_asked (asked_in talk)
 
--- the turns ask for objects at most once more than there are ids that the refs reached at the beginning
+-- the turns have at most N + 1 requests for objects, if the refs reached N ids at the beginning
 abbrev pub TalksAreFew : {A : Type 0} → Indexes A → IndexFails → Type 0
 TalksAreFew {A} indexes index_fails =
     (start : Start A) (capabilities : List Capability) (talk : List Turn) (last : ClientState A) (held parents : ℕ)
@@ -48,7 +48,7 @@ TalksAreFew {A} indexes index_fails =
     → CountsReached start.repo.graph.entries (tips_of start.repo) held parents
     → objects_asked (asked_in talk) ≤ held + 1
 
--- and so do they with the next request, whatever becomes of that
+-- the turns and the next request have at most N + 1 requests for objects, if the refs reached N ids at the beginning
 abbrev pub NextIsFew : {A : Type 0} → Indexes A → IndexFails → Type 0
 NextIsFew {A} indexes index_fails =
     (start : Start A) (capabilities : List Capability) (talk : List Turn) (last : ClientState A) (asked : Asked)
@@ -57,8 +57,7 @@ NextIsFew {A} indexes index_fails =
     → CountsReached start.repo.graph.entries (tips_of start.repo) held parents
     → objects_asked (asked_in talk ++ asked ∷ []) ≤ held + 1
 
--- All that was written is a beginning of some requests, perhaps all of them; and of these so many at most ask for
--- objects.
+-- The client wrote a prefix of the bytes of a list of requests. At most `most` of the requests are for objects.
 pub record AsksAtMost (format : Format) (output : Output) (most : ℕ) : Type 0 where
   pub requests : List Asked
   pub few : objects_asked requests ≤ most
@@ -67,7 +66,8 @@ pub record AsksAtMost (format : Format) (output : Output) (most : ℕ) : Type 0 
   pub parts : flat_map (request_bytes format) requests ≡ front ++ rest
   pub written : Appends output.written.old output.written.new front
 
--- so it is at every end of a conversation, also where it failed
+-- every conversation, completed or failed, has at most N + 1 requests for objects, if the refs reached N ids at the
+-- beginning
 abbrev pub EndsAreFew : {A : Type 0} → Indexes A → IndexFails → Type 0
 EndsAreFew {A} indexes index_fails =
     (start : Start A) (input : Input) (output : Output) (new : RepoState A) (result : Result (Fetched A) (FetchFault A))
@@ -77,14 +77,14 @@ EndsAreFew {A} indexes index_fails =
 
 -- ---- the repository
 
--- to the graph objects only come
+-- over a conversation the graph only gains objects
 abbrev pub FetchingGrows : {A : Type 0} → Indexes A → IndexFails → Type 0
 FetchingGrows {A} indexes index_fails =
     (start : Start A) (input : Input) (output : Output) (new : RepoState A) (result : Result (Fetched A) (FetchFault A))
     → FetchesOver indexes index_fails start input output new result
     → Grows start.repo.graph.entries new.graph.entries
 
--- and where a conversation failed, the refs are as they were
+-- a failed conversation leaves the refs unchanged
 abbrev pub FailingKeepsRefs : {A : Type 0} → Indexes A → IndexFails → Type 0
 FailingKeepsRefs {A} indexes index_fails =
     (start : Start A) (input : Input) (output : Output) (new : RepoState A) (result : Result (Fetched A) (FetchFault A))

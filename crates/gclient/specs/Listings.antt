@@ -1,4 +1,4 @@
--- Listing the refs of a server: what is read, and what is written for it (gitprotocol-v2(5), "ls-refs").
+-- The listing of a server's refs: the bytes that the client reads and writes (gitprotocol-v2(5), "ls-refs").
 use Rattle.std.specs.Prelude.{◌≡◌, ◌⊎◌, false, List, ◌++◌, Option, Some, Result, Ok, Err}
 use Rattle.gname.specs.declared.formats.Format.{Format}
 use Rattle.gpkt.specs.PacketReading.{ReadsPackets}
@@ -24,22 +24,22 @@ use Rattle.gclient.specs.Greetings.{CannotGreet, HasGreeted}
 
 -- ---- what is written
 
--- what is asked: for an unborn HEAD too exactly where the server offers to report it
+-- the request for refs, with `unborn` exactly if the server offers to report an unborn HEAD
 abbrev pub asked_of : List Capability → LsRefsAsked → LsRefsAsked
 asked_of capabilities asked = ls_with asked Unborn (tells_unborn capabilities)
 
--- the request
+-- the bytes of the request for refs
 abbrev pub asking_bytes : Format → List Capability → LsRefsAsked → Bytes
 asking_bytes format capabilities asked = request_bytes format (Ls (asked_of capabilities asked))
 
--- the lone flush that ends the conversation
+-- the bytes of the lone flush packet that ends the conversation
 abbrev pub ending_bytes : Format → Bytes
 ending_bytes format = request_bytes format Empty
 
 -- ---- what is read
 
--- The advertisement of a server with which a client of this format can go on is read, and then this holds of the rest
--- of the input. There is one such format at most: the one that the advertisement names.
+-- The client reads the advertisement of a server that a client of this object format supports. `Rest` holds of the
+-- remaining input. Only the format that the advertisement names is possible.
 pub record HasHeard (input : Input) (format : Format) (capabilities : List Capability) (Rest : Input → Type 0)
     : Type 0 where
   pub packets : List Packet
@@ -48,7 +48,7 @@ pub record HasHeard (input : Input) (format : Format) (capabilities : List Capab
   pub read : ReadsPackets (record { old = input.read.old; new = between }) packets
   pub rest : Rest (rest_of input between)
 
--- an advertisement is read, and a client of no format can go on with the server
+-- the client reads an advertisement, and no object format lets a client support the server
 pub record FitsNone (input : Input) (cause : MessageFault) : Type 0 where
   pub packets : List Packet
   pub capabilities : List Capability
@@ -58,15 +58,14 @@ pub record FitsNone (input : Input) (cause : MessageFault) : Type 0 where
   pub frame : cause.frame ≡ 0
   pub up : IsUp input
 
--- the reply in this format is read, and nothing after it
+-- the client reads the reply in this format, and nothing after it
 pub record ReadsReply (format : Format) (input : Input) (reply : ls.LsReply) : Type 0 where
   pub packets : List Packet
   pub lines : ReadsPackets input.read packets
   pub says : ls.Says format Plain packets reply
   pub up : IsUp input
 
--- the reply is refused as it is read, at the first packet that does not fit; the fault is the source's exactly where
--- that is down
+-- reading the reply fails at its first invalid packet, with the fault of the source exactly if the source failed
 pub record RefusesReply (format : Format) (input : Input) (cause : MessageFault) : Type 0 where
   pub front : List Packet
   pub refused : ReadsRefused (ls.judge format Plain) ls.brings front input.read cause
@@ -75,42 +74,42 @@ pub record RefusesReply (format : Format) (input : Input) (cause : MessageFault)
 -- ---- after the first line
 
 module _ (asked : LsRefsAsked) where
-  -- the advertisement and the reply are read, and the request and the lone flush are passed on
+  -- the client reads the advertisement and the reply, and flushes the request and the lone flush packet
   pub record HasListed (input : Input) (output : Output) (reply : ls.LsReply) : Type 0 where
     pub format : Format
     pub capabilities : List Capability
     pub read : HasHeard input format capabilities (λ rest. ReadsReply format rest reply)
     pub passed : Passes output (asking_bytes format capabilities asked ++ ending_bytes format)
 
-  -- Why nothing is listed. Each fault comes where all went well before it.
+  -- The reasons for a listing to fail. All steps before the fault succeeded.
   pub data FailsToList {A : Type 0} (input : Input) (output : Output) : FetchFault A → Type 0 where
-    -- out of memory for the reader's buffer, and nothing is read
+    -- the client has not enough memory for the reader's buffer, and reads nothing
     no_buffer : IsUnread input → IsUnwritten output → FailsToList input output fetch.NoBuffer
-    -- the advertisement is refused as it is read, or a client can't go on with the server
+    -- reading the advertisement fails, or the client does not support the server
     cannot_hear : (cause : MessageFault) → RefusesToRead input cause ⊎ FitsNone input cause → IsUnwritten output
         → FailsToList input output (fetch.Client (client.Message cause))
-    -- the request can't be written, or not be passed on
+    -- the client can't write or flush the request
     cannot_ask : (format : Format) (capabilities : List Capability) → HasHeard input format capabilities IsLeft
         → FailsToSend output (asking_bytes format capabilities asked) → FailsToList input output fetch.WriteFailed
-    -- the reply is refused
+    -- the client rejects the reply
     cannot_take : (format : Format) (capabilities : List Capability) (cause : MessageFault)
         → HasHeard input format capabilities (λ rest. RefusesReply format rest cause)
         → Passes output (asking_bytes format capabilities asked)
         → FailsToList input output (fetch.Client (client.Message cause))
-    -- it is taken, and the lone flush can't be written, or not be passed on
+    -- the client accepts the reply, but can't write or flush the lone flush packet
     cannot_end : (format : Format) (capabilities : List Capability) (reply : ls.LsReply)
         → HasHeard input format capabilities (λ rest. ReadsReply format rest reply)
         → SendsAndFails output (asking_bytes format capabilities asked) (ending_bytes format)
         → FailsToList input output fetch.WriteFailed
 
-  -- what listing answers, and what it did
+  -- the result and the effects of a listing
   abbrev pub Lists : {A : Type 0} → Input → Output → Result ls.LsReply (FetchFault A) → Type 0
   Lists input output (Ok reply) = HasListed input output reply
   Lists input output (Err fault) = FailsToList input output fault
 
-  -- ---- the whole
+  -- ---- the complete listing
 
-  -- the same with the first line before it
+  -- the result and the effects of a listing over the `git://` transport, with a first line
   abbrev pub ListsGit : {A : Type 0} → Hello → Input → Output → Result ls.LsReply (FetchFault A) → Type 0
   ListsGit hello input output result =
       HasGreeted hello output (λ rest. Lists input rest result)

@@ -1,4 +1,4 @@
--- A turn of a client's conversation: its next request, and what it takes of the reply (gitprotocol-v2(5), "Command
+-- A turn of a client's conversation: its next request, and the effect of the reply (gitprotocol-v2(5), "Command
 -- Request").
 use Rattle.std.specs.Prelude.{◌≡◌, Bool, false, List, [], ◌∷◌, Option, Ok}
 use Rattle.gname.specs.Names.{Name}
@@ -22,24 +22,24 @@ use Rattle.gsession.specs.declared.taken.LsTaken.{LsTaken}
 use Rattle.gsession.specs.Sessions.{SessionState}
 use Rattle.gsession.specs.declared.taken.Taken.{Taken}
 
--- a client in its conversation: its session and its repository, and what it knows of an unborn HEAD
+-- the state of a client in a conversation: its session, its repository, and the target of the server's unborn HEAD
 pub record ClientState (A : Type 0) : Type 0 where
   pub session : SessionState A
   pub repo : RepoState A
   pub unborn : Option Name
 
--- what is asked, and the packets of the reply
+-- a request, and the packets of the reply to it
 pub record Turn : Type 0 where
   pub asked : Asked
   pub reply : List Packet
 
--- this is the client's next request, and the session then waits for its reply
+-- the client's next request, after which the session waits for the reply
 abbrev pub AsksNext : {A : Type 0} → ClientState A → Asked → SessionState A → Type 0
 AsksNext client asked waiting = Requests client.session client.repo.graph.entries waiting (Ok asked)
 
--- ---- a reply that is taken
+-- ---- an accepted reply
 
--- the packets report refs, and the client knows what it asks for and what it wants of them
+-- the packets are a reply to ls-refs, and the client accepts the reply and determines its asks and wants
 pub record TakesRefs {A : Type 0} (waiting : SessionState A) (old : ClientState A) (packets : List Packet)
     (new : ClientState A) : Type 0 where
   pub reply : LsReply
@@ -50,7 +50,7 @@ pub record TakesRefs {A : Type 0} (waiting : SessionState A) (old : ClientState 
   pub stays : new.repo ≡ old.repo
 
 module _ {A : Type 0} (indexes : Indexes A) (index_fails : IndexFails) where
-  -- the packets acknowledge ids, or bring a pack, or both, and the client takes them
+  -- the packets are a reply to fetch, with acknowledgments or a pack or both, and the client accepts the reply
   pub record TakesObjects (waiting : SessionState A) (asked : FetchAsked) (old : ClientState A) (packets : List Packet)
       (new : ClientState A) : Type 0 where
     pub reply : FetchReply
@@ -59,39 +59,39 @@ module _ {A : Type 0} (indexes : Indexes A) (index_fails : IndexFails) where
     pub takes : TakesRead indexes index_fails asked.haves waiting old.repo reply new.session new.repo taken
     pub unborn : new.unborn ≡ old.unborn
 
-  -- the reply to a request is taken
+  -- the client accepts the reply to the request
   abbrev pub Takes : SessionState A → Asked → ClientState A → List Packet → ClientState A → Type 0
   Takes waiting Empty old packets new = ⊥
   Takes waiting (Ls asked) old packets new = TakesRefs waiting old packets new
   Takes waiting (Fetches asked) old packets new = TakesObjects waiting asked old packets new
 
-  -- a turn of the client
+  -- the client makes the request of the turn and accepts its reply
   pub record IsTurn (old : ClientState A) (turn : Turn) (new : ClientState A) : Type 0 where
     pub waiting : SessionState A
     pub asks : AsksNext old turn.asked waiting
     pub takes : Takes waiting turn.asked old turn.reply new
 
-  -- turns, one after the other
+  -- the client completes the turns one after the other
   abbrev pub AreTurns : ClientState A → List Turn → ClientState A → Type 0
   AreTurns first [] last = last ≡ first
   AreTurns first (turn ∷ turns) last = (next : ClientState A) × IsTurn first turn next × AreTurns next turns last
 
--- ---- a reply that is refused
+-- ---- a rejected reply
 
--- a fault of reading is the source's exactly where that is down; any other leaves it well
+-- the fault is the fault of the source exactly if the source failed
 abbrev pub FitsSource : {A : Type 0} → Bool → ClientFault A → Type 0
 FitsSource down (Message cause) = IsReadFailure false down cause.why
 FitsSource down fault = down ≡ false
 
 module _ {A : Type 0} (indexes : Indexes A) (index_fails : IndexFails) where
-  -- why the reply to a request is not taken: it is refused as it is read, or what it says is
+  -- the client rejects the reply to the request for this fault: it is malformed, or its content is not acceptable
   abbrev pub IsUntaken : SessionState A → Asked → RepoState A → Change → ClientFault A → Type 0
   IsUntaken waiting Empty repo change cause = ⊥
   IsUntaken waiting (Ls asked) repo change cause = IsLsFault waiting repo.graph.entries change cause
   IsUntaken waiting (Fetches asked) repo change cause =
       IsTakeFault indexes index_fails waiting repo change cause
 
-  -- the reply to a request is not taken, and the fault is the source's exactly where that is down
+  -- the client rejects the reply to the request, with the fault of the source exactly if the source failed
   pub record Refuses (waiting : SessionState A) (asked : Asked) (repo : RepoState A) (input : Input)
       (cause : ClientFault A) : Type 0 where
     pub untaken : IsUntaken waiting asked repo input.read cause

@@ -1,3 +1,3 @@
--- The steps: what only private functions and proofs speak of.
+-- The steps: definitions that only private functions and proofs use.
 pub mod Conversations
 pub mod Listings

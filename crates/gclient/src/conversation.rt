@@ -31,20 +31,21 @@ use gsession::laws::{began_stays, rounds_are_few};
 use gsession::{FetchPlan, PackOptions, Session, Settled, Taken};
 use std::alloc::Allocator;
 
-/// Fetches by refspecs from a server (gitprotocol-v2(5)). Reads the server's advertisement, asks
-/// for its refs, and asks for the wanted objects, round after round while the server only
-/// acknowledges. Ends the conversation with a lone flush packet, and then updates the local refs.
-/// Each request is flushed, and nothing after the last reply is read. A pack has at most as many
-/// bytes as `limit` says, and each reply ends as `ends` says.
+/// Fetches the refs that match the refspecs from a server (gitprotocol-v2(5)). Reads the server's
+/// advertisement, requests its refs, and requests the wanted objects until the server sends a pack.
+/// Ends the conversation with a lone flush packet, and then updates the local refs. Flushes each
+/// request, and reads nothing after the last reply. A pack has at most `limit` bytes, and `ends`
+/// says whether a response-end packet follows each reply.
 ///
-/// Fails with `TooManySpecs` for more than 16 refspecs, and with `Repo` or `NoBuffer` if out of
-/// memory at the start; nothing is read then. Otherwise the first fault ends it. Fails with
-/// `Message` if the advertisement or a reply is refused, if the client can't go on with the server
-/// (`UnknownCommand`, `Format`), or if a requested ref can't have its name (`BadName`). Fails with
-/// `TooManyWants`; with `StrangeAck`, `Index` or `Repo` if a reply is not taken; with `WriteFailed`
-/// if the sink fails, after a prefix of the requests. Fails with `Repo` if the refs can't move
-/// (`NotConnected`, `Refs`), or if out of memory. After every fault the refs are unchanged, and the
-/// graph has only gained objects.
+/// Fails with `TooManySpecs` for more than 16 refspecs. Fails with `Repo` or `NoBuffer`, before it
+/// reads anything, if out of memory at the start. Otherwise the first fault ends the conversation.
+/// Fails with `Message` if the advertisement or a reply is malformed, or if the client does not
+/// support the server (`UnknownCommand`, `Format`). Fails with `Message` (`BadName`) if the name of
+/// a local ref would be invalid. Fails with `TooManyWants` if a request can't hold all wants. Fails
+/// with `StrangeAck`, `Index` or `Repo` if the client rejects the content of a reply. Fails with
+/// `WriteFailed` if the sink fails, after it wrote a prefix of the requests. Fails with `Repo` if
+/// the refs can't be updated (`NotConnected`, `Refs`), or if out of memory. After every fault the
+/// refs are unchanged, and the graph has only gained objects.
 pub fn fetch_over<S: Source, W: Sink, A: Allocator + Copy, K: Indexer<A>>(
     repo: &mut Repo<A>,
     source: &mut S,
@@ -78,7 +79,7 @@ pub fn fetch_over<S: Source, W: Sink, A: Allocator + Copy, K: Indexer<A>>(
     fetch_over_with(repo, source, sink, indexer, &plan)
 }
 
-/// Fetches as [`fetch_over`] does, with options for packs.
+/// Fetches like [`fetch_over`], with options for packs.
 pub fn fetch_over_with<S: Source, W: Sink, A: Allocator + Copy, K: Indexer<A>>(
     repo: &mut Repo<A>,
     source: &mut S,
@@ -109,7 +110,7 @@ pub fn fetch_over_with<S: Source, W: Sink, A: Allocator + Copy, K: Indexer<A>>(
     fetched
 }
 
-// Fetches over a writer that has not failed.
+// Fetches with a writer whose sink has not failed.
 fn fetch_to<S: Source, W: Sink, A: Allocator + Copy, K: Indexer<A>>(
     repo: &mut Repo<A>,
     source: &mut S,
@@ -141,7 +142,7 @@ fn fetch_to<S: Source, W: Sink, A: Allocator + Copy, K: Indexer<A>>(
     fetched
 }
 
-// Holds the conversation of a session that has begun.
+// Holds the conversation of a session that has begun, and returns its result.
 fn converse<S: Source, W: Sink, A: Allocator + Copy, K: Indexer<A>>(
     repo: &mut Repo<A>,
     session: &mut Session<A>,
@@ -176,8 +177,8 @@ fn converse<S: Source, W: Sink, A: Allocator + Copy, K: Indexer<A>>(
     })
 }
 
-// Reads the advertisement, and asks until the last reply is taken. Returns what the server says
-// about an unborn HEAD.
+// Reads the advertisement, sends all requests and reads all replies. Returns the target of the
+// server's unborn HEAD.
 fn talk<S: Source, W: Sink, A: Allocator + Copy, K: Indexer<A>>(
     repo: &mut Repo<A>,
     session: &mut Session<A>,
@@ -214,8 +215,8 @@ fn talk<S: Source, W: Sink, A: Allocator + Copy, K: Indexer<A>>(
     Ok(taken.unborn)
 }
 
-// Asks for objects, round after round while the server only acknowledges. The source and the sink
-// may have been in other states when the conversation began.
+// Requests objects in rounds until the server sends a pack. The conversation may have begun before
+// this call, with the source and the sink in other states.
 fn fetch_all<S: Source, W: Sink, A: Allocator + Copy, K: Indexer<A>>(
     repo: &mut Repo<A>,
     session: &mut Session<A>,
@@ -256,7 +257,7 @@ fn fetch_all<S: Source, W: Sink, A: Allocator + Copy, K: Indexer<A>>(
     }
 }
 
-// Ends the conversation with a lone flush packet, and settles.
+// Ends the conversation with a lone flush packet, and updates the local refs.
 fn close<W: Sink, A: Allocator + Copy>(
     repo: &mut Repo<A>,
     session: &mut Session<A>,

@@ -12,16 +12,16 @@ use std::alloc::{Allocator, Global};
 use std::error::Error;
 use std::fmt;
 
-/// The reason a conversation failed. Its number identifies it.
+/// The reason why a conversation failed.
 #[derive(Debug, Drop)]
 pub enum FetchFault<A: Allocator + Copy = Global> {
-    /// 20 to 25, 29, 30 and 41 to 54: the advertisement or a reply was refused, at one of its
-    /// packets. 60 to 64, 66, 69, 75, 82, 84, 85 and 86: the session or the repository refused what
-    /// arrived, or is out of memory (64).
+    /// A fault of the session. The faults 20 to 25, 29, 30 and 41 to 54 reject a packet of the
+    /// advertisement or of a reply. The faults 60 to 63, 66, 69, 75, 82 and 84 to 86 reject the
+    /// content of a reply or the update of refs. Fault 64 is out of memory.
     Client(ClientFault<A>),
-    /// 28: out of memory for the reader's buffer. Nothing was read.
+    /// Fault 28: there is not enough memory for the reader's buffer. Nothing was read.
     NoBuffer,
-    /// 27: the sink failed. A prefix of the requests was written.
+    /// Fault 27: the sink failed. A prefix of the requests was written.
     WriteFailed,
 }
 

@@ -7,9 +7,9 @@ use std::alloc::{Allocator, Global};
 /// The result of a conversation.
 #[derive(Debug, Drop)]
 pub struct Fetched<A: Allocator + Copy = Global> {
-    /// The outcome of each refspec.
+    /// The updates of the local refs.
     pub settled: Settled<A>,
-    /// How many requests asked for objects.
+    /// The number of requests for objects.
     pub requests: usize,
     /// The ref that an unborn `HEAD` of the server points at, if a refspec fetches `HEAD`.
     pub unborn: Option<RefName<A>>,

@@ -29,22 +29,24 @@ use std::alloc::Allocator;
 pub struct GitFetch<'a, A: Allocator + Copy> {
     /// The first line, which names the requested path.
     pub hello: &'a Hello<A>,
-    /// The refspecs, at most 16. If several lead to one local ref, the first counts.
+    /// The refspecs, at most 16. If several refspecs map to the same local ref, the first one
+    /// counts.
     pub specs: &'a [Spec<A>],
     /// The maximum size of a pack in bytes.
     pub limit: PackLimit,
-    /// How each reply ends.
+    /// Whether a response-end packet follows each reply.
     pub ends: Ends,
-    /// The options with which packs are requested.
+    /// The options of requests for packs.
     pub options: PackOptions,
 }
 
-/// Fetches by refspecs from a server (gitprotocol-pack(5), "Git Transport"). Writes the first line,
-/// which names the requested path, flushes it, and continues as [`fetch_over_with`].
+/// Fetches the refs that match the refspecs from a server (gitprotocol-pack(5), "Git Transport").
+/// Writes and flushes the first line, which names the requested path, and continues like
+/// [`fetch_over_with`].
 ///
-/// Fails with 27 if the first line can't be sent; then nothing is read, and the repository is
-/// unchanged. Otherwise fails as `fetch_over_with` does. After every fault the refs are unchanged,
-/// and the graph has only gained objects.
+/// Fails with `WriteFailed` (27) if the sink fails before the first line is flushed. The client
+/// then reads nothing, and the repository is unchanged. Otherwise fails like `fetch_over_with`.
+/// After every fault the refs are unchanged, and the graph has only gained objects.
 pub fn fetch_git<S: Source, W: Sink, A: Allocator + Copy, K: Indexer<A>>(
     repo: &mut Repo<A>,
     source: &mut S,

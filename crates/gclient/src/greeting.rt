@@ -10,7 +10,7 @@ use gpkt::laws::writes_join;
 use gpkt::{PacketWriter, Sink, WriteFault};
 use std::alloc::Allocator;
 
-/// Writes the first line, and flushes it. Allocates nothing.
+/// Writes and flushes the first line. Allocates nothing.
 pub(crate) fn greet<W: Sink, A: Allocator + Copy>(
     hello: &Hello<A>,
     sink: &mut W,

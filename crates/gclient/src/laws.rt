@@ -8,13 +8,13 @@ use gsession::laws::{
 };
 use std::alloc::Allocator;
 
-/// The rounds that a session counts are the requests for objects of its conversation.
+/// A session counts as many rounds as its conversation has requests for objects.
 pub fn rounds_are_asked<A: Allocator + Copy, K: Indexer<A>>()
     ensures { (k : K) → RoundsAreAsked (K.indexes k) (K.index_fails k) }
 {}
 
-/// A conversation asks for objects at most N + 1 times, if the refs reached N ids when it began.
-/// This holds whatever the server says and however it ends, even if it failed.
+/// A conversation has at most N + 1 requests for objects, if the local refs reached N ids when it
+/// began. This bound holds for any bytes from the server, and also for a failed conversation.
 pub fn requests_are_few<A: Allocator + Copy, K: Indexer<A>>()
     ensures talks { (k : K) → TalksAreFew (K.indexes k) (K.index_fails k) }
     ensures next { (k : K) → NextIsFew (K.indexes k) (K.index_fails k) }
@@ -27,8 +27,8 @@ pub fn requests_are_few<A: Allocator + Copy, K: Indexer<A>>()
     requests_are_counted::<A, K>();
 }
 
-/// The graph of a repository only gains objects, whatever the outcome of a conversation. If the
-/// conversation failed, the refs are unchanged.
+/// Over a conversation, completed or failed, the graph of the repository only gains objects. A
+/// failed conversation leaves the refs unchanged.
 pub fn fetching_only_grows<A: Allocator + Copy, K: Indexer<A>>()
     ensures grows { (k : K) → FetchingGrows (K.indexes k) (K.index_fails k) }
     ensures refs { (k : K) → FailingKeepsRefs (K.indexes k) (K.index_fails k) }

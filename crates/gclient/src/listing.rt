@@ -1,4 +1,4 @@
-//! Listing the refs of a server, starting at the first line.
+//! The listing of a server's refs, with or without a first line.
 
 ghost use Rattle.std.specs.Prelude.{◌≡◌, false, OnOk};
 ghost use Rattle.gpkt.specs.Sending.{input_of, output_of};
@@ -17,17 +17,19 @@ use grequest::{LsRefsFlag, LsRefsRequest, Request};
 use std::alloc::Allocator;
 
 /// Lists the refs of a server (gitprotocol-pack(5), "Git Transport"; gitprotocol-v2(5), "ls-refs").
-/// Writes the first line, reads the advertisement, asks for refs, reads the reply, and ends the
-/// conversation with a lone flush packet. All output is flushed before anything is read, and
-/// nothing after the reply is read.
+/// Writes the first line, reads the advertisement, requests the refs, reads the reply, and ends the
+/// conversation with a lone flush packet. Flushes all output before each read, and reads nothing
+/// after the reply.
 ///
-/// The ids have the format that the advertisement names. The request asks for an unborn `HEAD`
-/// exactly when the server offers to report it, whatever `asked` says.
+/// The ids have the object format that the advertisement names. The request has `unborn` exactly
+/// when the server offers to report an unborn `HEAD`, even if `asked` differs.
 ///
-/// Fails with 28 if out of memory for the reader's buffer; nothing is read then. Fails with 20 to
-/// 25, 41, 42, 48, 49, 53 and 54 if the advertisement is refused, and with these, 46 and 47 if the
-/// reply is. Fails with 43 or 52 if a client can't go on with the server, and with 27 if the sink
-/// fails, after a prefix of the message was written.
+/// Fails with `NoBuffer` (28) if there is not enough memory for the reader's buffer, and reads
+/// nothing then. Fails with `Message` if the advertisement or the reply is malformed. The faults of
+/// an advertisement are 20 to 25, 41, 42, 48, 49, 53 and 54. A reply may also have an invalid id
+/// (46) or an invalid ref name (47). Fails with `Message` for an unsupported server:
+/// `UnknownCommand` (43) or `Format` (52). Fails with `WriteFailed` (27) if the sink fails, after
+/// it wrote a prefix of the output.
 pub fn list_git<S: Source, W: Sink, A: Allocator + Copy>(
     hello: &Hello<A>,
     source: &mut S,
@@ -47,7 +49,7 @@ pub fn list_git<S: Source, W: Sink, A: Allocator + Copy>(
     }
 }
 
-/// Lists the refs of a server as [`list_git`] does, without a first line. Fails as it does.
+/// Lists the refs of a server like [`list_git`], but without a first line. Fails like `list_git`.
 pub fn list_over<S: Source, W: Sink, A: Allocator + Copy>(
     source: &mut S,
     sink: &mut W,
@@ -72,7 +74,7 @@ pub fn list_over<S: Source, W: Sink, A: Allocator + Copy>(
     listed
 }
 
-// Hears the server, asks for refs, and ends the conversation after the reply.
+// Reads the advertisement, requests the refs, reads the reply, and ends the conversation.
 fn list<S: Source, W: Sink, A: Allocator + Copy>(
     reader: &mut PacketReader<S, A>,
     writer: &mut PacketWriter<W>,
@@ -98,13 +100,13 @@ fn list<S: Source, W: Sink, A: Allocator + Copy>(
 // The parts of the advertisement that a listing needs.
 #[derive(Drop)]
 struct Heard {
-    // The format of the server's ids.
+    // The object format of the server.
     format: Format,
     // Whether the server offers to report an unborn `HEAD`.
     tells_unborn: bool,
 }
 
-// Reads the server's advertisement, if a client can go on with the server.
+// Reads the server's advertisement. Fails if the client does not support the server.
 fn hear_server<S: Source, A: Allocator + Copy>(
     reader: &mut PacketReader<S, A>,
     alloc: A,
@@ -124,7 +126,7 @@ fn hear_server<S: Source, A: Allocator + Copy>(
     })
 }
 
-// Returns the format of the server's ids, if a client can go on with the server.
+// Returns the object format of the server. Fails if the client does not support the server.
 fn format_in<A: Allocator + Copy>(advert: &Advert<A>) -> Result<Format, MessageFault>
     ensures { FitsFormat advert.now result }
 {

@@ -11,10 +11,12 @@ use gpkt::{PacketWriter, Sink, WriteFault};
 use grequest::{Request, write_request};
 use std::alloc::Allocator;
 
-/// Writes a request in its one spelling (gitprotocol-v2(5), "Command Request"), and flushes it.
+/// Writes a request in its canonical encoding (gitprotocol-v2(5), "Command Request"), and flushes
+/// it.
 ///
-/// The writer has not failed, and the ids of the request have the format. Fails if the sink is
-/// down. Then a prefix of the request was written, and the writer takes no more.
+/// Requires that the writer has not failed, and that the ids of the request have the given format.
+/// Fails if the sink fails. The sink then holds a prefix of the request, and every further call of
+/// the writer fails.
 pub fn send_request<W: Sink, A: Allocator + Copy>(
     request: &Request<A>,
     format: Format,

@@ -21,8 +21,8 @@ use gsession::laws::offers_stay;
 use gsession::{Session, Taken};
 use std::alloc::Allocator;
 
-/// Reads the server's advertisement, and passes it to the session if the client can go on with the
-/// server.
+/// Reads the server's advertisement, and passes it to the session. Fails if the client does not
+/// support the server.
 pub(crate) fn hear<S: Source, A: Allocator + Copy>(
     repo: &Repo<A>,
     session: &mut Session<A>,
@@ -42,8 +42,8 @@ pub(crate) fn hear<S: Source, A: Allocator + Copy>(
     Ok(())
 }
 
-/// Makes the session's next request, which then waits for its reply, and sends it. `offers` holds
-/// the state of the session's walk, before the request and after it.
+/// Makes the session's next request, and sends it. `offers` holds the state of the walk that
+/// selects haves, before and after the request.
 pub(crate) fn ask<W: Sink, A: Allocator + Copy>(
     repo: &Repo<A>,
     session: &mut Session<A>,
@@ -70,7 +70,7 @@ pub(crate) fn ask<W: Sink, A: Allocator + Copy>(
     Ok(())
 }
 
-/// Asks for objects as [`ask`] does, and takes the reply.
+/// Sends the session's next request for objects, like [`ask`], and reads the reply.
 pub(crate) fn fetch<S: Source, W: Sink, A: Allocator + Copy, K: Indexer<A>>(
     repo: &mut Repo<A>,
     session: &mut Session<A>,

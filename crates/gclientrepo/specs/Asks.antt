@@ -1,4 +1,5 @@
--- What is asked of refs (git-fetch(1), "<refspec>"): each ask is that a ref come to stand at an id, perhaps by force.
+-- Requests to update refs (git-fetch(1), "<refspec>"). Each ask names a ref, its new id, and whether the update is
+-- forced.
 use Rattle.std.specs.List.{list_any}
 use Rattle.std.specs.Prelude.{◌≡◌, ◌≢◌, ℕ, Bool, List, [], ◌∷◌, ◌++◌, map, slice_get, AllPairs, Some, if◌then◌else◌}
 use Rattle.std.specs.Str.{bytes_eq}
@@ -7,19 +8,19 @@ use Rattle.gname.specs.Names.{Name}
 use Rattle.gclientrepo.specs.declared.ask.Ask.{Ask}
 use Rattle.gclientrepo.specs.declared.asks.Aim.{Aim}
 
--- no two asks are for one ref
+-- no two asks are for the same ref
 abbrev pub NamesDiffer : {A : Type 0} → List (Ask A) → Type 0
 NamesDiffer asks = AllPairs (λ ask other. ask.name ≢ other.name) asks
 
--- the ids that are asked for
+-- the new ids that the asks request for their refs
 abbrev pub asked_ids : {A : Type 0} → List (Ask A) → List Id
 asked_ids asks = map (λ ask. ask.id) asks
 
--- whether one of the asks is for the ref
+-- whether one of the asks is for the ref of this name
 abbrev pub is_asked : {A : Type 0} → List (Ask A) → Name → Bool
 is_asked asks name = list_any (λ ask. bytes_eq ask.name name) asks
 
--- an ask more, unless one is for the same ref
+-- the asks with one more, unless they already have an ask for the same ref
 abbrev pub with_ask : {A : Type 0} → List (Ask A) → Ask A → List (Ask A)
 with_ask asks ask = if is_asked asks ask.name then asks else asks ++ ask ∷ []
 
@@ -32,10 +33,10 @@ IsAskAt {A} asks place name id =
 abbrev pub IsForcedAt : {A : Type 0} → List (Ask A) → ℕ → Bool → Type 0
 IsForcedAt {A} asks place forced = (ask : Ask A) × (slice_get asks place ≡ Some ask) × (ask.forced ≡ forced)
 
--- a name, and where its ref is to stand, as an ask
+-- the ask for a ref of this name, with the new id and the force flag of the aim
 abbrev pub ask_of_aim : {A : Type 0} → Name × Aim → Ask A
 ask_of_aim pair = record { name = pair.0; id = pair.1.id; forced = pair.1.forced }
 
--- the asks of a map's pairs
+-- the asks for the pairs of a map from ref names to aims
 abbrev pub asks_of : {A : Type 0} → List (Name × Aim) → List (Ask A)
 asks_of pairs = map ask_of_aim pairs

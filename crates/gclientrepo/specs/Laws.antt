@@ -1,4 +1,4 @@
--- What follows from the definitions of a repository and of settling.
+-- Consequences of the definitions of a repository and of settling.
 use Rattle.std.specs.Prelude.{◌≡◌, Bool, List, All, Some, Ok, Err}
 use Rattle.gname.specs.Ids.{Id}
 use Rattle.gname.specs.Names.{Name}
@@ -15,25 +15,25 @@ use Rattle.gclientrepo.specs.declared.ask.Ask.{Ask}
 use Rattle.gclientrepo.specs.declared.ask.RefUpdate.{RefUpdate}
 use Rattle.gclientrepo.specs.declared.fault.RepoFault.{RepoFault}
 
--- a repository stays connected where objects come to its graph
+-- a repository stays connected when its graph gains objects
 abbrev pub ConnectedRepoStays : Type 0 → Type 0
 ConnectedRepoStays A =
     (g h : History A) (refs : RefList) (known : List Bool) → Grows g.entries h.entries → IdsDiffer h.entries
     → IsConnectedRepo (record { graph = g; refs = refs; known = known })
     → IsConnectedRepo (record { graph = h; refs = refs; known = known })
 
--- a repository stays connected where asks are settled
+-- a repository stays connected when asks are settled
 abbrev pub SettlingStaysConnected : Type 0 → Type 0
 SettlingStaysConnected A =
     (old new : RepoState A) (asks : List (Ask A)) (updates : List RefUpdate)
     → IsRefs new.refs → IsConnectedRepo old → SettlesAsks old asks new (Ok updates) → IsConnectedRepo new
 
--- and where a ref is set
+-- a repository stays connected when a ref is set
 abbrev pub SettingStaysConnected : Type 0 → Type 0
 SettingStaysConnected A =
     (old new : RepoState A) (name : Name) (id : Id) → IsConnectedRepo old → SetsLocal old name id new (Ok tt) → IsConnectedRepo new
 
--- a refusal changes nothing
+-- a call that fails leaves the repository unchanged
 pub record RefusalsChangeNothing (A : Type 0) : Type 0 where
   pub adding : (old new : RepoState A) (entry : Entry A) (fault : RepoFault A) →
       AddsLocal old entry new (Err fault) → new ≡ old
@@ -42,13 +42,13 @@ pub record RefusalsChangeNothing (A : Type 0) : Type 0 where
   pub settling : (old new : RepoState A) (asks : List (Ask A)) (fault : RepoFault A) →
       SettlesAsks old asks new (Err fault) → new ≡ old
 
--- nothing is missing of connected ids
+-- no id is missing in the ancestries of connected ids
 abbrev pub HeldIsNotMissing : Type 0 → Type 0
 HeldIsNotMissing A =
     (g : List (Entry A)) (ids : List Id) (missing : Id)
     → All (IsConnected g) ids → ¬ (Misses g ids (Some missing))
 
--- there is one settling of some asks
+-- the asks determine the outcomes of settling and the refs afterwards
 abbrev pub OneSettling : Type 0 → Type 0
 OneSettling A =
     (g : List (Entry A)) (old : RefList) (asks : List (Ask A)) (updates others : List RefUpdate) (new other : RefList)

@@ -1,5 +1,5 @@
--- A client's repository: objects, refs, and marks of connected objects. Git's manuals leave open what a client keeps;
--- that it keeps these marks, and that its repository is connected at all times, is our own rule.
+-- A client's repository: objects, refs, and marks of connected objects. Git's manuals do not say what a client stores.
+-- The marks are a rule of this project, and so is that the refs are always connected.
 use Rattle.std.specs.Map.{values_of}
 use Rattle.std.specs.Prelude.{◌≡◌, List, Bool, ◌∷◌, ◌++◌}
 use Rattle.gname.specs.Ids.{Id}
@@ -11,19 +11,19 @@ use Rattle.gdag.specs.Reach.{IsConnected}
 use Rattle.grefs.specs.RefLists.{RefList}
 use Rattle.gwalk.specs.Marks.{AreConnected, Covers}
 
--- what a repository holds
+-- the contents of a repository; `known` marks connected objects
 pub record RepoState (A : Type 0) : Type 0 where
   pub graph : History A
   pub refs : RefList
   pub known : List Bool
 
--- each ref is connected; each marked object is connected; and all that a ref reaches is marked
+-- each ref and each marked object is connected, and every object that a ref reaches is marked
 pub record IsConnectedRepo {A : Type 0} (repo : RepoState A) : Type 0 where
   pub connected_refs : HasConnectedRefs repo.graph.entries repo.refs
   pub connected : AreConnected repo.graph.entries repo.known
   pub covers : Covers repo.graph.entries (values_of repo.refs) repo.known
 
--- the name is that of the first ref that is not connected
+-- the name of the first ref that is not connected
 pub record IsFirstUnconnected {A : Type 0} (g : List (Entry A)) (refs : RefList) (name : Name) : Type 0 where
   pub front : RefList
   pub id : Id

@@ -1,4 +1,4 @@
-//! Asks for refs, and their outcomes.
+//! Requests to update refs, and their outcomes.
 
 use gname::{Oid, RefName};
 use std::alloc::{Allocator, Global};
@@ -6,21 +6,21 @@ use std::alloc::{Allocator, Global};
 /// A request to set a ref to an id.
 #[derive(Debug, Drop)]
 pub struct Ask<A: Allocator + Copy = Global> {
-    /// The ref.
+    /// The name of the ref.
     pub name: RefName<A>,
-    /// The id that the ref is to have.
+    /// The new id of the ref.
     pub id: Oid,
     /// Whether to move the ref even if that is not a fast-forward (git-fetch(1), `--force`).
     pub forced: bool,
 }
 
-/// The outcome of an ask.
+/// The outcome of an ask for a ref.
 #[derive(Clone, Copy, Debug, PartialEq, Eq, Drop)]
 pub enum RefUpdate {
     /// The ref was set to the id: it was new, forced or fast-forwarded.
     Moved,
-    /// The ref had this id already.
+    /// The ref already had this id.
     Same,
-    /// The ref is unchanged, because the move is not a fast-forward.
+    /// The ref is unchanged, because the update is not a fast-forward.
     NotForward,
 }

@@ -1,4 +1,4 @@
-//! Asks for several refs.
+//! Requests to update several refs.
 
 ghost use Rattle.std.specs.Prelude.{◌≡◌, ◌≤◌, ◌<◌, ◌↔◌, [], IfOk, IsTrue, MatchOption, OnErr, OnOk, Some, length, map, slice_get};
 ghost use Rattle.indexmap.specs.IndexMap.{values};
@@ -11,18 +11,18 @@ use std::alloc::{AllocError, Allocator, Global};
 use std::hash::{BuildHasherDefault, DefaultHasher};
 use std::marker::Model;
 
-/// The hasher of ref names. Names come from peers, who may choose them. For `DefaultHasher` names
-/// that collide have to be searched for; for std's fast hasher they can be written down.
+/// The hasher of ref names. A malicious peer may choose names with equal hashes. Equal hashes are
+/// easy to find for std's fast hasher, but not for `DefaultHasher`.
 type NameHasher = BuildHasherDefault<DefaultHasher>;
 
-/// The id that a ref is to have, and whether it is forced.
+/// The new id of a ref, and whether the update is forced.
 #[derive(Debug, Drop)]
 pub(crate) struct Aim {
     pub(crate) id: Oid,
     pub(crate) forced: bool,
 }
 
-/// Asks in the order of their addition. No two are for one ref.
+/// A list of asks, in the order in which they were added. No two asks are for the same ref.
 #[derive(Debug, Drop)]
 pub struct Asks<A: Allocator + Copy = Global> {
     aims: IndexMap<RefName<A>, Aim, NameHasher, A>,
@@ -41,7 +41,7 @@ impl<A: Allocator + Copy> Model for Asks<A> {
 }
 
 impl<A: Allocator + Copy> Asks<A> {
-    /// Returns an empty list. Allocates nothing.
+    /// Returns an empty list of asks. Allocates nothing.
     pub fn new(alloc: A) -> Asks<A>
         ensures { result ≡ [] }
     {
@@ -50,7 +50,7 @@ impl<A: Allocator + Copy> Asks<A> {
         }
     }
 
-    /// Returns how many asks there are.
+    /// Returns the number of asks.
     pub fn len(&self) -> usize
         ensures count { result ≡ length self.now }
         ensures differ { NamesDiffer self.now }
@@ -58,23 +58,23 @@ impl<A: Allocator + Copy> Asks<A> {
         self.aims.len()
     }
 
-    /// Whether there are no asks.
+    /// Returns whether the list of asks is empty.
     pub fn is_empty(&self) -> bool
         ensures { IsTrue result ↔ (self.now ≡ []) }
     {
         self.aims.is_empty()
     }
 
-    /// Whether one of the asks is for the ref.
+    /// Returns whether one of the asks is for the ref of this name.
     pub fn is_asked(&self, name: &RefName<A>) -> bool
         ensures { result ≡ is_asked self.now name.now }
     {
         self.aims.contains_key(name)
     }
 
-    /// Appends an ask, unless there is one for the same ref: the first ask for a ref counts.
+    /// Appends an ask, unless the list already has an ask for the same ref.
     ///
-    /// Fails only if out of memory. The asks are then unchanged.
+    /// Fails only if out of memory. A failed call leaves the asks unchanged.
     pub fn add(&mut self, ask: Ask<A>) -> Result<(), AllocError>
         ensures ok { OnOk result (self.new ≡ with_ask self.old ask) }
         ensures err { OnErr result (self.new ≡ self.old) }
@@ -90,7 +90,7 @@ impl<A: Allocator + Copy> Asks<A> {
         Ok(())
     }
 
-    /// Returns the name and the id of the ask at an index, counted from 0, or `None` past the end.
+    /// Returns the ref name and the new id of the ask at this index, or `None` past the end.
     pub fn at(&self, place: usize) -> Option<(&RefName<A>, Oid)>
         ensures { MatchOption result (length self.now ≤ place)
             (λ pair. IsAskAt self.now place pair.0.now pair.1) }
@@ -102,8 +102,8 @@ impl<A: Allocator + Copy> Asks<A> {
         Some((name, aim.id))
     }
 
-    /// Whether the ask at an index, counted from 0, is forced: its ref moves even if that is not a
-    /// fast-forward. `None` past the end.
+    /// Returns whether the ask at this index is forced, or `None` past the end. A forced ask moves
+    /// its ref even if that is not a fast-forward.
     pub fn is_forced(&self, place: usize) -> Option<bool>
         ensures { MatchOption result (length self.now ≤ place) (IsForcedAt self.now place) }
     {
@@ -114,7 +114,7 @@ impl<A: Allocator + Copy> Asks<A> {
         Some(aim.forced)
     }
 
-    /// Returns the asked ids, in the order of the asks.
+    /// Returns the new id of each ask, in the order of the asks.
     ///
     /// Fails only if out of memory.
     pub fn ids(&self, alloc: A) -> Result<Vec<Oid, A>, AllocError>
@@ -128,7 +128,7 @@ impl<A: Allocator + Copy> Asks<A> {
         *self.aims.allocator()
     }
 
-    /// Returns the ref of the ask at an index, and its new id.
+    /// Returns the ref name of the ask at this index, and the ref's new id.
     pub(crate) fn aim(&self, place: usize) -> (&RefName<A>, &Aim)
         requires { place < length self.now }
         ensures { slice_get self.now place ≡ Some (ask_of_aim (result.0.now, result.1.now)) }
@@ -137,7 +137,7 @@ impl<A: Allocator + Copy> Asks<A> {
     }
 }
 
-// Returns the ids in a map, in its order.
+// Returns the ids in the map, in the order of the map.
 fn ids_of<A: Allocator + Copy>(
     alloc: A,
     aims: &IndexMap<RefName<A>, Aim, NameHasher, A>,

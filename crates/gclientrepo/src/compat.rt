@@ -1,4 +1,4 @@
-//! Other names for items of this library.
+//! Alternative names for items of this library.
 
 ghost use Rattle.std.specs.Prelude.{◌≡◌};
 

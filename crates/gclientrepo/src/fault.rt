@@ -12,20 +12,20 @@ use std::alloc::{AllocError, AllocFailed, Allocator, Global};
 use std::error::Error;
 use std::fmt;
 
-/// The reason a call on a repository was refused.
+/// The reason why a call on a repository failed.
 #[derive(Debug, Drop)]
 pub enum RepoFault<A: Allocator + Copy = Global> {
-    /// A parent of the object to add is not held.
+    /// The repository does not hold this parent of the object to add.
     MissingParent { id: Oid },
-    /// This ref, the first in the order of the names, is not connected.
+    /// The ref of this name is not connected. It is the first such ref in the order of the names.
     UnconnectedRef { name: RefName<A> },
-    /// The new id of a ref is not connected: this id is missing in its ancestry.
+    /// The new id of a ref is not connected. The id `missing` is absent from its ancestry.
     UnconnectedId { missing: Oid },
-    /// The asked ids are not all connected: this id is missing in their ancestries.
+    /// Not all new ids of the asks are connected. The id `missing` is absent from their ancestries.
     NotConnected { missing: Oid },
-    /// The graph refused the change, or it is out of memory for a walk or a copy.
+    /// The graph rejected the change, or there is not enough memory for a walk or a copy.
     Graph(GraphFault),
-    /// A ref can't be set, or it can but it is out of memory to set it.
+    /// A ref can't be set, or there is not enough memory to set the ref.
     Refs(RefsFault),
 }
 

@@ -8,8 +8,8 @@ use ggraph::walk_laws::{covering_stays, marks_stay_connected};
 use grefs::laws::{refs_are_their_look_ups, refs_come_in_order};
 use std::alloc::Allocator;
 
-/// A repository stays connected if its graph gains objects: each ref is connected, each marked
-/// object is connected, and everything that a ref reaches is marked.
+/// A repository stays connected if its graph gains objects. In a connected repository each ref and
+/// each marked object is connected, and every object that a ref reaches is marked.
 pub fn connected_repo_stays<A: Allocator + Copy>()
     ensures { ConnectedRepoStays A }
 {
@@ -36,20 +36,19 @@ pub fn setting_stays_connected<A: Allocator + Copy>()
     reaching_goes_on::<A>();
 }
 
-/// A fault of adding an object, of setting a ref or of settling asks leaves the repository
-/// unchanged.
+/// A failed call that adds an object, sets a ref or settles asks leaves the repository unchanged.
 #[tactic(auto, using(crate::proofs::Refusals::refusals_change_nothing))]
 pub fn refusals_change_nothing<A: Allocator + Copy>()
     ensures { RefusalsChangeNothing A }
 {}
 
-/// Nothing is missing in the ancestries of connected ids.
+/// No id is missing in the ancestries of connected ids.
 #[tactic(auto, using(crate::proofs::RepoLemmas::not_all_held))]
 pub fn held_is_not_missing<A: Allocator + Copy>()
     ensures { HeldIsNotMissing A }
 {}
 
-/// A list of asks has one settling: the outcome of each, and the id of each ref afterwards.
+/// A list of asks determines the outcome of each ask, and the id of each ref after settling.
 #[tactic(auto, using(crate::proofs::OneSettling::one_settling))]
 pub fn one_settling<A: Allocator + Copy>()
     ensures { OneSettling A }

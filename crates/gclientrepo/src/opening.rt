@@ -12,9 +12,9 @@ use ggraph::{Graph, GraphFault, Refs, missing};
 use gname::Oid;
 use std::alloc::Allocator;
 
-/// Returns the index of the first ref that is not connected, if there is one.
+/// Returns the index of the first ref that is not connected, or `None` if all refs are.
 ///
-/// Fails only with `Memory`, and only if some object came before one of its parents.
+/// Fails only with `Memory`, and only if the graph stores some object before one of its parents.
 pub(crate) fn first_unconnected<A: Allocator + Copy>(
     graph: &Graph<A>,
     refs: &Refs<A>,
@@ -36,8 +36,8 @@ pub(crate) fn first_unconnected<A: Allocator + Copy>(
     Ok(Some(first_lost(graph, ids)?))
 }
 
-// Returns the index of the first ref whose id is not held. If parents came first, each other id is
-// connected.
+// Returns the index of the first ref whose id the graph does not hold. In a graph that stores
+// parents first, every id that it holds is connected.
 fn first_absent<A: Allocator + Copy>(graph: &Graph<A>, refs: &Refs<A>) -> Option<usize>
     requires { IsOrdered graph.now.entries }
     ensures { MatchOption result (All (IsConnected graph.now.entries) (values_of refs.now))
@@ -62,7 +62,7 @@ fn first_lost<A: Allocator + Copy>(graph: &Graph<A>, ids: &[Oid]) -> Result<usiz
     ensures place { IfOk result (IsFirstLost graph.now.entries ids.now) }
     ensures fault { IfErr result (λ fault. fault ≡ Memory) }
 {
-    // The ids before `connected` are connected. Not all of those before `end` are.
+    // The ids before index `connected` are connected. At least one id before index `end` is not.
     let mut connected = 0;
     let mut end = ids.len();
     while connected + 1 < end {

@@ -1,4 +1,4 @@
-//! Refs while they are set one by one.
+//! A map of refs, for many updates.
 
 ghost use Rattle.std.specs.Prelude.{◌≡◌, ◌<◌, IfOk, OnOk, length};
 ghost use Rattle.grefs.specs.RefLists.{CannotSet, IsRefs, SetsRef, max_refs};
@@ -11,7 +11,7 @@ use std::alloc::{AllocError, Allocator};
 use std::collections::BTreeMap;
 use std::marker::Model;
 
-/// Refs to which many may be added. A list of refs has to move all refs after a new name.
+/// A map of refs. A sorted list of refs would shift all later refs for each new name.
 #[derive(Drop)]
 pub(crate) struct RefMap<A: Allocator + Copy> {
     refs: BTreeMap<RefName<A>, Oid, A>,
@@ -28,7 +28,7 @@ impl<A: Allocator + Copy> Model for RefMap<A> {
 }
 
 impl<A: Allocator + Copy> RefMap<A> {
-    /// Copies the refs. Fails only if out of memory.
+    /// Copies the refs into a map. Fails only if out of memory.
     pub(crate) fn copy_of(alloc: A, refs: &Refs<A>) -> Result<RefMap<A>, AllocError>
         ensures { IfOk result (λ copy. copy ≡ refs.now) }
     {
@@ -36,7 +36,7 @@ impl<A: Allocator + Copy> RefMap<A> {
         Ok(RefMap { refs })
     }
 
-    /// Sets a ref to an id. The name can be set. Fails only if out of memory.
+    /// Sets a ref to an id. Requires that the ref can be set. Fails only if out of memory.
     pub(crate) fn set(&mut self, name: RefName<A>, id: Oid) -> Result<(), AllocError>
         requires { ¬ (CannotSet self.old name) }
         ensures { OnOk result (SetsRef self.old self.new name id) }

@@ -32,8 +32,8 @@ use grefs::laws::refs_come_in_order;
 use std::alloc::{Allocator, Global};
 use std::marker::Model;
 
-/// A client's objects, refs, and marks of objects that are known to be connected. Each ref is
-/// connected at all times.
+/// A client's objects, its refs, and marks of objects that are known to be connected. Each ref is
+/// connected at all times: the repository holds the whole ancestry of the ref.
 #[derive(Debug, Drop)]
 pub struct Repo<A: Allocator + Copy = Global> {
     graph: Graph<A>,
@@ -52,11 +52,12 @@ impl<A: Allocator + Copy> Model for Repo<A> {
 }
 
 impl<A: Allocator + Copy> Repo<A> {
-    /// Makes a repository of these objects and refs, and marks everything that the refs reach.
+    /// Makes a repository of these objects and refs, and marks every object that the refs reach.
     ///
     /// Fails with `UnconnectedRef` at the first ref, in the order of the names, that is not
-    /// connected, and if out of memory. If parents came first, the latter is reported only if each
-    /// ref is connected. A fault drops the graph and the refs.
+    /// connected. Fails with `Graph` if out of memory. If the graph stores parents first, out of
+    /// memory is reported only if each ref is connected. A failed call drops the graph and the
+    /// refs.
     pub fn new(graph: Graph<A>, refs: Refs<A>) -> Result<Repo<A>, RepoFault<A>>
         ensures opens { Opens graph refs result }
         ensures whole { IfOk result IsConnectedRepo }
@@ -70,14 +71,14 @@ impl<A: Allocator + Copy> Repo<A> {
         Ok(Repo { graph, refs, known })
     }
 
-    /// Returns the objects.
+    /// Returns the objects of the repository.
     pub fn graph(&self) -> &Graph<A>
         ensures { result.now ≡ self.now.graph }
     {
         &self.graph
     }
 
-    /// Returns the refs.
+    /// Returns the refs of the repository.
     pub fn refs(&self) -> &Refs<A>
         ensures { result.now ≡ self.now.refs }
     {
@@ -91,7 +92,7 @@ impl<A: Allocator + Copy> Repo<A> {
         &self.known
     }
 
-    /// Returns the format of the ids.
+    /// Returns the object format of the repository: SHA-1 or SHA-256.
     pub fn format(&self) -> Format
         ensures format { result ≡ self.now.graph.format }
         ensures whole { IsConnectedRepo self.now }
@@ -103,7 +104,7 @@ impl<A: Allocator + Copy> Repo<A> {
         self.graph.format()
     }
 
-    /// A law: the properties of each repository.
+    /// A law: the invariants of each repository.
     pub fn laws(&self)
         ensures whole { IsConnectedRepo self.now }
         ensures graph { IsGraph self.now.graph }
@@ -113,13 +114,13 @@ impl<A: Allocator + Copy> Repo<A> {
         self.refs.laws();
     }
 
-    /// Returns an id that is missing in the ancestries of some ids: one of them reaches it, and it
-    /// is not held. Returns `None` if each of them is connected. An id that is not held is looked
-    /// up first. If parents came first, no walk is needed; another walk does not go on from marked
-    /// objects.
+    /// Returns an id that one of the given ids reaches, but that the repository does not hold.
+    /// Returns `None` if all given ids are connected. It first checks whether the graph holds the
+    /// given ids. If the graph stores parents first, this check is enough. Otherwise it walks the
+    /// ancestries, and stops at marked objects.
     ///
-    /// Fails only with `Memory`, and only if all of the ids are held and some object came before
-    /// one of its parents.
+    /// Fails only with `Memory`, and only if the repository holds all given ids and stores some
+    /// object before one of its parents.
     pub fn missing(&self, ids: &[Oid]) -> Result<Option<Oid>, GraphFault>
         ensures answer { IfOk result (Misses self.now.graph.entries ids.now) }
         ensures fault { IfErr result (λ fault. (fault ≡ Memory)
@@ -137,7 +138,7 @@ impl<A: Allocator + Copy> Repo<A> {
         self.missing_by_walk(ids)
     }
 
-    // Returns an id that is missing in the ancestries of some ids, by a walk. Fails only with
+    // Walks the ancestries of the ids, and returns an id that is missing in them. Fails only with
     // `Memory`.
     fn missing_by_walk(&self, ids: &[Oid]) -> Result<Option<Oid>, GraphFault>
         ensures answer { IfOk result (Misses self.now.graph.entries ids.now) }
@@ -147,11 +148,11 @@ impl<A: Allocator + Copy> Repo<A> {
         Ok(missing)
     }
 
-    /// Adds an object whose parents are held, and returns whether its id is new. Refs and marks are
-    /// unchanged.
+    /// Adds an object if the repository holds its parents, and returns whether its id is new. Refs
+    /// and marks are unchanged.
     ///
-    /// Fails with `MissingParent` at the first parent that is not held, and otherwise as
-    /// `Graph::insert` does. The repository is then unchanged.
+    /// Fails with `MissingParent` at the first parent that the repository does not hold, and
+    /// otherwise like `Graph::insert`. A failed call leaves the repository unchanged.
     pub fn add_local(&mut self, entry: Entry<A>) -> Result<bool, RepoFault<A>>
         ensures adds { AddsLocal self.old entry self.new result }
         ensures grows { Grows self.old.graph.entries self.new.graph.entries }
@@ -165,10 +166,10 @@ impl<A: Allocator + Copy> Repo<A> {
         Ok(self.graph.insert(entry)?)
     }
 
-    /// Adds copies of the objects of a pack, all or none, and returns how many ids are new. Their
-    /// parents need not be held. Refs and marks are unchanged.
+    /// Adds copies of all objects of a pack or of none, and returns the number of new ids. The
+    /// parents of the objects may be missing. Refs and marks are unchanged.
     ///
-    /// Fails as `Graph::insert_all` does, and the repository is then unchanged.
+    /// Fails like `Graph::insert_all`. A failed call leaves the repository unchanged.
     pub fn insert_all(&mut self, entries: &[Entry<A>]) -> Result<usize, GraphFault>
         ensures adds { Adds self.old.graph entries.now self.new.graph result }
         ensures only { AddsOnly self.old.graph.entries entries.now self.new.graph.entries }
@@ -189,13 +190,13 @@ impl<A: Allocator + Copy> Repo<A> {
         self.graph.insert_all(entries)
     }
 
-    /// Sets a ref to a connected id, whether or not that is a fast-forward. Everything that the id
-    /// reaches is marked first.
+    /// Sets a ref to a connected id, even if that is not a fast-forward. Marks every object that
+    /// the id reaches before it sets the ref.
     ///
-    /// Fails with `UnconnectedId` and an id that is missing in the ancestry, then with `Refs` if
-    /// the ref is HEAD or there would be too many refs, and only then if out of memory to set it.
-    /// Out of memory for a walk (`Graph`) precedes these, only if `missing` needs a walk. The
-    /// repository is then unchanged.
+    /// Fails with `UnconnectedId` if an id is missing in the ancestry. Otherwise fails with `Refs`
+    /// if the ref is HEAD, if there would be too many refs, or if out of memory. If
+    /// [`Repo::missing`] needs a walk, out of memory for the walk (`Graph`) may precede these
+    /// faults. A failed call leaves the repository unchanged.
     pub fn set_local_ref(&mut self, name: RefName<A>, id: Oid) -> Result<(), RepoFault<A>>
         ensures sets { SetsLocal self.old name id self.new result }
         ensures whole { IsConnectedRepo self.new }
@@ -212,7 +213,7 @@ impl<A: Allocator + Copy> Repo<A> {
         }
     }
 
-    // Sets a ref, which can be set, to a connected id. Fails only if out of memory.
+    // Sets a ref to a connected id. Requires that the ref can be set. Fails only if out of memory.
     fn put(&mut self, name: RefName<A>, id: Oid) -> Result<(), RepoFault<A>>
         requires { All (IsConnected self.old.graph.entries) (id ∷ []) }
         ensures puts { MatchResult result
@@ -226,15 +227,15 @@ impl<A: Allocator + Copy> Repo<A> {
         Ok(())
     }
 
-    /// Settles asks. Sets each ref that is new, forced or fast-forwarded to the asked id, all at
-    /// once, and leaves each other ref. Returns the outcome of each ask, in their order. All
-    /// outcomes depend on the refs before the call. Everything that the ids reach is marked before
-    /// a ref moves.
+    /// Settles the asks: makes all requested updates of refs that are new, forced or fast-forwards.
+    /// All updates happen at once, and all other refs are unchanged. Returns the outcome of each
+    /// ask, in the order of the asks. All outcomes depend on the refs before the call. Marks every
+    /// object that the new ids reach before it moves a ref.
     ///
-    /// Fails with `NotConnected` and an id that is missing in the ancestries of the asked ids, then
-    /// with `Refs` if an ask is for HEAD or there would be too many refs, and only then if out of
-    /// memory to settle. Out of memory for a walk (`Graph`) precedes these, only if `missing` needs
-    /// a walk. The repository is then unchanged.
+    /// Fails with `NotConnected` if an id is missing in the ancestries of the new ids. Otherwise
+    /// fails with `Refs` if an ask is for HEAD, if there would be too many refs, or if out of
+    /// memory. If [`Repo::missing`] needs a walk, out of memory for the walk (`Graph`) may precede
+    /// these faults. A failed call leaves the repository unchanged.
     pub fn settle(&mut self, asks: &Asks<A>) -> Result<Vec<RefUpdate, A>, RepoFault<A>>
         ensures settles { MatchResult result
             (λ updates. SettlesAsks self.old asks.now self.new (Ok updates.items))
@@ -253,7 +254,7 @@ impl<A: Allocator + Copy> Repo<A> {
         }
     }
 
-    // Returns the result of `missing` for the asked ids. Only a walk takes memory.
+    // Returns the result of `missing` for the new ids of the asks. Only a walk allocates memory.
     fn missing_of(&self, asks: &Asks<A>) -> Result<Option<Oid>, GraphFault>
         ensures answer { IfOk result (Misses self.now.graph.entries (asked_ids asks.now)) }
         ensures fault { IfErr result (λ fault. (fault ≡ Memory)
@@ -272,8 +273,8 @@ impl<A: Allocator + Copy> Repo<A> {
         self.missing_by_walk(ids.as_slice())
     }
 
-    // Moves the asked refs that may move to ids that are connected. The refs can be set, so it
-    // fails only if out of memory.
+    // Makes the allowed updates of refs. Requires that the new ids are connected and that the refs
+    // can be set. Fails only if out of memory.
     fn move_refs(&mut self, asks: &Asks<A>) -> Result<Vec<RefUpdate, A>, GraphFault>
         requires connected { All (IsConnected self.old.graph.entries) (asked_ids asks.now) }
         requires can { ¬ (CannotSettle self.old.refs asks.now) }
@@ -291,8 +292,8 @@ impl<A: Allocator + Copy> Repo<A> {
         Ok(updates)
     }
 
-    // Replaces the refs by others, which are old refs or have one of the ids. Everything that the
-    // ids reach is marked before.
+    // Replaces the refs by new refs, and marks every object that the ids reach. Requires that each
+    // new ref is an old ref or points at one of the ids.
     fn install(&mut self, refs: Refs<A>, ids: &[Oid]) -> Result<(), GraphFault>
         requires connected { All (IsConnected self.old.graph.entries) ids.now }
         requires from { ComeFrom self.old.refs ids.now refs }
@@ -307,8 +308,8 @@ impl<A: Allocator + Copy> Repo<A> {
     }
 }
 
-// Returns marks of everything that the refs reach, all of it connected. Fails only if out of
-// memory.
+// Returns marks of every object that the refs reach. Requires that the refs are connected. Fails
+// only if out of memory.
 fn marks_of<A: Allocator + Copy>(
     graph: &Graph<A>,
     refs: &Refs<A>,

@@ -1,13 +1,13 @@
--- What the laws of all messages speak of.
+-- The definitions for the laws of all messages.
 use Rattle.gpkt.specs.Packets.{Bytes}
 use Rattle.ggrammar.specs.Grammar.{Judge, IsPrefixFree}
 use Rattle.ggrammar.specs.MessageBytes.{BeginsWithMessage, SpellingsPrefixFree}
 
--- no message begins another: neither its packets nor the bytes that spell them
+-- no message of the kind is a proper prefix of another, as packets or as encoded bytes
 pub record NoneBeginsAnother (judge : Judge) : Type 0 where
   pub packets : IsPrefixFree judge
   pub spellings : SpellingsPrefixFree judge
 
--- no bytes begin with a message of the one kind and with one of the other
+-- no bytes begin both with a message of one kind and with a message of the other
 abbrev pub NoneBeginsAsBoth : Judge → Judge → Type 0
 NoneBeginsAsBoth one other = (bytes : Bytes) → BeginsWithMessage one bytes → BeginsWithMessage other bytes → ⊥

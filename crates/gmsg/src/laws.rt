@@ -1,6 +1,6 @@
-//! The laws of all five messages: functions without effect whose contracts are the laws. The kinds
-//! are a hello, an advertisement, a request, a reply to ls-refs and a reply to fetch. Each law
-//! holds for all parameters of a kind's grammar.
+//! The laws of all five kinds of message. Each law is the contract of a function without effect.
+//! The kinds are the hello, the advertisement, the request, the reply to ls-refs and the reply to
+//! fetch. Each law holds for all parameters of a kind's grammar, such as the object format.
 
 ghost use Rattle.std.specs.Prelude.{◌≤◌};
 ghost use Rattle.gname.specs.Limits.{max_pack};
@@ -21,7 +21,7 @@ ghost use Rattle.gfetchreply.specs.FetchReplies as fetch_reply;
 ghost use Rattle.gfetchreply.specs.WellFormed as fetch_reply_form;
 ghost use Rattle.gmsg.specs.Laws.{NoneBeginsAnother, NoneBeginsAsBoth};
 
-/// Packets say at most one message of each kind.
+/// A list of packets encodes at most one message of each kind.
 pub fn one_meaning()
     ensures hello { OneMeaning hello.Says }
     ensures advert { OneMeaning advert.Says }
@@ -35,8 +35,8 @@ pub fn one_meaning()
     gfetchreply::laws::one_meaning();
 }
 
-/// No message is a prefix of another of its kind, as packets or as bytes. So the end of a message
-/// is known without the rest.
+/// No message is a prefix of another of its kind, as packets or as bytes. So a reader knows where a
+/// message ends without reading the bytes after it.
 pub fn prefix_free()
     ensures hello { NoneBeginsAnother hello.judge }
     ensures advert { NoneBeginsAnother advert.judge }
@@ -52,8 +52,8 @@ pub fn prefix_free()
     gfetchreply::laws::prefix_free();
 }
 
-/// No bytes begin with both a reply to ls-refs and a reply to fetch, however each is read. So a
-/// reply, or a prefix of one, is refused if it is delivered for a request of the other kind.
+/// No bytes begin with both a reply to ls-refs and a reply to fetch, whatever the parameters of
+/// each reader. So a client that awaits one kind of reply rejects a reply of the other kind.
 pub fn replies_differ()
     ensures { (format : Format) (ends : Ends) (reading : fetch_reply.Reading)
         → NoneBeginsAsBoth (ls_reply.judge format ends) (fetch_reply.judge reading) }
@@ -62,9 +62,9 @@ pub fn replies_differ()
     gpkt::laws::one_begins();
 }
 
-/// The table of a kind reads exactly the messages of the manual, and they say the same
+/// The grammar of each kind accepts exactly the messages of the manual, with the same meaning
 /// (gitprotocol-v2(5), "Capability Advertisement", "Command Request", "ls-refs" and "fetch"). A
-/// hello is all of its one line (gitprotocol-pack(5), "Git Transport").
+/// hello is exactly one packet (gitprotocol-pack(5), "Git Transport").
 pub fn manual()
     ensures hello { SaysWhole hello.judge hello.Says }
     ensures advert { AsInManual advert.Says advert.IsAdvert }
@@ -81,8 +81,8 @@ pub fn manual()
     gfetchreply::laws::manual();
 }
 
-/// A message is written as packets that say it, and each payload fits a packet. The limit for
-/// reading a reply to fetch is one that a [`PackLimit`](crate::PackLimit) can have.
+/// The packets written for a message encode that message, and each payload fits into a packet. The
+/// law of the reply to fetch holds for each limit that a [`PackLimit`](crate::PackLimit) can hold.
 pub fn canonical_says()
     ensures hello { CanonicalSays hello.Says hello.IsHello hello.IsCanonical }
     ensures advert { CanonicalSays advert.Says advert.AreCapabilities advert.IsCanonical }

@@ -1,36 +1,40 @@
-//! The messages of Git's protocol, version 2, under one name. They are the first line of a
-//! connection, the advertisement of capabilities, the request, and the replies to ls-refs and
-//! fetch. Each has a value, a reader and a writer.
+//! The messages of Git's protocol, version 2, in one crate. The messages are the first line of a
+//! connection, the capability advertisement, the request, and the replies to ls-refs and fetch.
+//! Each message has a type, a reader and a writer.
 //!
 //! # Proved
 //!
-//! - [`laws`] hold for every kind of message. Packets say at most one message. No message is a
-//!   prefix of another, as packets or as bytes. The messages that are read are those of the manual.
-//!   A message is written as packets that say it, and each payload fits a packet. No bytes begin
-//!   with both a reply to ls-refs and a reply to fetch. The `laws` of each library say that
-//!   messages are read exactly and read back.
+//! - [`laws`] hold for every kind of message. A list of packets encodes at most one message. No
+//!   message is a prefix of another of its kind, as packets or as bytes. The readers accept exactly
+//!   the messages that Git's manual defines. The packets written for a message encode that message,
+//!   and each payload fits into a packet. No bytes begin with both a reply to ls-refs and a reply
+//!   to fetch. The `laws` of each library prove that reading a written message returns the same
+//!   message.
 //!
-//! All other facts are proved in the libraries below, and listed on their pages:
+//! The libraries below prove all other facts, and list them on their pages:
 //!
-//! - `ghello`: [`Hello`] and [`Advert`], [`read_hello`] and [`read_advert`], [`write_hello`] and
-//!   [`write_advert`], and a client's look-ups in an advertisement.
+//! - `ghello`: [`Hello`] and [`Advert`], their readers [`read_hello`] and [`read_advert`], their
+//!   writers [`write_hello`] and [`write_advert`], and look-ups in an advertisement.
 //! - `grequest`: [`Request`], [`LsRefsRequest`] and [`FetchRequest`] with their flags,
 //!   [`read_request`] and [`write_request`].
 //! - `glsreply`: [`LsReply`], [`read_ls_reply`] and [`write_ls_reply`].
-//! - `gfetchreply`: [`FetchReply`], [`read_fetch_reply`], [`read_fetch_reply_into`] for a pack that
-//!   goes to a [`PackSink`], and [`write_fetch_reply`].
-//! - `ggrammar`: the faults of all messages, [`MessageFault`] and [`Why`], and reading any message.
+//! - `gfetchreply`: [`FetchReply`], [`read_fetch_reply`], [`read_fetch_reply_into`], which writes
+//!   the pack to a [`PackSink`], and [`write_fetch_reply`].
+//! - `ggrammar`: [`MessageFault`] and [`Why`], the faults of all messages, and the reading of a
+//!   message of any kind.
 //!
-//! [`MsgFault`] and [`laws::canon_says`] are second, shorter names.
+//! [`MsgFault`] is a shorter name for [`MessageFault`], and [`laws::canon_says`] for
+//! [`laws::canonical_says`].
 //!
 //! # What the contracts do not rule out
 //!
-//! There is no other body here. The libraries below have such lists for their readers and writers.
+//! This crate has no functions except its laws. The libraries below list the gaps in the contracts
+//! of their readers and writers.
 //!
 //! # Stands on
 //!
-//! `ghello`, `grequest`, `glsreply`, `gfetchreply` and `ggrammar`, `gpkt` for packets and `gname`
-//! for ids and names.
+//! `ghello`, `grequest`, `glsreply`, `gfetchreply` and `ggrammar` for messages, `gpkt` for packets,
+//! and `gname` for ids and names.
 #![tactic(auto)]
 
 pub mod laws;

@@ -1,5 +1,5 @@
--- The text of a scenario: a line for each event, each line ended by a line feed, its words separated by single spaces.
--- The format is our own.
+-- The text of a scenario: a line for each event, which ends with a line feed. Single spaces separate the words of a
+-- line. Only this repository uses the format.
 use Rattle.std.specs.List.{AllZip}
 use Rattle.std.specs.Prelude.{◌≡◌, ◌≢◌, ◌⊎◌, ℕ, ◌+◌, ◌-◌, ◌^◌, ◌<◌, ◌==◌, if◌then◌else◌, List, [], ◌∷◌, ◌++◌, length}
 use Rattle.std.specs.Prelude.{codes, decimal, Ok}
@@ -18,12 +18,12 @@ use Rattle.gscenario.specs.declared.command.EventWord.TheVariants as command
 
 -- ---- words
 
--- the byte comes before the first of the words
+-- the words, with the byte prepended to the first word
 abbrev pub with_byte : ℕ → List (List ℕ) → List (List ℕ)
 with_byte byte [] = (byte ∷ []) ∷ []
 with_byte byte (word ∷ words) = (byte ∷ word) ∷ words
 
--- the words of a line: what stands between its spaces
+-- the words of a line, separated by single spaces
 abbrev pub words_of : List ℕ → List (List ℕ)
 words_of [] = [] ∷ []
 words_of (byte ∷ text) = if byte == 32 then [] ∷ words_of text else with_byte byte (words_of text)
@@ -65,41 +65,41 @@ command_of (event.ClientRef name id) = command.ClientRef
 abbrev pub IsNumber : List ℕ → ℕ → Type 0
 IsNumber text number = (text ≡ decimal number) × (number < 2 ^ 63)
 
--- how many bytes come: a number; or `all`, which stands for the largest
+-- a count of bytes: a number, or `all` for the largest count
 abbrev pub IsCount : List ℕ → ℕ → Type 0
 IsCount text count = IsNumber text count ⊎ ((text ≡ codes "all") × (count ≡ 2 ^ 64 - 1))
 
--- bytes, each as two hexadecimal digits in either case; or `-` for none
+-- the text of a list of bytes: two hexadecimal digits for each byte, in either case, or `-` for an empty list
 abbrev pub AreBytes : List ℕ → List ℕ → Type 0
 AreBytes text bytes = ((text ≡ codes "-") × (bytes ≡ [])) ⊎ ((text ≢ []) × (decode_of text ≡ Ok bytes))
 
--- one word, which is a number
+-- the words are one word, which is a number
 abbrev pub IsOneNumber : List (List ℕ) → ℕ → Type 0
 IsOneNumber words number = (text : List ℕ) × (words ≡ text ∷ []) × IsNumber text number
 
--- two words: a number, and how many bytes come
+-- the words are two words: a number and a count of bytes
 abbrev pub AreNumberAndCount : List (List ℕ) → ℕ → ℕ → Type 0
 AreNumberAndCount words number count =
     (text bytes : List ℕ) × (words ≡ text ∷ bytes ∷ []) × IsNumber text number × IsCount bytes count
 
--- one word, which spells bytes
+-- the words are one word, which is the text of the bytes
 abbrev pub AreOneBytes : List (List ℕ) → List ℕ → Type 0
 AreOneBytes words bytes = (text : List ℕ) × (words ≡ text ∷ []) × AreBytes text bytes
 
--- refspecs, at least one
+-- the words are the texts of the refspecs, at least one
 abbrev pub AreSpecs : List (List ℕ) → List Refspec → Type 0
 AreSpecs words specs = (words ≢ []) × AllZip IsSpec words specs
 
--- an object: the letter of its kind, its id and its parents' ids, with digits in either case
+-- the words of an object: the letter of its kind, its id and its parents' ids, with digits in either case
 abbrev pub IsEntry : {A : Type 0} → List (List ℕ) → Entry A → Type 0
 IsEntry words entry =
     (ids : List (List ℕ)) × (words ≡ (letter entry.node.kind ∷ []) ∷ ids) × AllZip IsIdText ids (ids_of entry)
 
--- an id, with digits in either case, and the name of a ref
+-- the words are an id, with digits in either case, and the name of a ref
 abbrev pub IsRef : List (List ℕ) → Name → Id → Type 0
 IsRef words name id = (digits : List ℕ) × (words ≡ digits ∷ name ∷ []) × IsIdText digits id × IsRefName name
 
--- the words after the first
+-- the words are the arguments of the event's line
 abbrev pub AreArguments : {A : Type 0} → Event A → List (List ℕ) → Type 0
 AreArguments (event.Begin specs) words = AreSpecs words specs.items
 AreArguments (event.Serve request) words = IsOneNumber words request
@@ -114,34 +114,34 @@ AreArguments event words = words ≡ []
 
 -- ---- lines
 
--- a line of the event
+-- the line is a text of the event
 abbrev pub IsLineOf : {A : Type 0} → List ℕ → Event A → Type 0
 IsLineOf line event =
     (arguments : List (List ℕ)) × (words_of line ≡ command_text (command_of event) ∷ arguments)
     × AreArguments event arguments
 
--- a line of no event
+-- the line is not a text of any event
 abbrev pub IsNoLine : Type 0 → List ℕ → Type 0
 IsNoLine A line = (event : Event A) → ¬ (IsLineOf line event)
 
--- a line whose first word is a command
+-- the first word of the line is a command
 abbrev pub BeginsWithCommand : List ℕ → Type 0
 BeginsWithCommand line =
     (command : EventWord) × (arguments : List (List ℕ)) × (words_of line ≡ command_text command ∷ arguments)
 
--- the text of some events
+-- the text is the text of the events
 abbrev pub IsScenario : {A : Type 0} → List ℕ → List (Event A) → Type 0
 IsScenario text [] = text ≡ []
 IsScenario text (event ∷ events) =
     (line rest : List ℕ) × (text ≡ line ++ 10 ∷ rest) × IsInLine line × IsLineOf line event × IsScenario rest events
 
--- the text begins with a line of no event, or is a line that does not end
+-- the text begins with a line that is not the line of any event, or is a line without its line feed
 abbrev pub BeginsWrong : Type 0 → List ℕ → Type 0
 BeginsWrong A text =
     ((line rest : List ℕ) × (text ≡ line ++ 10 ∷ rest) × IsInLine line × IsNoLine A line)
     ⊎ ((text ≢ []) × IsInLine text)
 
--- the number, counted from 1, of the first line that is wrong: those before it are lines of events
+-- the number of the first malformed line of the text, counted from 1
 pub record IsWrongLine (A : Type 0) (text : List ℕ) (number : ℕ) : Type 0 where
   pub front : List ℕ
   pub rest : List ℕ
@@ -151,7 +151,7 @@ pub record IsWrongLine (A : Type 0) (text : List ℕ) (number : ℕ) : Type 0 wh
   pub wrong : BeginsWrong A rest
   pub at : number ≡ length events + 1
 
--- lines of events are followed by a line that begins with a command: there may be something to keep
+-- after lines of events, the text has a line that begins with a command, so its event may need memory
 pub record TakesMemory (A : Type 0) (text : List ℕ) : Type 0 where
   pub front : List ℕ
   pub line : List ℕ
@@ -162,7 +162,7 @@ pub record TakesMemory (A : Type 0) (text : List ℕ) : Type 0 where
   pub inside : IsInLine line
   pub begins : BeginsWithCommand line
 
--- why a text is not read: a line is wrong; or out of memory for what a line says
+-- a reason to reject a text: a malformed line, or out of memory for the event of a line
 abbrev pub Refuses : Type 0 → List ℕ → ScenarioFault → Type 0
 Refuses A text (fault.Scenario number) = IsWrongLine A text number
 Refuses A text fault.Memory = TakesMemory A text

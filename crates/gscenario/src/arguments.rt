@@ -1,4 +1,4 @@
-//! The arguments of a line, which are the words after its first.
+//! The arguments of a line: all its words but the first.
 
 ghost use Rattle.std.specs.Prelude.{◌≡◌, ◌≢◌, ◌∷◌, [], ℕ, List, MatchOption, MatchResult, ⊤};
 ghost use Rattle.gname.specs.Names.{Name};
@@ -20,7 +20,8 @@ use gobject::{Entry, Kind, Node, Parents};
 use grefs::{Spec, SpecFault};
 use std::alloc::{AllocError, Allocator};
 
-/// Returns the event of a line with this command and these arguments.
+/// Returns the event of a line with this command, or `None` if `tail` is malformed. `tail` is the
+/// rest of the line after the command.
 pub(crate) fn event_of<A: Allocator + Copy>(
     alloc: A,
     command: EventWord,
@@ -45,7 +46,7 @@ pub(crate) fn event_of<A: Allocator + Copy>(
     }
 }
 
-// Returns the event of a command without arguments.
+// Returns the event if `tail` has no words. A command without arguments has only one event.
 fn alone<A: Allocator + Copy>(tail: &[u8], event: Event<A>) -> Option<Event<A>>
     ensures { MatchOption result (words_after tail.now ≢ [])
         (λ found. (found ≡ event) × (words_after tail.now ≡ [])) }
@@ -53,7 +54,7 @@ fn alone<A: Allocator + Copy>(tail: &[u8], event: Event<A>) -> Option<Event<A>>
     if no_word(tail) { Some(event) } else { None }
 }
 
-// ---- one event each
+// ---- one function for each kind of event
 
 fn begin<A: Allocator + Copy>(alloc: A, tail: &[u8]) -> Result<Option<Event<A>>, AllocError>
     ensures { ReadsArguments EventWord.Begin (words_after tail.now) result }
@@ -149,9 +150,9 @@ fn client_ref<A: Allocator + Copy>(alloc: A, tail: &[u8]) -> Result<Option<Event
     }
 }
 
-// ---- parts of several events
+// ---- arguments that several kinds of event share
 
-// Returns the number, if it is the only argument.
+// Returns the number in `tail`, if it is the only argument.
 fn number_alone(tail: &[u8]) -> Option<usize>
     ensures { MatchOption result (((number : ℕ) → IsOneNumber (words_after tail.now) number → ⊥))
         (IsOneNumber (words_after tail.now)) }
@@ -162,7 +163,7 @@ fn number_alone(tail: &[u8]) -> Option<usize>
     }
 }
 
-// Returns the number, and how many bytes to deliver.
+// Returns the two arguments: the index of a reply, and the count of bytes to deliver.
 fn number_and_count(tail: &[u8]) -> Option<(usize, usize)>
     ensures { MatchOption result
         (((number count : ℕ) → AreNumberAndCount (words_after tail.now) number count → ⊥))
@@ -180,7 +181,7 @@ fn number_and_count(tail: &[u8]) -> Option<(usize, usize)>
     }
 }
 
-// Returns the bytes, if they are the only argument.
+// Returns the bytes of the argument, if there is exactly one argument.
 fn bytes_alone<A: Allocator + Copy>(alloc: A, tail: &[u8]) -> Result<Option<Vec<u8, A>>, AllocError>
     ensures { MatchResult result
         (λ found. MatchOption found (((bytes : List ℕ) → AreOneBytes (words_after tail.now) bytes
@@ -194,7 +195,7 @@ fn bytes_alone<A: Allocator + Copy>(alloc: A, tail: &[u8]) -> Result<Option<Vec<
     }
 }
 
-// Returns the refspecs of the arguments.
+// Returns the refspecs that the arguments are.
 fn specs_of<A: Allocator + Copy>(
     alloc: A,
     tail: &[u8],
@@ -221,7 +222,7 @@ fn specs_of<A: Allocator + Copy>(
     Ok(Some(specs))
 }
 
-// Returns the object of the arguments.
+// Returns the object that the arguments describe.
 fn entry_of<A: Allocator + Copy>(alloc: A, tail: &[u8]) -> Result<Option<Entry<A>>, AllocError>
     ensures { MatchResult result
         (λ found. MatchOption found (((entry : Entry A) → IsEntry (words_after tail.now) entry
@@ -238,7 +239,7 @@ fn entry_of<A: Allocator + Copy>(alloc: A, tail: &[u8]) -> Result<Option<Entry<A
     }
 }
 
-// Returns the object of this kind, whose ids are the arguments.
+// Returns the object of this kind. The arguments are its id and the ids of its parents.
 fn entry_of_kind<A: Allocator + Copy>(
     alloc: A,
     kind: Kind,
@@ -266,7 +267,7 @@ fn entry_of_kind<A: Allocator + Copy>(
     }
 }
 
-// Returns the ids of the arguments.
+// Returns the ids that the arguments are.
 fn parents_of<A: Allocator + Copy>(alloc: A, tail: &[u8]) -> Result<Option<Parents<A>>, AllocError>
     ensures { MatchResult result
         (λ found. MatchOption found (((ids : List Id) → AllZip IsIdText (words_after tail.now) ids
@@ -286,7 +287,7 @@ fn parents_of<A: Allocator + Copy>(alloc: A, tail: &[u8]) -> Result<Option<Paren
     Ok(Some(parents))
 }
 
-// Returns the name of a ref, and its new id.
+// Returns the name of a ref and its new id, which are the arguments.
 fn ref_of<A: Allocator + Copy>(
     alloc: A,
     tail: &[u8],

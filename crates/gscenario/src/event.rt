@@ -1,40 +1,39 @@
-//! The events of a server and a client.
+//! The events that happen to a server and a client.
 
 use gname::{Oid, RefName};
 use gobject::Entry;
 use grefs::Spec;
 use std::alloc::{Allocator, Global};
 
-/// An event of a server and a client that fetches from it.
+/// An event that happens to a server, or to a client that fetches from it.
 ///
-/// A lost message is an event that never happens. A message that is repeated, late or cut short is
-/// a second, a late or a short delivery.
+/// A lost message has no event. A repeated message is a second delivery, a late message a late
+/// delivery, and a truncated message a short delivery.
 #[derive(Debug, Drop)]
 pub enum Event<A: Allocator + Copy = Global> {
-    /// The client begins a session with these refspecs, at most 16, instead of any other, and the
-    /// session hears the server's advertisement. It takes packs up to the default limit, and no
-    /// response-end packet after a reply.
+    /// The client begins a session with these refspecs, at most 16, and reads the server's
+    /// advertisement. The session replaces any older session. It accepts packs up to the default
+    /// limit, and replies without a response-end packet.
     Begin(Vec<Spec<A>, A>),
-    /// The client's session makes its next request and sends it: it is the next in the list of sent
-    /// requests.
+    /// The client's session makes its next request, and appends it to the list of sent requests.
     Ask,
     /// The server replies to the request at this index in the list of sent requests. The reply is
-    /// kept as the next in the list of kept replies.
+    /// appended to the list of kept replies.
     Serve(usize),
-    /// The client receives the first `count` bytes of the kept reply at index `reply`, or all if
-    /// there are fewer, as the reply to its open request.
+    /// The client receives the first `count` bytes of the kept reply at index `reply` as the reply
+    /// to its open request. A shorter reply arrives complete.
     Deliver { reply: usize, count: usize },
-    /// The client receives these bytes as the reply to its open request, although no server sent
-    /// them.
+    /// The client receives these bytes as the reply to its open request, although the server did
+    /// not send them.
     Forge(Vec<u8, A>),
-    /// A stranger sends these bytes to the server, on another connection, without response-end
-    /// packets.
+    /// An unknown client sends these bytes to the server on another connection, without
+    /// response-end packets.
     StrangeRequest(Vec<u8, A>),
-    /// The client's session settles the asked refs: it moves those that may move.
+    /// The client's session updates the refs that it asked for, if the update is allowed.
     Settle,
-    /// The client starts again: it keeps its repository, and has no session.
+    /// The client restarts. It keeps its repository and loses its session.
     RestartClient,
-    /// The server starts again, with the same repository.
+    /// The server restarts with the same repository.
     RestartServer,
     /// The server gains an object.
     ServerAdd(Entry<A>),

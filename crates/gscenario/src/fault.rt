@@ -1,4 +1,4 @@
-//! Reasons why a text is not a scenario.
+//! Reasons to reject a text as a scenario.
 
 ghost use Rattle.std.specs.Prelude.{◌≡◌, Some};
 ghost use Rattle.gscenario.specs.Faults.{scenario_fault_row, scenario_fault_text};
@@ -9,12 +9,12 @@ use std::alloc::{AllocError, AllocFailed};
 use std::error::Error;
 use std::fmt;
 
-/// The reason a text was not read as a scenario.
+/// The reason to reject a text as a scenario.
 #[derive(Clone, Copy, Debug, PartialEq, Eq, Drop)]
 pub enum ScenarioFault {
-    /// This line, counted from 1, is not the line of an event, or is not terminated.
+    /// The line with this number, counted from 1, is not the line of an event, or has no line feed.
     Scenario { line: usize },
-    /// Out of memory for the events.
+    /// There is not enough memory for the events.
     Memory,
 }
 

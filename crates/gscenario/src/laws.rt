@@ -6,7 +6,7 @@ use gname::laws::texts_spell_one_id;
 use grefs::refspec::laws::one_reading;
 use std::alloc::Allocator;
 
-/// A text is that of one list of events.
+/// No text is the text of two different lists of events.
 #[tactic(auto, using(crate::proofs::SameEvents::scenario_one))]
 pub fn texts_have_one_reading<A: Allocator + Copy>()
     ensures { TextsHaveOneReading A }
@@ -15,12 +15,13 @@ pub fn texts_have_one_reading<A: Allocator + Copy>()
     texts_spell_one_id();
 }
 
-/// A text with a wrong line is the text of no events: a refused text is not a scenario.
+/// A text with a malformed line is not the text of any list of events. So a rejected text is not a
+/// scenario.
 pub fn wrong_is_none<A: Allocator + Copy>()
     ensures { WrongIsNone A }
 {}
 
-/// A text has at most one wrong line: no other line could have been reported.
+/// The number of a text's first malformed line is unique.
 pub fn wrong_lines_have_one_place<A: Allocator + Copy>()
     ensures { WrongLinesHaveOnePlace A }
 {}

@@ -4,29 +4,29 @@
 //! # Proved
 //!
 //! - [`Scenario::read`] accepts exactly the texts of scenarios, and returns their events. For any
-//!   other text it reports the first line that is not the line of an event, or is not terminated.
-//!   It reports out of memory only at a line that begins with a command and follows lines of
-//!   events.
-//! - A text is that of one list of events. It has at most one wrong line, and is then the text of
-//!   no events: [`laws`].
-//! - Each fault has the number, the name and the text of its row.
-//! - No call panics, overflows or reads out of bounds, and each returns.
+//!   other text it reports the first line that is not the line of an event, or has no line feed.
+//!   `Scenario::read` runs out of memory only at a line that begins with a command. All lines
+//!   before that line are lines of events.
+//! - No text is the text of two different lists of events ([`laws`]). The number of a text's first
+//!   malformed line is unique. A text with a malformed line is not the text of any list of events.
+//! - Each fault has the number, the name and the text of its row in `specs/Faults.antt`.
+//! - No call panics, overflows or reads out of bounds, and each call returns.
 //!
 //! # Only tested
 //!
-//! Available memory is used.
+//! If memory is available, calls use it instead of reporting out of memory.
 //!
 //! # What the contracts do not rule out
 //!
-//! A body may report out of memory for any text whose first line begins with a command, as often as
-//! it likes, and in place of a later line that is wrong. It may take as long as it likes, and more
-//! memory than it needs. Formatting a fault may return an error (`fmt::Error`) although the text
-//! would be right.
+//! An implementation may report out of memory for any text whose first line begins with a command,
+//! even if memory is available. It may do so instead of reporting a later malformed line. An
+//! implementation may take any time, and more memory than it needs. Formatting a fault may return
+//! `fmt::Error` without a cause.
 //!
 //! # Stands on
 //!
 //! `grefs` for refspecs, `gname` for ids and ref names, `gobject` for objects, `hex` for bytes,
-//! `itoa` for numbers, `memchr` for the ends of words and lines.
+//! `itoa` for numbers, and `memchr` to find the ends of words and lines.
 #![tactic(auto)]
 
 mod arguments;

@@ -14,7 +14,7 @@ use std::alloc::{AllocError, Allocator};
 
 /// The text of a list of events.
 ///
-/// Each event is a line, which ends with a line feed. Single spaces separate its words:
+/// Each event is a line, which ends with a line feed. Single spaces separate the words of a line:
 ///
 /// - `begin SPEC SPEC ..`, with at least one refspec
 /// - `ask`, `settle`, `restart-client`, `restart-server`
@@ -24,17 +24,17 @@ use std::alloc::{AllocError, Allocator};
 /// - `server-add c ID PARENT ..` for a commit, with `t` for a tag, and `client-add` likewise
 /// - `server-ref ID NAME`, `client-ref ID NAME`
 ///
-/// Numbers are decimal without leading zeros, and below 2 to the 63rd. Bytes are hexadecimal
-/// digits, two for each, or `-` for none. Ids have 40 or 64 digits. Hexadecimal digits may be in
-/// either case.
+/// Numbers are decimal, without leading zeros, and below 2^63. `BYTES` are two hexadecimal digits
+/// for each byte, or `-` for an empty list. Ids have 40 or 64 hexadecimal digits. Hexadecimal
+/// digits may be in either case.
 pub struct Scenario;
 
 impl Scenario {
-    /// Reads the text of some events.
+    /// Reads the text of a list of events, and returns the events.
     ///
-    /// Fails with `Scenario` at the first line that is not the line of an event, or is not
-    /// terminated. Fails with `Memory` if out of memory for the parts of a line. It reports this
-    /// only after lines of events, at one that begins with a command.
+    /// Fails with `Scenario` at the first line that is not the line of an event, or has no line
+    /// feed. Fails with `Memory` if there is not enough memory for the event of a line. The line
+    /// begins with a command, and all lines before it are lines of events.
     pub fn read<A: Allocator + Copy>(
         alloc: A,
         text: &[u8],
@@ -61,7 +61,7 @@ impl Scenario {
     }
 }
 
-// Appends an event.
+// Appends the event to the list.
 fn keep<A: Allocator + Copy>(
     events: &mut Vec<Event<A>, A>,
     event: Event<A>,
@@ -72,7 +72,7 @@ fn keep<A: Allocator + Copy>(
     Ok(())
 }
 
-// Returns the event of a line.
+// Returns the event of the line, or `None` if the line is malformed.
 fn read_line<A: Allocator + Copy>(alloc: A, line: &[u8]) -> Result<Option<Event<A>>, AllocError>
     ensures { MatchResult result (λ found. MatchOption found (IsNoLine A line.now)
         (IsLineOf line.now)) (λ _. BeginsWithCommand line.now) }

@@ -18,7 +18,7 @@ use memchr::memchr;
 use std::alloc::{AllocError, Allocator};
 use std::str;
 
-/// Returns the first word of a line, and the text after it.
+/// Returns the first word of a line, and the rest of the line.
 pub(crate) fn first_word(text: &[u8]) -> (&[u8], &[u8])
     ensures { words_of text.now ≡ result.0.now ∷ words_after result.1.now }
 {
@@ -28,7 +28,7 @@ pub(crate) fn first_word(text: &[u8]) -> (&[u8], &[u8])
     }
 }
 
-/// Returns the next word, and the text after it.
+/// Returns the next word, and the rest of the line. Returns `None` if there are no more words.
 pub(crate) fn next_word(tail: &[u8]) -> Option<(&[u8], &[u8])>
     ensures { MatchOption result (words_after tail.now ≡ [])
         (λ pair. words_after tail.now ≡ pair.0.now ∷ words_after pair.1.now) }
@@ -39,7 +39,7 @@ pub(crate) fn next_word(tail: &[u8]) -> Option<(&[u8], &[u8])>
     }
 }
 
-/// Whether there are no more words.
+/// Returns whether `tail` has no more words.
 pub(crate) fn no_word(tail: &[u8]) -> bool
     ensures { MatchBool result (words_after tail.now ≡ []) (words_after tail.now ≢ []) }
 {
@@ -49,7 +49,7 @@ pub(crate) fn no_word(tail: &[u8]) -> bool
     }
 }
 
-/// Returns the next word, if it is the only one.
+/// Returns the next word, if `tail` has exactly one word.
 pub(crate) fn one_word(tail: &[u8]) -> Option<&[u8]>
     ensures { MatchOption result (((word : List ℕ) → words_after tail.now ≡ word ∷ [] → ⊥))
         (λ word. words_after tail.now ≡ word.now ∷ []) }
@@ -60,7 +60,7 @@ pub(crate) fn one_word(tail: &[u8]) -> Option<&[u8]>
     }
 }
 
-/// Returns the next two words, if there are exactly two.
+/// Returns the next two words, if `tail` has exactly two words.
 pub(crate) fn two_words(tail: &[u8]) -> Option<(&[u8], &[u8])>
     ensures { MatchOption result (((first second : List ℕ)
         → words_after tail.now ≡ first ∷ second ∷ [] → ⊥))
@@ -75,7 +75,7 @@ pub(crate) fn two_words(tail: &[u8]) -> Option<(&[u8], &[u8])>
     }
 }
 
-/// Returns the number of a word.
+/// Returns the number that a word encodes, if it is below 2^63 and has no leading zeros.
 pub(crate) fn number_of(text: &[u8]) -> Option<usize>
     ensures { MatchOption result (((number : ℕ) → IsNumber text.now number → ⊥))
         (IsNumber text.now) }
@@ -93,7 +93,8 @@ pub(crate) fn number_of(text: &[u8]) -> Option<usize>
     }
 }
 
-// Returns the one number whose decimal digits the text may be.
+// Returns the only number below 2^64 whose decimal digits may be the text. The text may have
+// leading zeros or a sign.
 fn parse(text: &[u8]) -> Option<usize>
     ensures { MatchOption result (((number : ℕ) → number < 2 ^ 64 → text.now ≡ decimal number → ⊥))
         (λ found. ((number : ℕ) → number < 2 ^ 64 → text.now ≡ decimal number → number ≡ found)) }
@@ -107,7 +108,7 @@ fn parse(text: &[u8]) -> Option<usize>
     }
 }
 
-/// Returns the count of bytes that a word gives.
+/// Returns the count of bytes that a word encodes: a number, or `usize::MAX` for `all`.
 pub(crate) fn count_of(text: &[u8]) -> Option<usize>
     ensures { MatchOption result (((count : ℕ) → IsCount text.now count → ⊥)) (IsCount text.now) }
 {
@@ -118,7 +119,7 @@ pub(crate) fn count_of(text: &[u8]) -> Option<usize>
     }
 }
 
-/// Returns the bytes that a word spells.
+/// Returns the bytes that a word encodes in hexadecimal, or no bytes for `-`.
 pub(crate) fn bytes_of<A: Allocator + Copy>(
     alloc: A,
     text: &[u8],
@@ -141,7 +142,7 @@ pub(crate) fn bytes_of<A: Allocator + Copy>(
     }
 }
 
-/// Returns the id that a word spells.
+/// Returns the object id that a word encodes in hexadecimal.
 pub(crate) fn id_of(text: &[u8]) -> Option<Oid>
     ensures { MatchOption result (NoId text.now) (IsIdText text.now) }
 {
@@ -159,7 +160,7 @@ pub(crate) fn id_of(text: &[u8]) -> Option<Oid>
     }
 }
 
-/// Returns the ref name that a word is.
+/// Returns the word as a ref name, or `None` if Git does not allow that name.
 pub(crate) fn name_of<A: Allocator + Copy>(
     alloc: A,
     text: &[u8],
@@ -177,7 +178,7 @@ pub(crate) fn name_of<A: Allocator + Copy>(
     }
 }
 
-/// Returns the kind whose letter the word is.
+/// Returns the kind of object for the word: `c` for a commit, `t` for a tag.
 pub(crate) fn kind_of(text: &[u8]) -> Option<Kind>
     ensures { MatchOption result (((kind : Kind) → text.now ≡ letter kind ∷ [] → ⊥))
         (λ kind. text.now ≡ letter kind ∷ []) }

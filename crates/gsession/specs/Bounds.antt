@@ -1,5 +1,5 @@
--- How often a session asks for objects. Git's manuals leave that open; that each request but the last
--- offers an id that was not offered before is our own rule.
+-- The number of a session's requests for objects. Git's manuals do not bound it. In this project each request except
+-- the last offers a new id.
 use Rattle.std.specs.Prelude.{◌≡◌, ◌⊎◌, ℕ, ◌+◌, ◌≤◌, true, false, List, length, All, Contains, None, Result, Ok}
 use Rattle.std.specs.List.{IsDistinct}
 use Rattle.std.specs.Str.{bytes_eq}
@@ -23,24 +23,24 @@ use Rattle.gsession.specs.declared.fault.ClientFault.{ClientFault}
 
 -- ---- the graph on which a session began
 
--- the session began on this graph: its tips are connected, and only ids were offered that the tips reach there
+-- the session's tips are connected in the graph, and it offered only ids that the tips reach in the graph
 pub record BeganOn {A : Type 0} (g : List (Entry A)) (s : SessionState A) : Type 0 where
   pub connected : All (IsConnected g) s.tips
   pub sent : All (λ a. Holds g a × SomeReaches g s.tips a) s.sent
 
--- a session that begins on a connected repository begins on its graph
+-- a session that begins with a connected repository has begun on the graph of that repository
 abbrev pub BeganBegins : Type 0 → Type 0
 BeganBegins A =
     (r : RepoState A) (refspecs : List Refspec) (limit : ℕ) (ends : Ends) (session : SessionState A)
     → IsConnectedRepo r → Begins r refspecs limit ends (Ok session) → BeganOn r.graph.entries session
 
--- it still did where it made its next request, as the graph grew
+-- a session that began on a graph still did after its next request, if the graph only grew
 abbrev pub BeganStays : Type 0 → Type 0
 BeganStays A =
     (g h : List (Entry A)) (old new : SessionState A) (asked : Asked)
     → Grows g h → BeganOn g old → MakesNext old h new asked → BeganOn g new
 
--- and after every call
+-- a session that began on a graph still did after every call, if the graph only grew
 abbrev pub BeganStaysOn : {A : Type 0} → Indexes A → IndexFails → Type 0
 BeganStaysOn {A} indexes index_fails =
     (g : List (Entry A)) (repo : RepoState A) (old new : SessionState A)
@@ -48,24 +48,24 @@ BeganStaysOn {A} indexes index_fails =
 
 -- ---- the ids that were offered
 
--- each id that a request named was offered in some batch: the common ids are, and the haves of the request that waits
+-- the session offered each common id, and each have of the open request, in some batch
 pub record AreOffered {A : Type 0} (s : SessionState A) : Type 0 where
   pub commons : All (Contains s.sent) s.commons
   pub haves : (asked : FetchAsked) → Awaits s asked → All (Contains s.sent) asked.haves
 
--- a session begins so
+-- a new session has only common ids and haves that were offered (`AreOffered`)
 abbrev pub BeginsOffered : Type 0 → Type 0
 BeginsOffered A =
     (repo : RepoState A) (refspecs : List Refspec) (limit : ℕ) (ends : Ends) (session : SessionState A)
     → Begins repo refspecs limit ends (Ok session) → AreOffered session
 
--- so it stays after every call
+-- after every call all common ids and open haves were offered (`AreOffered`), if this held before the call
 abbrev pub OfferedStays : {A : Type 0} → Indexes A → IndexFails → Type 0
 OfferedStays {A} indexes index_fails =
     (repo : RepoState A) (old new : SessionState A)
     → AreOffered old → HasCalled indexes index_fails repo old new → AreOffered new
 
--- each request without `done` names an id that the session offered in none before
+-- each request without `done` has a have that the session did not offer before
 abbrev pub OffersAreNew : Type 0 → Type 0
 OffersAreNew A =
     (g : List (Entry A)) (old new : SessionState A) (asked : FetchAsked)
@@ -74,27 +74,27 @@ OffersAreNew A =
 
 -- ---- the last request
 
--- nothing more is asked for: the refs are to be settled, or the session is over
+-- the session makes no more requests: it can update the refs, or it is over
 abbrev pub IsPast : {A : Type 0} → SessionState A → Type 0
 IsPast s = (s.pending ≡ None) × ((s.stage ≡ Settling) ⊎ (s.stage ≡ Over))
 
--- the last request was made: one with `done` waits for its reply, or nothing more is asked for
+-- the last request was made: the open request has `done`, or the session makes no more requests
 abbrev pub HasAskedLast : {A : Type 0} → SessionState A → Type 0
 HasAskedLast s = ((asked : FetchAsked) × Awaits s asked × (fetch_has asked Done ≡ true)) ⊎ IsPast s
 
--- a request with `done` is the last one
+-- a request with `done` is the last request of the session
 abbrev pub DoneAsksLast : Type 0 → Type 0
 DoneAsksLast A =
     (g : List (Entry A)) (old new : SessionState A) (asked : FetchAsked)
     → MakesNext old g new (Fetches asked) → fetch_has asked Done ≡ true → HasAskedLast new
 
--- so it stays after every call
+-- once the last request was made (`HasAskedLast`), this remains so after every call
 abbrev pub LastStays : {A : Type 0} → Indexes A → IndexFails → Type 0
 LastStays {A} indexes index_fails =
     (repo : RepoState A) (old new : SessionState A)
     → HasAskedLast old → HasCalled indexes index_fails repo old new → HasAskedLast new
 
--- and none follows it
+-- no request follows the last request
 abbrev pub NoneFollows : Type 0 → Type 0
 NoneFollows A =
     (g : List (Entry A)) (old new : SessionState A) (result : Result Asked (ClientFault A))
@@ -102,31 +102,31 @@ NoneFollows A =
 
 -- ---- the bound
 
--- the count of requests for objects: each but the last one offered an id more
+-- each request for objects except the last offered at least one new id
 pub record IsCounted {A : Type 0} (s : SessionState A) : Type 0 where
   pub once : IsDistinct bytes_eq s.sent
   pub few : s.rounds ≤ length s.sent + 1
   pub due : HasAskedLast s ⊎ (s.rounds ≤ length s.sent)
 
--- a session begins so
+-- the bound on the number of requests (`IsCounted`) holds of a new session
 abbrev pub BeginsCounted : Type 0 → Type 0
 BeginsCounted A =
     (repo : RepoState A) (refspecs : List Refspec) (limit : ℕ) (ends : Ends) (session : SessionState A)
     → Begins repo refspecs limit ends (Ok session) → IsCounted session
 
--- so it stays after every call
+-- the bound on the number of requests (`IsCounted`) still holds after every call
 abbrev pub CountedStays : {A : Type 0} → Indexes A → IndexFails → Type 0
 CountedStays {A} indexes index_fails =
     (repo : RepoState A) (old new : SessionState A)
     → IsCounted old → HasCalled indexes index_fails repo old new → IsCounted new
 
--- then it asks for objects at most once more than there are ids that its tips reach
+-- a session makes at most N + 1 requests for objects, if each but the last offered a new id and its tips reach N ids
 abbrev pub CountedAreFew : Type 0 → Type 0
 CountedAreFew A =
     (g : List (Entry A)) (s : SessionState A) (held parents : ℕ)
     → IsCounted s → BeganOn g s → CountsReached g s.tips held parents → s.rounds ≤ held + 1
 
--- and so does every session that began on the graph
+-- every session makes at most N + 1 requests for objects, if its tips reach N ids in the graph on which it began
 abbrev pub RoundsAreFew : Type 0 → Type 0
 RoundsAreFew A =
     (g : List (Entry A)) (s : SessionState A) (held parents : ℕ)

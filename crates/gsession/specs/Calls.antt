@@ -1,4 +1,4 @@
--- What the calls of a session have in common.
+-- Common properties of the calls of a session.
 use Rattle.std.specs.Prelude.{◌≡◌, Bool, true, List, [], ◌++◌, All, Contains, None, Some, Result, Err}
 use Rattle.gname.specs.Ids.{Id}
 use Rattle.ggrammar.specs.Capabilities.{Capability}
@@ -23,7 +23,7 @@ use Rattle.gsession.specs.declared.fault.ClientFault.TheVariants.{NoOpenRequest}
 use Rattle.gsession.specs.declared.taken.LsTaken.{LsTaken}
 use Rattle.gsession.specs.declared.taken.Taken.{Taken}
 
--- a call of a session, with the repository as it was before it: what it made of the session, whatever it answered
+-- the session after a call, for any result; `repo` is the repository before the call
 pub data HasCalled {A : Type 0} (indexes : Indexes A) (index_fails : IndexFails) (repo : RepoState A)
     (old new : SessionState A) : Type 0 where
   heard : (capabilities : List Capability) (result : Result (Unit {0}) (ClientFault A)) →
@@ -37,9 +37,7 @@ pub data HasCalled {A : Type 0} (indexes : Indexes A) (index_fails : IndexFails)
   settled : (after : RepoState A) (result : Result (List (Ask A) × List RefUpdate) (ClientFault A)) →
       SettlesSession old repo new after result → HasCalled indexes index_fails repo old new
 
--- what a call did to a session, in a few forms, whatever it answered: it changed nothing; it ended the session; it kept
--- what the server offers; it made a request where none waited; it took the reply to a request for refs, or to one for
--- objects; or it settled
+-- the possible effects of a call on a session, for any result
 pub data Does {A : Type 0} (g : List (Entry A)) (old new : SessionState A) : Type 0 where
   does_nothing : new ≡ old → Does g old new
   does_end : new ≡ over old → Does g old new
@@ -52,7 +50,7 @@ pub data Does {A : Type 0} (g : List (Entry A)) (old new : SessionState A) : Typ
       → (fetch_has asked Done ≡ true → stage ≡ Settling) → new ≡ after_acks old stage acks → Does g old new
   does_settle : old.stage ≡ Settling → new ≡ record (over old) { asks = [] } → Does g old new
 
--- what a call leaves as it is: what is fetched and how, the options, and the tips; of the ids that were offered none is forgotten
+-- a call leaves the parameters, the options and the tips of the session unchanged, and keeps all offered ids
 pub record GoesOn {A : Type 0} (old new : SessionState A) : Type 0 where
   pub format : new.format ≡ old.format
   pub refspecs : new.refspecs ≡ old.refspecs
@@ -62,7 +60,7 @@ pub record GoesOn {A : Type 0} (old new : SessionState A) : Type 0 where
   pub tips : new.tips ≡ old.tips
   pub sent : (more : List Id) × (new.sent ≡ old.sent ++ more)
 
--- the id is a have of the request that waits
+-- the id is a have of the open request
 abbrev pub IsOpenHave : {A : Type 0} → SessionState A → Id → Type 0
 IsOpenHave s a = (asked : FetchAsked) × Awaits s asked × Contains asked.haves a
 
@@ -71,7 +69,7 @@ pub record IsOver {A : Type 0} (s : SessionState A) : Type 0 where
   pub stage : s.stage ≡ Over
   pub pending : s.pending ≡ None
 
--- the call did not fit what the session waits for, and changed nothing
+-- the call did not fit the stage of the session, failed with `NoOpenRequest` and changed nothing
 pub record IsOutOfTurn {A T : Type 0} (old new : SessionState A) (result : Result T (ClientFault A)) : Type 0 where
   pub refused : result ≡ Err NoOpenRequest
   pub same : new ≡ old

@@ -1,4 +1,4 @@
--- The table of faults: the number, the name and the text of each.
+-- The table of faults: the number, the name and the text of each fault.
 use Rattle.std.specs.Prelude.{codes}
 use Rattle.gname.specs.Faults.{FaultRow}
 use Rattle.gpkt.specs.Packets.{Bytes}
@@ -9,7 +9,8 @@ use Rattle.gsession.specs.declared.fault.ClientFault.{ClientFault}
 use Rattle.gsession.specs.declared.fault.ClientFault.TheVariants.{Index, Message, NoOpenRequest, Repo, StrangeAck}
 use Rattle.gsession.specs.declared.fault.ClientFault.TheVariants.{TooManySpecs, TooManyWants}
 
--- why a call of a session was refused; a fault of a message, of the indexer or of the repository has its own row
+-- the number and the name of each fault of a session; a fault of a message, an indexer or a repository keeps its own
+-- row
 abbrev pub client_fault_row : {A : Type 0} → ClientFault A → FaultRow
 client_fault_row (Message fault) = ((why_row fault.why).code, (why_row fault.why).name)
 client_fault_row (Index fault) = index_fault_row fault
@@ -19,7 +20,7 @@ client_fault_row (StrangeAck id) = (84, codes "StrangeAck")
 client_fault_row TooManyWants = (86, codes "TooManyWants")
 client_fault_row (Repo fault) = repo_fault_row fault
 
--- ---- their texts
+-- ---- the texts of the faults
 abbrev pub client_fault_text : {A : Type 0} → ClientFault A → Bytes
 client_fault_text (Message fault) = message_fault_text fault
 client_fault_text (Index fault) = index_fault_text fault

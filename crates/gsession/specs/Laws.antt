@@ -1,4 +1,4 @@
--- What follows from the definitions of a session's calls.
+-- Consequences of the definitions of a session's calls.
 use Rattle.std.specs.Prelude.{◌≡◌, ◌≢◌, ◌⊎◌, true, not, List, ◌∷◌, ◌++◌, All, Contains, Result}
 use Rattle.gname.specs.Ids.{Id}
 use Rattle.gname.specs.Names.{Name}
@@ -31,25 +31,25 @@ use Rattle.gsession.specs.declared.fault.ClientFault.{ClientFault}
 use Rattle.gsession.specs.declared.taken.LsTaken.{LsTaken}
 use Rattle.gsession.specs.declared.taken.Taken.{Taken}
 
--- what every call leaves as it is
+-- every call keeps the parameters, the tips and the offered ids of the session
 abbrev pub EachGoesOn : {A : Type 0} → Indexes A → IndexFails → Type 0
 EachGoesOn {A} indexes index_fails =
     (repo : RepoState A) (old new : SessionState A) → HasCalled indexes index_fails repo old new → GoesOn old new
 
--- what every call did
+-- every call has one of the effects that `Does` lists
 abbrev pub EachDoes : {A : Type 0} → Indexes A → IndexFails → Type 0
 EachDoes {A} indexes index_fails =
     (repo : RepoState A) (old new : SessionState A) → HasCalled indexes index_fails repo old new
     → Does repo.graph.entries old new
 
--- a request for objects that waits is the session's
+-- an open request for objects has the wants and the common ids of the session
 abbrev pub OpenIsTheSessions : Type 0 → Type 0
 OpenIsTheSessions A =
     (s : SessionState A) (asked : FetchAsked) → IsSession s → Awaits s asked → IsOpenFetch s asked
 
--- ---- what is asked for
+-- ---- asks
 
--- the ask is what one of the refspecs asks for of one of the lines
+-- the ask is the ask of one of the refspecs for one of the lines
 pub record IsAskOf {A : Type 0} (specs : List Refspec) (lines : List RefLine) (ask : Ask A) : Type 0 where
   pub spec : Refspec
   pub line : RefLine
@@ -58,17 +58,16 @@ pub record IsAskOf {A : Type 0} (specs : List Refspec) (lines : List RefLine) (a
   pub matched : matches spec line.name ≡ true
   pub is : ask ≡ ask_of spec line
 
--- so is each ask of a reply
+-- each ask for a reply is the ask of one of the refspecs for one of the lines
 abbrev pub AsksAreOfLines : Type 0 → Type 0
 AsksAreOfLines A =
     (specs : List Refspec) (lines : List RefLine) → All (IsAskOf {A = A} specs lines) (asked_of specs lines)
 
--- the refspec does not take the line to this ref
+-- the refspec does not map the line to this ref
 abbrev pub LeadsElsewhere : Name → Refspec → RefLine → Type 0
 LeadsElsewhere name spec line = matches spec line.name ≡ true → destination_of spec line.name ≢ name
 
--- the refspec takes the line to a ref, and is the first to do so: no refspec before it takes any line there, nor does
--- it take one before this line
+-- the refspec and the line are the first that lead to their destination ref, by refspec and then by line
 pub record IsFirstFor (specs : List Refspec) (lines : List RefLine) (spec : Refspec) (line : RefLine) : Type 0 where
   pub before : List Refspec
   pub after : List Refspec
@@ -80,8 +79,7 @@ pub record IsFirstFor (specs : List Refspec) (lines : List RefLine) (spec : Refs
   pub no_spec : All (λ other. All (LeadsElsewhere (destination_of spec line.name) other) lines) before
   pub no_line : All (LeadsElsewhere (destination_of spec line.name) spec) above
 
--- what is asked for: something of each ref to which a refspec takes a line, and only one thing; it is what the first
--- refspec and line ask for that lead there, refspec by refspec and line by line
+-- each destination ref has exactly one ask, and the first refspec and line that lead to the ref determine the ask
 pub record FirstIsAsked (A : Type 0) : Type 0 where
   pub each : (specs : List Refspec) (lines : List RefLine) (spec : Refspec) (line : RefLine) →
       Contains specs spec → Contains lines line → matches spec line.name ≡ true →
@@ -90,7 +88,7 @@ pub record FirstIsAsked (A : Type 0) : Type 0 where
   pub first : (specs : List Refspec) (lines : List RefLine) (spec : Refspec) (line : RefLine) →
       IsFirstFor specs lines spec line → Contains {X = Ask A} (asked_of specs lines) (ask_of spec line)
 
--- each want is an asked id that is not connected, and each other asked id is
+-- each want is an asked id that is not connected, and each asked id that is not wanted is connected
 pub record AreExactWants {A : Type 0} (g : List (Entry A)) (asks : List (Ask A)) (wants : List Id) : Type 0 where
   pub asked : All (Contains (asked_ids asks)) wants
   pub missing : All (λ a. ¬ (IsConnected g a)) wants
@@ -102,21 +100,20 @@ WantsAreExact A =
     (g : List (Entry A)) (asks : List (Ask A)) (wants : List Id) → AreWants g asks wants
     → AreExactWants g asks wants
 
--- where the bytes to come are known, they and what is answered decide the session after a reply to ls-refs
+-- the bytes of a reply to ls-refs and the result of reading it determine the session afterwards
 abbrev pub ListingIsDecided : Type 0 → Type 0
 ListingIsDecided A =
     (old one other : SessionState A) (g : List (Entry A)) (bytes left also : Bytes)
     (result : Result (LsTaken A) (ClientFault A)) → TakesLs old g (known_bytes bytes left) one result
     → TakesLs old g (known_bytes bytes also) other result → one ≡ other
 
--- the session and the graph decide the next request, and the session that then waits for its reply
+-- the session and the graph determine the next request, and the state of the session after it
 abbrev pub OneNext : Type 0 → Type 0
 OneNext A =
     (g : List (Entry A)) (old new other : SessionState A) (asked also : Asked) → MakesNext old g new asked
     → MakesNext old g other also → (asked ≡ also) × (new ≡ other)
 
--- each next request for objects has the arguments that the session's options say: `ofs-delta` where that is wanted, and
--- `no-progress` where no progress is
+-- the request has `ofs-delta` and `no-progress` exactly as the options of the session require
 pub record AsksAsOptioned (options : PackOptions) (asked : FetchAsked) : Type 0 where
   pub ofs_delta : fetch_has asked OfsDelta ≡ options.ofs_delta
   pub progress : fetch_has asked NoProgress ≡ not options.progress
@@ -128,13 +125,13 @@ OptionsAreAsked A =
 
 -- ---- haves
 
--- each have is connected, where the tips and the common ids are
+-- each have of a request is connected, if the tips and the common ids are connected
 abbrev pub HavesAreConnected : Type 0 → Type 0
 HavesAreConnected A =
     (g : List (Entry A)) (old new : SessionState A) (asked : FetchAsked) → All (IsConnected g) old.tips
     → All (IsConnected g) old.commons → MakesNext old g new (Fetches asked) → All (IsConnected g) asked.haves
 
--- each have is common, or was not offered before
+-- each have of a request is a common id, or was not offered before
 abbrev pub HavesAreNew : Type 0 → Type 0
 HavesAreNew A =
     (g : List (Entry A)) (old new : SessionState A) (asked : FetchAsked) → MakesNext old g new (Fetches asked)
@@ -142,21 +139,21 @@ HavesAreNew A =
 
 -- ---- common ids
 
--- the common ids after a reply are those before it and those that it acknowledges, which are haves of the request
+-- the common ids after a reply are the old common ids and the acknowledged ids, which are haves of the request
 pub record AreCommonsAfter (haves acks old new : List Id) : Type 0 where
   pub stay : All (Contains new) old
   pub come : All (Contains new) acks
   pub others : All (λ a. Contains old a ⊎ Contains acks a) new
   pub named : All (Contains haves) acks
 
--- so they are after each reply that is taken
+-- each accepted reply adds exactly its acknowledged ids to the common ids
 abbrev pub RepliesAddCommons : {A : Type 0} → Indexes A → IndexFails → Type 0
 RepliesAddCommons {A} indexes index_fails =
     (haves : List Id) (old new : SessionState A) (repo after : RepoState A) (reply : FetchReply) (taken : Taken)
     → TakesRead indexes index_fails haves old repo reply new after taken
     → AreCommonsAfter haves (acknowledged_by reply) old.commons new.commons
 
--- after every call each common id was common, or was a have of the request that waited
+-- after every call each common id was common before the call, or was a have of the open request
 abbrev pub CommonsAreHaves : {A : Type 0} → Indexes A → IndexFails → Type 0
 CommonsAreHaves {A} indexes index_fails =
     (repo : RepoState A) (old new : SessionState A) → HasCalled indexes index_fails repo old new
@@ -164,14 +161,14 @@ CommonsAreHaves {A} indexes index_fails =
 
 -- ---- the repository
 
--- what taking a reply does to a repository, whatever it answers: to its graph objects only come
+-- the graph only gained objects, and format, refs and marks are unchanged
 pub record OnlyGrows {A : Type 0} (old new : RepoState A) : Type 0 where
   pub grows : Grows old.graph.entries new.graph.entries
   pub format : new.graph.format ≡ old.graph.format
   pub refs : new.refs ≡ old.refs
   pub marks : new.known ≡ old.known
 
--- so it is after each reply, taken or not
+-- a reply, accepted or rejected, only adds objects to the repository
 abbrev pub TakingOnlyGrows : {A : Type 0} → Indexes A → IndexFails → Type 0
 TakingOnlyGrows {A} indexes index_fails =
     (old new : SessionState A) (repo after : RepoState A) (change : Change) (result : Result Taken (ClientFault A))
@@ -179,32 +176,32 @@ TakingOnlyGrows {A} indexes index_fails =
 
 -- ---- a session that is over
 
--- Each call of a session that is over does not fit, and reads and changes nothing: it hears no advertisement.
+-- A session that is over rejects an advertisement and does not change.
 abbrev pub OverHearsNone : Type 0 → Type 0
 OverHearsNone A =
     (old new : SessionState A) (capabilities : List Capability) (result : Result (Unit {0}) (ClientFault A))
     → IsOver old → Hears old capabilities new result → IsOutOfTurn old new result
 
--- it asks for nothing more
+-- a session that is over makes no request
 abbrev pub OverRequestsNone : Type 0 → Type 0
 OverRequestsNone A =
     (g : List (Entry A)) (old new : SessionState A) (result : Result Asked (ClientFault A))
     → IsOver old → Requests old g new result → IsOutOfTurn old new result
 
--- it takes no reply to ls-refs
+-- a session that is over reads no reply to ls-refs
 abbrev pub OverTakesNoRefs : Type 0 → Type 0
 OverTakesNoRefs A =
     (g : List (Entry A)) (old new : SessionState A) (change : Change) (result : Result (LsTaken A) (ClientFault A))
     → IsOver old → TakesLs old g change new result → IsOutOfTurn old new result × (change.new ≡ change.old)
 
--- it takes no reply to fetch
+-- a session that is over reads no reply to fetch
 abbrev pub OverTakesNoReply : {A : Type 0} → Indexes A → IndexFails → Type 0
 OverTakesNoReply {A} indexes index_fails =
     (old new : SessionState A) (repo after : RepoState A) (change : Change) (result : Result Taken (ClientFault A))
     → IsOver old → TakesReply indexes index_fails old repo change new after result
     → IsOutOfTurn old new result × (change.new ≡ change.old) × (after ≡ repo)
 
--- and it settles nothing
+-- a session that is over updates no refs
 abbrev pub OverSettlesNone : Type 0 → Type 0
 OverSettlesNone A =
     (old new : SessionState A) (repo after : RepoState A)

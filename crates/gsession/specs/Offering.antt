@@ -1,5 +1,5 @@
--- What a session keeps of the walk from its tips between two requests, so that the next one goes on where it was. That
--- is our own.
+-- The state of the walk from the tips between two requests, so that the next request continues the walk. Git's manuals
+-- do not define such a walk.
 use Rattle.std.specs.Prelude.{◌≡◌, ◌++◌, ℕ, List, Option, IfSome}
 use Rattle.gname.specs.Ids.{Id}
 use Rattle.gobject.specs.declared.node.Entry.{Entry}
@@ -12,14 +12,14 @@ use Rattle.gsession.specs.Sessions.{SessionState, IsSession}
 use Rattle.gsession.specs.TakingReplies.{TakesRead}
 use Rattle.gsession.specs.declared.taken.Taken.TheVariants.{Round}
 
--- the offers are those of the session: they began at its tips, and they heard the first of its common ids
+-- the walk began at the tips of the session, and knows a prefix of the session's common ids
 pub record AreOffersOf {A : Type 0} (s : SessionState A) (g : List (Entry A)) (offers : Offers A) : Type 0 where
   pub heard : List Id
   pub rest : List Id
   pub commons : s.commons ≡ heard ++ rest
   pub are : AreOffers g s.tips heard s.sent offers
 
--- so they are after a reply of acknowledgments alone
+-- the walk of a session remains valid after a reply with only acknowledgments
 abbrev pub OffersStay : {A : Type 0} → Indexes A → IndexFails → Type 0
 OffersStay {A} indexes index_fails =
     (haves : List Id) (old new : SessionState A) (repo after : RepoState A) (reply : FetchReply) (common : ℕ)

@@ -1,5 +1,6 @@
--- The next request of a session. gitprotocol-v2(5), "ls-refs" and "fetch", says what a request has; which ids are
--- offered as haves, and when the client is done, is our own rule: batches of 16, 32, 64, 128 and then 256 ids.
+-- The next request of a session. The manual defines the form of a request (gitprotocol-v2(5), "ls-refs" and "fetch").
+-- It does not say which haves a client sends, nor when the client sends `done`. This client offers batches of 16, 32,
+-- 64, 128 and then 256 ids.
 use Rattle.std.specs.Prelude.{◌≡◌, ℕ, ◌+◌, Bool, true, false, List, [], ◌++◌, length, map, nat_le, ◌==◌}
 use Rattle.std.specs.Prelude.{if◌then◌else◌, not, Option, Some, None, Result, Ok, Err}
 use Rattle.gname.specs.Ids.{Id}
@@ -20,13 +21,12 @@ use Rattle.gsession.specs.declared.stage.Stage.TheVariants.{Listing, Fetching}
 use Rattle.gsession.specs.declared.fault.ClientFault.{ClientFault}
 use Rattle.gsession.specs.declared.fault.ClientFault.TheVariants.{NoOpenRequest, Repo}
 
--- the request for refs: those whose names begin with the source of a refspec, or of a pattern with what stands before
--- its `*`; and the target of an unborn HEAD where the server offers to report it
+-- the request for refs, with the source of each refspec as a prefix, and with `unborn` if the server offers it
 abbrev pub ls_request : List Refspec → Bool → LsRefsAsked
 ls_request specs unborn =
     record (ls_with no_ls_refs Unborn unborn) { prefixes = distinct_of (map (λ spec. spec.source) specs) }
 
--- how many ids are offered after so many rounds
+-- the number of ids that a request offers after `rounds` rounds
 abbrev pub batch_size : ℕ → ℕ
 batch_size rounds =
     if rounds == 0 then 16
@@ -35,25 +35,24 @@ batch_size rounds =
     else if rounds == 3 then 128
     else 256
 
--- the batch: what is to be offered, unless a request has no room for it beside the common ids
+-- the batch: the offered ids, or none if they and the common ids are too many for one request
 abbrev pub batch_of : List Id → List Id → List Id
 batch_of commons offer = if nat_le (length commons + length offer) max_haves then offer else []
 
--- the ids that are offered next, level by level from the tips
+-- the ids that the next request offers, level by level from the tips
 pub record IsBatch {A : Type 0} (s : SessionState A) (g : List (Entry A)) (batch : List Id) : Type 0 where
   pub offer : List Id
   pub offered : IsOffer g s.tips s.commons s.sent (batch_size s.rounds) offer
   pub is : batch ≡ batch_of s.commons offer
 
--- a request for objects that names no ids yet: tags are to come with the commits that they lead to; progress, and deltas
--- by offset, only where the options say so
+-- a request for objects without ids: it has `include-tag`, and `no-progress` and `ofs-delta` as the options require
 abbrev pub blank_request : PackOptions → FetchAsked
 blank_request options =
     let quiet = fetch_with no_fetch NoProgress (not options.progress) in
     let tagged = fetch_with quiet IncludeTag true in
     fetch_with tagged OfsDelta options.ofs_delta
 
--- the same with ids: the client wants these, and has the common ids and those of the batch; it is done without a batch
+-- the request with the wants, and with the common ids and the batch as haves; without a batch it has `done`
 abbrev pub with_ids : FetchAsked → List Id → List Id → List Id → FetchAsked
 with_ids blank wants commons batch =
     record (fetch_with blank Done (length batch == 0)) { wants = wants; haves = commons ++ batch }
@@ -62,31 +61,30 @@ with_ids blank wants commons batch =
 abbrev pub fetch_request : PackOptions → List Id → List Id → List Id → FetchAsked
 fetch_request options wants commons batch = with_ids (blank_request options) wants commons batch
 
--- the next request, with its batch: for refs first, then for objects, as often as the server only acknowledged
+-- the next request, with its batch: a request for refs in the first stage, and a request for objects in the second
 abbrev pub IsNext : {A : Type 0} → SessionState A → List (Entry A) → Asked → List Id → Type 0
 IsNext s g Empty batch = ⊥
 IsNext s g (Ls asked) batch = (s.stage ≡ Listing) × (asked ≡ ls_request s.refspecs s.offers_unborn) × (batch ≡ [])
 IsNext s g (Fetches asked) batch =
     (s.stage ≡ Fetching) × (asked ≡ fetch_request s.options s.wants s.commons batch) × IsBatch s g batch
 
--- the request waits for its reply; one for objects is a round
+-- the session with this request as its open request; a request for objects counts as a round
 abbrev pub waiting_for : {A : Type 0} → SessionState A → Asked → List Id → SessionState A
 waiting_for s (Fetches asked) batch =
     record s { pending = Some (Fetches asked); sent = s.sent ++ batch; rounds = s.rounds + 1 }
 waiting_for s asked batch = record s { pending = Some asked }
 
--- the next request is made, and waits for its reply
+-- the session makes the next request, which becomes the open request
 abbrev pub MakesNext : {A : Type 0} → SessionState A → List (Entry A) → SessionState A → Asked → Type 0
 MakesNext old g new asked = (batch : List Id) × IsNext old g asked batch × (new ≡ waiting_for old asked batch)
 
--- a request is due: none waits for its reply, and refs or objects are to be asked for
+-- whether the session can make its next request: no request is open, and refs or objects are still needed
 abbrev pub is_due : Stage → Option Asked → Bool
 is_due Listing None = true
 is_due Fetching None = true
 is_due _ _ = false
 
--- what asking for the next request answers: the one that is due, and it waits for its reply; or that none is due; or
--- that it is out of memory, and the session is over
+-- the result of making the next request: the request, no request to make, or out of memory, which ends the session
 abbrev pub Requests : {A : Type 0} → SessionState A → List (Entry A) → SessionState A
     → Result Asked (ClientFault A) → Type 0
 Requests old g new (Ok asked) = (is_due old.stage old.pending ≡ true) × MakesNext old g new asked

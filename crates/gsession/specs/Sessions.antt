@@ -1,5 +1,5 @@
--- A session: a client's conversation with one server, from the request for refs to the refs here that move. The order
--- of requests is that of gitprotocol-v2(5), "Command Request"; what a session keeps is our own.
+-- A session: a client's conversation with one server, from the request for refs to the update of the local refs. The
+-- requests have the order of gitprotocol-v2(5), "Command Request". The manual does not define the state of a session.
 use Rattle.std.specs.Prelude.{◌≡◌, ◌≢◌, ℕ, ◌+◌, ◌≤◌, ◌<◌, Bool, true, false, List, [], length, All, Contains, codes}
 use Rattle.std.specs.Prelude.{if◌then◌else◌, Option, Some, None, Result, Ok, Err}
 use Rattle.std.specs.List.{IsDistinct}
@@ -25,10 +25,9 @@ use Rattle.gsession.specs.declared.stage.Stage.TheVariants.{Listing, Fetching, S
 use Rattle.gsession.specs.declared.fault.ClientFault.{ClientFault}
 use Rattle.gsession.specs.declared.fault.ClientFault.TheVariants.{Message, NoOpenRequest, TooManySpecs, Repo}
 
--- what a session knows: what it fetches and how, and how it asks for packs; the tips, which are the distinct ids of the refs when it began;
--- whether the server offers to report an unborn HEAD; how far it is, and the request that waits for its reply; what
--- is asked for, and which objects are wanted for it; the ids that the server has acknowledged, those that were
--- offered to it, and how many times objects were asked for
+-- The state of a session. `tips` are the distinct ids of the local refs at the beginning. `pending` is the open
+-- request, which waits for its reply. `commons` are the acknowledged ids, `sent` the offered ids, and `rounds` counts
+-- the requests for objects.
 pub record SessionState (A : Type 0) : Type 0 where
   pub format : Format
   pub refspecs : List Refspec
@@ -45,12 +44,12 @@ pub record SessionState (A : Type 0) : Type 0 where
   pub sent : List Id
   pub rounds : ℕ
 
--- the most refspecs of a session (our own rule)
+-- the maximum number of refspecs of a session, a limit of this project
 abbrev pub max_specs : ℕ
 max_specs = 16
 
--- A request for objects that waits for its reply has the session's wants, and among its haves each common id. Where
--- another one may follow it, there were no more of them than ids were offered.
+-- An open request for objects has the session's wants, and its haves include each common id. If another request may
+-- follow, the requests for objects are at most as many as the offered ids.
 pub record IsOpenFetch {A : Type 0} (s : SessionState A) (asked : FetchAsked) : Type 0 where
   pub wants : asked.wants ≡ s.wants
   pub commons : All (Contains asked.haves) s.commons
@@ -58,7 +57,7 @@ pub record IsOpenFetch {A : Type 0} (s : SessionState A) (asked : FetchAsked) : 
   pub few : length asked.haves ≤ max_haves
   pub goes_on : is_direct asked ≡ false → s.rounds ≤ length s.sent
 
--- the request that waits goes with the stage: while refs are asked for, no objects were
+-- the open request fits the stage of the session, and no objects were requested while the session lists refs
 abbrev pub FitsStage : {A : Type 0} → SessionState A → Stage → Option Asked → Type 0
 FitsStage s Listing None = s.rounds ≡ 0
 FitsStage s Listing (Some (Ls asked)) = s.rounds ≡ 0
@@ -68,15 +67,13 @@ FitsStage s Settling None = Unit {0}
 FitsStage s Over None = Unit {0}
 FitsStage s _ _ = ⊥
 
--- common ids: each is of the format and comes once, and a request has room for them
+-- the common ids are distinct ids of the format, and fit into one request
 pub record AreCommons (format : Format) (commons : List Id) : Type 0 where
   pub ids : All (IsIdOf format) commons
   pub few : length commons ≤ max_haves
   pub once : IsDistinct bytes_eq commons
 
--- what each session keeps: its lists have ids of its format and are not too long, it offers no id twice, it asked for
--- objects at most once more than it offered ids, it fetches only where objects are wanted, and the request that waits
--- goes with its stage
+-- the invariants of a session: its lists are within limits, no id is offered twice, and the open request fits the stage
 pub record IsSession {A : Type 0} (s : SessionState A) : Type 0 where
   pub few_specs : length s.refspecs ≤ max_specs
   pub tips : All (IsIdOf s.format) s.tips
@@ -88,11 +85,11 @@ pub record IsSession {A : Type 0} (s : SessionState A) : Type 0 where
   pub some : s.stage ≡ Fetching → s.wants ≢ []
   pub stage : FitsStage s s.stage s.pending
 
--- a session that is over; every further call is refused
+-- the session after its end, which rejects every further call
 abbrev pub over : {A : Type 0} → SessionState A → SessionState A
 over s = record s { stage = Over; pending = None }
 
--- a fault ends the session, unless the call did not fit what it waits for
+-- whether the fault ends the session: every fault except `NoOpenRequest` does
 abbrev pub ends_session : {A : Type 0} → ClientFault A → Bool
 ends_session NoOpenRequest = false
 ends_session _ = true
@@ -101,27 +98,28 @@ ends_session _ = true
 abbrev pub after_fault : {A : Type 0} → SessionState A → ClientFault A → SessionState A
 after_fault s fault = if ends_session fault then over s else s
 
--- How taking a reply leaves the reader: where none was due, as it was; else as reading the reply left it.
+-- The reader after a reply. If no reply was awaited, the reader is unchanged. Otherwise it is the reader after that
+-- reply.
 abbrev pub LeavesReplies : {A S T : Type 0} → (S → Bool) → Reader S → Reader S → Result T (ClientFault A) → Type 0
 LeavesReplies is_down old new (Err NoOpenRequest) = new ≡ old
 LeavesReplies is_down old new (Err (Message fault)) = LeavesReader {M = Unit {0}} is_down old new (Err fault)
 LeavesReplies is_down old new _ = LeavesReader {M = Unit {0}} is_down old new (Ok tt)
 
--- out of memory
+-- the fault of a session that is out of memory
 abbrev pub no_memory : {A : Type 0} → ClientFault A
 no_memory = Repo (repo.Graph graph.Memory)
 
 -- ---- beginning
 
--- the tips: the distinct ids of the refs
+-- the tips: the distinct ids of the local refs
 abbrev pub tips_of : {A : Type 0} → RepoState A → List Id
 tips_of repo = distinct_of (values_of repo.refs)
 
--- no option for packs: this is the default
+-- the default pack options: no deltas by offset, and no progress
 abbrev pub no_options : PackOptions
 no_options = record { ofs_delta = false; progress = false }
 
--- a session as it begins
+-- a session at its beginning
 abbrev pub new_session : {A : Type 0} → Format → List Refspec → ℕ → Ends → List Id → SessionState A
 new_session format refspecs limit ends tips = record {
   format = format;
@@ -140,7 +138,7 @@ new_session format refspecs limit ends tips = record {
   rounds = 0;
 }
 
--- what beginning answers: a session; or that there are too many refspecs; or that it is out of memory
+-- the result of beginning a session: the session, too many refspecs, or out of memory
 abbrev pub Begins : {A : Type 0} → RepoState A → List Refspec → ℕ → Ends
     → Result (SessionState A) (ClientFault A) → Type 0
 Begins r refspecs limit ends (Ok session) =
@@ -150,7 +148,7 @@ Begins r refspecs limit ends (Err TooManySpecs) = max_specs < length refspecs
 Begins r refspecs limit ends (Err (Repo (repo.Graph graph.Memory))) = length refspecs ≤ max_specs
 Begins r refspecs limit ends (Err _) = ⊥
 
--- what beginning with options answers
+-- the result of beginning a session with pack options
 abbrev pub BeginsWith : {A : Type 0} → RepoState A → List Refspec → ℕ → Ends → PackOptions
     → Result (SessionState A) (ClientFault A) → Type 0
 BeginsWith r refspecs limit ends options (Ok session) =
@@ -160,7 +158,7 @@ BeginsWith r refspecs limit ends options (Err fault) = Begins r refspecs limit e
 
 -- ---- the advertisement
 
--- nothing was requested yet
+-- the session has made no request yet
 abbrev pub IsBegun : {A : Type 0} → SessionState A → Type 0
 IsBegun s = (s.stage ≡ Listing) × (s.pending ≡ None)
 
@@ -168,8 +166,8 @@ IsBegun s = (s.stage ≡ Listing) × (s.pending ≡ None)
 abbrev pub tells_unborn : List Capability → Bool
 tells_unborn capabilities = has_feature (codes "ls-refs") (codes "unborn") capabilities
 
--- what hearing the server's advertisement answers: it is kept whether the server reports an unborn HEAD; or it comes
--- too late
+-- the result of reading the advertisement: the session keeps whether the server reports an unborn HEAD, or it was too
+-- late
 abbrev pub Hears : {A : Type 0} → SessionState A → List Capability → SessionState A → Result Unit (ClientFault A)
     → Type 0
 Hears old capabilities new (Ok _) = IsBegun old × (new ≡ record old { offers_unborn = tells_unborn capabilities })

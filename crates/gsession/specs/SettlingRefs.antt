@@ -1,4 +1,4 @@
--- Settling at the end of a session. When it is time for it is our own rule.
+-- Settling: the update of the local refs at the end of a session. Git's manuals do not say when a client may settle.
 use Rattle.std.specs.Prelude.{◌≡◌, ◌≢◌, List, [], Result, Ok, Err}
 use Rattle.gclientrepo.specs.declared.ask.Ask.{Ask}
 use Rattle.gclientrepo.specs.declared.ask.RefUpdate.{RefUpdate}
@@ -9,8 +9,8 @@ use Rattle.gsession.specs.declared.stage.Stage.TheVariants.{Settling}
 use Rattle.gsession.specs.declared.fault.ClientFault.{ClientFault}
 use Rattle.gsession.specs.declared.fault.ClientFault.TheVariants.{NoOpenRequest, Repo}
 
--- what settling answers: the asks, and what became of them, and the session is over and holds them no more; or why
--- they are not settled, and the session is over; or that it is not time for it, and the session goes on
+-- the result of settling: the asks and their outcomes, a fault that ends the session, or `NoOpenRequest` if it is too
+-- early
 abbrev pub SettlesSession : {A : Type 0} → SessionState A → RepoState A → SessionState A → RepoState A
     → Result (List (Ask A) × List RefUpdate) (ClientFault A) → Type 0
 SettlesSession old repo_old new repo_new (Ok settled) =

@@ -1,4 +1,5 @@
--- Taking the reply to ls-refs (gitprotocol-v2(5), "ls-refs"). What is asked for and wanted of it is our own rule.
+-- Reading the reply to ls-refs (gitprotocol-v2(5), "ls-refs"). The asks and the wants that follow from a reply are
+-- rules of this project.
 use Rattle.std.specs.Prelude.{◌≡◌, ◌⊎◌, ◌<◌, ◌≤◌, List, [], ◌∷◌, length, Some, None, Result, Ok, Err}
 use Rattle.gname.specs.Ids.{Id}
 use Rattle.gpkt.specs.Change.{Change}
@@ -21,11 +22,11 @@ use Rattle.gsession.specs.declared.fault.ClientFault.{ClientFault}
 use Rattle.gsession.specs.declared.fault.ClientFault.TheVariants.{NoOpenRequest, Message, TooManyWants, Repo}
 use Rattle.gsession.specs.declared.taken.LsTaken.{LsTaken}
 
--- a request for refs waits for its reply
+-- the open request is a request for refs
 abbrev pub AwaitsRefs : {A : Type 0} → SessionState A → Type 0
 AwaitsRefs s = (asked : LsRefsAsked) × (s.pending ≡ Some (Ls asked))
 
--- objects are fetched where some are wanted
+-- the stage after a reply to ls-refs: fetching if there are wants, and settling otherwise
 abbrev pub stage_for : List Id → Stage
 stage_for [] = Settling
 stage_for (want ∷ wants) = Fetching
@@ -35,7 +36,7 @@ abbrev pub with_refs : {A : Type 0} → SessionState A → LsReply → List Id �
 with_refs s reply wants =
     record s { stage = stage_for wants; pending = None; asks = asked_of s.refspecs reply.lines; wants = wants }
 
--- the refs of a reply that was read are taken: it is known what is asked for, and what is wanted
+-- the session accepts the refs of a reply, and determines its asks and its wants
 pub record TakesLines {A : Type 0} (old : SessionState A) (g : List (Entry A)) (reply : LsReply) (new : SessionState A)
     (taken : LsTaken A) : Type 0 where
   pub named : AreNamed {A = A} (asks_by_all old.refspecs reply.lines)
@@ -47,43 +48,41 @@ pub record TakesLines {A : Type 0} (old : SessionState A) (g : List (Entry A)) (
   pub count : taken.wants ≡ length wants
   pub unborn : taken.unborn ≡ unborn_told old.refspecs reply.unborn
 
--- a ref that is asked for can't have its name; the reply's last packet is reported, since it was read to its end (our
--- own rule)
+-- the destination of an ask is no valid ref name; the fault names the last packet of the reply
 pub record IsMisnamed {A : Type 0} (s : SessionState A) (reply : LsReply) (fault : MessageFault) : Type 0 where
   pub unnamed : ¬ (AreNamed {A = A} (asks_by_all s.refspecs reply.lines))
   pub frame : fault.frame ≡ last_frame s.ends reply
   pub why : fault.why ≡ BadName
 
--- more objects are wanted than a request takes (our own rule)
+-- the reply leads to more wants than one request can hold
 pub record WantsTooMuch {A : Type 0} (s : SessionState A) (g : List (Entry A)) (reply : LsReply) : Type 0 where
   pub named : AreNamed {A = A} (asks_by_all s.refspecs reply.lines)
   pub wants : List Id
   pub wanted : AreWants {A = A} g (asked_of s.refspecs reply.lines) wants
   pub many : max_wants < length wants
 
--- why the refs of a reply are not taken: a ref can't have its name; or too much is wanted; or it is out of memory,
--- where each ref can have its name
+-- a reason to reject the refs of a reply: an invalid ref name, too many wants, or out of memory
 abbrev pub IsRefsFault : {A : Type 0} → SessionState A → List (Entry A) → LsReply → ClientFault A → Type 0
 IsRefsFault s g reply (Message fault) = IsMisnamed s reply fault
 IsRefsFault s g reply TooManyWants = WantsTooMuch s g reply
 IsRefsFault {A} s g reply (Repo (repo.Graph graph.Memory)) = AreNamed {A = A} (asks_by_all s.refspecs reply.lines)
 IsRefsFault s g reply _ = ⊥
 
--- a complete reply is read
+-- the session reads a complete reply to ls-refs
 abbrev pub ReadsRefs : {A : Type 0} → SessionState A → Change → LsReply → Type 0
 ReadsRefs s change reply = ReadsMessage (judge s.format s.ends) (Says s.format s.ends) change reply
 
--- the reply is refused before its end
+-- the session rejects a packet of the reply
 abbrev pub RefusesRefs : {A : Type 0} → SessionState A → Change → MessageFault → Type 0
 RefusesRefs s change fault =
     (front : List Packet) × ReadsRefused (judge s.format s.ends) brings front change fault
 
--- a complete reply is read, and its refs are not taken
+-- the session reads a complete reply, and rejects its refs
 abbrev pub ReadsUntaken : {A : Type 0} → SessionState A → List (Entry A) → Change → ClientFault A → Type 0
 ReadsUntaken s g change fault = (reply : LsReply) × ReadsRefs s change reply × IsRefsFault s g reply fault
 
--- why no reply to ls-refs is taken: none is due, and nothing is read; or it is refused; or a complete one is read, and
--- a ref can't have its name, too much is wanted, or it is out of memory
+-- a reason to accept no reply to ls-refs: none is awaited, a packet is malformed, or the refs of a complete reply are
+-- rejected
 abbrev pub IsLsFault : {A : Type 0} → SessionState A → List (Entry A) → Change → ClientFault A → Type 0
 IsLsFault s g change NoOpenRequest = ¬ (AwaitsRefs s) × (change.new ≡ change.old)
 IsLsFault s g change (Message fault) =
@@ -92,7 +91,7 @@ IsLsFault s g change TooManyWants = AwaitsRefs s × ReadsUntaken s g change TooM
 IsLsFault s g change (Repo fault) = AwaitsRefs s × ReadsUntaken s g change (Repo fault)
 IsLsFault s g change _ = ⊥
 
--- what taking a reply answers: a complete one is read, and its refs are taken; or why not
+-- the result of reading a reply to ls-refs: its refs are accepted, or a fault
 abbrev pub TakesLs : {A : Type 0} → SessionState A → List (Entry A) → Change → SessionState A
     → Result (LsTaken A) (ClientFault A) → Type 0
 TakesLs old g change new (Ok taken) =

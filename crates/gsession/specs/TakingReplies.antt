@@ -1,5 +1,6 @@
--- Taking the reply to fetch (gitprotocol-v2(5), "fetch"). A pack is indexed as it comes, and its objects come to the
--- graph once the reply was read to its end; that is our own rule, and so is which of several faults is reported.
+-- Reading the reply to fetch (gitprotocol-v2(5), "fetch"). The indexer reads the pack while it arrives, and the graph
+-- gains its objects after the end of the reply. The manual does not define this order, nor which of several faults
+-- comes first.
 use Rattle.std.specs.Prelude.{◌≡◌, true, false, ℕ, List, ◌∷◌, ◌++◌, length, All, Contains, Some, None, Result, Ok, Err}
 use Rattle.gname.specs.Ids.{Id}
 use Rattle.gpkt.specs.Change.{Change}
@@ -28,14 +29,14 @@ use Rattle.gsession.specs.declared.fault.ClientFault.TheVariants.{NoOpenRequest,
 use Rattle.gsession.specs.declared.taken.Taken.{Taken}
 use Rattle.gsession.specs.declared.taken.Taken.TheVariants.{Round, PackTaken}
 
--- it has a pack
+-- the reply has a pack
 abbrev pub HasPack : FetchReply → Type 0
 HasPack (Acks ids) = ⊥
 HasPack (Ready ids pack) = Unit {0}
 HasPack (Pack pack) = Unit {0}
 
--- the id is the first of those acknowledged that the request did not name; the manual has a server acknowledge only ids
--- that were sent as haves (gitprotocol-v2(5), "fetch": `ACK`)
+-- the first acknowledged id that is not a have of the request, although a server may only acknowledge haves
+-- (gitprotocol-v2(5), "fetch": `ACK`)
 pub record IsFirstStrange (haves acks : List Id) (id : Id) : Type 0 where
   pub front : List Id
   pub rest : List Id
@@ -43,11 +44,11 @@ pub record IsFirstStrange (haves acks : List Id) (id : Id) : Type 0 where
   pub named : All (Contains haves) front
   pub strange : ¬ (Contains haves id)
 
--- after a reply: its acknowledged ids are common, each once, in the order in which they were first acknowledged
+-- the session after a reply: the acknowledged ids are common, each once, in the order of their first acknowledgment
 abbrev pub after_acks : {A : Type 0} → SessionState A → Stage → List Id → SessionState A
 after_acks s stage acks = record s { stage = stage; pending = None; commons = distinct_of (s.commons ++ acks) }
 
--- a list comes to the graph; refs and marks stay
+-- the graph gains the objects of a list, and refs and marks are unchanged
 pub record InsertsAll {A : Type 0} (old : RepoState A) (entries : List (Entry A)) (new : RepoState A) (added : ℕ)
     : Type 0 where
   pub adds : Adds old.graph entries new.graph (Ok added)
@@ -55,21 +56,21 @@ pub record InsertsAll {A : Type 0} (old : RepoState A) (entries : List (Entry A)
   pub marks : new.known ≡ old.known
 
 module _ {A : Type 0} (indexes : Indexes A) (index_fails : IndexFails) where
-  -- some list that the indexer may answer for the pack comes to the graph
+  -- the graph gains the objects of a list that the indexer may return for the pack
   abbrev pub InsertsPack : RepoState A → Bytes → RepoState A → ℕ → Type 0
   InsertsPack old pack new added = (entries : List (Entry A)) × indexes pack entries × InsertsAll old entries new added
 
-  -- some list that the indexer may answer for the pack is refused by the graph
+  -- the graph rejects a list of objects that the indexer may return for the pack
   abbrev pub RefusesPack : RepoState A → Bytes → GraphFault → Type 0
   RefusesPack repo pack fault =
       (entries : List (Entry A)) × indexes pack entries × IsRefused repo.graph.format repo.graph.entries entries fault
 
-  -- the indexer takes the pack of a reply, where it has one
+  -- the indexer accepts the pack of the reply, if the reply has a pack
   abbrev pub TakesPack : FetchReply → Type 0
   TakesPack reply = HasPack reply → ((entries : List (Entry A)) × indexes (pack_of reply) entries)
 
-  -- why a reply is not taken that was read: an id is acknowledged that the request did not name; or else the indexer
-  -- refuses its pack; or else the graph refuses the pack's objects, or it is out of memory
+  -- a reason to reject a complete reply: an acknowledged id that is no have, a fault of the indexer or of the graph, or
+  -- out of memory
   abbrev pub IsReplyFault : List Id → RepoState A → FetchReply → ClientFault A → Type 0
   IsReplyFault haves repo reply (StrangeAck id) = IsFirstStrange haves (acknowledged_by reply) id
   IsReplyFault haves repo reply (Index fault) =
@@ -80,8 +81,7 @@ module _ {A : Type 0} (indexes : Indexes A) (index_fails : IndexFails) where
       All (Contains haves) (acknowledged_by reply) × HasPack reply × RefusesPack repo (pack_of reply) fault
   IsReplyFault haves repo reply _ = ⊥
 
-  -- what taking a reply changes that was read: with acknowledgments alone only the common ids; with a pack the objects,
-  -- too
+  -- the effect of an accepted reply: acknowledgments add common ids, and a pack also adds objects
   abbrev pub TakesHead : SessionState A → RepoState A → FetchReply → SessionState A → RepoState A → Taken → Type 0
   TakesHead old repo_old reply new repo_new (Round common) =
       ¬ (HasPack reply) × (new ≡ after_acks old Fetching (acknowledged_by reply))
@@ -90,7 +90,7 @@ module _ {A : Type 0} (indexes : Indexes A) (index_fails : IndexFails) where
       HasPack reply × (new ≡ after_acks old Settling (acknowledged_by reply))
       × InsertsPack repo_old (pack_of reply) repo_new added
 
-  -- each acknowledged id is one of the request's haves, and the reply is taken
+  -- each acknowledged id is one of the request's haves, and the session accepts the reply
   abbrev pub TakesRead : List Id → SessionState A → RepoState A → FetchReply → SessionState A → RepoState A
       → Taken → Type 0
   TakesRead haves old repo_old reply new repo_new taken =
@@ -98,39 +98,38 @@ module _ {A : Type 0} (indexes : Indexes A) (index_fails : IndexFails) where
 
 -- ---- reading a reply
 
--- how the reply to a request is read
+-- the parameters for reading the reply to a request
 abbrev pub reading_for : {A : Type 0} → SessionState A → FetchAsked → Reading
 reading_for s asked = record { format = s.format; direct = is_direct asked; limit = s.limit; ends = s.ends }
 
--- a complete reply is read
+-- the session reads a complete reply to fetch
 abbrev pub ReadsFetch : Reading → Change → FetchReply → Type 0
 ReadsFetch reading change reply = ReadsMessage (judge reading) (Says reading) change reply
 
--- The reply is refused before its end. The pack's way to the indexer refuses no piece (`false`), so out of memory comes
--- only at an acknowledged id.
+-- The session rejects a packet of the reply. The sink for the pack never fails (`false`), so a packet fails for lack of
+-- memory only if it acknowledges an id.
 abbrev pub RefusesFetch : Reading → Change → MessageFault → Type 0
 RefusesFetch reading change fault =
     (front : List Packet) × ReadsRefused (judge reading) (brings_into false reading) front change fault
 
--- this request for objects waits for its reply
+-- this request for objects is the open request
 abbrev pub Awaits : {A : Type 0} → SessionState A → FetchAsked → Type 0
 Awaits s asked = s.pending ≡ Some (Fetches asked)
 
--- a request for objects waits for its reply
+-- the open request is a request for objects
 abbrev pub AwaitsObjects : {A : Type 0} → SessionState A → Type 0
 AwaitsObjects s = (asked : FetchAsked) × Awaits s asked
 
 module _ {A : Type 0} (indexes : Indexes A) (index_fails : IndexFails) where
-  -- a complete reply is read to the request that waits, and not taken
+  -- the session reads a complete reply to the open request, and rejects its content
   abbrev pub DeclinesFetch : SessionState A → RepoState A → Change → ClientFault A → Type 0
   DeclinesFetch s repo change fault =
       (asked : FetchAsked) × Awaits s asked
       × ((reply : FetchReply) × ReadsFetch (reading_for s asked) change reply
       × IsReplyFault indexes index_fails asked.haves repo reply fault)
 
-  -- why no reply to fetch is taken: none is due, and nothing is read; or it is refused before its end; or a complete
-  -- one is read, and an id that it acknowledges is strange, or the indexer or the graph refuses its pack, or it is
-  -- out of memory
+  -- a reason to accept no reply to fetch: none is awaited, a packet is malformed, or the content of a complete reply is
+  -- rejected
   abbrev pub IsTakeFault : SessionState A → RepoState A → Change → ClientFault A → Type 0
   IsTakeFault s repo change NoOpenRequest = ¬ (AwaitsObjects s) × (change.new ≡ change.old)
   IsTakeFault s repo change (Message fault) =
@@ -140,7 +139,7 @@ module _ {A : Type 0} (indexes : Indexes A) (index_fails : IndexFails) where
   IsTakeFault s repo change (Repo (Graph fault)) = DeclinesFetch s repo change (Repo (Graph fault))
   IsTakeFault s repo change _ = ⊥
 
-  -- what taking a reply answers: a complete one is read and taken; or why not, and the repository stays
+  -- the result of reading a reply to fetch: a complete reply is accepted, or a fault leaves the repository unchanged
   abbrev pub TakesReply : SessionState A → RepoState A → Change → SessionState A → RepoState A
       → Result Taken (ClientFault A) → Type 0
   TakesReply old repo_old change new repo_new (Ok taken) =
@@ -150,14 +149,14 @@ module _ {A : Type 0} (indexes : Indexes A) (index_fails : IndexFails) where
   TakesReply old repo_old change new repo_new (Err fault) =
       IsTakeFault old repo_old change fault × (new ≡ after_fault old fault) × (repo_new ≡ repo_old)
 
-  -- where the bytes are known, the session after a reply is decided by the bytes and by what is answered
+  -- the bytes of a reply to fetch and the result of reading it determine the session afterwards
   abbrev pub TakingIsDecided : Type 0
   TakingIsDecided =
       (old one other : SessionState A) (repo repo_one repo_other : RepoState A) (bytes left also : Bytes)
       (result : Result Taken (ClientFault A)) → TakesReply old repo (known_bytes bytes left) one repo_one result
       → TakesReply old repo (known_bytes bytes also) other repo_other result → one ≡ other
 
-  -- once the reply to a request with `done` is taken, no more objects are asked for
+  -- once the session accepts the reply to a request with `done`, it requests no more objects
   abbrev pub DoneIsLast : Type 0
   DoneIsLast =
       (old new : SessionState A) (repo repo_new : RepoState A) (change : Change) (asked : FetchAsked) (taken : Taken)

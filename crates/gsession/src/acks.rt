@@ -12,8 +12,8 @@ use gname::Oid;
 use indexmap::IndexSet;
 use std::alloc::{AllocError, Allocator};
 
-/// Returns the first acknowledged id that is not a have. Looks each up in a set of the haves. If
-/// out of memory for the set, it searches the list instead, so that no strange id is hidden.
+/// Returns the first acknowledged id that is not a have. Looks up each acknowledged id in a set of
+/// the haves. If there is not enough memory for the set, searches the list of haves instead.
 pub(crate) fn first_strange<A: Allocator + Copy>(
     alloc: A,
     haves: &[Oid],
@@ -28,7 +28,8 @@ pub(crate) fn first_strange<A: Allocator + Copy>(
     }
 }
 
-// Returns the first acknowledged id that is not a have. The set has the haves, if there is one.
+// Returns the first acknowledged id that is not a have. Searches the list of haves if there is no
+// set.
 fn first_unoffered<A: Allocator + Copy>(
     offered: &Option<IndexSet<Oid, IdHasher, A>>,
     haves: &[Oid],
@@ -47,7 +48,7 @@ fn first_unoffered<A: Allocator + Copy>(
     None
 }
 
-// Whether the id is a have. The set has the haves, if there is one.
+// Returns whether the id is a have. Searches the list of haves if there is no set.
 fn is_offered<A: Allocator + Copy>(
     offered: &Option<IndexSet<Oid, IdHasher, A>>,
     haves: &[Oid],
@@ -63,7 +64,7 @@ fn is_offered<A: Allocator + Copy>(
     }
 }
 
-// Returns the ids as a set.
+// Returns the set of the ids.
 fn set_of<A: Allocator + Copy>(
     alloc: A,
     ids: &[Oid],

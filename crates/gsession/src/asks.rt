@@ -1,4 +1,4 @@
-//! The asks of a session.
+//! The asks of a session: the requested updates of local refs.
 
 ghost use Rattle.std.specs.Prelude.{◌≡◌, ◌↔◌, ◌∷◌, [], true, All, IfErr, IfOk, IsTrue, Ok, OnOk};
 ghost use Rattle.gname.specs.Ids.{IsIdOf};
@@ -18,7 +18,7 @@ use gname::{Oid, RefName};
 use grefs::Spec;
 use std::alloc::{AllocError, Allocator};
 
-/// Whether each ref that the refspecs ask for can have its name, for the refs of a reply. Allocates
+/// Returns whether the refspecs map every matching ref of the reply to a valid ref name. Allocates
 /// nothing.
 pub(crate) fn are_named<A: Allocator + Copy>(specs: &[Spec<A>], reply: &LsReply<A>) -> bool
     ensures { IsTrue result ↔ AreNamed {A = A} (asks_by_all specs.now reply.now.lines) }
@@ -31,7 +31,7 @@ pub(crate) fn are_named<A: Allocator + Copy>(specs: &[Spec<A>], reply: &LsReply<
     true
 }
 
-// Whether each ref to which a refspec maps a ref of a reply can have its name.
+// Returns whether the refspec maps every matching ref of the reply to a valid ref name.
 fn leads_to_names<A: Allocator + Copy>(spec: &Spec<A>, reply: &LsReply<A>) -> bool
     ensures { IsTrue result ↔ AreNamed {A = A} (asks_by spec.now reply.now.lines) }
 {
@@ -45,8 +45,8 @@ fn leads_to_names<A: Allocator + Copy>(spec: &Spec<A>, reply: &LsReply<A>) -> bo
     true
 }
 
-/// Returns the asks of refspecs for the refs of a reply. Fails if out of memory, or if a ref can't
-/// have its name.
+/// Returns the asks of the refspecs for the refs of a reply. Fails if out of memory, or if the name
+/// of a local ref would be invalid.
 pub(crate) fn asked_of<A: Allocator + Copy>(
     alloc: A,
     specs: &[Spec<A>],
@@ -63,7 +63,7 @@ pub(crate) fn asked_of<A: Allocator + Copy>(
     Ok(asks)
 }
 
-// Adds the asks of a refspec, line by line.
+// Adds the asks of a refspec, in the order of the reply's lines.
 fn add_asks<A: Allocator + Copy>(
     spec: &Spec<A>,
     reply: &LsReply<A>,
@@ -79,7 +79,7 @@ fn add_asks<A: Allocator + Copy>(
     Ok(())
 }
 
-// Adds the ask of a refspec for one line, unless there is an ask for that ref.
+// Adds the ask of a refspec for one line, unless the local ref already has an ask.
 fn ask_of_line<A: Allocator + Copy>(
     spec: &Spec<A>,
     line: &RefLine<A>,
@@ -99,8 +99,8 @@ fn ask_of_line<A: Allocator + Copy>(
     Ok(())
 }
 
-// Returns the ref to which a refspec maps a ref. Fails if out of memory, or if it is not a ref
-// name.
+// Returns the local ref to which the refspec maps this ref. Fails if out of memory, or if the name
+// of the local ref would be invalid.
 fn destination_of<A: Allocator + Copy>(
     alloc: A,
     spec: &Spec<A>,
@@ -114,7 +114,8 @@ fn destination_of<A: Allocator + Copy>(
     }
 }
 
-/// Returns the distinct asked ids that are not connected, in order. Fails only with `Memory`.
+/// Returns the distinct new ids of the asks that are not connected, in order. Fails only with
+/// `Memory`.
 pub(crate) fn wants_of<A: Allocator + Copy>(
     repo: &Repo<A>,
     asks: &Asks<A>,
@@ -139,8 +140,8 @@ pub(crate) fn wants_of<A: Allocator + Copy>(
     Ok(wants)
 }
 
-// Whether an id is connected. An id that is not held needs no walk, nor does one that the local
-// refs reach.
+// Returns whether the id is connected. Only an id that the repository holds, and that the local
+// refs do not reach, needs a walk.
 fn is_connected<A: Allocator + Copy>(repo: &Repo<A>, id: &Oid) -> Result<bool, GraphFault>
     ensures connected { IfOk result (λ connected. IsTrue connected ↔ IsConnected repo.now.graph.entries id.now) }
     ensures fault { IfErr result (λ fault. fault ≡ Memory) }
@@ -154,7 +155,7 @@ fn is_connected<A: Allocator + Copy>(repo: &Repo<A>, id: &Oid) -> Result<bool, G
     Ok(repo.missing(&[*id])?.is_none())
 }
 
-// Whether the id is marked, and so connected.
+// Returns whether the id is marked. A marked id is connected.
 fn is_known<A: Allocator + Copy>(repo: &Repo<A>, id: &Oid) -> bool
     ensures { result ≡ true → IsConnected repo.now.graph.entries id.now }
 {
@@ -181,7 +182,7 @@ pub(crate) fn unborn_of<A: Allocator + Copy>(
     }
 }
 
-// Whether a refspec fetches HEAD.
+// Returns whether one of the refspecs fetches HEAD.
 fn takes_head<A: Allocator + Copy>(specs: &[Spec<A>]) -> bool
     ensures { result ≡ takes_head specs.now }
 {

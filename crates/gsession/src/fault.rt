@@ -1,4 +1,4 @@
-//! Reasons why a call of a session is refused.
+//! Reasons for a call of a session to fail.
 
 ghost use Rattle.std.specs.Prelude.{◌≡◌, Some};
 ghost use Rattle.gdag.specs.declared.fault.GraphFault.TheVariants.{Memory};
@@ -15,22 +15,23 @@ use std::alloc::{AllocError, AllocFailed, Allocator, Global};
 use std::error::Error;
 use std::fmt;
 
-/// The reason a call of a session was refused.
+/// The reason why a call of a session failed.
 #[derive(Debug, Drop)]
 pub enum ClientFault<A: Allocator + Copy = Global> {
-    /// 20 to 25, 29, 30 and 41 to 54: the reply was refused, at one of its packets.
+    /// The session rejected a packet of the reply. The numbers of such faults are 20 to 25, 29, 30
+    /// and 41 to 54.
     Message(MessageFault),
-    /// 66: the indexer refused the pack.
+    /// Fault 66: the indexer rejected the pack.
     Index(IndexFault),
-    /// 82: there are more refspecs than a session takes.
+    /// Fault 82: there are more refspecs than `MAX_SPECS`.
     TooManySpecs,
-    /// 83: the call does not fit the stage of the session. Nothing changes.
+    /// Fault 83: the call does not fit the stage of the session. The session is unchanged.
     NoOpenRequest,
-    /// 84: the server acknowledged this id, which the request did not name.
+    /// Fault 84: the server acknowledged this id, which is not a have of the request.
     StrangeAck { id: Oid },
-    /// 86: more objects are wanted than a request takes.
+    /// Fault 86: one request can't hold all wants.
     TooManyWants,
-    /// 60 to 64, 69, 75 and 85: the repository refused the change, or it is out of memory (64).
+    /// The repository rejected the change (60 to 63, 69, 75 and 85), or is out of memory (64).
     Repo(RepoFault<A>),
 }
 
@@ -49,8 +50,7 @@ impl<A: Allocator + Copy> ClientFault<A> {
         self.fault_row().1
     }
 
-    /// Whether it ends the session: each does except `NoOpenRequest`, which leaves the session
-    /// unchanged.
+    /// Returns whether the fault ends the session. Every fault except `NoOpenRequest` does.
     pub fn ends_session(&self) -> bool
         ensures { result ≡ ends_session self.now }
     {

@@ -1,4 +1,4 @@
-//! The pack of a reply on its way to the indexer.
+//! A sink that passes the pack of a reply to the indexer.
 
 ghost use Rattle.std.specs.Prelude.{◌≡◌, ◌++◌, [], false, MatchResult};
 ghost use Rattle.gpkt.specs.Packets.{Bytes};
@@ -10,8 +10,8 @@ use ggraph::{Entry, IndexFault, Indexer};
 use std::alloc::Allocator;
 use std::marker::PhantomData;
 
-/// Feeds a pack to an indexer, piece by piece. After a fault of the indexer it only keeps that
-/// fault.
+/// Passes a pack to an indexer, piece by piece. After a fault of the indexer, ignores all later
+/// pieces and keeps the fault.
 #[derive(Drop)]
 pub(crate) struct PackFeed<'k, K: Indexer<A>, A: Allocator + Copy> {
     indexer: &'k K,
@@ -20,7 +20,7 @@ pub(crate) struct PackFeed<'k, K: Indexer<A>, A: Allocator + Copy> {
 }
 
 impl<'k, K: Indexer<A>, A: Allocator + Copy> PackFeed<'k, K, A> {
-    /// Returns an empty feed.
+    /// Starts the indexer for a new pack.
     pub(crate) fn start(alloc: A, indexer: &'k K) -> PackFeed<'k, K, A>
         ensures indexer { result.indexer.now ≡ indexer.now }
         ensures fed { MayHaveFed (K.fed indexer.now) (K.index_fails indexer.now) result.feed [] }
@@ -32,7 +32,7 @@ impl<'k, K: Indexer<A>, A: Allocator + Copy> PackFeed<'k, K, A> {
         }
     }
 
-    /// Returns the entries of the pack that was fed. Fails with the indexer's first fault.
+    /// Returns the objects of the pack. Fails with the indexer's first fault.
     pub(crate) fn finish(self) -> Result<Vec<Entry<A>, A>, IndexFault>
         ensures { MatchResult result
             (λ entries. ((bytes : Bytes)
@@ -55,7 +55,7 @@ impl<'k, K: Indexer<A>, A: Allocator + Copy> PackFeed<'k, K, A> {
         }
     }
 
-    // Feeds a piece.
+    // Passes a piece of the pack to the indexer.
     fn add(&mut self, bytes: &[u8]) -> Result<(), IndexFault>
         ensures indexer { self.new.indexer.now ≡ self.old.indexer.now }
         ensures fed { MatchResult result
@@ -82,7 +82,8 @@ impl<K: Indexer<A>, A: Allocator + Copy> PackSink for PackFeed<'_, K, A> {
 
     ghost same = { λ one other. one.indexer.now ≡ other.indexer.now };
 
-    // Takes each piece: the indexer's fault is reported after the reply is read.
+    // The sink accepts every piece. The session reports the indexer's fault after it read the
+    // reply.
     ghost refuses = { false };
 
     fn piece(&mut self, bytes: &[u8]) -> bool

@@ -16,23 +16,23 @@ use ggraph::graph_laws::{
 };
 use std::alloc::Allocator;
 
-/// The constant is the limit that the definitions name.
+/// The constant `MAX_SPECS` is the limit `max_specs` of the definitions.
 pub fn limits_are_the_constants()
     ensures { MAX_SPECS ≡ max_specs }
 {}
 
-// ---- how often a session asks for objects
+// ---- the number of a session's requests for objects
 
-/// A session that begins on a connected repository begins on its graph: its tips are connected
-/// there.
+/// A session that begins with a connected repository has begun on the graph of that repository. Its
+/// tips are connected in the graph.
 pub fn began_begins<A: Allocator + Copy>()
     ensures { BeganBegins A }
 {
     distinct_are_once();
 }
 
-/// A session that began on a graph keeps this property over its next request, if the graph only
-/// gained objects: it offered only ids that its tips reach there.
+/// A session that began on a graph still did after its next request, if the graph only gained
+/// objects. It offered only ids that its tips reach in that graph.
 pub fn began_stays<A: Allocator + Copy>()
     ensures { BeganStays A }
 {
@@ -41,16 +41,16 @@ pub fn began_stays<A: Allocator + Copy>()
     connected_stays_connected::<A>();
 }
 
-/// A session that began on a graph keeps this property over every call, whatever it returned, if
-/// the graph only gained objects.
+/// A session that began on a graph still did after every call, successful or not, if the graph only
+/// gained objects.
 pub fn began_stays_on<A: Allocator + Copy, K: Indexer<A>>()
     ensures { (k : K) → BeganStaysOn (K.indexes k) (K.index_fails k) }
 {
     began_stays::<A>();
 }
 
-/// Each id that a request of a session named was offered in the batch of some request. This holds
-/// at the beginning and after every call.
+/// At the beginning and after every call, the session offered each common id and each have of the
+/// open request in some batch.
 pub fn names_were_offered<A: Allocator + Copy, K: Indexer<A>>()
     ensures begins { BeginsOffered A }
     ensures stays { (k : K) → OfferedStays (K.indexes k) (K.index_fails k) }
@@ -58,20 +58,21 @@ pub fn names_were_offered<A: Allocator + Copy, K: Indexer<A>>()
     distinct_are_once();
 }
 
-/// Each request for objects without `done` names an id that the session did not offer before.
+/// Each request for objects without `done` has a have that the session did not offer before.
 pub fn offers_are_new<A: Allocator + Copy>()
     ensures { OffersAreNew A }
 {
     offers_are_exact::<A>();
 }
 
-/// Once the reply to a request with `done` is taken, the session can settle: no request follows.
+/// Once the session accepts the reply to a request with `done`, it can settle, and makes no more
+/// requests.
 #[tactic(auto, using(crate::proofs::LawLemmas::done_is_last))]
 pub fn done_is_last<A: Allocator + Copy, K: Indexer<A>>()
     ensures { (k : K) → DoneIsLast (K.indexes k) (K.index_fails k) }
 {}
 
-/// No request follows one with `done`, whatever the calls after it return.
+/// No request follows a request with `done`, whatever the later calls return.
 #[tactic(auto, using(crate::proofs::BoundLemmas::done_laws))]
 pub fn none_follows_done<A: Allocator + Copy, K: Indexer<A>>()
     ensures last { DoneAsksLast A }
@@ -79,8 +80,8 @@ pub fn none_follows_done<A: Allocator + Copy, K: Indexer<A>>()
     ensures none { NoneFollows A }
 {}
 
-/// Each request for objects except the last offered one more id: at the beginning, and after every
-/// call.
+/// Each request for objects except the last offered at least one new id. This holds at the
+/// beginning and after every call.
 pub fn requests_are_counted<A: Allocator + Copy, K: Indexer<A>>()
     ensures begins { BeginsCounted A }
     ensures stays { (k : K) → CountedStays (K.indexes k) (K.index_fails k) }
@@ -88,42 +89,44 @@ pub fn requests_are_counted<A: Allocator + Copy, K: Indexer<A>>()
     offers_are_exact::<A>();
 }
 
-/// A session asks for objects at most N + 1 times, if its tips reach N ids in the graph on which it
-/// began.
+/// A session makes at most N + 1 requests for objects, if its tips reach N ids in the graph on
+/// which it began.
 pub fn rounds_are_few<A: Allocator + Copy>()
     ensures { RoundsAreFew A }
 {
     reached_are_counted::<A>();
 }
 
-/// This holds if each request except the last offered one more id.
+/// A session makes at most N + 1 requests for objects, if each request except the last offered a
+/// new id, and its tips reach N ids.
 pub fn counted_are_few<A: Allocator + Copy>()
     ensures { CountedAreFew A }
 {
     reached_are_counted::<A>();
 }
 
-// ---- the state that calls keep, and the replies that they take
+// ---- the state that calls keep, and the replies that they accept
 
-/// No call changes the tips of a session, or what it fetches and how. It forgets no offered id.
+/// No call changes the tips or the parameters of a session. Every call keeps all offered ids.
 pub fn calls_go_on<A: Allocator + Copy, K: Indexer<A>>()
     ensures { (k : K) → EachGoesOn (K.indexes k) (K.index_fails k) }
 {}
 
-/// The effect of every call on a session, in a few forms.
+/// Every call has one of a few effects on the session, for example a new request or the end of the
+/// session.
 pub fn calls_do<A: Allocator + Copy, K: Indexer<A>>()
     ensures { (k : K) → EachDoes (K.indexes k) (K.index_fails k) }
 {}
 
-/// An open request for objects has the session's wants. Its haves include each common id, for which
-/// a request has room. If the request is not direct, another may follow.
+/// An open request for objects has the session's wants, and its haves include each common id. If
+/// the request is not direct, another request may follow.
 #[tactic(auto, using(crate::proofs::SessionLemmas::open_fetch))]
 pub fn open_is_the_sessions<A: Allocator + Copy>()
     ensures { OpenIsTheSessions A }
 {}
 
-/// Each ref to which a refspec maps a line gets exactly one ask. The first refspec and line for
-/// that ref determine it, refspec by refspec and line by line.
+/// Each local ref to which a refspec maps a line of the reply gets exactly one ask. The first
+/// refspec that leads to the ref, and its first such line, determine the ask.
 #[tactic(auto, using(crate::proofs::AskLemmas::first_is_asked))]
 pub fn first_is_asked<A: Allocator + Copy>()
     ensures { FirstIsAsked A }
@@ -135,15 +138,14 @@ pub fn asks_are_of_lines<A: Allocator + Copy>()
     ensures { AsksAreOfLines A }
 {}
 
-/// Each want is an asked id that is not connected; each other asked id is.
+/// The wants are exactly the asked ids that are not connected.
 pub fn wants_are_exact<A: Allocator + Copy>()
     ensures { WantsAreExact A }
 {
     distinct_are_once();
 }
 
-/// The session and the graph determine the next request, and the session that then waits for its
-/// reply.
+/// The session and the graph determine the next request, and the state of the session after it.
 pub fn one_next<A: Allocator + Copy>()
     ensures { OneNext A }
 {
@@ -156,8 +158,8 @@ pub fn options_are_asked<A: Allocator + Copy>()
     ensures { OptionsAreAsked A }
 {}
 
-/// The haves of a request are connected, if the tips and the common ids are. Each is a common id,
-/// or was not offered before.
+/// The haves of a request are connected, if the tips and the common ids are connected. Each have is
+/// a common id, or was not offered before.
 pub fn haves_are_held<A: Allocator + Copy>()
     ensures connected { HavesAreConnected A }
     ensures fresh { HavesAreNew A }
@@ -166,15 +168,15 @@ pub fn haves_are_held<A: Allocator + Copy>()
     reaching_goes_on::<A>();
 }
 
-/// The walk that a session keeps is still right after a reply of acknowledgments alone.
+/// The walk that selects haves remains valid after a reply with only acknowledgments.
 pub fn offers_stay<A: Allocator + Copy, K: Indexer<A>>()
     ensures { (k : K) → OffersStay (K.indexes k) (K.index_fails k) }
 {
     distinct_are_once();
 }
 
-/// The common ids after a reply are those before it and those that it acknowledges. After every
-/// call, each common id was common before it, or was a have of the open request.
+/// The common ids after a reply are the old common ids and the acknowledged ids. After every call,
+/// each common id was common before the call, or was a have of the open request.
 pub fn commons_are_haves<A: Allocator + Copy, K: Indexer<A>>()
     ensures replies { (k : K) → RepliesAddCommons (K.indexes k) (K.index_fails k) }
     ensures calls { (k : K) → CommonsAreHaves (K.indexes k) (K.index_fails k) }
@@ -182,14 +184,15 @@ pub fn commons_are_haves<A: Allocator + Copy, K: Indexer<A>>()
     distinct_are_once();
 }
 
-/// If a reply is taken or refused, the graph only gains objects; refs and marks are unchanged.
+/// After a reply, accepted or rejected, the graph only gained objects, and refs and marks are
+/// unchanged.
 #[tactic(auto, using(crate::proofs::LawLemmas::taking_only_grows))]
 pub fn taking_only_grows<A: Allocator + Copy, K: Indexer<A>>()
     ensures { (k : K) → TakingOnlyGrows (K.indexes k) (K.index_fails k) }
 {}
 
-/// If the bytes to be read are known, they and the result determine the session after a reply to
-/// fetch, whatever list the indexer makes of its pack.
+/// The bytes of a reply to fetch and the result of reading it determine the session afterwards,
+/// whatever objects the indexer returns.
 #[tactic(auto, using(crate::proofs::LawLemmas::taking_is_decided))]
 pub fn taking_is_decided<A: Allocator + Copy, K: Indexer<A>>()
     ensures { (k : K) → TakingIsDecided (K.indexes k) (K.index_fails k) }
@@ -197,8 +200,7 @@ pub fn taking_is_decided<A: Allocator + Copy, K: Indexer<A>>()
     reads_exactly();
 }
 
-/// If the bytes to be read are known, they and the result determine the session after a reply to
-/// ls-refs.
+/// The bytes of a reply to ls-refs and the result of reading it determine the session afterwards.
 #[tactic(auto, using(crate::proofs::LawLemmas::listing_is_decided))]
 pub fn listing_is_decided<A: Allocator + Copy>()
     ensures { ListingIsDecided A }
@@ -206,7 +208,8 @@ pub fn listing_is_decided<A: Allocator + Copy>()
     glsreply::laws::reads_exactly();
 }
 
-/// Each call of a session that is over fails with `NoOpenRequest`, and reads and changes nothing.
+/// Each call of a session that is over fails with `NoOpenRequest`, reads nothing and changes
+/// nothing.
 #[tactic(auto, using(crate::proofs::LawLemmas::over_laws))]
 pub fn over_refuses<A: Allocator + Copy, K: Indexer<A>>()
     ensures hear { OverHearsNone A }

@@ -1,83 +1,85 @@
 //! A client's session: its conversation with one server, from the request for refs to the update of
-//! the local refs (gitprotocol-v2(5), "ls-refs" and "fetch"). A [`Session`] makes each request and
-//! takes each reply. The owner of the connection sends and reads them.
+//! the local refs (gitprotocol-v2(5), "ls-refs" and "fetch"). A [`Session`] makes the requests and
+//! parses the replies. The caller owns the connection, and sends the requests.
 //!
 //! # Proved
 //!
-//! - [`Session::begin`] keeps the refspecs and the distinct ids of the refs, in the order of their
-//!   names, unless there are more than 16 refspecs. [`Session::hear`] keeps whether the server
+//! - [`Session::begin`] stores the refspecs and the distinct ids of the local refs, in the order of
+//!   their names. It fails for more than 16 refspecs. [`Session::hear`] stores whether the server
 //!   reports an unborn `HEAD`.
-//! - [`Session::request`] makes the next request. One for refs has the sources of the refspecs,
-//!   each once, and asks for an unborn `HEAD` exactly when the server offers to report it. One for
-//!   objects has the wants, the common ids, and a batch of ids that were not offered before.
-//!   Without a batch the client is done. It has `ofs-delta`, and lacks `no-progress`, exactly when
-//!   the session's options say so ([`Session::begin_with`]). The session and the graph determine
-//!   the request and the next session ([`laws`]). [`Session::request_on`] makes the same request by
-//!   a walk that goes on, while the graph does not change (`specs/Offering.antt`).
-//! - [`Session::take_ls`] reads one reply to its end, and nothing after it. Each local ref for
-//!   which a refspec matches a line gets exactly one ask. The first refspec and line for that ref
-//!   determine it, refspec by refspec and line by line ([`laws`]). The wants are the asked ids that
-//!   are not connected. A ref that can't have its name is reported at the reply's last packet. This
-//!   comes before too many wants and out of memory.
-//! - [`Session::take_reply`] reads one reply to its end, whatever its bytes are, and nothing after
-//!   it. Each id that is common from then on was a have of the request. The repository gains a list
-//!   that the indexer may return for the pack, all of it or none. A refused reply is reported
-//!   first, then an id that the request did not name, then the indexer's fault, then the graph's.
-//!   Out of memory refuses a reply only at an acknowledged id. The indexer's fault never refuses a
-//!   reply at one of its packets. Once it is read, out of memory is reported only if no id is
-//!   strange and the indexer took the pack.
-//! - [`Session::settle`] moves the refs as `Repo::settle` does, once a pack was taken or nothing is
-//!   wanted.
-//! - [`Session::is_due`] says whether a request is to be made next.
-//! - [`Session::open_request`] lends the request that waits, so that it can be written. Its ids
-//!   have the session's format. [`Session::asks`] and [`Session::wants`] lend the asks and the
-//!   wants.
+//! - [`Session::request`] makes the next request. A request for refs has the source of each refspec
+//!   as a prefix, and has `unborn` exactly when the server offers to report an unborn `HEAD`. A
+//!   request for objects has the wants, and as haves the common ids and a batch of new ids. A
+//!   request without a batch has `done`. The session's options determine whether a request has
+//!   `ofs-delta` and `no-progress` ([`Session::begin_with`]). The session and the graph determine
+//!   the request and the next session ([`laws`]). [`Session::request_on`] makes the same request,
+//!   but continues the walk of the previous request (`specs/Offering.antt`). It requires that the
+//!   graph did not change since that request.
+//! - [`Session::take_ls`] reads one reply to ls-refs to its end, and nothing after it. Each local
+//!   ref to which a refspec maps a line of the reply gets exactly one ask. The first refspec that
+//!   leads to the ref, and its first such line, determine the ask ([`laws`]). The wants are the
+//!   asked ids that are not connected. If the name of a local ref would be invalid, the fault gives
+//!   the position of the reply's last packet. This fault precedes too many wants and out of memory.
+//! - [`Session::take_reply`] reads one reply to fetch to its end, and nothing after it. Each id
+//!   that becomes common was a have of the request. The repository gains all objects that the
+//!   indexer returns for the pack, or none. The order of faults is: a malformed packet, an
+//!   acknowledged id that is no have, the indexer's fault, the graph's fault. A packet fails for
+//!   lack of memory only if it acknowledges an id. A fault of the indexer does not stop the reading
+//!   of the reply. After the end of a reply, out of memory is reported only if all acknowledged ids
+//!   are haves and the indexer accepted the pack.
+//! - [`Session::settle`] updates the local refs like `Repo::settle`, once a pack has arrived or if
+//!   there are no wants.
+//! - [`Session::is_due`] returns whether the session has a next request to make.
+//! - [`Session::open_request`] borrows the request that waits for its reply, so that the caller can
+//!   write it. The ids of the request have the session's format. [`Session::asks`] and
+//!   [`Session::wants`] borrow the asks and the wants.
 //! - A call that does not fit the stage of the session changes nothing, and reads nothing. Every
-//!   other fault ends the session, and leaves objects and refs unchanged. Every later call is then
-//!   refused.
-//! - A reader of replies goes on after a reply that was read to its end. After a refused reply it
-//!   stays where reading stopped.
-//! - If the bytes to be read are known, they and the result determine the session after a reply to
-//!   fetch. Each request without `done` names an id that none before it offered, and none follows
-//!   one with `done`. So a session asks for objects at most N + 1 times, if its tips reach N ids
-//!   ([`laws`]).
-//! - Each fault has the number, the name and the text of its row. No call panics, overflows or
-//!   reads out of bounds. Each returns if the reader's calls return.
+//!   other fault ends the session, and leaves objects and refs unchanged. After the end of a
+//!   session, every call fails.
+//! - After a complete reply, the reader can read the next message. After a malformed reply, the
+//!   reader remains at the position where the reading stopped.
+//! - The bytes of a reply to fetch and the result of reading it determine the session afterwards.
+//!   Each request without `done` has a new have, and no request follows a request with `done`. So a
+//!   session makes at most N + 1 requests for objects, if its tips reach N ids ([`laws`]).
+//! - Each fault has the number, the name and the text of its row in `specs/Faults.antt`. No call
+//!   panics, overflows or reads out of bounds. A call returns if each call of its reader returns.
 //!
 //! # Only tested
 //!
-//! Available memory is used. The program `conformance` refuses each allocation of many fetches in
-//! turn.
+//! If memory is available, calls use it instead of reporting out of memory. The program
+//! `conformance` repeats many fetches, and makes one allocation after another fail.
 //!
 //! # What the contracts do not rule out
 //!
-//! It may report out of memory as often as it likes if no fault precedes. This can hide these
-//! faults, since the work that finds them takes memory:
+//! A call may report out of memory although memory is available, if no earlier fault occurs. Out of
+//! memory can hide the following faults, because the checks for them need memory:
 //!
-//! - A fault of a later packet of a reply. The refs of a reply to ls-refs are kept until its end,
-//!   and so are the acknowledged ids of a reply to fetch.
-//! - Too many wants. They are counted after the asks are kept and their distinct ids are listed,
-//!   and an id may need a walk.
-//! - The graph's fault of a pack. The graph finds it while it makes room for the objects. The list
-//!   of common ids is made before that, since inserted objects can't be taken back.
-//! - At [`Session::settle`], an id that is not connected and refs that can't be set, if
-//!   `gclientrepo` needs a walk.
+//! - A fault of a later packet of a reply. A session stores the refs or the acknowledged ids of a
+//!   reply until the end of the reply.
+//! - Too many wants. The session counts wants after it stored the asks and their distinct ids, and
+//!   an id may need a walk.
+//! - A fault of the graph for a pack. The graph detects this fault while it allocates memory for
+//!   the objects. The session allocates the list of common ids earlier, because the graph can't
+//!   remove inserted objects.
+//! - An unconnected id or a ref that can't be set, if [`Session::settle`] needs a walk in
+//!   `gclientrepo`.
 //!
-//! It may keep all of a pack and feed it once, start the indexer more often than necessary, or feed
-//! it after its fault. It may take as long as it likes, and more memory than it needs. Formatting a
-//! fault may return an error (`fmt::Error`) although the text would be right.
+//! A session may store a complete pack before it passes the pack to the indexer. It may start the
+//! indexer more often than necessary, or pass it bytes after a fault. A call may take any time, and
+//! more memory than it needs. Formatting a fault may return `fmt::Error` without a cause.
 //!
-//! No clause bounds the work. [`Session::request`] walks from the tips anew.
-//! [`Session::request_on`] continues the walk of the request before, so all requests over one graph
-//! cost as much as one walk. An asked id is only looked up if it is not held, if the refs reach it,
-//! or if parents came first in the graph. Any other costs a walk, which stops at objects that the
-//! refs reach. Acknowledged ids are looked up in a set.
+//! No clause bounds the time of a call. The method [`Session::request`] starts each walk at the
+//! tips. [`Session::request_on`] continues the walk of the previous request, so all requests over
+//! the same graph cost as much as one walk. For an asked id that is absent, or that the local refs
+//! reach, a look-up decides whether it is connected. A look-up is also enough if the graph stores
+//! parents first. Any other asked id needs a walk, which stops at objects that the local refs
+//! reach. A set speeds up the check of acknowledged ids.
 //!
 //! # Stands on
 //!
-//! `grefs` for refspecs, `gclientrepo` for the repository, `ggraph` and `gwalk` for offers,
-//! `gobject` for indexers, `indexmap` for sets of ids. `grequest`, `glsreply`, `gfetchreply` and
-//! `ghello` for messages.
+//! `grefs` for refspecs, `gclientrepo` for the repository, `ggraph` and `gwalk` for the walk that
+//! selects haves, `gobject` for indexers, and `indexmap` for sets of ids. `grequest`, `glsreply`,
+//! `gfetchreply` and `ghello` for messages.
 #![tactic(auto)]
 
 mod acks;

@@ -8,17 +8,17 @@ use ggrammar::Ends;
 use grefs::Spec;
 use std::alloc::{Allocator, Global};
 
-/// The options with which a session asks for packs (gitprotocol-v2(5), "fetch").
+/// The options of a session's requests for packs (gitprotocol-v2(5), "fetch").
 #[derive(Clone, Copy, Debug, PartialEq, Eq)]
 pub struct PackOptions {
-    /// Whether a delta may name its base by its offset in the pack: each request for objects has
-    /// `ofs-delta`.
+    /// Whether each request for objects has `ofs-delta`, so that a delta may give its base as an
+    /// offset in the pack.
     pub ofs_delta: bool,
-    /// Whether the server may report progress: no request for objects has `no-progress`.
+    /// Whether the server may report progress. If not, each request for objects has `no-progress`.
     pub progress: bool,
 }
 
-/// No option: each request for objects has `no-progress`, and none has `ofs-delta`.
+/// The default options. Each request for objects has `no-progress`, and no request has `ofs-delta`.
 impl Default for PackOptions {
     ghost is_default = { λ options. options ≡ no_options };
 
@@ -33,12 +33,13 @@ impl Default for PackOptions {
 /// The parameters of a session's fetch.
 #[derive(Clone, Copy)]
 pub struct FetchPlan<'a, A: Allocator + Copy = Global> {
-    /// The refspecs, at most 16. If several lead to one local ref, the first counts.
+    /// The refspecs, at most 16. If several refspecs map to the same local ref, the first one
+    /// counts.
     pub specs: &'a [Spec<A>],
     /// The maximum size of a pack in bytes.
     pub limit: PackLimit,
-    /// How each reply ends.
+    /// Whether a response-end packet follows each reply.
     pub ends: Ends,
-    /// The options with which packs are requested.
+    /// The options of requests for packs.
     pub options: PackOptions,
 }

@@ -17,7 +17,7 @@ use grefs::Spec;
 use grequest::{FetchFlag, FetchRequest, LsRefsFlag, LsRefsRequest, Request};
 use std::alloc::{AllocError, Allocator};
 
-/// Returns how many ids are offered after `rounds` rounds.
+/// Returns the number of new ids that a request offers after `rounds` rounds.
 pub(crate) fn batch_size(rounds: usize) -> usize
     ensures { result ≡ batch_size rounds }
 {
@@ -34,7 +34,7 @@ pub(crate) fn batch_size(rounds: usize) -> usize
     }
 }
 
-/// Returns the request for refs. Fails if out of memory.
+/// Returns the request for refs that the refspecs may match. Fails if out of memory.
 pub(crate) fn refs_request<A: Allocator + Copy>(
     alloc: A,
     specs: &[Spec<A>],
@@ -53,7 +53,7 @@ pub(crate) fn refs_request<A: Allocator + Copy>(
     Ok(Request::Ls(request))
 }
 
-// Adds a prefix of names to a request, unless the request has it.
+// Adds a prefix of ref names to a request, unless the request already has this prefix.
 fn add_prefix<A: Allocator + Copy>(
     prefix: &Prefix<A>,
     request: &mut LsRefsRequest<A>,
@@ -71,7 +71,7 @@ fn add_prefix<A: Allocator + Copy>(
     }
 }
 
-// Whether `prefixes` contains the prefix.
+// Returns whether `prefixes` contains the prefix.
 fn has_prefix<A: Allocator + Copy>(prefixes: &[Prefix<A>], prefix: &Prefix<A>) -> bool
     ensures { result ≡ is_in prefixes.now prefix.now }
 {
@@ -80,7 +80,7 @@ fn has_prefix<A: Allocator + Copy>(prefixes: &[Prefix<A>], prefix: &Prefix<A>) -
         .any(|other| other.as_bytes() == prefix.as_bytes())
 }
 
-/// Returns a request for objects that names no ids yet. Allocates nothing.
+/// Returns a request for objects without wants and haves. Allocates nothing.
 pub(crate) fn blank_request<A: Allocator + Copy>(
     alloc: A,
     format: Format,
@@ -95,8 +95,8 @@ pub(crate) fn blank_request<A: Allocator + Copy>(
     request
 }
 
-/// Returns the request for the wanted objects, from one that names no ids. The haves are the common
-/// ids and those of the batch, and without a batch the client is done. Fails if out of memory.
+/// Adds wants and haves to a request for objects. The haves are the common ids and the ids of the
+/// batch. A request with an empty batch has `done`. Fails if out of memory.
 pub(crate) fn objects_request<A: Allocator + Copy>(
     blank: FetchRequest<A>,
     wants: &[Oid],
@@ -159,7 +159,7 @@ fn add_haves<A: Allocator + Copy>(
     Ok(())
 }
 
-// Converts the fault of an argument that fits its request: out of memory.
+// Converts the only fault of an argument that fits into its request: out of memory.
 fn no_memory(fault: MessageFault) -> AllocError
     requires { fault.why ≡ Memory }
 {

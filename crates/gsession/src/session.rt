@@ -1,4 +1,4 @@
-//! A client's session: its beginning, its accessors, and its settling.
+//! A client's session: constructors, accessors, and the update of refs at the end.
 
 ghost use Rattle.std.specs.Prelude.{◌≡◌, ◌↔◌, [], IsTrue, All, MatchBool, MatchResult, Ok, Err, IfOk, IfSome, option_map};
 ghost use Rattle.std.specs.Map.{values_of};
@@ -30,9 +30,9 @@ use std::mem;
 /// The maximum number of refspecs of a session.
 pub const MAX_SPECS: usize = 16;
 
-/// A client's conversation with one server. It asks for refs, then for the wanted objects, round by
-/// round until a pack arrives, and finally moves the local refs. The owner of the connection sends
-/// each request, and passes the reader of the replies to the session.
+/// A client's conversation with one server. The session requests refs, then requests the wanted
+/// objects in rounds until a pack arrives, and finally updates the local refs. The caller owns the
+/// connection, sends each request, and passes the reader of the replies to the session.
 #[derive(Drop)]
 pub struct Session<A: Allocator + Copy = Global> {
     format: Format,
@@ -40,7 +40,7 @@ pub struct Session<A: Allocator + Copy = Global> {
     limit: PackLimit,
     ends: Ends,
     options: PackOptions,
-    // The distinct ids of the refs at its beginning.
+    // The distinct ids of the local refs at the beginning of the session.
     tips: Vec<Oid, A>,
     offers_unborn: bool,
     stage: Stage,
@@ -50,9 +50,9 @@ pub struct Session<A: Allocator + Copy = Global> {
     wants: Vec<Oid, A>,
     // The ids that the server has acknowledged.
     commons: Vec<Oid, A>,
-    // The ids that were offered, of all batches.
+    // The ids that the session offered, of all batches.
     sent: Vec<Oid, A>,
-    // How many requests asked for objects.
+    // The number of requests for objects.
     rounds: usize,
 }
 
@@ -75,12 +75,13 @@ impl<A: Allocator + Copy> Session<A> {
     ghost use Rattle.gsession.specs.Sessions.{Begins, BeginsWith, Hears, IsBegun, IsSession, after_fault, over};
     ghost use Rattle.gsession.specs.SettlingRefs.{SettlesSession};
 
-    /// Begins a session that fetches by these refspecs from a server; nothing was sent to the
-    /// server yet. It keeps the distinct ids of the refs, in the order of their names. Its offers
-    /// start at these ids. A session without refspecs asks for nothing.
+    /// Begins a session that fetches the refs that match these refspecs. The client has sent
+    /// nothing to the server yet. The session stores the distinct ids of the local refs, in the
+    /// order of their names, and offers these ids and their ancestors as haves. A session without
+    /// refspecs has no asks.
     ///
-    /// It has no option for packs. Fails with `TooManySpecs` for more than 16 refspecs, and if out
-    /// of memory.
+    /// The session has the default pack options. Fails with `TooManySpecs` for more than 16
+    /// refspecs, and with `Repo` if out of memory.
     pub fn begin(
         alloc: A,
         repo: &Repo<A>,
@@ -99,9 +100,9 @@ impl<A: Allocator + Copy> Session<A> {
         Session::begin_with(alloc, repo, &plan)
     }
 
-    /// Begins a session as [`Session::begin`] does, with options for packs.
+    /// Begins a session like [`Session::begin`], with pack options.
     ///
-    /// Fails as `begin` does.
+    /// Fails like `begin`.
     pub fn begin_with(
         alloc: A,
         repo: &Repo<A>,
@@ -133,11 +134,10 @@ impl<A: Allocator + Copy> Session<A> {
         })
     }
 
-    /// Reads from the server's advertisement whether it reports an unborn `HEAD`
-    /// (gitprotocol-v2(5), "ls-refs"). If it is called several times, the last advertisement
-    /// counts.
+    /// Reads from the advertisement whether the server reports an unborn `HEAD` (gitprotocol-v2(5),
+    /// "ls-refs"). After several calls, the last advertisement counts.
     ///
-    /// Fails with `NoOpenRequest` after the first request, and nothing changes then.
+    /// Fails with `NoOpenRequest` after the first request, and leaves the session unchanged.
     pub fn hear(&mut self, advert: &Advert<A>) -> Result<(), ClientFault<A>>
         ensures { Hears self.old advert.now self.new result }
     {
@@ -148,7 +148,7 @@ impl<A: Allocator + Copy> Session<A> {
         Ok(())
     }
 
-    // Whether nothing has been requested yet.
+    // Returns whether the session has made no request yet.
     fn is_begun(&self) -> bool
         ensures { MatchBool result (IsBegun self.now) (¬ (IsBegun self.now)) }
     {
@@ -158,7 +158,8 @@ impl<A: Allocator + Copy> Session<A> {
         }
     }
 
-    /// Returns the request that waits for its reply. Its ids have the session's format.
+    /// Returns the request that waits for its reply. The ids of the request have the session's
+    /// format.
     pub fn open_request(&self) -> Option<&Request<A>>
         ensures pending { option_map asked_by_request (option_copied result) ≡ self.now.pending }
         ensures format { IfSome (option_copied result) (IsOfFormat self.now.format) }
@@ -167,8 +168,8 @@ impl<A: Allocator + Copy> Session<A> {
         self.pending.as_ref()
     }
 
-    /// Returns the asks: the local refs to move, their ids, and whether each is forced. Settling
-    /// gives them to the caller.
+    /// Returns the asks: the local refs to update, their new ids, and whether each update is
+    /// forced. [`Session::settle`] moves the asks to the caller.
     pub fn asks(&self) -> &Asks<A>
         ensures { result.now ≡ self.now.asks }
     {
@@ -190,7 +191,8 @@ impl<A: Allocator + Copy> Session<A> {
         self.commons.as_slice()
     }
 
-    /// Returns how many requests for objects were made, each a round.
+    /// Returns the number of requests for objects that the session made. Each such request is a
+    /// round.
     pub fn rounds(&self) -> usize
         ensures rounds { result ≡ self.now.rounds }
         ensures session { IsSession self.now }
@@ -198,7 +200,7 @@ impl<A: Allocator + Copy> Session<A> {
         self.rounds
     }
 
-    /// A law: the properties of each session.
+    /// A law: the invariants of each session.
     pub fn laws(&self)
         ensures { IsSession self.now }
     {
@@ -210,7 +212,7 @@ impl<A: Allocator + Copy> Session<A> {
         *self.wants.allocator()
     }
 
-    // Ends the session by a fault, unless the call did not fit its stage.
+    // Returns the fault, and ends the session unless the fault is `NoOpenRequest`.
     fn end_by(&mut self, fault: ClientFault<A>) -> ClientFault<A>
         ensures fault { result ≡ fault }
         ensures session { self.new ≡ after_fault self.old fault }
@@ -229,13 +231,13 @@ impl<A: Allocator + Copy> Session<A> {
         set_pending(&mut self.pending, None);
     }
 
-    /// Moves the local refs, all at once, if each asked id is connected. Sets each ref to the asked
-    /// id if the ref is new, forced or fast-forwarded. Returns the outcome of each ask. The session
-    /// is over then.
+    /// Updates the local refs, all at once, if each asked id is connected. Sets each ref to the
+    /// asked id if the ref is new, forced or fast-forwarded. Returns the outcome of each ask. The
+    /// call ends the session.
     ///
-    /// Fails with `NoOpenRequest` before a pack is taken, unless nothing is wanted; nothing changes
-    /// then. Otherwise fails with `Repo`, as `Repo::settle` does; the session is over, and the
-    /// repository unchanged.
+    /// Fails with `NoOpenRequest` before the pack has arrived, unless there are no wants, and
+    /// changes nothing. Otherwise fails with `Repo`, like `Repo::settle`. This fault ends the
+    /// session, and leaves the repository unchanged.
     pub fn settle(&mut self, repo: &mut Repo<A>) -> Result<Settled<A>, ClientFault<A>>
         ensures { MatchResult result
             (λ settled. SettlesSession self.old repo.old self.new repo.new
@@ -251,7 +253,7 @@ impl<A: Allocator + Copy> Session<A> {
         Ok(Settled { asks, updates })
     }
 
-    // Whether the session is ready to settle.
+    // Returns whether the session is ready to update the local refs.
     fn is_settling(&self) -> bool
         ensures { IsTrue result ↔ (self.now.stage ≡ Stage.Settling) }
     {
@@ -261,7 +263,7 @@ impl<A: Allocator + Copy> Session<A> {
         }
     }
 
-    // Takes the asks out of a session that is over.
+    // Moves the asks out of a session that is over.
     fn take_asks(&mut self) -> Asks<A>
         requires stage { self.old.stage ≡ Stage.Over }
         requires pending { self.old.pending ≡ None }
@@ -273,14 +275,14 @@ impl<A: Allocator + Copy> Session<A> {
     }
 }
 
-// Sets or clears the request that waits for its reply. Only this function drops a waiting request.
+// Sets or clears the open request. Only this function drops an open request.
 fn set_pending<A: Allocator + Copy>(pending: &mut Option<Request<A>>, next: Option<Request<A>>)
     ensures { pending.new ≡ next }
 {
     *pending = next;
 }
 
-// Copies refspecs.
+// Copies the refspecs.
 fn copy_specs<A: Allocator + Copy>(
     alloc: A,
     specs: &[Spec<A>],
@@ -297,7 +299,7 @@ fn copy_specs<A: Allocator + Copy>(
     Ok(copies)
 }
 
-// Returns the distinct ids of the refs, in the order of their names.
+// Returns the distinct ids of the local refs, in the order of the refs' names.
 fn tips_of<A: Allocator + Copy>(alloc: A, repo: &Repo<A>) -> Result<Vec<Oid, A>, AllocError>
     ensures tips { IfOk result (λ tips. tips.items ≡ distinct_of (values_of repo.now.refs)) }
     ensures ids { IfOk result (λ tips. All (IsIdOf repo.now.graph.format) tips.items) }

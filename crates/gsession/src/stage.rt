@@ -1,14 +1,14 @@
 //! The stages of a session.
 
-/// The stage of a session: what it waits for, or asks for next.
+/// The stage of a session: the subject of its open or next request.
 #[derive(Clone, Copy, Drop)]
 pub enum Stage {
-    /// The refs of the server.
+    /// The session requests the refs of the server.
     Listing,
-    /// The objects that are wanted.
+    /// The session requests the wanted objects.
     Fetching,
-    /// Nothing more from the server: the local refs may move.
+    /// The session needs nothing more from the server, and can update the local refs.
     Settling,
-    /// Nothing: the session is over.
+    /// The session is over.
     Over,
 }

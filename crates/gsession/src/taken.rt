@@ -1,33 +1,33 @@
-//! The results of a session.
+//! The results of a session's calls.
 
 use gclientrepo::{Asks, RefUpdate};
 use gname::RefName;
 use std::alloc::{Allocator, Global};
 
-/// The result of a reply to ls-refs.
+/// The content of an accepted reply to ls-refs.
 #[derive(Debug, Drop)]
 pub struct LsTaken<A: Allocator + Copy = Global> {
-    /// How many refs have an ask.
+    /// The number of asks: local refs to update.
     pub asks: usize,
-    /// How many objects the asks need.
+    /// The number of wants: objects that the asks need.
     pub wants: usize,
-    /// The ref that an unborn `HEAD` points at, if a refspec fetches `HEAD`.
+    /// The ref that the server's unborn `HEAD` points at, if a refspec fetches `HEAD`.
     pub unborn: Option<RefName<A>>,
 }
 
-/// The result of a reply to fetch.
+/// The content of an accepted reply to fetch.
 #[derive(Clone, Copy, Debug, PartialEq, Eq, Drop)]
 pub enum Taken {
-    /// Acknowledgments alone: `common` ids are common so far.
+    /// The reply had only acknowledgments. The session now has `common` common ids.
     Round { common: usize },
-    /// A pack, too: `added` of its objects are new.
+    /// The reply had a pack. The repository gained `added` new objects.
     PackTaken { added: usize },
 }
 
-/// The asks, and their outcomes in the same order.
+/// The asks of a session, and their outcomes in the same order.
 #[derive(Debug, Drop)]
 pub struct Settled<A: Allocator + Copy = Global> {
-    /// The asks.
+    /// The asks, in the order in which they were added.
     pub asks: Asks<A>,
     /// The outcome of each ask.
     pub updates: Vec<RefUpdate, A>,

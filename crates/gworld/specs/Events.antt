@@ -1,4 +1,4 @@
--- What an event does to a world, and its outcome. What a step does not name stays as it was.
+-- The effect of each event on a world, and its outcome. A step leaves every field that it does not name unchanged.
 use Rattle.std.specs.Prelude.{◌≡◌, ◌≢◌, ◌⊎◌, ◌↔◌, ℕ, Bool, true, false, List, [], ◌∷◌, ◌++◌, length, take, count_by}
 use Rattle.std.specs.Prelude.{slice_get, if◌then◌else◌, IsTrue, Option, None, Some, Ok, Err}
 use Rattle.gname.specs.Ids.{Id}
@@ -56,18 +56,17 @@ abbrev pub is_not_forward : RefUpdate → Bool
 is_not_forward update.NotForward = true
 is_not_forward _ = false
 
--- how many refs moved, stood at their ids already, and stayed because the move would have been no fast-forward
+-- the numbers of refs that moved, that already had their ids, and whose update was not a fast-forward
 abbrev pub settled_outcome : List RefUpdate → Outcome
 settled_outcome updates =
     outcomes.Settled (count_by is_moved updates) (count_by is_same updates) (count_by is_not_forward updates)
 
 module _ {A : Type 0} where
-  -- the event is refused with a fault of this number, and nothing changes
+  -- the event fails with the fault of this number, and the world is unchanged
   abbrev pub IsRefused : ℕ → WorldState A → Outcome → WorldState A → Type 0
   IsRefused number w outcome new = (outcome ≡ outcomes.Fault number) × (new ≡ w)
 
-  -- `Begin`: a session begins and replaces any other, and hears the server's advertisement; or it can't begin, and
-  -- the old session goes on
+  -- `Begin`: a new session reads the server's advertisement and replaces the old session, or the beginning fails
   abbrev pub BeginsSession : WorldState A → List Refspec → Outcome → WorldState A → Type 0
   BeginsSession w specs outcomes.Done new =
       (begun session : SessionState A) × Begins w.repo specs default_limit Plain (Ok begun)
@@ -78,11 +77,11 @@ module _ {A : Type 0} where
       × (number ≡ code_of fault) × (new ≡ w)
   BeginsSession w specs _ new = ⊥
 
-  -- whether the session is answered after a fault: not after one that ends it
+  -- the mark `answered` after a fault: a fault that ends the session clears the mark
   abbrev pub mark_after : ClientFault A → Bool → Bool
   mark_after fault mark = if ends_session fault then false else mark
 
-  -- `Ask`: the session makes its next request, and the client sends it; or the session makes none
+  -- `Ask`: the session makes its next request and the client sends it, or the request fails
   abbrev pub AsksNext : WorldState A → Option (SessionState A) → Outcome → WorldState A → Type 0
   AsksNext w None outcome new = IsRefused out_of_turn w outcome new
   AsksNext w (Some s) (outcomes.Asked number) new =
@@ -94,7 +93,7 @@ module _ {A : Type 0} where
       × (new ≡ record w { session = Some after; answered = mark_after fault w.answered })
   AsksNext w (Some s) _ new = ⊥
 
-  -- `Settle`: the session settles what it asked for, and is over; or it is refused
+  -- `Settle`: the session updates the local refs and is over, or the update fails
   abbrev pub SettlesRefs : WorldState A → Option (SessionState A) → Outcome → WorldState A → Type 0
   SettlesRefs w None outcome new = IsRefused out_of_turn w outcome new
   SettlesRefs w (Some s) (outcomes.Settled moved same not_forward) new =
@@ -108,19 +107,19 @@ module _ {A : Type 0} where
       × (new ≡ record w { session = Some after; repo = repo; answered = mark_after fault w.answered })
   SettlesRefs w (Some s) _ new = ⊥
 
-  -- `RestartClient`: the client keeps its repository, and has no session
+  -- `RestartClient`: the client keeps its repository and loses its session
   abbrev pub Restarts : WorldState A → Outcome → WorldState A → Type 0
   Restarts w outcome new = (outcome ≡ outcomes.Done) × (new ≡ record w { session = None; answered = false })
 
   -- ---- changes of the two repositories
 
-  -- the graph holds the entry's id, with another object
+  -- the graph holds the entry's id with a different object
   pub record Disagrees (g : List (Entry A)) (entry : Entry A) : Type 0 where
     pub node : Node A
     pub held : IsNode g entry.id node
     pub differs : node ≢ entry.node
 
-  -- `ServerAdd`: an object comes to the server; or the client has another object under its id; or the server refuses it
+  -- `ServerAdd`: the server gains an object, the client holds its id with a different object, or the server rejects it
   abbrev pub AddsAtServer : WorldState A → Entry A → Outcome → WorldState A → Type 0
   AddsAtServer w entry outcomes.Done new =
       AgreesWith w.repo.graph.entries entry
@@ -132,7 +131,7 @@ module _ {A : Type 0} where
       × ((fault : BuildFault A) × Adds w.server entry w.server (Err fault) × (number ≡ (build_fault_row fault).0))))
   AddsAtServer w entry _ new = ⊥
 
-  -- `ServerRef`: a ref of the server is set; or the server refuses it
+  -- `ServerRef`: a ref of the server is set, or the server rejects the change
   abbrev pub SetsAtServer : WorldState A → Name → Id → Outcome → WorldState A → Type 0
   SetsAtServer w name id outcomes.Done new =
       (server : Server A) × Sets w.server name id server (Ok tt) × (new ≡ record w { server = server })
@@ -141,7 +140,7 @@ module _ {A : Type 0} where
       × (new ≡ w)
   SetsAtServer w name id _ new = ⊥
 
-  -- `ClientAdd`: an object comes to the client; or the server has another object under its id; or the client refuses it
+  -- `ClientAdd`: the client gains an object, the server holds its id with a different object, or the client rejects it
   abbrev pub AddsAtClient : WorldState A → Entry A → Outcome → WorldState A → Type 0
   AddsAtClient w entry outcomes.Done new =
       AgreesWith w.server.graph.entries entry
@@ -154,7 +153,7 @@ module _ {A : Type 0} where
       × ((fault : RepoFault A) × AddsLocal w.repo entry w.repo (Err fault) × (number ≡ (repo_fault_row fault).0))))
   AddsAtClient w entry _ new = ⊥
 
-  -- `ClientRef`: a ref of the client is set; or the client refuses it
+  -- `ClientRef`: a ref of the client is set, or the client rejects the change
   abbrev pub SetsAtClient : WorldState A → Name → Id → Outcome → WorldState A → Type 0
   SetsAtClient w name id outcomes.Done new =
       (repo : RepoState A) × SetsLocal w.repo name id repo (Ok tt) × (new ≡ record w { repo = repo })
@@ -165,21 +164,21 @@ module _ {A : Type 0} where
 
 -- ---- the server
 
--- how many bytes the server wrote; where it ended the conversation out of memory, the number of that fault
+-- the number of bytes that the server wrote, or the number of its fault if it ran out of memory
 abbrev pub stranger_outcome : ℕ → End → Outcome
 stranger_outcome written (end.Refused fault) =
     if lacks_memory fault then outcomes.Fault (serve_fault_row fault).code else outcomes.StrangerServed written
 stranger_outcome written _ = outcomes.StrangerServed written
 
--- the outcome of a conversation with a stranger that sends these bytes
+-- the outcome of a conversation with an unknown client that sends these bytes
 abbrev pub TalksTo : {A : Type 0} → Server A → Packs A → PackFails A → Bytes → Outcome → Type 0
 TalksTo server packs pack_fails bytes outcome =
     (written : Bytes) × (ended : End) × Talks server packs pack_fails Plain bytes written ended
     × (outcome ≡ stranger_outcome (length written) ended)
 
 module _ {A : Type 0} (packs : Packs A) (pack_fails : PackFails A) where
-  -- `Serve`: the server answers a request that was sent, and the reply is kept; or it refuses the request; or there is
-  -- no such request
+  -- `Serve`: the server replies to a sent request and the reply is kept, the server rejects it, or there is no such
+  -- request
   abbrev pub ServesRequest : WorldState A → Option Asked → Outcome → WorldState A → Type 0
   ServesRequest w None outcome new = IsRefused no_such w outcome new
   ServesRequest w (Some asked) (outcomes.Served number) new =
@@ -190,13 +189,13 @@ module _ {A : Type 0} (packs : Packs A) (pack_fails : PackFails A) where
       × (new ≡ w)
   ServesRequest w (Some asked) _ new = ⊥
 
-  -- `StrangeRequest`: the server talks to a stranger, and nothing changes
+  -- `StrangeRequest`: the server talks to an unknown client, and the world is unchanged
   abbrev pub HearsStranger : WorldState A → Bytes → Outcome → WorldState A → Type 0
   HearsStranger w bytes outcome new = (new ≡ w) × TalksTo w.server packs pack_fails bytes outcome
 
--- ---- bytes that come to the client
+-- ---- bytes that arrive at the client
 
--- the session, and its request that waits for a reply, if one does
+-- the session with its open request, if the session has an open request
 abbrev pub waits_for : {A : Type 0} → SessionState A → Option Asked → Option (SessionState A × Asked)
 waits_for s None = None
 waits_for s (Some asked) = Some (s, asked)
@@ -206,8 +205,8 @@ waiting_session None = None
 waiting_session (Some s) = waits_for s s.pending
 
 module _ {A : Type 0} (indexes : Indexes A) (index_fails : IndexFails) where
-  -- The bytes come as the reply to the request that waits, which changes the session and the repository. `forged` and
-  -- `answered` are then these. A session that waits is not answered, so that is never lost here.
+  -- The bytes arrive as the reply to the open request, and change the session and the repository. The marks `forged`
+  -- and `answered` are set to the given values. A session with an open request is never marked as answered before.
   pub record BytesCome (w : WorldState A) (s : SessionState A) (asked : Asked) (bytes : Bytes) (forged answered : Bool)
       (outcome : Outcome) (new : WorldState A) : Type 0 where
     pub after : SessionState A
@@ -215,8 +214,9 @@ module _ {A : Type 0} (indexes : Indexes A) (index_fails : IndexFails) where
     pub takes : TakesBytes indexes index_fails asked s w.repo bytes outcome after repo
     pub is : new ≡ record w { session = Some after; repo = repo; forged = forged; answered = answered }
 
-  -- `Deliver`: the first so many bytes of a kept reply come; or no request waits; or there is no such reply. The
-  -- session is answered where all its bytes come, its request is equal to the one that waits, and its pack is taken.
+  -- `Deliver`: the first `count` bytes of a kept reply arrive, no request is open, or there is no such reply. A session
+  -- is marked as answered if the reply arrives complete, answers a request equal to the open one, and its pack is
+  -- accepted.
   abbrev pub Delivers : WorldState A → Option Kept → ℕ → Option (SessionState A × Asked) → Outcome → WorldState A
       → Type 0
   Delivers w None count waits outcome new = IsRefused no_such w outcome new
@@ -225,7 +225,7 @@ module _ {A : Type 0} (indexes : Indexes A) (index_fails : IndexFails) where
       (answered : Bool) × (IsTrue answered ↔ IsFullAnswer kept asked count outcome)
       × BytesCome w s asked (take count (reply_bytes kept.reply)) w.forged answered outcome new
 
-  -- `Forge`: any bytes come; or no request waits. From then on the world counts as forged.
+  -- `Forge`: the bytes arrive as a reply, or no request is open. Afterwards the world is marked as forged.
   abbrev pub Forges : WorldState A → Bytes → Option (SessionState A × Asked) → Outcome → WorldState A → Type 0
   Forges w bytes None outcome new = (outcome ≡ outcomes.Fault out_of_turn) × (new ≡ record w { forged = true })
   Forges w bytes (Some (s, asked)) outcome new = BytesCome w s asked bytes true false outcome new
@@ -233,7 +233,7 @@ module _ {A : Type 0} (indexes : Indexes A) (index_fails : IndexFails) where
 -- ---- all events
 
 module _ {A : Type 0} (tools : PackTools A) where
-  -- what an event does to a world, and its outcome
+  -- the effect of an event on a world, and its outcome
   abbrev pub Step : WorldState A → Event A → Outcome → WorldState A → Type 0
   Step w (event.Begin specs) outcome new = BeginsSession w specs.items outcome new
   Step w event.Ask outcome new = AsksNext w w.session outcome new

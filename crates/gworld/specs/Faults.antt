@@ -1,4 +1,4 @@
--- The tables of a world's own faults: the number, the name and the text of each.
+-- The tables of the faults of worlds: the number, the name and the text of each fault.
 use Rattle.std.specs.Prelude.{ℕ, codes}
 use Rattle.gname.specs.Faults.{FaultRow}
 use Rattle.gpkt.specs.Packets.{Bytes}
@@ -9,17 +9,17 @@ use Rattle.gworld.specs.declared.fault.RunFault.TheVariants as run
 use Rattle.gworld.specs.declared.fault.WorldFault.{WorldFault}
 use Rattle.gworld.specs.declared.fault.WorldFault.TheVariants as world
 
--- ---- the numbers of events that are refused
+-- ---- the numbers of faults that only worlds report
 
--- the server and the client would hold one id with two objects
+-- the event would give the same id different objects at the server and at the client
 abbrev pub disagreement : ℕ
 disagreement = 90
 
--- no request or no reply is at that position
+-- no request or no reply has the index of the event
 abbrev pub no_such : ℕ
 no_such = 93
 
--- the client's session does not wait for this: there is none, or another call is due
+-- the event does not fit the client's session: there is no session, or it is in another stage
 abbrev pub out_of_turn : ℕ
 out_of_turn = 83
 
@@ -29,19 +29,19 @@ out_of_turn = 83
 abbrev pub no_memory_to_read : ℕ
 no_memory_to_read = 53
 
--- a ref can't have its name
+-- the name of a local ref would be invalid
 abbrev pub bad_name : ℕ
 bad_name = 47
 
--- more objects are wanted than a request takes
+-- one request can't hold all wants
 abbrev pub too_many_wants : ℕ
 too_many_wants = 86
 
--- the pack has more bytes than a client takes
+-- the pack has more bytes than the limit of the client
 abbrev pub pack_over_limit : ℕ
 pack_over_limit = 48
 
--- a graph has as many objects as it can
+-- a graph has its maximum number of objects
 abbrev pub no_room : ℕ
 no_room = 61
 
@@ -49,11 +49,11 @@ no_room = 61
 abbrev pub memory_refused : ℕ
 memory_refused = 64
 
--- the packer makes no pack
+-- the packer fails to make a pack
 abbrev pub packer_failed : ℕ
 packer_failed = 65
 
--- the indexer reads no objects
+-- the indexer fails to read the objects of a pack
 abbrev pub indexer_failed : ℕ
 indexer_failed = 66
 
@@ -63,16 +63,16 @@ too_many_refs = 69
 
 -- ---- the faults
 
--- the two repositories have ids of two formats; or both hold one id, with two objects
+-- the number and the name of each reason for two repositories to form no world
 abbrev pub world_fault_row : WorldFault → FaultRow
 world_fault_row world.TwoFormats = (97, codes "TwoFormats")
 world_fault_row (world.Disagree id) = (disagreement, codes "Disagree")
 
--- out of memory to go on
+-- the number and the name of the fault of a run: out of memory
 abbrev pub run_fault_row : {A : Type 0} → RunFault A → FaultRow
 run_fault_row (run.Memory outcomes) = scenario_fault_row scenario.Memory
 
--- their texts
+-- the texts of the faults
 abbrev pub world_fault_text : WorldFault → Bytes
 world_fault_text world.TwoFormats = codes "server and client have two object formats"
 world_fault_text (world.Disagree id) = codes "server and client hold an id with two objects"

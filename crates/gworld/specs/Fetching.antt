@@ -1,4 +1,4 @@
--- A fetch as a whole: rounds in which each reply arrives whole, and the settle at their end.
+-- A complete fetch: rounds in which each reply arrives complete, and a final update of the refs.
 use Rattle.std.specs.Prelude.{◌≡◌, ◌⊎◌, ⊤, ℕ, ◌+◌, ◌≤◌, zero, suc, true, length, Some, slice_get}
 use Rattle.gdag.specs.Walks.{CountsReached}
 use Rattle.grequest.specs.Asked.{Asked}
@@ -14,14 +14,14 @@ use Rattle.gscenario.specs.declared.event.Event.TheVariants as event
 use Rattle.gworld.specs.declared.outcome.Outcome.{Outcome}
 use Rattle.gworld.specs.declared.outcome.Outcome.TheVariants as outcomes
 
--- the event was not refused
+-- the event succeeded
 abbrev pub IsDone : Outcome → Type 0
 IsDone (outcomes.Fault number) = ⊥
 IsDone _ = ⊤
 
 module _ {A : Type 0} (tools : PackTools A) where
-  -- The three events of a round: the client asks, the server serves this request, and all bytes of the reply to it
-  -- come. Each may be refused.
+  -- The three events of a round: the client sends a request, the server replies, and the complete reply arrives. Each
+  -- event may fail.
   pub record IsTried (w new : WorldState A) : Type 0 where
     pub count : ℕ
     pub asked : Outcome
@@ -35,25 +35,26 @@ module _ {A : Type 0} (tools : PackTools A) where
     pub whole : (kept : Kept) → slice_get after_serving.kept (length w.kept) ≡ Some kept →
         length (reply_bytes kept.reply) ≤ count
 
-  -- a round: no event was refused, since memory was there, and no limit was met
+  -- a round: all three events succeeded
   pub record IsRound (w new : WorldState A) : Type 0 where
     pub tried : IsTried w new
     pub is_asked : IsDone tried.asked
     pub is_served : IsDone tried.served
     pub is_brought : IsDone tried.brought
 
-  -- so many rounds
+  -- `n` rounds, one after the other
   abbrev pub Rounds : ℕ → WorldState A → WorldState A → Type 0
   Rounds zero w new = new ≡ w
   Rounds (suc n) w new = (next : WorldState A) × IsRound w next × Rounds n next new
 
-  -- a settle moves each ref that may move, unless there would be too many refs or the client is out of memory
+  -- an event `Settle` makes all allowed updates of refs, unless there would be too many refs or the client is out of
+  -- memory
   abbrev pub CanSettle : WorldState A → Type 0
   CanSettle w =
       (outcome : Outcome) (new : WorldState A) → Promises tools w event.Settle outcome new
       → IsSettledOrRefused w.repo w.session outcome new.repo
 
-  -- how a fetch stands after so many rounds: its next request is due, or it can settle
+  -- the state of a fetch after a number of rounds: the session has a next request to make, or it can settle
   pub record HasFetched (rounds reached : ℕ) (w : WorldState A) : Type 0 where
     pub session : SessionState A
     pub goes_on : w.session ≡ Some session
@@ -61,9 +62,8 @@ module _ {A : Type 0} (tools : PackTools A) where
         ((is_due session.stage session.pending ≡ true) × (rounds ≤ reached + 1))
         ⊎ (CanSettle w × (rounds ≤ reached + 2))
 
-  -- From a session that just began, in a world where nothing was forged, with a faithful packer and indexer: there are
-  -- at most `reached + 2` rounds, `reached` being how many ids its tips reach. After each the next request is due, or the
-  -- fetch can settle; and after `reached + 2` it can settle.
+  -- A fetch completes: a new session can settle after at most `reached + 2` rounds, if its tips reach `reached` ids. In
+  -- this world no bytes were forged, and the packer and the indexer are faithful.
   abbrev pub FetchesComplete : Type 0
   FetchesComplete =
       (w new : WorldState A) (begun : SessionState A) (rounds reached parents : ℕ)
@@ -71,16 +71,16 @@ module _ {A : Type 0} (tools : PackTools A) where
       → CountsReached (client_graph w) begun.tips reached parents → Rounds rounds w new
       → HasFetched rounds reached new
 
-  -- ---- why an event of a round is refused
+  -- ---- reasons for an event of a round to fail
 
-  -- the whole reply is taken, or the client declines it
+  -- the client accepts the complete reply, or rejects it for a limit or out of memory
   abbrev pub IsReplyTakenOrDeclined : WorldState A → SessionState A → Reply → Outcome → Type 0
   IsReplyTakenOrDeclined w s Nothing outcome = ⊥
   IsReplyTakenOrDeclined w s (Refs reply) outcome = IsListedOrDeclined w s reply outcome
   IsReplyTakenOrDeclined w s (Fetch reply) outcome = IsTakenOrDeclined tools w.repo reply outcome
 
-  -- The client asks, or is out of memory. If it asked, the server serves the request, or refuses it. If that was served,
-  -- the client takes the reply, or declines it. The server refuses, and the client declines, for a limit or out of memory.
+  -- The events of a round fail only for a limit or out of memory: the client's request, the server's reply to a
+  -- request, and the delivery of a reply.
   pub record StopsByLimits {w new : WorldState A} (tried : IsTried w new) : Type 0 where
     pub asks : IsDone tried.asked ⊎ (tried.asked ≡ outcomes.Fault memory_refused)
     pub serves : IsDone tried.asked →
@@ -89,8 +89,8 @@ module _ {A : Type 0} (tools : PackTools A) where
         (s : SessionState A) × (reply : Reply)
         × IsReplyTakenOrDeclined tried.after_serving s reply tried.brought
 
-  -- where the next request is due, nothing was forged, and packer and indexer are faithful, only limits and want of
-  -- memory refuse an event of a round
+  -- an event of a round fails only for a limit or out of memory, if no bytes were forged, and packer and indexer are
+  -- faithful
   abbrev pub OnlyLimitsRefuse : Type 0
   OnlyLimitsRefuse =
       (w new : WorldState A) (s : SessionState A) → IsUnforgedAndFaithful tools w → w.session ≡ Some s

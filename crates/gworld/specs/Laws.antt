@@ -1,4 +1,4 @@
--- What follows from the definitions of a world.
+-- Consequences of the definitions of a world.
 use Rattle.std.specs.Prelude.{◌≡◌, ⊤, ℕ, false, List, ◌++◌, All, IfSome}
 use Rattle.gdag.specs.Reach.{Grows}
 use Rattle.grefs.specs.RefLists.{IsRefs}
@@ -17,58 +17,57 @@ use Rattle.gscenario.specs.declared.event.Event.TheVariants as event
 use Rattle.gworld.specs.declared.outcome.Outcome.{Outcome}
 use Rattle.gworld.specs.declared.outcome.Outcome.TheVariants as outcomes
 
--- from a sound world each step that leaves both ends whole leads to a sound world, and keeps its promises
+-- each step from a sound world that leaves both ends connected leads to a sound world, and keeps its promises
 abbrev pub StepsKeep : {A : Type 0} → PackTools A → Type 0
 StepsKeep {A} tools =
     (w new : WorldState A) (event : Event A) (outcome : Outcome) → AreEndsConnected w → AreEndsConnected new
     → IsSound tools w → Step tools w event outcome new
     → IsSound tools new × Promises tools w event outcome new
 
--- What the definition of a step leaves open, and the types of server, repository and session keep: refs come in the
--- order of their names, and the lists of the session go with its stage.
+-- Invariants that the types of server, repository and session guarantee: refs are sorted by name, and the session is
+-- valid. The definition of a step does not imply them.
 pub record AreListed {A : Type 0} (w : WorldState A) : Type 0 where
   pub server : IsRefs w.server.refs
   pub client : IsRefs w.repo.refs
   pub session : IfSome w.session IsSession
 
--- each step leaves both ends whole
+-- each step leaves both ends connected
 abbrev pub EndsStayConnected : {A : Type 0} → PackTools A → Type 0
 EndsStayConnected {A} tools =
     (w new : WorldState A) (event : Event A) (outcome : Outcome) → AreEndsConnected w → AreListed new
     → Step tools w event outcome new → AreEndsConnected new
 
--- a step to a world whose lists are in order
+-- a step to a world with sorted refs and a valid session
 pub record StepsListed {A : Type 0} (tools : PackTools A) (w : WorldState A) (event : Event A) (outcome : Outcome)
     (new : WorldState A) : Type 0 where
   pub step : Step tools w event outcome new
   pub listed : AreListed new
 
--- from a sound world with whole ends each run keeps its promises, and leads to such a world
+-- each run from a sound world with connected ends keeps its promises, and leads to a sound world with connected ends
 abbrev pub RunsKeepPromises : {A : Type 0} → PackTools A → Type 0
 RunsKeepPromises {A} tools =
     (w new : WorldState A) (events : List (Event A)) (outcomes : List Outcome) → AreEndsConnected w → IsSound tools w
     → RunWith (StepsListed tools) w events outcomes new
     → RunWith (Promises tools) w events outcomes new × AreEndsConnected new × IsSound tools new
 
--- a world as it begins is sound
+-- a new world is sound
 abbrev pub NewWorldsAreSound : {A : Type 0} → PackTools A → Type 0
 NewWorldsAreSound {A} tools =
     (server : Server A) (repo : RepoState A) → CanStart server repo → IsSound tools (new_world server repo)
 
--- a run whose steps keep their promises is a run
+-- a run whose steps keep their promises is a run of the events
 abbrev pub PromisesAreRuns : {A : Type 0} → PackTools A → Type 0
 PromisesAreRuns {A} tools =
     (w new : WorldState A) (events : List (Event A)) (outcomes : List Outcome)
     → RunWith (Promises tools) w events outcomes new → Run tools w events outcomes new
 
--- where the client's refs are connected, they are so after any run
+-- if the client's refs are connected before a run, they are connected afterwards
 abbrev pub RefsStayConnected : {A : Type 0} → PackTools A → Type 0
 RefsStayConnected {A} tools =
     (w new : WorldState A) (events : List (Event A)) (outcomes : List Outcome) → AreRefsConnected w
     → RunWith (Promises tools) w events outcomes new → AreRefsConnected new
 
--- where the client's session asked for objects at most once more than there are ids that its tips reach, so it is
--- after any run
+-- a run keeps the bound on the session's requests for objects: at most N + 1, if its tips reach N ids
 abbrev pub RequestsStayFew : {A : Type 0} → PackTools A → Type 0
 RequestsStayFew {A} tools =
     (w new : WorldState A) (events : List (Event A)) (outcomes : List Outcome) → AreRequestsFew w
@@ -76,7 +75,7 @@ RequestsStayFew {A} tools =
 
 -- ---- all worlds of a run
 
--- a run leads through the world `v`, between the events `front` and the events `rest`
+-- a run passes through the world `v`, between the events `front` and the events `rest`
 pub record LeadsThrough {A : Type 0} (P : WorldState A → Event A → Outcome → WorldState A → Type 0) (w : WorldState A)
     (front rest : List (Event A)) (outcomes : List Outcome) (new v : WorldState A) : Type 0 where
   pub early : List Outcome
@@ -85,21 +84,21 @@ pub record LeadsThrough {A : Type 0} (P : WorldState A → Event A → Outcome �
   pub before : RunWith P w front early v
   pub after : RunWith P v rest late new
 
--- a front of a run is a run: it leads to a world from which the other events lead to the same end
+-- a prefix of a run is a run, and the remaining events lead from its last world to the same end
 abbrev pub FrontsAreRuns : {A : Type 0} → PackTools A → Type 0
 FrontsAreRuns {A} tools =
     (w new : WorldState A) (front rest : List (Event A)) (outcomes : List Outcome)
     → Run tools w (front ++ rest) outcomes new
     → (v : WorldState A) × LeadsThrough (Step tools) w front rest outcomes new v
 
--- and so it is of runs whose steps keep their promises
+-- a prefix of a run whose steps keep their promises is also such a run
 abbrev pub FrontsKeepPromises : {A : Type 0} → PackTools A → Type 0
 FrontsKeepPromises {A} tools =
     (w new : WorldState A) (front rest : List (Event A)) (outcomes : List Outcome)
     → RunWith (Promises tools) w (front ++ rest) outcomes new
     → (v : WorldState A) × LeadsThrough (Promises tools) w front rest outcomes new v
 
--- where the client's refs are connected, they are so in every world through which a run leads
+-- if the client's refs are connected before a run, they are connected in every world of the run
 abbrev pub RefsAreAlwaysConnected : {A : Type 0} → PackTools A → Type 0
 RefsAreAlwaysConnected {A} tools =
     (w new v : WorldState A) (front rest : List (Event A)) (outcomes : List Outcome) → AreRefsConnected w
@@ -107,30 +106,30 @@ RefsAreAlwaysConnected {A} tools =
 
 -- ---- nothing is lost
 
--- over any run objects only come, at the server and at the client
+-- over any run the graphs of the server and of the client only gain objects
 abbrev pub GraphsOnlyGrow : {A : Type 0} → PackTools A → Type 0
 GraphsOnlyGrow {A} tools =
     (w new : WorldState A) (events : List (Event A)) (outcomes : List Outcome) → Run tools w events outcomes new
     → Grows w.server.graph.entries new.server.graph.entries × Grows w.repo.graph.entries new.repo.graph.entries
 
--- any event but a settle and one that sets a ref of the client
+-- every event except `Settle` and `ClientRef`
 abbrev pub LeavesClientRefs : {A : Type 0} → Event A → Type 0
 LeavesClientRefs event.Settle = ⊥
 LeavesClientRefs (event.ClientRef name id) = ⊥
 LeavesClientRefs _ = ⊤
 
--- any event but one that sets a ref of the server
+-- every event except `ServerRef`
 abbrev pub LeavesServerRefs : {A : Type 0} → Event A → Type 0
 LeavesServerRefs (event.ServerRef name id) = ⊥
 LeavesServerRefs _ = ⊤
 
--- any event but one that brings an object to the server, or sets a ref of it
+-- every event except `ServerAdd` and `ServerRef`
 abbrev pub LeavesServer : {A : Type 0} → Event A → Type 0
 LeavesServer (event.ServerAdd entry) = ⊥
 LeavesServer (event.ServerRef name id) = ⊥
 LeavesServer _ = ⊤
 
--- over a run without events that may change them, refs stay, and the server does
+-- a run leaves the client's refs, the server's refs or the server unchanged if no event of the run may change them
 pub record OthersLeaveRefs {A : Type 0} (tools : PackTools A) : Type 0 where
   pub client : (w new : WorldState A) (events : List (Event A)) (outcomes : List Outcome) →
       All LeavesClientRefs events → Run tools w events outcomes new → new.repo.refs ≡ w.repo.refs
@@ -139,27 +138,27 @@ pub record OthersLeaveRefs {A : Type 0} (tools : PackTools A) : Type 0 where
   pub server : (w new : WorldState A) (events : List (Event A)) (outcomes : List Outcome) →
       All LeavesServer events → Run tools w events outcomes new → new.server ≡ w.server
 
--- an event that is refused leaves the server, the client's objects and the client's refs as they were
+-- an event that fails leaves the server and the client's repository unchanged
 abbrev pub RefusalsLeaveBothEnds : {A : Type 0} → PackTools A → Type 0
 RefusalsLeaveBothEnds {A} tools =
     (w new : WorldState A) (event : Event A) (number : ℕ) → Step tools w event (outcomes.Fault number) new
     → (new.server ≡ w.server) × (new.repo ≡ w.repo)
 
--- ---- runs in which nothing is forged
+-- ---- runs without forged bytes
 
 -- the event forges no bytes
 abbrev pub IsNoForge : {A : Type 0} → Event A → Type 0
 IsNoForge (event.Forge bytes) = ⊥
 IsNoForge _ = ⊤
 
--- where a world is not forged, and server and client hold each common id, so it is after events that forge no bytes
+-- if no bytes were forged, and both ends hold each common id, this remains true over events that forge no bytes
 abbrev pub CommonsStayShared : {A : Type 0} → PackTools A → Type 0
 CommonsStayShared {A} tools =
     (w new : WorldState A) (events : List (Event A)) (outcomes : List Outcome) → w.forged ≡ false
     → AreCommonsShared w → All IsNoForge events → RunWith (Promises tools) w events outcomes new
     → (new.forged ≡ false) × AreCommonsShared new
 
--- all that is promised of a step and of the world after it, with no premise left
+-- all promises of a step and of the world after it, without the premises about forged bytes and faithful tools
 pub record KeepsAll {A : Type 0} (tools : PackTools A) (w : WorldState A) (event : Event A) (outcome : Outcome)
     (new : WorldState A) : Type 0 where
   pub step : Step tools w event outcome new
@@ -169,7 +168,7 @@ pub record KeepsAll {A : Type 0} (tools : PackTools A) (w : WorldState A) (event
   pub few : AreRequestsFew new
   pub honest : HonestPromises tools w event outcome new
 
--- from a world in which nothing was forged, each step of a run whose events forge no bytes keeps all that is promised
+-- in a run without forged bytes, from a world without forged bytes, each step keeps all promises
 abbrev pub HonestRunsKeepAll : {A : Type 0} → PackTools A → Type 0
 HonestRunsKeepAll {A} tools =
     (w new : WorldState A) (events : List (Event A)) (outcomes : List Outcome) → w.forged ≡ false

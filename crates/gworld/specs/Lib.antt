@@ -9,6 +9,6 @@ pub mod Laws
 pub mod Fetching
 pub mod Events
 pub mod steps
--- what a server and a client's repository are, of which a world is made
+-- the definitions of a server and of a client's repository, which form a world
 pub use Rattle.ganswer.specs.Servers
 pub use Rattle.gclientrepo.specs.Repos

@@ -1,9 +1,9 @@
--- What each step of a world promises.
+-- The promises of each step of a world.
 --
--- Whatever events come, each ref of the client stands at an id whose whole ancestry the client holds. And where no
--- bytes were forged, and packer and indexer are faithful, server and client hold each common id, a pack that is taken
--- brings all ancestors of its request's wants, and a settle after the whole pack of the open request moves every ref
--- that may move.
+-- After any events, each ref of the client is connected: the client holds the whole ancestry of the ref. If no bytes
+-- were forged, both ends hold each common id. If also packer and indexer are faithful, an accepted pack adds all
+-- missing ancestors of its request's wants. After the complete pack of the open request, `Settle` makes every allowed
+-- update of refs.
 use Rattle.std.specs.Prelude.{◌≡◌, ◌⊎◌, ⊤, ℕ, ◌+◌, ◌<◌, ◌≤◌, true, false, List, [], length, All, IfSome, Option, None}
 use Rattle.std.specs.Prelude.{Some, slice_get}
 use Rattle.gname.specs.Ids.{Id}
@@ -43,14 +43,14 @@ use Rattle.gscenario.specs.declared.event.Event.TheVariants as event
 use Rattle.gworld.specs.declared.outcome.Outcome.{Outcome}
 use Rattle.gworld.specs.declared.outcome.Outcome.TheVariants as outcomes
 
--- how a reply is taken: acknowledgments alone are a round; the pack of any other reply is taken
+-- the outcome of an accepted reply: a round for acknowledgments alone, and an accepted pack for any other reply
 pub data IsTaken : FetchReply → Outcome → Type 0 where
   round : {ids : List Id} {common : ℕ} → IsTaken (Acks ids) (outcomes.Round common)
   after_acks : {ids : List Id} {bytes : Bytes} {added : ℕ} → IsTaken (Ready ids bytes) (outcomes.PackTaken added)
   direct : {bytes : Bytes} {added : ℕ} → IsTaken (Pack bytes) (outcomes.PackTaken added)
 
 module _ {A : Type 0} where
-  -- the objects of the server, and those of the client
+  -- the objects of the server and the objects of the client
   abbrev pub server_graph : WorldState A → List (Entry A)
   server_graph w = w.server.graph.entries
 
@@ -59,7 +59,7 @@ module _ {A : Type 0} where
 
   -- ---- 1. the client's refs are connected
 
-  -- the client holds whatever each of its refs reaches
+  -- the client holds every object that its refs reach
   abbrev pub AreRefsConnected : WorldState A → Type 0
   AreRefsConnected w = HasConnectedRefs (client_graph w) w.repo.refs
 
@@ -74,18 +74,18 @@ module _ {A : Type 0} where
   abbrev pub SharesCommons : WorldState A → SessionState A → Type 0
   SharesCommons w s = All (IsHeldByBoth w) s.commons
 
-  -- where no bytes were forged, they hold each common id of the session, if there is one
+  -- if no bytes were forged, the server and the client hold each common id of the session
   abbrev pub AreCommonsShared : WorldState A → Type 0
   AreCommonsShared w = w.forged ≡ false → IfSome w.session (SharesCommons w)
 
-  -- ---- 3. a pack that is taken brings the wants of its request
+  -- ---- 3. an accepted pack adds the wants of its request
 
-  -- the want is connected at the client, which also holds all that it reaches at the server
+  -- the want is connected at the client, and the client holds every object that the want reaches at the server
   abbrev pub IsBrought : WorldState A → Id → Type 0
   IsBrought w want =
       IsConnected (client_graph w) want × ((a : Id) → Reaches (server_graph w) want a → Holds (client_graph w) a)
 
-  -- the kept reply answers a request for objects, and each want of that request was brought
+  -- the kept reply answers a request for objects, and each want of that request is now complete at the client
   pub record BringsWants (w : WorldState A) (number : ℕ) (new : WorldState A) : Type 0 where
     pub kept : Kept
     pub at : slice_get w.kept number ≡ Some kept
@@ -93,14 +93,14 @@ module _ {A : Type 0} where
     pub fetches : kept.asked ≡ Fetches asked
     pub wants : All (IsBrought new) asked.wants
 
-  -- where a pack was taken of a kept reply, complete or cut short, it brought the wants of that reply's request
+  -- if the client accepts the pack of a kept reply, the wants of that reply's request are complete at the client
   abbrev pub CompletesWants : WorldState A → Event A → Outcome → WorldState A → Type 0
   CompletesWants w (event.Deliver number count) (outcomes.PackTaken added) new = BringsWants w number new
   CompletesWants w event outcome new = ⊤
 
-  -- ---- 4. a complete reply is taken
+  -- ---- 4. a complete reply is accepted
 
-  -- all bytes come of a reply to fetch that is kept for a request equal to the one that waits
+  -- a complete kept reply to fetch arrives, and its request is equal to the open request
   pub record BringsAnswer (w : WorldState A) (number count : ℕ) (reply : FetchReply) : Type 0 where
     pub kept : Kept
     pub at : slice_get w.kept number ≡ Some kept
@@ -110,9 +110,9 @@ module _ {A : Type 0} where
     pub goes_on : w.session ≡ Some session
     pub waits : session.pending ≡ Some kept.asked
 
-  -- ---- a complete reply to ls-refs is taken
+  -- ---- a complete reply to ls-refs is accepted
 
-  -- all bytes come of a reply to ls-refs that is kept for a request equal to the one that waits
+  -- a complete kept reply to ls-refs arrives, and its request is equal to the open request
   pub record BringsRefs (w : WorldState A) (number count : ℕ) (reply : LsReply) (s : SessionState A) : Type 0 where
     pub kept : Kept
     pub at : slice_get w.kept number ≡ Some kept
@@ -121,8 +121,8 @@ module _ {A : Type 0} where
     pub goes_on : w.session ≡ Some s
     pub waits : s.pending ≡ Some kept.asked
 
-  -- Why the client does not take it: a ref that is asked for can't have its name; more objects are wanted than a request
-  -- takes; or the client is out of memory to read the reply, or for what it brings.
+  -- A reason for the client to reject a complete reply to ls-refs: an invalid name of a local ref, too many wants, or
+  -- out of memory.
   abbrev pub MayDeclineRefs : WorldState A → SessionState A → LsReply → ℕ → Type 0
   MayDeclineRefs w s reply number =
       ((number ≡ bad_name) × ¬ (AreNamed {A = A} (asks_by_all s.refspecs reply.lines)))
@@ -130,33 +130,32 @@ module _ {A : Type 0} where
       ⊎ (number ≡ no_memory_to_read)
       ⊎ (number ≡ memory_refused)
 
-  -- its refs are told, or the client declines it
+  -- the client accepts the refs of the reply, or rejects the reply for one of the allowed reasons
   abbrev pub IsListedOrDeclined : WorldState A → SessionState A → LsReply → Outcome → Type 0
   IsListedOrDeclined w s reply (outcomes.LsTaken asks wants) = ⊤
   IsListedOrDeclined w s reply (outcomes.Fault number) = MayDeclineRefs w s reply number
   IsListedOrDeclined w s reply _ = ⊥
 
-  -- a complete reply to ls-refs is taken, or the client declines it
+  -- the client accepts a complete reply to ls-refs, or rejects it for one of the allowed reasons
   abbrev pub ListsRefs : WorldState A → Event A → Outcome → Type 0
   ListsRefs w (event.Deliver number count) outcome =
       (reply : LsReply) (s : SessionState A) → BringsRefs w number count reply s → IsListedOrDeclined w s reply outcome
   ListsRefs w event outcome = ⊤
 
-  -- ---- how often objects are asked for
+  -- ---- the number of requests for objects
 
-  -- the session asked for objects at most once more than there are ids that its tips reach
+  -- the session made at most N + 1 requests for objects, if its tips reach N ids
   abbrev pub AsksSeldom : WorldState A → SessionState A → Type 0
   AsksSeldom w s =
       (held parents : ℕ) → CountsReached (client_graph w) s.tips held parents → s.rounds ≤ held + 1
 
-  -- the session, where there is one, asked for objects at most that often
+  -- the session, if there is one, made at most N + 1 requests for objects, if its tips reach N ids
   abbrev pub AreRequestsFew : WorldState A → Type 0
   AreRequestsFew w = IfSome w.session (AsksSeldom w)
 
 module _ {A : Type 0} (tools : PackTools A) where
-  -- Why the client does not take a complete reply: its pack has more bytes than a client takes; the client's graph has no
-  -- room for the pack's objects; or the client is out of memory to read the reply, for what it brings, or for the
-  -- indexer.
+  -- A reason for the client to reject a complete reply to fetch: a pack over the size limit, a full graph, or out of
+  -- memory.
   abbrev pub MayDecline : RepoState A → FetchReply → ℕ → Type 0
   MayDecline repo reply number =
       ((number ≡ pack_over_limit) × (default_limit < length (pack_of reply)))
@@ -165,21 +164,21 @@ module _ {A : Type 0} (tools : PackTools A) where
       ⊎ (number ≡ memory_refused)
       ⊎ ((number ≡ indexer_failed) × tools.index_fails (pack_of reply) index.Memory)
 
-  -- the reply is taken, or the client declines it
+  -- the client accepts the reply, or rejects it for one of the allowed reasons
   abbrev pub IsTakenOrDeclined : RepoState A → FetchReply → Outcome → Type 0
   IsTakenOrDeclined repo reply (outcomes.Fault number) = MayDecline repo reply number
   IsTakenOrDeclined repo reply outcome = IsTaken reply outcome
 
-  -- a complete reply to the request that waits is taken, or the client declines it
+  -- the client accepts a complete reply to the open request, or rejects it for one of the allowed reasons
   abbrev pub TakesAnswers : WorldState A → Event A → Outcome → Type 0
   TakesAnswers w (event.Deliver number count) outcome =
       (reply : FetchReply) → BringsAnswer w number count reply → IsTakenOrDeclined w.repo reply outcome
   TakesAnswers w event outcome = ⊤
 
-  -- ---- 5. each request that was sent is served
+  -- ---- 5. each sent request is served
 
-  -- Why the server refuses a request that was sent: the pack of the objects that it asks for would have too many bytes,
-  -- or the packer is out of memory; or the server is, for the reply.
+  -- A reason for the server to reject a sent request: a pack that would be too large, or out of memory for the pack or
+  -- for the reply.
   abbrev pub MayRefuse : Server A → Asked → ℕ → Type 0
   MayRefuse server (Fetches asked) number =
       ((number ≡ packer_failed) × (FailsToPack server tools.pack_fails asked pack.TooLarge
@@ -187,32 +186,32 @@ module _ {A : Type 0} (tools : PackTools A) where
       ⊎ (number ≡ memory_refused)
   MayRefuse server asked number = number ≡ memory_refused
 
-  -- a reply to the request is kept, or the server refuses it; of no request nothing is said here
+  -- a reply to the request is kept, or the server rejects the request for one of the allowed reasons
   abbrev pub IsServedOrRefused : Server A → Option Asked → Outcome → Type 0
   IsServedOrRefused server None outcome = ⊤
   IsServedOrRefused server (Some asked) (outcomes.Served number) = ⊤
   IsServedOrRefused server (Some asked) (outcomes.Fault number) = MayRefuse server asked number
   IsServedOrRefused server (Some asked) _ = ⊥
 
-  -- a reply is kept to a request that was sent, or the server refuses it
+  -- the server replies to a sent request, or rejects it for one of the allowed reasons
   abbrev pub ServesSent : WorldState A → Event A → Outcome → Type 0
   ServesSent w (event.Serve number) outcome = IsServedOrRefused w.server (slice_get w.sent number) outcome
   ServesSent w event outcome = ⊤
 
 module _ {A : Type 0} where
-  -- ---- 6. a session settles
+  -- ---- 6. a session settles: it updates the refs
 
-  -- the ref that is asked for stands at the asked id, where it may move there
+  -- the ref of the ask has the asked id, if the update is allowed
   abbrev pub MovesAsked : RepoState A → RepoState A → Ask A → Type 0
   MovesAsked old new ask = MayMove old.graph.entries old.refs ask → ref_at new.refs ask.name ≡ Some ask.id
 
-  -- each asked id is connected, and each ref that may move has moved
+  -- each asked id is connected, and each allowed update of a ref was made
   pub record HasSettled (old : RepoState A) (asks : List (Ask A)) (new : RepoState A) : Type 0 where
     pub connected : All (IsConnected new.graph.entries) (asked_ids asks)
     pub moved : All (MovesAsked old new) asks
 
-  -- The session settles what it asked for; or the refs can't be set, as there would be too many (no refspec moves
-  -- HEAD, the one other cause that `CannotSettle` has); or the client is out of memory. There is a session.
+  -- There is a session. It makes all allowed updates of refs, or fails for too many refs or out of memory. An ask for
+  -- HEAD, the other cause in `CannotSettle`, is impossible.
   abbrev pub IsSettledOrRefused : RepoState A → Option (SessionState A) → Outcome → RepoState A → Type 0
   IsSettledOrRefused old None outcome new = ⊥
   IsSettledOrRefused old (Some s) (outcomes.Settled moved same not_forward) new = HasSettled old s.asks new
@@ -220,25 +219,25 @@ module _ {A : Type 0} where
       ((number ≡ too_many_refs) × CannotSettle old.refs s.asks) ⊎ (number ≡ memory_refused)
   IsSettledOrRefused old (Some s) _ new = ⊥
 
-  -- a session settles that took the pack of a complete reply to its request (which `Deliver` marks as answered)
+  -- a session that accepted the pack of a complete reply to its request (marked by `Deliver` as answered) settles
   abbrev pub SettlesAnswered : WorldState A → Event A → Outcome → WorldState A → Type 0
   SettlesAnswered w event.Settle outcome new =
       w.answered ≡ true → IsSettledOrRefused w.repo w.session outcome new.repo
   SettlesAnswered w event outcome new = ⊤
 
-  -- it is time for the session to settle, and it wanted nothing: the client held all that it asks for
+  -- the session is ready to settle and has no wants, since the client already holds all asked ids
   pub record IsUpToDate (s : SessionState A) : Type 0 where
     pub stage : s.stage ≡ Settling
     pub none : s.wants ≡ []
 
-  -- a session that wanted nothing settles
+  -- a session without wants settles
   abbrev pub SettlesUpToDate : WorldState A → Event A → Outcome → WorldState A → Type 0
   SettlesUpToDate w event.Settle outcome new =
       IfSome w.session (λ s. IsUpToDate s → IsSettledOrRefused w.repo w.session outcome new.repo)
   SettlesUpToDate w event outcome new = ⊤
 
 module _ {A : Type 0} (tools : PackTools A) where
-  -- what a step promises where no bytes were forged before it, and packer and indexer are faithful
+  -- the promises of a step if no bytes were forged before it, and packer and indexer are faithful
   pub record HonestPromises (w : WorldState A) (event : Event A) (outcome : Outcome) (new : WorldState A)
       : Type 0 where
     pub completes : CompletesWants w event outcome new
@@ -246,10 +245,9 @@ module _ {A : Type 0} (tools : PackTools A) where
     pub serves : ServesSent tools w event outcome
     pub settles : SettlesAnswered w event outcome new
 
-  -- What a step does, and what it promises. Whatever bytes came, and whatever packer and indexer do: each ref of the
-  -- client is connected, a complete reply to ls-refs is taken, a session that wanted nothing settles, objects are asked
-  -- for seldom, and both ends are as their types keep them. Where no bytes were forged, server and client hold each
-  -- common id. Where packer and indexer are faithful, too, all the rest holds.
+  -- The effect and the promises of a step. Only the promises in `honest` need a world without forged bytes and a
+  -- faithful packer and indexer. If no bytes were forged, the server and the client hold each common id (`commons`).
+  -- All other promises hold for any bytes and any tools.
   pub record Promises (w : WorldState A) (event : Event A) (outcome : Outcome) (new : WorldState A) : Type 0 where
     pub step : Step tools w event outcome new
     pub refs : AreRefsConnected new

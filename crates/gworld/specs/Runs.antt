@@ -1,4 +1,4 @@
--- Runs: events one after the other, with the outcome of each.
+-- Runs: events one after the other, each with its outcome.
 use Rattle.std.specs.Prelude.{◌≡◌, ◌⊎◌, ⊤, true, List, [], ◌∷◌, ◌++◌, slice_get, IsSome, Some}
 use Rattle.gdag.specs.Laws.{AgreesWith}
 use Rattle.gsession.specs.Requesting.{is_due}
@@ -11,7 +11,7 @@ use Rattle.gworld.specs.declared.fault.RunFault.{RunFault}
 use Rattle.gworld.specs.declared.fault.RunFault.TheVariants as run
 use Rattle.gworld.specs.declared.outcome.Outcome.{Outcome}
 
--- the events were done one after the other, each with its outcome, and each step has this property
+-- a run of the events, one after the other, with their outcomes, in which each step has the property `P`
 abbrev pub RunWith : {A : Type 0} → (WorldState A → Event A → Outcome → WorldState A → Type 0)
     → WorldState A → List (Event A) → List Outcome → WorldState A → Type 0
 RunWith P w [] [] new = new ≡ w
@@ -20,12 +20,12 @@ RunWith {A} P w (event ∷ events) (outcome ∷ outcomes) new =
 RunWith P w [] (outcome ∷ outcomes) new = ⊥
 RunWith P w (event ∷ events) [] new = ⊥
 
--- the events were done one after the other, each with its outcome
+-- a run of the events, one after the other, with their outcomes
 abbrev pub Run : {A : Type 0} → PackTools A → WorldState A → List (Event A) → List Outcome → WorldState A → Type 0
 Run tools w events outcomes new = RunWith (Step tools) w events outcomes new
 
--- The world needs memory of its own before the event begins. An event needs none where it is refused with 83, 90 or 93
--- for what is there already.
+-- The world needs memory before the event begins. An event that fails at once with `NoOpenRequest` (83), `Disagree`
+-- (90) or 93 needs no memory.
 abbrev pub NeedsMemory : {A : Type 0} → WorldState A → Event A → Type 0
 NeedsMemory w (event.Begin specs) = ⊥
 NeedsMemory {A} w event.Ask = (s : SessionState A) × (w.session ≡ Some s) × (is_due s.stage s.pending ≡ true)
@@ -41,8 +41,8 @@ NeedsMemory w (event.ServerRef name id) = ⊤
 NeedsMemory w (event.ClientAdd entry) = AgreesWith w.server.graph.entries entry
 NeedsMemory w (event.ClientRef name id) = ⊤
 
--- The first of the events were done, as many as there are outcomes. There is a next one, which did not begin: it needs
--- memory; or it is the first, and there was none for the outcomes.
+-- A run of some first events that stopped for lack of memory. The next event did not begin: it needs memory, or there
+-- is not enough memory for the list of outcomes.
 pub record RunsFront {A : Type 0} (P : WorldState A → Event A → Outcome → WorldState A → Type 0) (w : WorldState A)
     (events : List (Event A)) (outcomes : List Outcome) (new : WorldState A) : Type 0 where
   pub front : List (Event A)
@@ -52,6 +52,6 @@ pub record RunsFront {A : Type 0} (P : WorldState A → Event A → Outcome → 
   pub run : RunWith P w front outcomes new
   pub memory : (outcomes ≡ []) ⊎ NeedsMemory new next
 
--- the outcomes of the events that were done before a run stopped
+-- the outcomes of the events before a run stopped
 abbrev pub outcomes_before : {A : Type 0} → RunFault A → List Outcome
 outcomes_before (run.Memory outcomes) = outcomes.items

@@ -1,4 +1,4 @@
--- What stays true of a world, whatever events come.
+-- The invariants of a world, which hold after any events.
 use Rattle.std.specs.Prelude.{◌≡◌, ◌≢◌, ◌⊎◌, ⊤, ◌≤◌, true, false, List, [], length, All, Contains, IfSome, MatchOption}
 use Rattle.gname.specs.Ids.{Id}
 use Rattle.gpkt.specs.Packets.{Bytes}
@@ -21,7 +21,7 @@ use Rattle.gsession.specs.declared.stage.Stage.TheVariants.{Settling}
 use Rattle.gworld.specs.Worlds.{Kept, PackTools, WorldState}
 
 module _ {A : Type 0} where
-  -- what the types of server, repository and session keep: the server misses no object, the client's refs are connected
+  -- the invariants of the types of server, repository and session: all refs of both ends are connected
   pub record AreEndsConnected (w : WorldState A) : Type 0 where
     pub server : IsServer w.server
     pub repo : IsConnectedRepo w.repo
@@ -29,23 +29,23 @@ module _ {A : Type 0} where
     pub refs : IsRefs w.repo.refs
     pub session : IfSome w.session IsSession
 
-  -- ---- what was sent
+  -- ---- the sent requests and the kept replies
 
-  -- a request for objects: each have is connected at the client, and something is wanted, which the server holds
-  -- unless bytes were forged
+  -- a request for objects has wants, and each have is connected at the client; the server holds the wants unless bytes
+  -- were forged
   pub record IsSoundFetch (w : WorldState A) (asked : FetchAsked) : Type 0 where
     pub connected : All (IsConnected w.repo.graph.entries) asked.haves
     pub few : length asked.haves ≤ max_haves
     pub some : asked.wants ≢ []
     pub held : w.forged ≡ false → All (Holds w.server.graph.entries) asked.wants
 
-  -- a request of the client: for refs or for objects
+  -- a valid request of the client, for refs or for objects
   abbrev pub IsSoundRequest : WorldState A → Asked → Type 0
   IsSoundRequest w Empty = ⊥
   IsSoundRequest w (Ls asked) = ⊤
   IsSoundRequest w (Fetches asked) = IsSoundFetch w asked
 
-  -- a kept reply answers its request, as the server was when it made the reply; since then the server only grew
+  -- a kept reply answers its request for an earlier state of the server, whose graph has only grown since then
   pub record IsSoundKept (packs : Packs A) (w : WorldState A) (kept : Kept) : Type 0 where
     pub server : Server A
     pub is : IsServer server
@@ -56,12 +56,12 @@ module _ {A : Type 0} where
 
   -- ---- the session
 
-  -- an asked id is wanted, or connected at the client
+  -- the asked id is a want of the session, or is connected at the client
   abbrev pub IsWantedOrConnected : List (Entry A) → SessionState A → Id → Type 0
   IsWantedOrConnected g s a = Contains s.wants a ⊎ IsConnected g a
 
-  -- A session began on what its repository holds, and offered nothing else. Each common id is connected at the client.
-  -- Where nothing was forged, the server holds each common id and each want, too.
+  -- A session began on the graph of its repository, and each common id is connected at the client. If no bytes were
+  -- forged, the server also holds each common id and each want.
   pub record IsSoundSession (w : WorldState A) (s : SessionState A) : Type 0 where
     pub format : s.format ≡ w.repo.graph.format
     pub limit : s.limit ≡ default_limit
@@ -80,16 +80,15 @@ module _ {A : Type 0} (tools : PackTools A) where
     pub faithful : LosesNothing tools.packs tools.pack_fails tools.indexes tools.index_fails image
     pub unforged : w.forged ≡ false
 
-  -- an answered session: it is time for it to settle, and, where nothing was forged and packer and indexer are
-  -- faithful, each id that it asks for is connected
+  -- a session that is marked as answered can settle, and its asked ids are connected if no bytes were forged and the
+  -- tools are faithful
   pub record IsAnswered (w : WorldState A) (s : SessionState A) : Type 0 where
     pub stage : s.stage ≡ Settling
     pub connected : IsUnforgedAndFaithful w → All (IsConnected w.repo.graph.entries) (asked_ids s.asks)
 
-  -- What stays true. Each have of each request that was sent is connected at the client, and the server holds each
-  -- want, unless bytes were forged. Each kept reply answers its request, as the server was then. Where nothing
-  -- was forged and packer and indexer are faithful, the two graphs agree. And the session is sound, and ready to settle
-  -- where it is answered.
+  -- The invariants of a world. All sent requests, all kept replies and the session are valid. If no bytes were forged,
+  -- and packer and indexer are faithful, both graphs agree on the objects that they share. A session that is marked as
+  -- answered can settle.
   pub record IsSound (w : WorldState A) : Type 0 where
     pub format : w.repo.graph.format ≡ w.server.graph.format
     pub agree : IsUnforgedAndFaithful w → Agree w.server.graph.entries w.repo.graph.entries

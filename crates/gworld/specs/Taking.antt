@@ -1,4 +1,4 @@
--- Bytes come as the reply to the request that waits.
+-- Bytes that arrive as the reply to the open request.
 use Rattle.std.specs.Prelude.{◌≡◌, ⊤, ℕ, false, ◌≤◌, length, Ok, Err}
 use Rattle.gpkt.specs.Packets.{Bytes}
 use Rattle.ggrammar.specs.MessageBytes.{known_bytes}
@@ -22,13 +22,12 @@ use Rattle.gworld.specs.declared.outcome.Outcome.TheVariants as outcomes
 abbrev pub code_of : {A : Type 0} → ClientFault A → ℕ
 code_of fault = (client_fault_row fault).0
 
--- bytes in memory are read by no device that fails
+-- the fault is possible for bytes in memory, whose source never fails
 abbrev pub IsAtHand : {A : Type 0} → ClientFault A → Type 0
 IsAtHand (client.Message fault) = IsReadFailure false false fault.why
 IsAtHand _ = ⊤
 
--- the bytes come as the reply to ls-refs: so many refs are asked for, and so many objects wanted for them; or the reply
--- is refused
+-- the bytes arrive as the reply to ls-refs, and the outcome has the numbers of asks and wants, or a fault
 abbrev pub TakesRefs : {A : Type 0} → SessionState A → RepoState A → Bytes → Outcome → SessionState A → RepoState A
     → Type 0
 TakesRefs {A} s repo bytes (outcomes.LsTaken asks wants) after new =
@@ -40,8 +39,7 @@ TakesRefs {A} s repo bytes (outcomes.Fault number) after new =
 TakesRefs s repo bytes _ after new = ⊥
 
 module _ {A : Type 0} (indexes : Indexes A) (index_fails : IndexFails) where
-  -- the bytes come as the reply to fetch: ids are acknowledged, and so many are common now; or a pack is taken, and so
-  -- many of its objects are new; or the reply is refused
+  -- the bytes arrive as the reply to fetch, and the outcome has the number of common ids or of new objects, or a fault
   abbrev pub TakesObjects : SessionState A → RepoState A → Bytes → Outcome → SessionState A → RepoState A → Type 0
   TakesObjects s repo bytes (outcomes.Round common) after new =
       (left : Bytes)
@@ -55,18 +53,18 @@ module _ {A : Type 0} (indexes : Indexes A) (index_fails : IndexFails) where
       × IsAtHand fault × (number ≡ code_of fault)
   TakesObjects s repo bytes _ after new = ⊥
 
-  -- the bytes come as the reply to the request that waits, by what it asks for
+  -- the bytes arrive as the reply to the open request, which is for refs or for objects
   abbrev pub TakesBytes : Asked → SessionState A → RepoState A → Bytes → Outcome → SessionState A → RepoState A → Type 0
   TakesBytes Empty s repo bytes outcome after new = ⊥
   TakesBytes (Ls asked) s repo bytes outcome after new = TakesRefs s repo bytes outcome after new
   TakesBytes (Fetches asked) s repo bytes outcome after new = TakesObjects s repo bytes outcome after new
 
--- a pack was taken
+-- the outcome is an accepted pack
 abbrev pub IsPackTaken : Outcome → Type 0
 IsPackTaken (outcomes.PackTaken added) = ⊤
 IsPackTaken _ = ⊥
 
--- all bytes came of a reply whose request is equal to the one that waited, and its pack was taken
+-- a complete kept reply arrived, its request is equal to the open request, and the client accepted its pack
 pub record IsFullAnswer (kept : Kept) (asked : Asked) (count : ℕ) (outcome : Outcome) : Type 0 where
   pub same : kept.asked ≡ asked
   pub all : length (reply_bytes kept.reply) ≤ count

@@ -1,4 +1,4 @@
--- A world: a server, a client that fetches from it, and what was sent between the two.
+-- A world: a server, a client that fetches from it, and all messages that they sent.
 use Rattle.std.specs.Prelude.{Bool, false, List, [], Option, None}
 use Rattle.gpkt.specs.Packets.{Bytes, canonical_all}
 use Rattle.ggrammar.specs.declared.ends.Ends.TheVariants.{Plain}
@@ -10,14 +10,14 @@ use Rattle.gserve.specs.Exchanges.{reply_packets}
 use Rattle.gclientrepo.specs.Repos.{RepoState}
 use Rattle.gsession.specs.Sessions.{SessionState}
 
--- a reply that the server made, and the request that it answers
+-- a reply of the server, and the request that it answers
 pub record Kept : Type 0 where
   pub asked : Asked
   pub reply : Reply
 
--- The server. The client's repository, and its session, if it has one. Each request that the client sent, and each
--- reply that the server made. Whether bytes were ever forged. Whether the session is answered: all bytes came of a
--- reply whose request is equal to the one that waited, and the client took its pack.
+-- The state of a world: the server, the client's repository and session, all sent requests and all replies. `forged`
+-- says whether bytes were ever forged. `answered` says whether the client accepted the pack of a complete reply to its
+-- open request.
 pub record WorldState (A : Type 0) : Type 0 where
   pub server : Server A
   pub repo : RepoState A
@@ -27,11 +27,11 @@ pub record WorldState (A : Type 0) : Type 0 where
   pub forged : Bool
   pub answered : Bool
 
--- the bytes of a reply, each packet in its canonical spelling
+-- the bytes of a reply, with each packet in its canonical encoding
 abbrev pub reply_bytes : Reply → Bytes
 reply_bytes reply = canonical_all (reply_packets Plain reply)
 
--- a world as it begins
+-- a new world
 abbrev pub new_world : {A : Type 0} → Server A → RepoState A → WorldState A
 new_world server repo = record {
   server = server;
@@ -43,8 +43,8 @@ new_world server repo = record {
   answered = false;
 }
 
--- What the packer and the indexer of a world may answer: which packs the packer makes of some objects, and how it may
--- fail; which objects the indexer reads from a pack, and how it may fail.
+-- The possible results and faults of a world's packer and indexer. A packer makes a pack of objects, and an indexer
+-- reads the objects of a pack.
 pub record PackTools (A : Type 0) : Type 1 where
   pub packs : Packs A
   pub pack_fails : PackFails A
@@ -59,7 +59,7 @@ tools_of packs pack_fails indexes index_fails = record {
   index_fails = index_fails;
 }
 
--- a world, and the value that is its packer and its indexer
+-- a world, and the value that implements its packer and its indexer
 pub record WorldOf (A K : Type 0) : Type 0 where
   pub tools : K
   pub world : WorldState A

@@ -1,4 +1,4 @@
-//! Reasons why there is no world, or a run stopped.
+//! Reasons for a world not to start, and for a run to stop.
 
 ghost use Rattle.std.specs.Prelude.{◌≡◌, Some};
 ghost use Rattle.gworld.specs.Faults.{run_fault_row, run_fault_text, world_fault_row, world_fault_text};
@@ -10,23 +10,24 @@ use std::alloc::{Allocator, Global};
 use std::error::Error;
 use std::fmt;
 
-/// The fault of an event after which server and client would hold one id with different objects.
+/// The fault of an event that would give the same id different objects at the server and at the
+/// client.
 pub(crate) const DISAGREE: u32 = 90;
 
-/// The fault of an event that names a request that was not sent, or a reply that was not kept.
+/// The fault of an event with an invalid index of a sent request or of a kept reply.
 pub(crate) const NO_SUCH: u32 = 93;
 
-/// The fault of an event that does not fit the client's session: there is none, or it needs another
-/// call.
+/// The fault of an event that does not fit the client's session: there is no session, or it is in
+/// another stage.
 pub(crate) const NO_OPEN_REQUEST: u32 = 83;
 
-/// The reason there is no such world.
+/// The reason why a server and a repository can't form a world.
 #[derive(Clone, Copy, Debug, PartialEq, Eq, Drop)]
 pub enum WorldFault {
-    /// 97: server and client have ids of different object formats.
+    /// Fault 97: server and client have different object formats.
     TwoFormats,
-    /// 90: server and client hold this id with different objects. It is the first such id in the
-    /// order of the server's objects.
+    /// Fault 90: server and client hold this id with different objects. It is the first such id in
+    /// the order of the server's objects.
     Disagree { id: Oid },
 }
 
@@ -71,11 +72,11 @@ impl fmt::Display for WorldFault {
 
 impl Error for WorldFault {}
 
-/// The reason a run stopped before it did all events.
+/// The reason why a run stopped before its last event.
 #[derive(Debug, Drop)]
 pub enum RunFault<A: Allocator + Copy = Global> {
-    /// 91: out of memory for a list of the world or a buffer. `outcomes` has the results of the
-    /// done events; the next one has not begun.
+    /// Fault 91: there is not enough memory for a list of the world or for a buffer. `outcomes` has
+    /// the outcomes of the completed events. The next event has not begun.
     Memory { outcomes: Vec<Outcome, A> },
 }
 

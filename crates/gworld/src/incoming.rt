@@ -14,7 +14,7 @@ use grequest::Request;
 use gsession::{ClientFault, LsTaken, Session, Taken};
 use std::alloc::{AllocError, Allocator};
 
-/// The reply that a session awaits.
+/// The kind of reply that a session awaits.
 #[derive(Clone, Copy, Drop)]
 pub(crate) enum Due {
     /// No reply.
@@ -25,7 +25,7 @@ pub(crate) enum Due {
     Objects,
 }
 
-// Returns the reply that the session awaits.
+// Returns the kind of reply that the session awaits.
 fn due_of<A: Allocator + Copy>(session: &Session<A>) -> Due
     ensures { IsAwaited session.now.pending result }
 {
@@ -36,7 +36,8 @@ fn due_of<A: Allocator + Copy>(session: &Session<A>) -> Due
     }
 }
 
-/// Passes some bytes to the session as its awaited reply. Returns `None` if it awaits none.
+/// Passes the bytes to the session as its awaited reply. Returns `None` if the session awaits no
+/// reply.
 pub(crate) fn take_bytes<A: Allocator + Copy, K: Indexer<A>>(
     session: &mut Session<A>,
     repo: &mut Repo<A>,
@@ -61,7 +62,7 @@ pub(crate) fn take_bytes<A: Allocator + Copy, K: Indexer<A>>(
     }
 }
 
-// Takes bytes as the reply to ls-refs.
+// Passes the bytes to the session as the reply to ls-refs.
 fn take_refs<A: Allocator + Copy>(
     session: &mut Session<A>,
     repo: &Repo<A>,
@@ -97,7 +98,7 @@ pub(crate) fn outcome_of_fault<A: Allocator + Copy>(fault: ClientFault<A>) -> Ou
     Outcome::Fault { code: fault.code() }
 }
 
-// Takes bytes as the reply to fetch.
+// Passes the bytes to the session as the reply to fetch.
 fn take_objects<A: Allocator + Copy, K: Indexer<A>>(
     session: &mut Session<A>,
     repo: &mut Repo<A>,
@@ -136,7 +137,7 @@ fn line_buffer<A: Allocator + Copy>(alloc: A) -> Result<PacketBuffer<A>, AllocEr
     }
 }
 
-/// Returns the first `count` bytes, or all if there are fewer.
+/// Returns the first `count` bytes, or all bytes if there are fewer.
 pub(crate) fn front(bytes: &[u8], count: usize) -> &[u8]
     ensures { result.now ≡ take count bytes.now }
 {

@@ -29,8 +29,8 @@ use gsession::laws::{
 use std::alloc::Allocator;
 
 /// From a sound world each step leads to a sound world, and keeps its promises. The premise is that
-/// both ends are also whole after the step. [`ends_stay_connected`] says how much of that follows
-/// from the step.
+/// both ends are connected before and after the step. [`ends_stay_connected`] proves most of this
+/// premise.
 pub fn steps_keep<A: Allocator + Copy, K: Packer<A> + Indexer<A>>()
     ensures { (k : K) → StepsKeep (tools_of (K.packs k) (K.pack_fails k) (K.indexes k)
         (K.index_fails k)) }
@@ -74,8 +74,8 @@ pub fn steps_keep<A: Allocator + Copy, K: Packer<A> + Indexer<A>>()
     taking_only_grows::<A, K>();
 }
 
-/// A world with a faithful packer and indexer, in which no bytes were forged, keeps all promises
-/// for such worlds.
+/// A world without forged bytes, whose packer and indexer implement `Faithful`, satisfies the
+/// premise of all promises.
 pub fn faithful_lose_nothing<A: Allocator + Copy, K: Faithful<A>>(tools: &K)
     ensures { ((w : WorldState A) → w.forged ≡ false
         → IsUnforgedAndFaithful (tools_of (K.packs tools.now) (K.pack_fails tools.now)
@@ -84,33 +84,35 @@ pub fn faithful_lose_nothing<A: Allocator + Copy, K: Faithful<A>>(tools: &K)
     tools.loses_nothing();
 }
 
-/// A run whose steps keep their promises is a run.
+/// A run whose steps keep their promises is a run of the events.
 pub fn promises_are_runs<A: Allocator + Copy, K: Packer<A> + Indexer<A>>()
     ensures { (k : K) → PromisesAreRuns (tools_of (K.packs k) (K.pack_fails k) (K.indexes k)
         (K.index_fails k)) }
 {}
 
-/// If each ref of the client is connected, it stays so over any run.
+/// If each ref of the client is connected before a run, each ref is connected afterwards.
 pub fn refs_stay_connected<A: Allocator + Copy, K: Packer<A> + Indexer<A>>()
     ensures { (k : K) → RefsStayConnected (tools_of (K.packs k) (K.pack_fails k) (K.indexes k)
         (K.index_fails k)) }
 {}
 
-/// Over any run the client's session asks for objects at most N + 1 times, if it did so before and
-/// its tips reach N ids. The tips are the ids of the client's refs when the session began.
+/// After any run the client's session has made at most N + 1 requests for objects, if its tips
+/// reach N ids and the bound held before. The tips are the ids of the client's refs when the
+/// session began.
 pub fn requests_stay_few<A: Allocator + Copy, K: Packer<A> + Indexer<A>>()
     ensures { (k : K) → RequestsStayFew (tools_of (K.packs k) (K.pack_fails k) (K.indexes k)
         (K.index_fails k)) }
 {}
 
-/// If no bytes were forged, and server and client hold each common id, this stays so over any run
+/// If no bytes were forged, and both ends hold each common id, then the same is true after any run
 /// without forged bytes.
 pub fn commons_stay_shared<A: Allocator + Copy, K: Packer<A> + Indexer<A>>()
     ensures { (k : K) → CommonsStayShared (tools_of (K.packs k) (K.pack_fails k) (K.indexes k)
         (K.index_fails k)) }
 {}
 
-/// A prefix of a run is a run. Its steps keep their promises if those of the whole run do.
+/// A prefix of a run is a run. The steps of the prefix keep their promises if all steps of the run
+/// do.
 pub fn fronts_are_runs<A: Allocator + Copy, K: Packer<A> + Indexer<A>>()
     ensures runs { (k : K) → FrontsAreRuns (tools_of (K.packs k) (K.pack_fails k) (K.indexes k)
         (K.index_fails k)) }
@@ -118,8 +120,8 @@ pub fn fronts_are_runs<A: Allocator + Copy, K: Packer<A> + Indexer<A>>()
         (K.index_fails k)) }
 {}
 
-/// The client's refs are connected at all times: if they are when a run begins, they are in each of
-/// its worlds.
+/// The client's refs are connected at all times. If they are connected at the start of a run, they
+/// are connected in each world of the run.
 pub fn refs_are_always_connected<A: Allocator + Copy, K: Packer<A> + Indexer<A>>()
     ensures { (k : K) → RefsAreAlwaysConnected (tools_of (K.packs k) (K.pack_fails k) (K.indexes k)
         (K.index_fails k)) }
@@ -136,7 +138,8 @@ pub fn graphs_only_grow<A: Allocator + Copy, K: Packer<A> + Indexer<A>>()
 }
 
 /// Only [`Event::Settle`](crate::Event::Settle) or [`Event::ClientRef`](crate::Event::ClientRef)
-/// moves refs of the client. Only the server's own events move its refs, or change it otherwise.
+/// moves refs of the client. Only `ServerRef` moves refs of the server, and only `ServerAdd` and
+/// `ServerRef` change the server at all.
 pub fn others_leave_refs<A: Allocator + Copy, K: Packer<A> + Indexer<A>>()
     ensures { (k : K) → OthersLeaveRefs (tools_of (K.packs k) (K.pack_fails k) (K.indexes k)
         (K.index_fails k)) }
@@ -146,7 +149,7 @@ pub fn others_leave_refs<A: Allocator + Copy, K: Packer<A> + Indexer<A>>()
     servers_grow::<A>();
 }
 
-/// An event that is refused leaves the server and the client's repository unchanged.
+/// An event that fails leaves the server and the client's repository unchanged.
 pub fn refusals_leave_both_ends<A: Allocator + Copy, K: Packer<A> + Indexer<A>>()
     ensures { (k : K) → RefusalsLeaveBothEnds (tools_of (K.packs k) (K.pack_fails k) (K.indexes k)
         (K.index_fails k)) }
@@ -156,8 +159,8 @@ pub fn refusals_leave_both_ends<A: Allocator + Copy, K: Packer<A> + Indexer<A>>(
     servers_grow::<A>();
 }
 
-/// An honest run keeps all promises, with no premise left. No bytes were forged before it, none of
-/// its events forges any, and packer and indexer are faithful.
+/// An honest run keeps all promises without further premises. In an honest run no bytes are or were
+/// forged, and packer and indexer are faithful.
 pub fn honest_runs_keep_all<A: Allocator + Copy, K: Faithful<A>>(tools: &K)
     ensures { HonestRunsKeepAll {A = A} (tools_of (K.packs tools.now) (K.pack_fails tools.now)
         (K.indexes tools.now) (K.index_fails tools.now)) }
@@ -165,8 +168,9 @@ pub fn honest_runs_keep_all<A: Allocator + Copy, K: Faithful<A>>(tools: &K)
     faithful_lose_nothing::<A, K>(tools);
 }
 
-/// Each step leaves both ends whole: the server misses no object, and each ref of the client is
-/// connected. The only premise is the order of lists, which the definition of a step leaves open.
+/// Each step leaves both ends connected: all refs of the server and of the client are connected.
+/// The only premise is that refs are sorted and the session is valid, which the definition of a
+/// step leaves open.
 pub fn ends_stay_connected<A: Allocator + Copy, K: Packer<A> + Indexer<A>>()
     ensures { (k : K) → EndsStayConnected (tools_of (K.packs k) (K.pack_fails k) (K.indexes k)
         (K.index_fails k)) }
@@ -180,8 +184,8 @@ pub fn ends_stay_connected<A: Allocator + Copy, K: Packer<A> + Indexer<A>>()
     setting_stays_connected::<A>();
 }
 
-/// A new world is sound. From a sound world whose ends are whole each run keeps its promises, and
-/// leads to such a world.
+/// A new world is sound. Each run from a sound world with connected ends keeps its promises, and
+/// leads to a sound world with connected ends.
 pub fn runs_keep_promises<A: Allocator + Copy, K: Packer<A> + Indexer<A>>()
     ensures begins { (k : K) → NewWorldsAreSound (tools_of (K.packs k) (K.pack_fails k) (K.indexes k)
         (K.index_fails k)) }
@@ -192,9 +196,9 @@ pub fn runs_keep_promises<A: Allocator + Copy, K: Packer<A> + Indexer<A>>()
     ends_stay_connected::<A, K>();
 }
 
-/// A fetch completes: a session that just began can settle after at most N + 2 rounds, if its tips
-/// reach N ids. Then each ref that may move does. In a round each reply arrives whole, and nothing
-/// is refused.
+/// A fetch completes: a new session can settle after at most N + 2 rounds, if its tips reach N ids.
+/// The `Settle` event then makes every allowed update of refs. In a round each reply arrives
+/// complete, and no event fails.
 pub fn fetches_complete<A: Allocator + Copy, K: Packer<A> + Indexer<A>>()
     ensures { (k : K) → FetchesComplete (tools_of (K.packs k) (K.pack_fails k) (K.indexes k)
         (K.index_fails k)) }
@@ -206,8 +210,8 @@ pub fn fetches_complete<A: Allocator + Copy, K: Packer<A> + Indexer<A>>()
     reached_are_counted::<A>();
 }
 
-/// Only limits and lack of memory refuse an event of a round, if no bytes were forged, and packer
-/// and indexer are faithful. So a fetch that does not complete met one of these.
+/// An event of a round fails only for a limit or out of memory, if no bytes were forged, and packer
+/// and indexer are faithful. So a fetch fails to complete only for a limit or out of memory.
 pub fn only_limits_refuse<A: Allocator + Copy, K: Packer<A> + Indexer<A>>()
     ensures { (k : K) → OnlyLimitsRefuse (tools_of (K.packs k) (K.pack_fails k) (K.indexes k)
         (K.index_fails k)) }

@@ -1,72 +1,72 @@
-//! A server and a client of Git's fetch service under any list of events (gitprotocol-v2(5)). It
-//! shows the result of a fetch if messages are lost, repeated, late, cut short or forged, if
-//! objects and refs change at either end, and if either end starts again. A [`World`] has both
-//! ends, and keeps each sent request and each reply. An [`Event`] is one thing that happens to it,
-//! and an [`Outcome`] is its result.
+//! A simulation of a Git server and a client that fetches from it, under any list of events
+//! (gitprotocol-v2(5)). Messages may be lost, repeated, late, truncated or forged. Objects and refs
+//! may change at either end, and either end may restart. A [`World`] has both ends, and stores each
+//! sent request and each reply. An [`Event`] happens to a world, and an [`Outcome`] is the result
+//! of an event.
 //!
 //! # Proved
 //!
 //! - [`World::new`] returns a world of exactly the given server, client's repository, packer and
-//!   indexer. It has no session, and nothing is sent or forged. Fails with `TwoFormats` exactly
-//!   when the two repositories have ids of different formats. Otherwise fails with `Disagree`
-//!   exactly when they hold an id with different objects: at the first such id in the order of the
-//!   server's objects.
-//! - [`World::run`] does the events in order, with one outcome each. `Step` (specs/Events.antt)
-//!   defines what an event does, and its outcome. If the world's own lists or buffers can't grow,
-//!   the run stops before an event, with the outcomes of those before it. That event needs memory
-//!   (`NeedsMemory`, specs/Runs.antt): the world first checks whether its state already refuses the
-//!   event, with 83, 90 or 93.
-//! - **For any results, any forged bytes, and any packer and indexer: each ref of the client is
-//!   connected**, and the session asked for objects at most N + 1 times, if its tips reach N ids.
-//!   If no bytes were forged, server and client hold each common id.
-//! - Suppose no bytes were forged, and packer and indexer are faithful. Once a pack is taken, the
-//!   wants of the request that it answers are connected, even if that request is older than the
-//!   open one. A complete reply to the open fetch request is taken, unless its pack is over the
-//!   limit, the graph has no room, or the client is out of memory. Each sent request is served,
-//!   unless its pack is too large or the server is out of memory. A session that took the pack of a
-//!   complete reply to its request settles. Each ref that may move does, unless there would be too
-//!   many refs or the client is out of memory. (`Promises`, specs/Promises.antt, has a definition
-//!   for each of these.) A reply to an older request ends the session, or brings only the objects
-//!   of that request.
-//! - Whatever bytes arrived before, a complete reply to the open ls-refs request is taken, unless a
-//!   ref can't have its name, too much is wanted, or the client has no memory. A session that wants
-//!   nothing settles.
+//!   indexer. A new world has no session, no messages and no forged bytes. `World::new` fails with
+//!   `TwoFormats` exactly when the two repositories have different object formats. Otherwise it
+//!   fails with `Disagree` exactly when both repositories hold some id with different objects. The
+//!   fault gives the first such id in the order of the server's objects.
+//! - [`World::run`] executes the events in order, and returns the outcome of each. `Step`
+//!   (specs/Events.antt) defines the effect and the outcome of an event. If the world's own lists
+//!   or buffers can't grow, the run stops before an event, and returns the earlier outcomes. It
+//!   stops only before an event that needs memory (`NeedsMemory`, specs/Runs.antt). An event that
+//!   fails at once with fault 83, 90 or 93 needs no memory.
+//! - **Each ref of the client is connected, for any outcomes, any forged bytes, and any packer and
+//!   indexer.** In all cases the session makes at most N + 1 requests for objects, if its tips
+//!   reach N ids. If no bytes were forged, server and client hold each common id.
+//! - The following promises hold if no bytes were forged, and if the indexer reads back the objects
+//!   that the packer packed (both are faithful). After the client accepts a pack, the wants of the
+//!   answered request are connected, even if an older request was answered. The client accepts a
+//!   complete reply to the open fetch request, except for a limit or out of memory. The server
+//!   serves each sent request, unless the pack is too large or the server is out of memory. A
+//!   session that accepted the pack of a complete reply to its request settles. Settling makes
+//!   every allowed update of refs, unless there would be too many refs or the client is out of
+//!   memory. `Promises` (specs/Promises.antt) has a definition for each promise. A reply to an
+//!   older request ends the session, or adds only the objects of that request.
+//! - The client accepts a complete reply to the open ls-refs request, even after forged bytes. The
+//!   exceptions are an invalid name of a local ref, too many wants, and out of memory. A session
+//!   without wants settles.
 //! - **At all times** ([`laws::fronts_are_runs`], [`laws::refs_are_always_connected`]): a prefix of
-//!   a run is a run, and in each of its worlds the refs are connected.
+//!   a run is a run, and the client's refs are connected in each world of a run.
 //! - **Nothing is lost** ([`laws::graphs_only_grow`], [`laws::others_leave_refs`],
-//!   [`laws::refusals_leave_both_ends`]): both graphs only grow. Only `Settle` or one of the
-//!   client's own events moves its refs. Only the server's events change the server. An event that
-//!   is refused changes neither end.
-//! - **Honest runs** ([`laws::honest_runs_keep_all`]): each step keeps all of this, with no premise
-//!   left, if no event forges bytes, and packer and indexer are faithful.
-//! - **A fetch completes** ([`laws::fetches_complete`]): a session asks at most N + 2 times, if its
-//!   tips reach N ids, and can then settle. Each ref that may move does. The premise is that each
-//!   reply arrives whole, and nothing is refused. Only limits and lack of memory refuse an event of
-//!   such a fetch ([`laws::only_limits_refuse`]).
-//! - The promises follow from the definition of a step ([`laws::runs_keep_promises`]). A packer and
-//!   an indexer that are faithful are so in each world. The one premise about the worlds of a run
-//!   is an invariant of their types: the order of refs, and the lists of a session.
-//! - Each fault has the number, the name and the text of the tables (specs/Faults.antt). No call
-//!   panics, overflows or reads out of bounds, and each returns.
+//!   [`laws::refusals_leave_both_ends`]): both graphs only grow. Only `Settle` and `ClientRef` move
+//!   refs of the client. Only `ServerAdd` and `ServerRef` change the server. An event that fails
+//!   changes neither end.
+//! - **Honest runs** ([`laws::honest_runs_keep_all`]): each step keeps all promises if no event
+//!   forges bytes, and packer and indexer are faithful.
+//! - **A fetch completes** ([`laws::fetches_complete`]): a session makes at most N + 2 requests, if
+//!   its tips reach N ids, and can then settle. Settling makes every allowed update of refs. The
+//!   premise is that each reply arrives complete, and no event fails. An event of such a fetch
+//!   fails only for a limit or out of memory ([`laws::only_limits_refuse`]).
+//! - The promises follow from the definition of a step ([`laws::runs_keep_promises`]). The only
+//!   premise about the worlds of a run is an invariant of their types: refs are sorted by name, and
+//!   sessions are valid.
+//! - Each fault has the number, the name and the text of its row in `specs/Faults.antt`. No call
+//!   panics, overflows or reads out of bounds, and each call returns.
 //!
 //! # Only tested
 //!
-//! Available memory is used.
+//! If memory is available, calls use it instead of reporting out of memory.
 //!
 //! # What the contracts do not rule out
 //!
-//! A run may stop at its first event, and at each that needs memory, as if out of memory. An event
-//! that takes memory may report that there is none, whatever memory there is. The lists of requests
-//! and replies may take their memory from either end's allocator. A call may take as long as it
-//! likes, and more memory than it needs. Formatting a fault may return an error (`fmt::Error`)
-//! although the text would be right.
+//! A run may stop with `Memory` before its first event, or before any event that needs memory,
+//! although memory is available. An event that allocates may also fail for lack of memory although
+//! memory is available. The lists of requests and replies may use the allocator of either end. A
+//! call may take any time, and more memory than it needs. Formatting a fault may return
+//! `fmt::Error` without a cause.
 //!
 //! # Stands on
 //!
-//! `gscenario` for events, `gsession` and `gclientrepo` for the client, `gserve` and `ganswer` for
-//! the server. `gmsg` and the crates of single messages for the laws of their bytes, `gpkt` for
-//! packets in memory, `ggraph` and `gdag` for graphs. `gobject` for objects, packers and indexers,
-//! `grefs` for refspecs, `grefs` and `gname` for refs and ids.
+//! `gscenario` for events, `gsession` and `gclientrepo` for the client, and `gserve` and `ganswer`
+//! for the server. `gmsg` and the crates below it for messages, `gpkt` for packets, and `ggraph`
+//! and `gdag` for graphs. `gobject` for objects, packers and indexers, `grefs` for refspecs and
+//! refs, and `gname` for ids and ref names.
 #![tactic(auto)]
 
 mod fault;

@@ -3,43 +3,43 @@
 /// The outcome of an event.
 #[derive(Clone, Copy, Debug, PartialEq, Eq, Drop)]
 pub enum Outcome {
-    /// It was done.
+    /// The event succeeded.
     Done,
-    /// The client sent a request: its index among the sent requests, counted from 0.
+    /// The client sent a request, with this index in the list of sent requests.
     Asked {
         request: usize,
     },
-    /// The server made a reply: its index among the kept replies, counted from 0.
+    /// The server made a reply, with this index in the list of kept replies.
     Served {
         reply: usize,
     },
-    /// The server wrote this many bytes to the stranger.
+    /// The server wrote this many bytes to the unknown client.
     StrangerServed {
         written: u128,
     },
-    /// The reply to ls-refs was taken: this many refs are asked for, and this many objects wanted
-    /// for them.
+    /// The client accepted a reply to ls-refs, which led to this many asks for refs and this many
+    /// wants.
     LsTaken {
         asks: usize,
         wants: usize,
     },
-    /// Acknowledgments were taken: this many ids are common to client and server now.
+    /// The client accepted acknowledgments, and the session now has this many common ids.
     Round {
         common: usize,
     },
-    /// A pack was taken: this many of its objects were not held before.
+    /// The client accepted a pack, and gained this many new objects.
     PackTaken {
         added: usize,
     },
-    /// The refs were settled: how many moved, how many had their ids already, and how many did not
-    /// move because it was not a fast-forward.
+    /// The session settled: the numbers of refs that moved, that already had their ids, and whose
+    /// update was not a fast-forward.
     Settled {
         moved: usize,
         same: usize,
         not_forward: usize,
     },
-    /// It was refused, with the fault of this number. [`World::run`](crate::World::run) lists the
-    /// numbers by event.
+    /// The event failed with the fault of this number. [`World::run`](crate::World::run) lists the
+    /// numbers for each event.
     Fault {
         code: u32,
     },

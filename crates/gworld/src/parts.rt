@@ -21,7 +21,7 @@ use gsession::{ClientFault, Session};
 use std::alloc::Allocator;
 use std::marker::Model;
 
-/// A sent request.
+/// A request that the client sent.
 #[derive(Drop)]
 pub(crate) struct Sent<A: Allocator + Copy> {
     request: Request<A>,
@@ -36,7 +36,7 @@ impl<A: Allocator + Copy> Model for Sent<A> {
     ghost view = { λ sent. asked_by_request sent.request };
 }
 
-/// A kept reply, and its request.
+/// A reply that the server made, and the request that it answers.
 #[derive(Drop)]
 pub(crate) struct KeptReply<A: Allocator + Copy> {
     request: Request<A>,
@@ -53,7 +53,7 @@ impl<A: Allocator + Copy> Model for KeptReply<A> {
     ghost view = { λ kept. record { asked = asked_by_request kept.request; reply = reply_of kept.reply } };
 }
 
-/// The server, the client with its session, and all that was sent.
+/// The server, the client with its session, all sent requests and all kept replies.
 #[derive(Drop)]
 pub(crate) struct Parts<A: Allocator + Copy> {
     server: Server<A>,
@@ -81,14 +81,14 @@ impl<A: Allocator + Copy> Model for Parts<A> {
     } };
 }
 
-// Whether the session has its answer after a fault.
+// Returns the mark `answered` after a fault. A fault that ends the session clears the mark.
 fn mark_after<A: Allocator + Copy>(fault: &ClientFault<A>, mark: bool) -> bool
     ensures { result ≡ mark_after fault.now mark }
 {
     if fault.ends_session() { false } else { mark }
 }
 
-// Returns the outcome of a fault. A fault that ends the session clears the mark of its answer.
+// Returns the outcome of a fault. A fault that ends the session clears the mark `answered`.
 fn refuse<A: Allocator + Copy>(fault: ClientFault<A>, mark: &mut bool) -> Outcome
     ensures outcome { result ≡ outcome.Fault (code_of fault) }
     ensures mark { mark.new ≡ mark_after fault mark.old }
@@ -97,7 +97,7 @@ fn refuse<A: Allocator + Copy>(fault: ClientFault<A>, mark: &mut bool) -> Outcom
     Outcome::Fault { code: fault.code() }
 }
 
-// Returns the request at this index.
+// Returns the sent request at this index.
 fn sent_at<A: Allocator + Copy>(sent: &Vec<Sent<A>, A>, number: usize) -> Option<&Sent<A>>
     ensures { option_copied result ≡ slice_get sent.now.items number }
 {

@@ -1,4 +1,4 @@
-//! A world, and its runs.
+//! A world, and its runs of events.
 
 ghost use Rattle.std.specs.Prelude.{◌≡◌, MatchResult};
 ghost use Rattle.gworld.specs.Promises.{AreRefsConnected, Promises};
@@ -16,7 +16,8 @@ use gscenario::Event;
 use std::alloc::{Allocator, Global};
 use std::marker::Model;
 
-/// A server and a client that fetches from it, all that was sent, a packer and an indexer.
+/// A server and a client that fetches from it, with all sent requests, all replies, a packer and an
+/// indexer.
 #[derive(Drop)]
 pub struct World<K: Packer<A> + Indexer<A> + Drop, A: Allocator + Copy = Global> {
     parts: Parts<A>,
@@ -38,10 +39,10 @@ impl<K: Packer<A> + Indexer<A> + Drop, A: Allocator + Copy> Model for World<K, A
 impl<K: Packer<A> + Indexer<A> + Drop, A: Allocator + Copy> World<K, A> {
     /// Makes a world of this server, this client's repository, and this packer and indexer.
     ///
-    /// It begins without a session, and nothing was sent or forged. Fails with `TwoFormats` if the
-    /// two repositories have ids of different formats. Otherwise fails with `Disagree` at the first
-    /// id, in the order of the server's objects, that the client holds with another object.
-    /// Allocates nothing.
+    /// A new world has no session, no messages and no forged bytes. Fails with `TwoFormats` if the
+    /// two repositories have different object formats. Otherwise fails with `Disagree` if both hold
+    /// some id with different objects, and gives the first such id in the order of the server's
+    /// objects. Allocates nothing.
     pub fn new(server: Server<A>, repo: Repo<A>, tools: K) -> Result<World<K, A>, WorldFault>
         ensures { Starts server repo tools result }
     {
@@ -63,34 +64,43 @@ impl<K: Packer<A> + Indexer<A> + Drop, A: Allocator + Copy> World<K, A> {
         self.parts.server()
     }
 
-    /// Does the events, one after the other, and returns the outcome of each.
+    /// Executes the events, one after the other, and returns the outcome of each event.
     ///
-    /// An event that is refused has the outcome `Fault`, and the next ones are still done:
+    /// An event that fails has the outcome `Fault`, and the run continues with the next event. The
+    /// numbers of the faults are:
     ///
-    /// - `Begin`: 82 for more than 16 refspecs, 64 if out of memory; the session before stays.
-    /// - `Ask`: 83 if there is no session or no request to make, and nothing changes; 64, and the
-    ///   session is over.
-    /// - `Serve`: 93 if no such request was sent; 74 if a want is not held, which takes forged
-    ///   bytes; 64, or 65 if the packer fails. Nothing changes.
-    /// - `Deliver`: 93 if no such reply is kept; then as `Forge`.
-    /// - `Forge`: 83 if no request waits. Otherwise the fault of the reply that was read or not
-    ///   taken; the session is over, with the refs unchanged. The world counts as forged from then
-    ///   on.
-    /// - `StrangeRequest`: 28, 53, 64 or 65 if the server ran out of memory. Nothing changes.
-    /// - `Settle`: 83 if the session can't settle yet, and nothing changes; 85, 69 or 64, and the
-    ///   session is over, with the refs unchanged.
-    /// - `ServerAdd`, `ClientAdd`: 90 if the other end holds the id with another object, then 72 if
-    ///   a parent is not held, then 75, 62, 63, 60, 61 or 64. Nothing changes.
-    /// - `ServerRef`: 71, then 69 or 64; `ClientRef`: 81, then 69 or 64. Nothing changes.
+    /// - `Begin`: 82 (`TooManySpecs`) for more than 16 refspecs, or 64 (`Memory`). The old session
+    ///   remains.
+    /// - `Ask`: 83 (`NoOpenRequest`) if there is no session or no request to make, or 64
+    ///   (`Memory`). Fault 64 ends the session.
+    /// - `Serve`: 93 if there is no request at this index, or 74 (`NotOurs`) if the server does not
+    ///   hold a want. Otherwise 64 (`Memory`), or 65 (`Pack`) if the packer fails. Fault 74 occurs
+    ///   only after forged bytes. The world is unchanged.
+    /// - `Deliver`: 93 if there is no reply at this index. The other faults are the faults of
+    ///   `Forge`.
+    /// - `Forge`: 83 (`NoOpenRequest`) if no request is open. Otherwise the fault of reading or
+    ///   accepting the reply, which ends the session and leaves the refs unchanged. In all cases
+    ///   the world is marked as forged.
+    /// - `StrangeRequest`: 28, 53, 64 or 65 if the server ran out of memory. The world is
+    ///   unchanged.
+    /// - `Settle`: 83 (`NoOpenRequest`) if the session can't settle yet. The faults 85
+    ///   (`NotConnected`), 69 (`Refs`) and 64 (`Memory`) end the session and leave the refs
+    ///   unchanged.
+    /// - `ServerAdd`, `ClientAdd`: 90 (`Disagree`) if the other end holds the id with a different
+    ///   object. Otherwise 72 (`MissingParent`) if a parent is missing, and otherwise 75, 62, 63,
+    ///   60, 61 or 64. The world is unchanged.
+    /// - `ServerRef`: 71 (`RefMissing`) if the server does not hold the id. `ClientRef`: 81
+    ///   (`NotHeld`) if the id is not connected. Otherwise both fail with 69 (`Refs`) or 64
+    ///   (`Memory`). The world is unchanged.
     ///
     /// If a list of the world or a buffer can't grow, the run stops with `Memory`, which has the
-    /// outcomes of the done events. The world is as these left it, and the next event has not
-    /// begun. That event needs memory. It does not name a missing request or reply, asks only if
-    /// there is a request to make, fits the session, and agrees with the other end. The outcomes
-    /// take their memory before the first event; if there is none for them, no event is done.
+    /// outcomes of the completed events. The completed events keep their effects, and the next
+    /// event has not begun. The run stops only before an event that needs memory: an event that
+    /// would fail at once with 83, 90 or 93 needs none. The list of outcomes is allocated before
+    /// the first event. If that allocation fails, the run executes no event.
     ///
-    /// `Promises` (specs/Promises.antt) has the promises of each step. Whatever the results are,
-    /// each ref of the client is connected.
+    /// `Promises` (specs/Promises.antt) defines the promises of each step. After any run each ref
+    /// of the client is connected.
     pub fn run(&mut self, events: &[Event<A>]) -> Result<Vec<Outcome, A>, RunFault<A>>
         ensures tools { self.new.tools ≡ self.old.tools }
         ensures connected_refs { AreRefsConnected self.new.world }

@@ -25,7 +25,7 @@ use Rattle.gclient.specs.Turns.{AsksNext, ClientState, IsTurn, Refuses, Turn}
 use Rattle.gclient.specs.declared.fault.FetchFault.{FetchFault}
 use Rattle.gclient.specs.declared.fault.FetchFault.TheVariants as fetch
 
--- what hearing the server answers: the session has heard an advertisement that was read; or that is refused
+-- the result of reading the advertisement: the session records it, or the client rejects it
 abbrev pub HearsServer : {A : Type 0} → Format → SessionState A → Input → SessionState A
     → Result (Unit {0}) (FetchFault A) → Type 0
 HearsServer format old input new (Ok done) =
@@ -34,8 +34,8 @@ HearsServer format old input new (Ok done) =
 HearsServer format old input new (Err (fetch.Client (client.Message cause))) = RefusesAdvert format input cause
 HearsServer format old input new (Err _) = ⊥
 
--- what asking answers: the next request is passed on, and waits for its reply; or it is out of memory for it, and
--- nothing is written; or the sink failed, and a beginning of it stands
+-- the result of a request: it is flushed and waits for its reply, nothing is written for lack of memory, or the sink
+-- failed
 abbrev pub AsksServer : {A : Type 0} → SessionState A → RepoState A → Output → SessionState A
     → Result (Unit {0}) (FetchFault A) → Type 0
 AsksServer old repo output new (Ok done) =
@@ -48,8 +48,7 @@ AsksServer old repo output new (Err fetch.WriteFailed) =
     (asked : Asked) × Requests old repo.graph.entries new (Ok asked)
     × FailsToSend output (request_bytes repo.graph.format asked)
 
--- what ending a conversation answers: the lone flush is passed on, and the refs are settled, or why not; or the sink
--- failed, and nothing changes
+-- the result of ending a conversation: the lone flush packet is flushed and the refs are updated, or a fault
 abbrev pub Closes : {A : Type 0} → SessionState A → RepoState A → Output → RepoState A
     → Result (Settled A) (FetchFault A) → Type 0
 Closes session old output new (Ok settled) =
@@ -61,17 +60,17 @@ Closes session old output new (Err fetch.WriteFailed) =
     FailsToSend output (request_bytes old.graph.format Empty) × (new ≡ old)
 Closes session old output new (Err _) = ⊥
 
--- a client by its parts
+-- the client with this session, this repository and this target of an unborn HEAD
 abbrev pub client_of : {A : Type 0} → SessionState A → RepoState A → Option Name → ClientState A
 client_of session repo unborn = record { session = session; repo = repo; unborn = unborn }
 
--- how far a session is after a reply to fetch
+-- the stage of a session after a reply to fetch
 abbrev pub stage_after : Taken → Stage
 stage_after (Round common) = Fetching
 stage_after (PackTaken added) = Settling
 
 module _ {A : Type 0} (indexes : Indexes A) (index_fails : IndexFails) where
-  -- a turn is read and taken, and its request is passed on
+  -- the client flushes the request of a turn, and reads and accepts its reply
   pub record HasTurned (old : ClientState A) (input : Input) (output : Output) (new : ClientState A) : Type 0 where
     pub turn : Turn
     pub is_turn : IsTurn indexes index_fails old turn new
@@ -79,7 +78,7 @@ module _ {A : Type 0} (indexes : Indexes A) (index_fails : IndexFails) where
     pub passed : Passes output (request_bytes old.repo.graph.format turn.asked)
     pub up : IsUp input
 
-  -- why there is no turn: out of memory for its request; or that can't be sent; or its reply is refused
+  -- the reasons for a turn to fail: out of memory for the request, a failed sink, or a rejected reply
   pub data FailsTurn (old : ClientState A) (input : Input) (output : Output) : FetchFault A → Type 0 where
     unasked : (after : SessionState A) → Requests old.session old.repo.graph.entries after (Err no_memory)
         → IsUnread input → IsUnwritten output → FailsTurn old input output (fetch.Client no_memory)
@@ -90,34 +89,34 @@ module _ {A : Type 0} (indexes : Indexes A) (index_fails : IndexFails) where
         → Passes output (request_bytes old.repo.graph.format asked)
         → FailsTurn old input output (fetch.Client cause)
 
-  -- what asking for objects and taking the reply answers
+  -- the result of a turn that requests objects
   abbrev pub TakesTurn : ClientState A → Input → Output → ClientState A → Result Taken (FetchFault A) → Type 0
   TakesTurn old input output new (Ok taken) =
       HasTurned old input output new × (new.session.stage ≡ stage_after taken) × (new.session.pending ≡ None)
   TakesTurn old input output new (Err failed) = FailsTurn old input output failed × (new.repo ≡ old.repo)
 
 module _ {A : Type 0} (indexes : Indexes A) (index_fails : IndexFails) (start : Start A) where
-  -- The conversation came so far: each request so far is passed on, and each reply is taken.
+  -- The conversation so far: the client flushed each request, and accepted each reply.
   pub record HasTalked (input : Input) (output : Output) (now : ClientState A) : Type 0 where
     pub talk : List Turn
     pub converses : Converses indexes index_fails start input talk now IsLeft
     pub asked : HasAsked start.repo.graph.format output talk
 
-  -- what asking until the last reply is taken answers: what is known of an unborn HEAD; or why it failed
+  -- the result of all turns: the target of the server's unborn HEAD, or a fault
   abbrev pub Talks : Input → Output → SessionState A → RepoState A → Result (Option Name) (FetchFault A) → Type 0
   Talks input output session repo (Ok unborn) = HasTalked input output (client_of session repo unborn)
   Talks input output session repo (Err failed) = Fails indexes index_fails start input output repo failed
 
-  -- what a part of it answers
+  -- the result of a part of the turns
   abbrev pub TalksTo : {T : Type 0} → Input → Output → ClientState A → Result T (FetchFault A) → Type 0
   TalksTo input output now (Ok done) = HasTalked input output now
   TalksTo input output now (Err failed) = Fails indexes index_fails start input output now.repo failed
 
--- what a conversation of this session begins with
+-- the inputs of the conversation of this session
 abbrev pub start_with : {A : Type 0} → SessionState A → RepoState A → Start A
 start_with session repo =
     start_for repo session.refspecs session.limit session.ends session.options
 
--- the session has begun on the repository, and nothing was asked
+-- the session has begun on the repository, and has made no request
 abbrev pub HasBegun : {A : Type 0} → SessionState A → RepoState A → Type 0
 HasBegun session repo = session ≡ begin_session (start_with session repo)

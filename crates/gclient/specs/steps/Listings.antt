@@ -12,13 +12,13 @@ use Rattle.gclient.specs.Conversations.{Advertises, RefusesToRead}
 use Rattle.gclient.specs.Listings.{FitsNone}
 use Rattle.gclient.specs.declared.listing.Heard.{Heard}
 
--- a client of this format can go on with the server, or a client of none can
+-- a client of this object format supports the server, or no client of any format supports it
 abbrev pub FitsFormat : List Capability → Result Format MessageFault → Type 0
 FitsFormat capabilities (Ok format) = check_fault format capabilities ≡ None
 FitsFormat capabilities (Err cause) =
     ((format : Format) → check_fault format capabilities ≡ Some cause.why) × (cause.frame ≡ 0)
 
--- an advertisement is read that says this
+-- the client reads an advertisement with this content
 pub record HasHeardServer (input : Input) (heard : Heard) : Type 0 where
   pub packets : List Packet
   pub capabilities : List Capability
@@ -27,7 +27,7 @@ pub record HasHeardServer (input : Input) (heard : Heard) : Type 0 where
   pub unborn : heard.tells_unborn ≡ tells_unborn capabilities
   pub up : IsUp input
 
--- what hearing the server answers
+-- the result of reading the advertisement
 abbrev pub HearsServer : Input → Result Heard MessageFault → Type 0
 HearsServer input (Ok heard) = HasHeardServer input heard
 HearsServer input (Err cause) = RefusesToRead input cause ⊎ FitsNone input cause

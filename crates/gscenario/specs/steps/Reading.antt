@@ -1,23 +1,23 @@
--- The steps of reading a scenario, word by word.
+-- The steps that read a scenario word by word.
 use Rattle.std.specs.Prelude.{◌≡◌, ⊤, ℕ, List, [], ◌∷◌, Option, Result, MatchOption, MatchResult}
 use Rattle.gscenario.specs.ScenarioText.{AreArguments, command_of, words_of}
 use Rattle.gscenario.specs.declared.command.EventWord.{EventWord}
 use Rattle.gscenario.specs.declared.event.Event.{Event}
 
--- the words of what follows a word: nothing, or a space and a text
+-- the words of the rest of a line after a word: none, or the words after a space
 abbrev pub words_after : List ℕ → List (List ℕ)
 words_after [] = []
 words_after (space ∷ text) = words_of text
 
--- the words are no arguments of the command
+-- the words are not the arguments of any event of the command
 abbrev pub NoArguments : Type 0 → EventWord → List (List ℕ) → Type 0
 NoArguments A command words = (event : Event A) → command ≡ command_of event → ¬ (AreArguments event words)
 
--- they are the arguments of an event of the command
+-- the words are the arguments of the event, and the event is of the command
 abbrev pub HasArguments : {A : Type 0} → EventWord → List (List ℕ) → Event A → Type 0
 HasArguments command words event = (command ≡ command_of event) × AreArguments event words
 
--- what reading the arguments of a command answers: an event; or that there is none; or out of memory
+-- the result of reading the arguments of a command: an event, `None` for malformed arguments, or out of memory
 abbrev pub ReadsArguments : {A E : Type 0} → EventWord → List (List ℕ) → Result (Option (Event A)) E → Type 0
 ReadsArguments {A} command words result =
     MatchResult result

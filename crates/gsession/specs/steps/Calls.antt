@@ -31,21 +31,21 @@ use Rattle.gsession.specs.declared.taken.Taken.{Taken}
 
 -- ---- asking
 
--- the asks are added, and each is for a ref name
+-- the new list has the added asks, and each added ask is for a valid ref name
 abbrev pub AddsAsks : {A : Type 0} → List (Ask A) → List (Ask A) → List (Ask A) → Type 0
 AddsAsks old more new = (new ≡ with_asks old more) × AreNamed more
 
--- the asks are what is asked for, and each is for a ref name
+-- the asks are the asks of the refspecs for the lines, and each ask is for a valid ref name
 abbrev pub FindsAsks : {A : Type 0} → List Refspec → List RefLine → List (Ask A) → Type 0
 FindsAsks {A} specs lines asks = (asks ≡ asked_of specs lines) × AreNamed {A = A} (asks_by_all specs lines)
 
 -- ---- the next request
 
--- a prefix more, unless it is there
+-- the prefixes with one more, unless it is already in the list
 abbrev pub with_prefix : List Bytes → Bytes → List Bytes
 with_prefix prefixes prefix = cond (is_in prefixes prefix) prefixes (prefixes ++ prefix ∷ [])
 
--- a batch that was not offered before, and for which a request has room beside the common ids
+-- the batch has only ids that were not offered before, and fits into a request with the common ids
 pub record FitsBatch {A : Type 0} (s : SessionState A) (batch : List Id) : Type 0 where
   pub ids : All (IsIdOf s.format) batch
   pub room : length s.commons + length batch ≤ max_haves
@@ -53,13 +53,13 @@ pub record FitsBatch {A : Type 0} (s : SessionState A) (batch : List Id) : Type 
 
 -- ---- the reply to ls-refs
 
--- what taking the refs of a reply answers that was read, before a fault ends the session
+-- the result of accepting the refs of a complete reply, before a fault ends the session
 abbrev pub AnswersRefs : {A : Type 0} → SessionState A → List (Entry A) → LsReply → SessionState A
     → Result (LsTaken A) (ClientFault A) → Type 0
 AnswersRefs old g reply new (Ok taken) = TakesLines old g reply new taken
 AnswersRefs old g reply new (Err fault) = IsRefsFault old g reply fault × (new ≡ old)
 
--- what taking a reply answers, before a fault ends the session
+-- the result of reading a reply to ls-refs, before a fault ends the session
 abbrev pub AnswersLs : {A : Type 0} → SessionState A → List (Entry A) → Change → SessionState A
     → Result (LsTaken A) (ClientFault A) → Type 0
 AnswersLs old g change new (Ok taken) = TakesLs old g change new (Ok taken)
@@ -67,30 +67,29 @@ AnswersLs old g change new (Err fault) = IsLsFault old g change fault × (new �
 
 -- ---- the reply to fetch
 
--- the bytes of a pack were fed to the indexer; or it has refused, as it may each pack that begins with them
+-- the indexer read these bytes of a pack, or it failed with a fault that is possible for every pack with this prefix
 abbrev pub MayHaveFed : {F : Type 0} → (F → Bytes → Type 0) → IndexFails → Result F IndexFault → Bytes → Type 0
 MayHaveFed fed index_fails (Ok feed) bytes = fed feed bytes
 MayHaveFed fed index_fails (Err fault) bytes = (more : Bytes) → index_fails (bytes ++ more) fault
 
--- an id is acknowledged that the request did not name
+-- the fault is an acknowledged id that is not a have of the request
 abbrev pub IsStrangeAck : {A : Type 0} → List Id → List Id → ClientFault A → Type 0
 IsStrangeAck haves acks (StrangeAck id) = IsFirstStrange haves acks id
 IsStrangeAck haves acks _ = ⊥
 
--- why acknowledgments are not taken: one is of an id that the request did not name; or each is of a have, and it is
--- out of memory
+-- a reason to reject acknowledgments: an id that is not a have of the request, or out of memory
 abbrev pub IsAcksFault : {A : Type 0} → List Id → List Id → ClientFault A → Type 0
 IsAcksFault haves acks (StrangeAck id) = IsFirstStrange haves acks id
 IsAcksFault haves acks (Repo (repo.Graph graph.Memory)) = All (Contains haves) acks
 IsAcksFault haves acks _ = ⊥
 
--- acknowledgments alone answer a request that is not direct
+-- the head of a reply fits its request: a reply with only acknowledgments is not for a direct request
 abbrev pub FitsHead : FetchAsked → FetchHead → Type 0
 FitsHead asked (head.Acks ids) = is_direct asked ≡ false
 FitsHead asked _ = Unit {0}
 
 module _ {A : Type 0} (indexes : Indexes A) (index_fails : IndexFails) where
-  -- what taking a reply answers that was read, before a fault ends the session
+  -- the result of accepting a complete reply to fetch, before a fault ends the session
   abbrev pub AnswersRead : List Id → SessionState A → RepoState A → FetchReply → SessionState A → RepoState A
       → Result Taken (ClientFault A) → Type 0
   AnswersRead haves old repo_old reply new repo_new (Ok taken) =
@@ -98,7 +97,7 @@ module _ {A : Type 0} (indexes : Indexes A) (index_fails : IndexFails) where
   AnswersRead haves old repo_old reply new repo_new (Err fault) =
       IsReplyFault indexes index_fails haves repo_old reply fault × (new ≡ old) × (repo_new ≡ repo_old)
 
-  -- what taking a reply answers, before a fault ends the session
+  -- the result of reading a reply to fetch, before a fault ends the session
   abbrev pub AnswersReply : SessionState A → RepoState A → Change → SessionState A → RepoState A
       → Result Taken (ClientFault A) → Type 0
   AnswersReply old repo_old change new repo_new (Ok taken) =

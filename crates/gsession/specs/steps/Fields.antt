@@ -1,10 +1,10 @@
--- A session as it stands in memory.
+-- The fields of a session in memory.
 use Rattle.std.specs.Prelude.{option_map}
 use Rattle.grequest.specs.RequestValues.{asked_by_request}
 use Rattle.gsession.specs.Sessions.{SessionState}
 use Rattle.gsession.specs.declared.session.Session.TheInside.{Inside}
 
--- what the fields say of a session
+-- the session that the fields represent
 abbrev pub session_of : {A : Type 0} → Inside A → SessionState A
 session_of it = record {
   format = it.format;

@@ -26,8 +26,8 @@ impl<A: Allocator + Copy> Session<A> {
     ghost use Rattle.gsession.specs.Sessions.{after_fault, no_memory};
     ghost use Rattle.gsession.specs.steps.Calls.{FitsBatch};
 
-    /// Whether a request is to be made next: none waits for its reply, and refs or objects are
-    /// still needed.
+    /// Returns whether the session has a next request to make. In that case no request waits for
+    /// its reply, and refs or objects are still needed.
     pub fn is_due(&self) -> bool
         ensures { result ≡ is_due self.now.stage self.now.pending }
     {
@@ -40,13 +40,13 @@ impl<A: Allocator + Copy> Session<A> {
         }
     }
 
-    /// Makes the next request, which then waits for its reply. The first is for refs, later ones
-    /// for objects. The haves of a request for objects are the common ids, and a batch of ids that
-    /// it did not name before. Without a batch the client is done, also if both together would be
-    /// more than 4,096.
+    /// Makes the next request, which then waits for its reply. The first request is for refs, and
+    /// all later requests are for objects. The haves of a request for objects are the common ids
+    /// and a batch of new ids. The batch is empty if the haves would be more than 4,096. A request
+    /// with an empty batch has `done`.
     ///
-    /// Fails with `NoOpenRequest` if no request is to be made, and nothing changes then. Fails if
-    /// out of memory, and the session is over then.
+    /// Fails with `NoOpenRequest` if there is no request to make, and leaves the session unchanged.
+    /// Fails with `Repo` if out of memory, and ends the session.
     pub fn request(&mut self, repo: &Repo<A>) -> Result<Request<A>, ClientFault<A>>
         ensures requests { MatchResult result
             (λ request. Requests self.old repo.now.graph.entries self.new
@@ -57,11 +57,11 @@ impl<A: Allocator + Copy> Session<A> {
         self.request_on(repo, &mut None)
     }
 
-    /// Makes the next request, as [`Session::request`] does, by continuing a walk. `offers` has the
-    /// walk of the requests before; without it the walk begins anew. So all requests of a session
-    /// over one graph walk once.
+    /// Makes the next request like [`Session::request`], but continues the walk of the previous
+    /// requests. `offers` holds the state of that walk, and `None` starts a new walk. So all
+    /// requests of a session over the same graph share one walk.
     ///
-    /// Fails as `request` does.
+    /// Fails like `request`.
     pub fn request_on(
         &mut self,
         repo: &Repo<A>,
@@ -82,7 +82,7 @@ impl<A: Allocator + Copy> Session<A> {
         }
     }
 
-    // Makes the next request, if there is one to make. A fault does not end the session yet.
+    // Makes the next request, if there is a request to make. A fault does not end the session yet.
     fn make_request(
         &mut self,
         repo: &Repo<A>,
@@ -109,7 +109,7 @@ impl<A: Allocator + Copy> Session<A> {
         }
     }
 
-    // Asks for refs.
+    // Makes the request for refs.
     fn ask_for_refs(&mut self) -> Result<Request<A>, ClientFault<A>>
         requires stage { self.old.stage ≡ Stage.Listing }
         requires pending { self.old.pending ≡ None }
@@ -125,7 +125,7 @@ impl<A: Allocator + Copy> Session<A> {
         Ok(copy)
     }
 
-    // Asks for objects.
+    // Makes the next request for objects.
     fn ask_for_objects(
         &mut self,
         repo: &Repo<A>,
@@ -145,7 +145,7 @@ impl<A: Allocator + Copy> Session<A> {
         Ok(self.ask_with(batch.as_slice())?)
     }
 
-    // Asks for objects, and offers a batch.
+    // Makes a request for objects that offers this batch.
     fn ask_with(&mut self, batch: &[Oid]) -> Result<Request<A>, AllocError>
         requires stage { self.old.stage ≡ Stage.Fetching }
         requires pending { self.old.pending ≡ None }
@@ -166,8 +166,8 @@ impl<A: Allocator + Copy> Session<A> {
         Ok(copy)
     }
 
-    // Returns the ids that the next request offers. They were not offered before, and fit beside
-    // the common ids.
+    // Returns the batch of the next request: ids that were not offered before. The batch and the
+    // common ids fit into one request.
     fn batch(
         &self,
         repo: &Repo<A>,
@@ -201,7 +201,7 @@ impl<A: Allocator + Copy> Session<A> {
         }
     }
 
-    // Returns the walk of the requests before, or a new one. Fails only with `Memory`.
+    // Returns the walk of the previous requests, or a new walk. Fails only with `Memory`.
     fn offers_on(
         &self,
         repo: &Repo<A>,
@@ -218,7 +218,7 @@ impl<A: Allocator + Copy> Session<A> {
         }
     }
 
-    // Keeps a request for objects until its reply, and its batch as offered.
+    // Stores a request for objects as the open request, and adds its batch to the offered ids.
     fn keep_request(&mut self, request: Request<A>, batch: &[Oid]) -> Result<(), AllocError>
         requires stage { self.old.stage ≡ Stage.Fetching }
         requires pending { self.old.pending ≡ None }

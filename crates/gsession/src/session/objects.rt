@@ -1,4 +1,4 @@
-//! Taking the reply to fetch.
+//! Reading the reply to fetch.
 
 ghost use Rattle.std.specs.Prelude.{◌≡◌, ◌++◌, false, All, Contains, MatchOption, MatchResult, OnOk, length};
 ghost use Rattle.gpkt.specs.Change.{change_of};
@@ -29,17 +29,17 @@ impl<A: Allocator + Copy> Session<A> {
     ghost use Rattle.gsession.specs.steps.Calls.{AnswersRead, AnswersReply, FitsHead, IsAcksFault, IsStrangeAck, MayHaveFed};
     ghost use Rattle.gsession.specs.TakingReplies.{Awaits, AwaitsObjects, HasPack, TakesReply, after_acks, reading_for};
 
-    /// Takes the reply to a request for objects, and reads nothing after it. Feeds its pack to the
-    /// indexer as it arrives. After the reply is read, each acknowledged id must be one of the
-    /// request's haves, and is common from then on. All objects of the pack are added to the
-    /// repository, or none.
+    /// Reads the reply to a request for objects, and nothing after it. Passes the pack to the
+    /// indexer while it arrives. After the end of the reply, checks that each acknowledged id is
+    /// one of the request's haves, and adds it to the common ids. Adds all objects of the pack to
+    /// the repository, or none.
     ///
-    /// Fails with `NoOpenRequest` if no such reply is awaited, and nothing is read then. After any
-    /// other fault the session is over, and the repository unchanged. Fails with `Message` if the
-    /// reply is refused, out of memory only at an acknowledged id; with `StrangeAck`; with `Index`
-    /// if the indexer refused the pack. Fails with `Repo` if the graph refuses its objects, or if
-    /// out of memory, which is reported only if the indexer took the pack. The first of these is
-    /// reported; a reply without a pack has no fault of the indexer.
+    /// Fails with `NoOpenRequest` if no request for objects is open, and reads nothing. Any other
+    /// fault ends the session, and leaves the repository unchanged. Fails with `Message` if a
+    /// packet of the reply is unreadable or malformed, or if out of memory for an acknowledged id.
+    /// Otherwise fails with `StrangeAck` if an acknowledged id is not a have. Otherwise fails with
+    /// `Index` if the indexer rejected the pack. Otherwise fails with `Repo` if the graph rejects
+    /// the objects, or if out of memory.
     pub fn take_reply<S: Source, K: Indexer<A>, B: Allocator + Copy>(
         &mut self,
         repo: &mut Repo<A>,
@@ -59,7 +59,8 @@ impl<A: Allocator + Copy> Session<A> {
         }
     }
 
-    // Takes the reply to fetch, if it is awaited. A fault does not end the session yet.
+    // Reads the reply to fetch, if the open request is for objects. A fault does not end the
+    // session yet.
     fn read_objects<S: Source, K: Indexer<A>, B: Allocator + Copy>(
         &mut self,
         repo: &mut Repo<A>,
@@ -83,7 +84,7 @@ impl<A: Allocator + Copy> Session<A> {
         }
     }
 
-    // Returns how to read the awaited reply, if it is one to fetch.
+    // Returns the parameters for reading the awaited reply, if it is a reply to fetch.
     fn reply_reading(&self) -> Option<FetchReading>
         ensures { MatchOption result
             (¬ (AwaitsObjects self.now))
@@ -101,7 +102,7 @@ impl<A: Allocator + Copy> Session<A> {
         }
     }
 
-    // Takes the content of a reply.
+    // Applies the content of a complete reply.
     fn take_head<K: Indexer<A>>(
         &mut self,
         repo: &mut Repo<A>,
@@ -123,7 +124,7 @@ impl<A: Allocator + Copy> Session<A> {
         }
     }
 
-    // Takes acknowledgments alone.
+    // Applies a reply with only acknowledgments.
     fn take_acks(&mut self, acks: &[Oid]) -> Result<Taken, ClientFault<A>>
         requires { (asked : FetchAsked) × Awaits self.old asked × (is_direct asked ≡ false) }
         ensures { (asked : FetchAsked) → Awaits self.old asked → MatchResult result
@@ -141,7 +142,7 @@ impl<A: Allocator + Copy> Session<A> {
         Ok(Taken::Round { common })
     }
 
-    // Takes acknowledgments and a pack.
+    // Applies a reply with a pack and perhaps acknowledgments.
     fn take_pack<K: Indexer<A>>(
         &mut self,
         repo: &mut Repo<A>,
@@ -185,7 +186,7 @@ impl<A: Allocator + Copy> Session<A> {
         }
     }
 
-    // Returns the haves of the request for objects that waits.
+    // Returns the haves of the open request for objects.
     fn open_haves(&self) -> &[Oid]
         ensures { (asked : FetchAsked) → Awaits self.now asked → result.now ≡ asked.haves }
     {

@@ -1,4 +1,4 @@
-//! Taking the reply to ls-refs.
+//! Reading the reply to ls-refs.
 
 ghost use Rattle.std.specs.Prelude.{◌≡◌, ◌≤◌, List, All, MatchBool, MatchResult, IfOk, None, length};
 ghost use Rattle.gobject.specs.declared.node.Entry.{Entry};
@@ -27,15 +27,16 @@ impl<A: Allocator + Copy> Session<A> {
     ghost use Rattle.gsession.specs.steps.Calls.{AnswersLs, AnswersRefs, FindsAsks};
     ghost use Rattle.gsession.specs.TakingRefs.{AwaitsRefs, IsRefsFault, TakesLines, TakesLs, with_refs};
 
-    /// Takes the reply to ls-refs, and reads nothing after it. Keeps the asks and their wanted
-    /// objects, and returns the target of an unborn `HEAD`. An ask is for the ref to which a
-    /// refspec maps a name. If several asks are for one ref, the first counts. Each asked id that
-    /// is not connected is wanted.
+    /// Reads the reply to ls-refs, and nothing after it. Stores the asks and the wants, and returns
+    /// the target of an unborn `HEAD`. Each ref that matches a refspec gives an ask for the local
+    /// ref to which the refspec maps it. If several asks are for the same local ref, the first one
+    /// counts. The wants are the asked ids that are not connected.
     ///
-    /// Fails with `NoOpenRequest` if no such reply is awaited, and nothing is read then. After any
-    /// other fault the session is over. Fails with `Message` if the reply is refused, or, at its
-    /// last packet, if a requested ref can't have its name. Fails with `TooManyWants` for more than
-    /// 1,024, and if out of memory, but not if a ref can't have its name.
+    /// Fails with `NoOpenRequest` if no request for refs is open, and reads nothing. Any other
+    /// fault ends the session. Fails with `Message` if a packet of the reply is unreadable or
+    /// malformed, or if the name of a local ref would be invalid. The fault for an invalid name
+    /// gives the position of the reply's last packet. Otherwise fails with `TooManyWants` for more
+    /// than 1,024 wants, or with `Repo` if out of memory.
     pub fn take_ls<S: Source, B: Allocator + Copy>(
         &mut self,
         repo: &Repo<A>,
@@ -52,7 +53,8 @@ impl<A: Allocator + Copy> Session<A> {
         }
     }
 
-    // Takes the reply to ls-refs, if it is awaited. A fault does not end the session yet.
+    // Reads the reply to ls-refs, if the open request is for refs. A fault does not end the session
+    // yet.
     fn read_refs<S: Source, B: Allocator + Copy>(
         &mut self,
         repo: &Repo<A>,
@@ -72,7 +74,7 @@ impl<A: Allocator + Copy> Session<A> {
         }
     }
 
-    // Whether a request for refs waits for its reply.
+    // Returns whether a request for refs waits for its reply.
     fn awaits_refs(&self) -> bool
         ensures { MatchBool result (AwaitsRefs self.now) (¬ (AwaitsRefs self.now)) }
     {
@@ -82,7 +84,7 @@ impl<A: Allocator + Copy> Session<A> {
         }
     }
 
-    // Takes the refs of a reply.
+    // Applies the refs of a complete reply.
     fn take_refs(
         &mut self,
         repo: &Repo<A>,
@@ -99,7 +101,7 @@ impl<A: Allocator + Copy> Session<A> {
         self.take_asked(repo, reply, asks)
     }
 
-    // Takes the asks for the refs of a reply.
+    // Stores the asks for the refs of a reply, and the wants.
     fn take_asked(
         &mut self,
         repo: &Repo<A>,
@@ -120,7 +122,7 @@ impl<A: Allocator + Copy> Session<A> {
         }
     }
 
-    // Returns the wants of the asks, and the result for the reply.
+    // Returns the wants of the asks, and the result of the reply.
     fn find_wants(
         &self,
         repo: &Repo<A>,
@@ -148,7 +150,7 @@ impl<A: Allocator + Copy> Session<A> {
         Ok((wants, taken))
     }
 
-    // Keeps the asks and the wants.
+    // Stores the asks and the wants.
     fn keep_wants(&mut self, asks: Asks<A>, wants: Vec<Oid, A>)
         requires waits { AwaitsRefs self.old }
         requires ids { All (IsIdOf self.old.format) wants.items }
@@ -166,7 +168,8 @@ impl<A: Allocator + Copy> Session<A> {
         self.wants = wants;
     }
 
-    // Returns the fault of a requested ref that can't have its name, at the reply's last packet.
+    // Returns the fault for an invalid name of a local ref, with the position of the reply's last
+    // packet.
     fn misnamed_fault(&self, reply: &LsReply<A>) -> ClientFault<A>
         requires { ¬ (AreNamed {A = A} (asks_by_all self.now.refspecs reply.now.lines)) }
         ensures { (g : List (Entry A)) → IsRefsFault self.now g reply.now result }
@@ -178,7 +181,7 @@ impl<A: Allocator + Copy> Session<A> {
     }
 }
 
-// Returns the next stage: objects are fetched if some are wanted.
+// Returns the next stage: `Fetching` if there are wants, and `Settling` otherwise.
 fn stage_for(wants: &[Oid]) -> Stage
     ensures { result ≡ stage_for wants.now }
 {

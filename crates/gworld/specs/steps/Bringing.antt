@@ -1,4 +1,4 @@
--- The steps of a world: how it is made, how bytes come to the client, and how a run goes on.
+-- The steps of a world: its start, the delivery of bytes to the client, and its runs.
 use Rattle.std.specs.Prelude.{◌≡◌, ◌↔◌, ⊤, ℕ, Bool, IsTrue, List, slice_get, take, Option, None, Some, Result, Ok, Err}
 use Rattle.gname.specs.Ids.{Id}
 use Rattle.gpkt.specs.Packets.{Bytes}
@@ -25,7 +25,7 @@ use Rattle.gworld.specs.declared.outcome.Outcome.TheVariants as outcomes
 use Rattle.gworld.specs.declared.incoming.Due.{Due}
 use Rattle.gworld.specs.declared.incoming.Due.TheVariants.{Nothing, Refs, Objects}
 
--- which reply the session waits for
+-- the kind of reply that the open request awaits
 abbrev pub IsAwaited : Option Asked → Due → Type 0
 IsAwaited None Nothing = ⊤
 IsAwaited (Some (Ls asked)) Refs = ⊤
@@ -44,7 +44,7 @@ objects_outcome (Ok (PackTaken added)) = outcomes.PackTaken added
 objects_outcome (Err fault) = outcomes.Fault (code_of fault)
 
 module _ {A : Type 0} (indexes : Indexes A) (index_fails : IndexFails) where
-  -- the bytes come to the request that waits, if one does
+  -- the bytes arrive as the reply to the open request, if there is an open request
   abbrev pub TakesIfOpen : Option Asked → SessionState A → RepoState A → Bytes → Option Outcome → SessionState A
       → RepoState A → Type 0
   TakesIfOpen None s repo bytes None after new = (after ≡ s) × (new ≡ repo)
@@ -52,7 +52,7 @@ module _ {A : Type 0} (indexes : Indexes A) (index_fails : IndexFails) where
       TakesBytes indexes index_fails asked s repo bytes outcome after new
   TakesIfOpen _ s repo bytes _ after new = ⊥
 
-  -- a kept reply comes to the request that waits, if one does
+  -- a kept reply arrives as the reply to the open request, if there is an open request
   abbrev pub BringsTo : Kept → ℕ → Option Asked → SessionState A → RepoState A → Bool → Outcome → SessionState A
       → RepoState A → Bool → Type 0
   BringsTo kept count None s repo mark outcome after new marked =
@@ -61,7 +61,7 @@ module _ {A : Type 0} (indexes : Indexes A) (index_fails : IndexFails) where
       TakesBytes indexes index_fails asked s repo (take count (reply_bytes kept.reply)) outcome after new
       × (IsTrue marked ↔ IsFullAnswer kept asked count outcome)
 
--- events were done with these outcomes, each step kept its promises, and the world is sound
+-- a run of the events with these outcomes, in which each step keeps its promises and which ends in a sound world
 pub record RunsSoundly {A : Type 0} (tools : PackTools A) (w : WorldState A) (events : List (Event A))
     (outcomes : List Outcome) (new : WorldState A) : Type 0 where
   pub sound : IsSound tools new
@@ -69,12 +69,12 @@ pub record RunsSoundly {A : Type 0} (tools : PackTools A) (w : WorldState A) (ev
 
 -- ---- making a world
 
--- the client agrees with what the server has at a position
+-- the client does not hold a different object for the id at this position of the server's graph
 abbrev pub AgreesAt : {A : Type 0} → List (Entry A) → List (Entry A) → ℕ → Type 0
 AgreesAt {A} server client place =
     (entry : Entry A) → slice_get server place ≡ Some entry → AgreesWith client entry
 
--- the client disagrees with what the server has at a position, under this id
+-- the client holds a different object for this id, which is at this position of the server's graph
 abbrev pub DisagreesAt : {A : Type 0} → List (Entry A) → List (Entry A) → ℕ → Id → Type 0
 DisagreesAt {A} server client place id =
     (entry : Entry A) × (slice_get server place ≡ Some entry) × Disagrees client entry × (id ≡ entry.id)

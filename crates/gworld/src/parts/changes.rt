@@ -1,4 +1,4 @@
-//! Changes of the ends.
+//! Changes of objects and refs at the server and at the client.
 
 ghost use Rattle.std.specs.Prelude.{◌≡◌, MatchBool, MatchResult};
 ghost use Rattle.ganswer.specs.Faults.{build_fault_row};
@@ -33,7 +33,8 @@ impl<A: Allocator + Copy> Parts<A> {
         Ok(self.add_agreed(copy))
     }
 
-    // Adds an object to the server, with which the client agrees.
+    // Adds an object to the server. Requires that the client does not hold its id with a different
+    // object.
     fn add_agreed(&mut self, entry: Entry<A>) -> Outcome
         requires { AgreesWith self.old.repo.graph.entries entry }
         ensures { AddsAtServer self.old entry result self.new }
@@ -74,7 +75,8 @@ impl<A: Allocator + Copy> Parts<A> {
         Ok(self.add_agreed_locally(copy))
     }
 
-    // Adds an object to the client, with which the server agrees.
+    // Adds an object to the client. Requires that the server does not hold its id with a different
+    // object.
     fn add_agreed_locally(&mut self, entry: Entry<A>) -> Outcome
         requires { AgreesWith self.old.server.graph.entries entry }
         ensures { AddsAtClient self.old entry result self.new }
@@ -105,7 +107,7 @@ impl<A: Allocator + Copy> Parts<A> {
     }
 }
 
-/// Whether the graph holds the id with no other object.
+/// Returns false exactly if the graph holds the id with a different object.
 pub(super) fn agrees<A: Allocator + Copy>(graph: &Graph<A>, id: &Oid, node: &Node<A>) -> bool
     ensures { MatchBool result (AgreesWith graph.now.entries (entry_of id.now node.now))
         (Disagrees graph.now.entries (entry_of id.now node.now)) }
@@ -116,14 +118,14 @@ pub(super) fn agrees<A: Allocator + Copy>(graph: &Graph<A>, id: &Oid, node: &Nod
     }
 }
 
-// Returns the outcome if the server refuses a change.
+// Returns the outcome of an event whose change the server rejects.
 fn refuse_build<A: Allocator + Copy>(fault: BuildFault<A>) -> Outcome
     ensures { result ≡ outcome.Fault (build_fault_row fault).0 }
 {
     Outcome::Fault { code: fault.code() }
 }
 
-// Returns the outcome if the client's repository refuses a change.
+// Returns the outcome of an event whose change the client's repository rejects.
 fn refuse_local<A: Allocator + Copy>(fault: RepoFault<A>) -> Outcome
     ensures { result ≡ outcome.Fault (repo_fault_row fault).0 }
 {

@@ -1,4 +1,4 @@
-//! Delivery of replies.
+//! The delivery of replies to the client.
 
 ghost use Rattle.std.specs.Prelude.{◌≡◌, ◌↔◌, MatchResult, slice_get, IsSome, IsTrue, IfOk, Some};
 ghost use Rattle.gworld.specs.Taking.{IsPackTaken};
@@ -20,7 +20,7 @@ use gsession::Session;
 use std::alloc::{AllocError, Allocator};
 
 impl<A: Allocator + Copy> KeptReply<A> {
-    // Returns the bytes of the reply.
+    // Returns the encoded bytes of the reply.
     fn bytes(&self, alloc: A) -> Result<Vec<u8, A>, AllocError>
         ensures { IfOk result (λ bytes. bytes.items ≡ reply_bytes self.now.reply) }
     {
@@ -33,7 +33,7 @@ impl<A: Allocator + Copy> KeptReply<A> {
         }
     }
 
-    // Whether the reply is for a request that equals the open one.
+    // Returns whether the reply answers a request that is equal to the open request.
     fn answers_open(&self, session: &Session<A>) -> bool
         ensures { IsTrue result ↔ (session.now.pending ≡ Some self.now.asked) }
     {
@@ -45,8 +45,8 @@ impl<A: Allocator + Copy> KeptReply<A> {
 }
 
 impl<A: Allocator + Copy> Parts<A> {
-    /// Delivers `count` bytes of a kept reply as the reply to the open request, or all if there are
-    /// fewer.
+    /// Delivers the first `count` bytes of a kept reply as the reply to the open request. Delivers
+    /// all bytes of a shorter reply.
     pub(crate) fn deliver<K: Indexer<A>>(
         &mut self,
         number: usize,
@@ -73,7 +73,7 @@ impl<A: Allocator + Copy> Parts<A> {
         }
     }
 
-    /// Delivers forged bytes.
+    /// Delivers forged bytes as the reply to the open request.
     pub(crate) fn forge<K: Indexer<A>>(
         &mut self,
         bytes: &[u8],
@@ -108,14 +108,14 @@ impl<A: Allocator + Copy> Parts<A> {
     }
 }
 
-// A kept reply to deliver, and how many of its bytes.
+// A kept reply to deliver, and the number of bytes to deliver.
 #[derive(Drop)]
 struct Coming<'a, A: Allocator + Copy> {
     kept: &'a KeptReply<A>,
     count: usize,
 }
 
-// Delivers a kept reply to the session.
+// Delivers a kept reply to the session, and sets the mark `answered`.
 fn bring<A: Allocator + Copy, K: Indexer<A>>(
     coming: Coming<'_, A>,
     session: &mut Session<A>,
@@ -154,7 +154,7 @@ fn bring<A: Allocator + Copy, K: Indexer<A>>(
     }
 }
 
-// Whether a pack was taken.
+// Returns whether the outcome is an accepted pack.
 fn is_pack_taken(outcome: Outcome) -> bool
     ensures { IsTrue result ↔ IsPackTaken outcome }
 {

@@ -16,7 +16,7 @@ use gscenario::Event;
 use std::alloc::{AllocError, Allocator};
 
 impl<A: Allocator + Copy> Parts<A> {
-    /// Does what the event describes.
+    /// Executes the event.
     pub(crate) fn happen<K: Packer<A> + Indexer<A>>(
         &mut self,
         event: &Event<A>,
@@ -45,7 +45,7 @@ impl<A: Allocator + Copy> Parts<A> {
         }
     }
 
-    /// A law: the properties of the two ends, and of the session.
+    /// A law: the invariants of the server, of the client's repository and of the session.
     pub(crate) fn laws(&self)
         ensures { AreEndsConnected self.now }
     {
@@ -56,8 +56,8 @@ impl<A: Allocator + Copy> Parts<A> {
         }
     }
 
-    /// Does one event. It leads from a sound world to a sound world, and keeps the promises of its
-    /// step.
+    /// Executes one event. The step leads from a sound world to a sound world, and keeps its
+    /// promises.
     pub(crate) fn step<K: Packer<A> + Indexer<A>>(
         &mut self,
         event: &Event<A>,
@@ -83,7 +83,7 @@ impl<A: Allocator + Copy> Parts<A> {
         Ok(outcome)
     }
 
-    // Returns an empty list of outcomes, with room for those of the events.
+    // Returns an empty list of outcomes, with room for one outcome for each event.
     fn no_outcomes(&self, events: &[Event<A>]) -> Result<Vec<Outcome, A>, RunFault<A>>
         ensures { MatchResult result
             (λ outcomes. (outcomes.items ≡ []) × (vec_len outcomes ≡ 0)
@@ -99,7 +99,8 @@ impl<A: Allocator + Copy> Parts<A> {
         }
     }
 
-    /// Does events, one after the other. Takes the memory of their outcomes before the first.
+    /// Executes the events, one after the other. Allocates the list of outcomes before the first
+    /// event.
     pub(crate) fn run_events<K: Packer<A> + Indexer<A>>(
         &mut self,
         events: &[Event<A>],
@@ -123,7 +124,7 @@ impl<A: Allocator + Copy> Parts<A> {
         }
     }
 
-    // Does events, one after the other. There is room for their outcomes.
+    // Executes the events, one after the other. Requires that the list has room for their outcomes.
     fn run_each<K: Packer<A> + Indexer<A>>(
         &mut self,
         events: &[Event<A>],

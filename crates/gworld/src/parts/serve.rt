@@ -1,4 +1,4 @@
-//! The server's work.
+//! The events of the server: conversations and replies.
 
 ghost use Rattle.std.specs.Prelude.{◌≡◌, ◌≢◌, ◌∷◌, ◌++◌, [], IfOk, IsSome, MatchResult, length, slice_get};
 ghost use Rattle.ganswer.specs.Answers.{reply_of};
@@ -20,7 +20,7 @@ use gserve::{End, serve};
 use std::alloc::{AllocError, Allocator};
 
 impl<A: Allocator + Copy> Parts<A> {
-    /// Holds the server's conversation with a stranger, who sends these bytes.
+    /// Holds the server's conversation with an unknown client that sends these bytes.
     pub(crate) fn hear_stranger<K: Packer<A>>(
         &mut self,
         bytes: &[u8],
@@ -33,7 +33,7 @@ impl<A: Allocator + Copy> Parts<A> {
         talk(&self.server, packer, bytes, self.repo.graph().allocator())
     }
 
-    /// Replies to a sent request as the server, and keeps the reply.
+    /// Makes the server's reply to a sent request, and keeps the reply.
     pub(crate) fn serve<K: Packer<A>>(
         &mut self,
         number: usize,
@@ -55,7 +55,7 @@ impl<A: Allocator + Copy> Parts<A> {
     }
 }
 
-// Keeps a reply, with a copy of its request.
+// Stores a reply, with a copy of its request.
 fn keep<A: Allocator + Copy>(
     alloc: A,
     kept: &mut Vec<KeptReply<A>, A>,
@@ -74,7 +74,7 @@ fn keep<A: Allocator + Copy>(
     Ok(Outcome::Served { reply: number })
 }
 
-// Returns the outcome of a request that is refused.
+// Returns the outcome of a request that the server rejects.
 fn refuse_request(fault: ServeFault) -> Outcome
     ensures { result ≡ outcome.Fault (serve_fault_row fault).code }
 {
@@ -101,8 +101,8 @@ fn talk<A: Allocator + Copy, K: Packer<A>>(
     stranger_outcome(written, served.end)
 }
 
-// Returns how a conversation ended, and how much was written in it. A write fails only if out of
-// memory.
+// Returns the outcome of a conversation: the number of written bytes, or a fault. A write to memory
+// fails only if out of memory.
 fn stranger_outcome(written: usize, ended: End) -> Result<Outcome, AllocError>
     ensures { MatchResult result
         (λ told. (told ≡ stranger_outcome written ended) × (ended ≢ End.WriteFailed))

@@ -1,4 +1,4 @@
-//! The client's session.
+//! The events of the client's session.
 
 ghost use Rattle.std.specs.Prelude.{◌≡◌, MatchResult, Ok, Err};
 ghost use Rattle.gfetchreply.specs.Values.{default_limit};
@@ -24,7 +24,7 @@ use gsession::{ClientFault, Session, Settled};
 use std::alloc::{AllocError, Allocator};
 
 impl<A: Allocator + Copy> Parts<A> {
-    /// Begins a session, which replaces any other. If that fails, the old one stays.
+    /// Begins a session, which replaces any older session. A failed call keeps the old session.
     pub(crate) fn begin(&mut self, specs: &[Spec<A>]) -> Outcome
         ensures { BeginsSession self.old specs.now result self.new }
     {
@@ -38,7 +38,7 @@ impl<A: Allocator + Copy> Parts<A> {
         }
     }
 
-    // Returns a new session, which has heard the server.
+    // Returns a new session that has read the server's advertisement.
     fn new_session(&self, specs: &[Spec<A>]) -> Result<Session<A>, ClientFault<A>>
         ensures { MatchResult result
             (λ session. (begun : SessionState A)
@@ -73,8 +73,8 @@ impl<A: Allocator + Copy> Parts<A> {
         }
     }
 
-    /// Makes the session's next request, and keeps it as sent. It first checks whether a request
-    /// may be made, and then makes room.
+    /// Makes the session's next request, and appends it to the sent requests. First checks whether
+    /// the session has a request to make, and then allocates memory for it.
     pub(crate) fn ask(&mut self) -> Result<Outcome, AllocError>
         ensures { MatchResult result
             (λ outcome. AsksNext self.old self.old.session outcome self.new)
@@ -103,7 +103,7 @@ impl<A: Allocator + Copy> Parts<A> {
         }
     }
 
-    /// Settles the asks of the session.
+    /// Updates the local refs as the session asks.
     pub(crate) fn settle(&mut self) -> Outcome
         ensures { SettlesRefs self.old self.old.session result self.new }
     {
@@ -121,7 +121,7 @@ impl<A: Allocator + Copy> Parts<A> {
         }
     }
 
-    /// Starts the client again, without a session.
+    /// Restarts the client without a session.
     pub(crate) fn restart_client(&mut self) -> Outcome
         ensures { Restarts self.old result self.new }
     {
@@ -131,15 +131,14 @@ impl<A: Allocator + Copy> Parts<A> {
     }
 }
 
-// Returns the outcome of settled refs.
+// Returns the outcome of an event `Settle`.
 fn settled_outcome<A: Allocator + Copy>(settled: Settled<A>) -> Outcome
     ensures { result ≡ settled_outcome settled.updates.items }
 {
     count_updates(&settled)
 }
 
-// Returns how many refs moved, how many had their ids already, and how many did not move because it
-// was not a fast-forward.
+// Counts the refs that moved, that already had their ids, and whose update was not a fast-forward.
 fn count_updates<A: Allocator + Copy>(settled: &Settled<A>) -> Outcome
     ensures { result ≡ settled_outcome settled.now.updates.items }
 {

@@ -1,4 +1,4 @@
-//! The start of a world.
+//! The creation of a world.
 
 ghost use Rattle.std.specs.Prelude.{◌≡◌, ◌≢◌, ◌<◌, length, MatchBool, MatchOption, MatchResult};
 ghost use Rattle.gdag.specs.Reach.{Agree};
@@ -17,7 +17,7 @@ use gname::Oid;
 use std::alloc::Allocator;
 
 impl<A: Allocator + Copy> Parts<A> {
-    /// Returns a new world of this server and this client, or the reason why there is none.
+    /// Returns a new world of this server and this client's repository, or the reason against it.
     /// Allocates nothing.
     pub(crate) fn new(server: Server<A>, repo: Repo<A>) -> Result<Parts<A>, WorldFault>
         ensures { MatchResult result
@@ -30,7 +30,7 @@ impl<A: Allocator + Copy> Parts<A> {
         }
     }
 
-    // Returns a new world.
+    // Returns a new world of this server and this client's repository.
     fn between(server: Server<A>, repo: Repo<A>) -> Parts<A>
         ensures { result ≡ new_world server repo }
     {
@@ -61,7 +61,7 @@ impl<A: Allocator + Copy> Parts<A> {
     }
 }
 
-// Returns why no world can begin between them, if none can.
+// Returns the reason why the server and the repository can't form a world, or `None` if they can.
 fn why_not<A: Allocator + Copy>(server: &Server<A>, repo: &Repo<A>) -> Option<WorldFault>
     ensures { MatchOption result (CanStart server.now repo.now) (CannotStart server.now repo.now) }
 {
@@ -74,7 +74,7 @@ fn why_not<A: Allocator + Copy>(server: &Server<A>, repo: &Repo<A>) -> Option<Wo
     }
 }
 
-// Whether server and client have one object format.
+// Returns whether server and client have the same object format.
 fn have_one_format<A: Allocator + Copy>(server: &Server<A>, repo: &Repo<A>) -> bool
     ensures { MatchBool result (repo.now.graph.format ≡ server.now.graph.format)
         (repo.now.graph.format ≢ server.now.graph.format) }
@@ -82,7 +82,8 @@ fn have_one_format<A: Allocator + Copy>(server: &Server<A>, repo: &Repo<A>) -> b
     repo.format() == server.graph().format()
 }
 
-// Returns the first of the server's ids, in store order, that the client holds with another object.
+// Returns the first of the server's ids, in store order, that the client holds with a different
+// object.
 fn first_disagreement<A: Allocator + Copy>(server: &Graph<A>, client: &Graph<A>) -> Option<Oid>
     ensures { MatchOption result (Agree server.now.entries client.now.entries)
         (IsFirstDisagreement server.now.entries client.now.entries) }
@@ -97,7 +98,8 @@ fn first_disagreement<A: Allocator + Copy>(server: &Graph<A>, client: &Graph<A>)
     None
 }
 
-// Returns the id at an index of the server's graph, if the client holds it with another object.
+// Returns the id at an index of the server's graph, if the client holds the id with a different
+// object.
 fn disagreement_at<A: Allocator + Copy>(
     server: &Graph<A>,
     client: &Graph<A>,
