@@ -36,8 +36,8 @@ pub enum ProgramFault<A: Allocator + Copy = Global> {
     Line(PacketFault),
     /// Faults 18 and 87: a word is not a refspec, or out of memory to keep the refspecs.
     Spec(SpecFault),
-    /// Faults 20 to 25, 27 to 30, 41 to 54, 60 to 64, 66, 69, 75, 80, 82 and 84 to 86: fetching into
-    /// the client's repository failed, or out of memory. Fault 80 reports an unconnected ref.
+    /// Faults 20 to 25, 27 to 30, 41 to 54, 60 to 64, 66, 69, 75, 80, 82 and 84 to 86: fetching
+    /// into the client's repository failed, or out of memory. Fault 80 reports an unconnected ref.
     Fetch(FetchFault<A>),
     /// Fault 27: the output failed.
     WriteFailed,

@@ -28,18 +28,16 @@
 //!   moved. The report (`specs/Reporting.antt`) is written and flushed, or a prefix of it if its
 //!   sink fails. If memory for the report runs out, there is a new file without a report. After any
 //!   other fault there is no new file and no report.
-//! - [`read_specs`] reads arguments as refspecs,
-//!   and fails at the first argument that is not a refspec.
-//! - [`read_prefixes`] reads arguments as
-//!   prefixes of ref names, unchanged, and fails at the first argument that is not a prefix
-//!   (`specs/Prefixes.antt`).
+//! - [`read_specs`] reads arguments as refspecs, and fails at the first argument that is not a
+//!   refspec.
+//! - [`read_prefixes`] reads arguments as prefixes of ref names, unchanged, and fails at the first
+//!   argument that is not a prefix (`specs/Prefixes.antt`).
 //! - [`cmd_fetch_stored`] fetches in the same manner into a stored file, which it first locks and
 //!   reads (`specs/Stored.antt`). In every state of the storage, the file has the old text or the
 //!   whole new text. The new text is written only after the conversation succeeds, and the report
 //!   only after the new text. At the end the program holds no lockfile.
-//! - [`open_stored`] and
-//!   [`conclude_stored`] are the first and the last step of [`cmd_fetch_stored`], for callers that hold another
-//!   conversation.
+//! - [`open_stored`] and [`conclude_stored`] are the first and the last step of
+//!   [`cmd_fetch_stored`], for callers that hold another conversation.
 //! - [`cmd_check`] writes and flushes one line, or a prefix of it if the sink fails. The line shows
 //!   the number of nodes and refs, whether the graph is closed, and whether the repository is
 //!   connected. If the file is not the text of a repository, nothing is written.
