@@ -20,7 +20,7 @@ pub enum GitrepoCommand<'a> {
     Fetch(FetchArgs<'a>),
     /// `ls URL [PREFIX]...`
     Ls(LsArgs<'a>),
-    /// `serve --listen ADDR [--connections N] [--max-connections N] [--max-per-address N] [--export-all] BASE`
+    /// `serve --listen ADDR [OPTION]... BASE`
     Serve(ServeArgs<'a>),
     /// `upload-pack DIR`
     UploadPack {

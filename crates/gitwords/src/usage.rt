@@ -21,7 +21,7 @@ enum Word {
     Flag(&'static str, &'static str),
     // `--NAME VALUE`, a required option.
     Valued(&'static str, &'static str, &'static str),
-    // `--NAME VALUE`, an optional one.
+    // `--NAME VALUE`, which may be absent.
     Optional(&'static str, &'static str, &'static str),
     // A required argument.
     One(&'static str, &'static str),
