@@ -60,7 +60,7 @@ pub struct Fetch {
     pub ends: Ends,
     /// The name of the file of the client's repository, which is replaced.
     pub file: String,
-    /// The refspecs, at least one. They are not parsed yet.
+    /// The refspecs, at least one, which are not parsed yet.
     pub specs: Vec<String>,
 }
 

@@ -9,8 +9,8 @@
 //!
 //! - A call ends, and is memory safe, for any arguments.
 //! - Private functions parse a limit and a count of connections from decimal digits only, at least
-//!   one digit. They accept exactly the limits up to 67,108,864, and the counts from 1 to 1,000,000
-//!   (`specs/Numbers.antt`).
+//!   one digit. The functions accept exactly the limits up to 67,108,864, and the counts from 1 to
+//!   1,000,000 (`specs/Numbers.antt`).
 //!
 //! # Only tested
 //!

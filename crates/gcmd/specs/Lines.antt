@@ -1,4 +1,4 @@
--- `lines`: the lines that it shows for the packets of its input (gitprotocol-common(5), "pkt-line Format").
+-- `lines`: the printed lines for the packets of the input (gitprotocol-common(5), "pkt-line Format").
 use Rattle.std.specs.Prelude.{◌≡◌, ℕ, ◌⊎◌, ◌++◌, Bool, false, List, [], ◌∷◌, length, codes, Option, None, Result}
 use Rattle.std.specs.Prelude.{Ok, Err}
 use Rattle.std.specs.Fmt.{decimal}
@@ -45,7 +45,7 @@ abbrev pub StopsAfter : ℕ → Change → Result (Unit {0}) PacketFault → Typ
 StopsAfter count bytes (Ok done) = Reads bytes (Ok None) ⊎ ((count ≡ max_lines) × (bytes.new ≡ bytes.old))
 StopsAfter count bytes (Err fault) = Reads bytes (Err fault)
 
--- whether the source is down after reading: it is down exactly if the fault is that of the source
+-- whether the source is down after reading: exactly if the fault is that of the source
 abbrev pub LeavesSource : Bool → Result (Unit {0}) PacketFault → Type 0
 LeavesSource down (Ok done) = down ≡ false
 LeavesSource down (Err fault) = IsReadFailure false down (why.Line fault)
@@ -57,7 +57,7 @@ pub record ReadsEach (input : Input) (lines : List Packet) (ended : Result (Unit
   pub stops : StopsAfter (length lines) (record { old = between; new = input.read.new }) ended
   pub source : LeavesSource input.is_down ended
 
--- these packets are read, and reading may stop after them, or the reason to stop is met
+-- these packets are read, and then reading either goes on or stops for some reason
 abbrev pub ReadsSome : Input → List Packet → Type 0
 ReadsSome input lines =
     ReadsPackets input.read lines ⊎ ((ended : Result (Unit {0}) PacketFault) × ReadsEach input lines ended)

@@ -1,5 +1,5 @@
--- The printed line of a fault: `gitv2: fault NUMBER NAME`. The position of the packet, the line number, the index of
--- the byte, and the id, the ref name or the error text follow in this order, if the fault has them.
+-- The printed line of a fault: `gitv2: fault NUMBER NAME`. Then follow the parts that the fault has: the position of
+-- the packet, the line number, the index of the byte, and the id, the ref name or the error text.
 use Rattle.std.specs.Prelude.{ℕ, ◌++◌, ◌&&◌, nat_le, if◌then◌else◌, [], map, codes, Option, None, Some}
 use Rattle.std.specs.Fmt.{decimal}
 use Rattle.gname.specs.Ids.{Id, id_text}

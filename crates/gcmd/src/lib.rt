@@ -1,14 +1,14 @@
-//! The programs of gitv2 as functions over bytes and devices. They serve the repository of a file,
-//! fetch into it, check it, or show packets.
+//! The programs of gitv2 as functions over bytes and devices. The programs serve the repository of
+//! a file, fetch into such a repository, check it, or show packets.
 //!
 //! A device is a source or a sink. A promise about the bytes of a device holds only if the device
 //! records its bytes, as devices in memory do.
 //!
 //! # Proved
 //!
-//! - Every program exits with status 0 or 1. With status 0 it writes nothing to the errors' sink.
-//!   With status 1 it prints and flushes exactly the line of its fault, or a prefix of the line if
-//!   the sink fails (`specs/Programs.antt`).
+//! - Every program exits with status 0 or 1. With status 0 the program writes nothing to the
+//!   errors' sink. With status 1 the program prints and flushes exactly the line of its fault
+//!   (`specs/Programs.antt`). If the sink fails, a prefix of the line is printed.
 //! - [`cmd_failed`] prints the line of a given fault.
 //! - If a write to a sink fails, nothing more is flushed. If a flush fails, the bytes of earlier
 //!   flushes remain flushed (`specs/Outputs.antt`).
@@ -16,10 +16,10 @@
 //!   file and with plain packs (`specs/Serving.antt`). `gserve` describes both exchanges. A
 //!   connection succeeds if the client ends it, the input ends before a request, or the limit of
 //!   requests is reached. A request succeeds if it gets a reply or is a lone flush packet, and also
-//!   if the input is empty. Otherwise the fault is the refusal of a request or a failure of the
-//!   output. The file must be the text of a repository in which each parent precedes its children,
-//!   and which holds the object of each ref and of a detached HEAD. With any other file nothing is
-//!   read or written, and the fault names the line, the ref or HEAD.
+//!   if the input is empty. In every other case the fault is the refusal of a request or a failure
+//!   of the output. The served file must be the text of a repository. Each parent must precede its
+//!   children, and the objects of all refs and of a detached HEAD must be present. With any other
+//!   file nothing is read or written, and the fault names the line, the ref or HEAD.
 //! - [`cmd_fetch`] opens the client's repository of a file, and fetches into it with plain packs
 //!   (`specs/Fetching.antt`). `gclient` describes the conversation. The file must be the text of a
 //!   repository without HEAD whose refs are all connected. With any other file nothing is read or
@@ -42,25 +42,25 @@
 //!   the number of nodes and refs, whether the graph is closed, and whether the repository is
 //!   connected. If the file is not the text of a repository, nothing is written.
 //! - [`cmd_lines`] shows exactly the packets of its input, up to the end or to the first refused
-//!   packet. It flushes all the lines, or writes a prefix of them if the sink fails. If the exit
-//!   status is 0, the source has not failed.
+//!   packet. The program flushes all lines, or writes a prefix of the lines if the sink fails. If
+//!   the exit status is 0, the source has not failed.
 //! - Each fault has the number, the name, the text and the printed line that `specs/Faults.antt`
 //!   and `specs/Printing.antt` state.
 //!
 //! # Only tested
 //!
-//! The cases of `conformance` test the exact bytes of whole runs. They test that available memory
-//! is used, and that a device is not called again after a failure. They run with one byte per call,
-//! and with a failure at each call in turn.
+//! The cases of `conformance` test the exact bytes of whole runs. The cases also test that
+//! available memory is used, and that a device is not called again after a failure. The cases run
+//! with one byte per call, and with a failure at each call in turn.
 //!
 //! # What the contracts do not rule out
 //!
 //! A call that allocates may report out of memory whenever the crates that it uses may. If a sink
-//! does not record its bytes, the contracts do not state which bytes are written to it; but one
-//! implementation serves every sink. The contracts do not limit how often a device is called, or
-//! how long a call takes. Formatting a fault may return an error (`fmt::Error`) although the text
-//! would be right. [`cmd_fetch_stored`] may report that a file can't be locked, read or replaced
-//! although it could be.
+//! does not record its bytes, the contracts do not state which bytes the sink receives. The
+//! contracts do not limit how often a device is called, or how long a call takes. Formatting a
+//! fault may return an error (`fmt::Error`) although the text would be right. The function
+//! [`cmd_fetch_stored`] may report that a file can't be locked, read or replaced although it could
+//! be.
 //!
 //! # Stands on
 //!

@@ -1,6 +1,6 @@
-//! The printed lines of faults. A line is `gitv2: fault NUMBER NAME`, and then, if the fault has
-//! them and in this order, ` frame K`, ` line K`, ` at K`, and a space and the id, the name or the
-//! text. Each byte outside 32 to 126 is printed as `?`.
+//! The printed lines of faults. A line begins with `gitv2: fault NUMBER NAME`. Then follow the
+//! parts that the fault has: ` frame K`, ` line K`, ` at K`, and a space with the id, the name or
+//! the text. Each byte outside 32 to 126 is printed as `?`.
 
 ghost use Rattle.std.specs.Prelude.{◌≡◌, ◌+◌, ◌≤◌, ◌++◌, length, map, None, []};
 ghost use Rattle.std.specs.Option.{option_copied};

@@ -1,4 +1,4 @@
-//! Writing bytes to a sink, and flushing them.
+//! Functions that write bytes to a sink and flush the sink.
 
 ghost use Rattle.std.specs.Prelude.{◌≡◌};
 ghost use Rattle.gpkt.specs.Sending.{output_of};

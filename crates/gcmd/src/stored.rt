@@ -206,9 +206,9 @@ fn give_up<A: Allocator + Copy, T: Storage, X>(
 /// Ends a successful fetch into a locked file whose text is `old`. Replaces the file by the text of
 /// the repository, and only afterwards writes the report. At the end this run holds no lockfile.
 ///
-/// Fails with `Memory` or `File` if the file can't be replaced. In that case nothing is reported,
-/// and the file has the old text or the whole new text. After the file has the new text, the call
-/// fails only with the faults of `send_report`.
+/// Fails with `Memory` or `File` if the file can't be replaced. After these faults nothing is
+/// reported, and the file has the old text or the whole new text. After the file has the new text,
+/// the call fails only with the faults of `send_report`.
 pub fn conclude_stored<A: Allocator + Copy, T: Storage, R: Sink>(
     file: &mut T,
     old: &[u8],

@@ -15,8 +15,8 @@ IsNoFile text = (file : GraphFile) → ¬ IsGraphText file text
 abbrev pub IsOfFile : List ℕ → (GraphFile → Type 0) → Type 0
 IsOfFile text P = (file : GraphFile) × IsGraphText file text × P file
 
--- The reasons to refuse a text for a chain: out of memory, base graphs that are not the earlier files, too many
--- commits, a position without a commit, or a text that is not a commit-graph file.
+-- The reasons to refuse a text for a chain: out of memory, wrong base graphs, too many commits, a position without a
+-- commit, or a text that is not a commit-graph file.
 abbrev pub IsRefused : List GraphFile → List ℕ → CommitGraphFault → Type 0
 IsRefused old text Memory = ⊤
 IsRefused old text Bases = IsOfFile text (λ file. file.bases ≢ map checksum_of old)

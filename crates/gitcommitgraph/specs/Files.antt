@@ -7,8 +7,8 @@ use Rattle.std.specs.declared.cmp.Ordering.TheVariants.{Less}
 use Rattle.std.specs.Cmp.Lexicographic.{slice_cmp}
 use Rattle.gname.specs.Ids.{Id}
 
--- The contents of a file: the checksums of its base graphs, the ids of its commits, a row of commit data for each id,
--- the edges of octopus merges, and the file's own checksum.
+-- The contents of a file: the checksums of its base graphs, the ids of its commits with their rows of commit data, the
+-- edges of octopus merges, and the file's own checksum.
 pub record GraphFile : Type 0 where
   pub bases : List Id
   pub ids : List Id

@@ -20,8 +20,8 @@
 //! - A text encodes at most one file, and lists the files of at most one chain ([`laws`]).
 //! - No call panics, overflows or reads out of bounds, and every call returns.
 //!
-//! The tests use files made by `git commit-graph write`, with and without `--split`. They check
-//! that each commit has the parents that git-rev-list(1) prints.
+//! The tests use files made by `git commit-graph write`, with and without `--split`. The tests
+//! check that each commit has the parents that git-rev-list(1) prints.
 //!
 //! # Differences from Git
 //!
@@ -41,8 +41,8 @@
 //!   should rely on the commit-graph only for commits in the repository.
 //! - If a text is not a commit-graph file, the contracts do not state which of `Header`,
 //!   `Contents`, `Chunk`, `Order`, `FanOut` and `Edges` is returned.
-//! - Two files of a chain may have the same commit. [`CommitGraph::find`] returns one of its
-//!   positions.
+//! - Two files of a chain may have the same commit. In this case [`CommitGraph::find`] returns one
+//!   of the positions.
 //! - [`CommitGraph::add`] and [`CommitGraph::parents_of`] may fail if out of memory. The contracts
 //!   do not state when. The contracts do not limit time or memory.
 //!

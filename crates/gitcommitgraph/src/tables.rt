@@ -23,8 +23,8 @@ const SECOND_PARENT: usize = 24;
 // The parent number that means that there is no parent.
 const NO_PARENT: u32 = 0x7000_0000;
 
-// The highest bit, which marks the last edge of a list. It also marks a second parent number that
-// refers to an edge list.
+// The highest bit, which marks the last edge of a list. The same bit marks a second parent number
+// that refers to an edge list.
 const MARK: u32 = 0x8000_0000;
 
 /// The tables of a file: the fan-out table, the ids, a row of commit data for each id, and the

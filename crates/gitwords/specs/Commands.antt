@@ -13,8 +13,8 @@ IsUrl url = (text : List ℕ) × IsGitUrl text url.host.now url.port url.path.no
 abbrev pub IsServed : ℕ → Type 0
 IsServed count = (1 ≤ count) × (count ≤ 1_000_000)
 
--- The URL of a command is valid, a fetch has a refspec, a server has an address HOST:PORT, and each given limit of
--- connections is from 1 to 1,000,000.
+-- A URL is valid, a fetch has a refspec, a server has an address HOST:PORT, and each given limit of connections is from
+-- 1 to 1,000,000.
 abbrev pub IsCommand : GitrepoCommand → Type 0
 IsCommand (Check dir) = Unit {0}
 IsCommand (Clone asked) = IsUrl asked.url

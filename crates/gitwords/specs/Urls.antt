@@ -104,8 +104,8 @@ pub record HasBadPort (text : List ℕ) : Type 0 where
   pub names : IsHost host
   pub bad : (port : ℕ) → ¬ (IsPort digits port)
 
--- The reasons to refuse a text as a URL: it does not begin with git:// ; it has no further slash; its path is
--- malformed; or the part before the path has a malformed host or port.
+-- The reasons to refuse a text as a URL: another start than git:// , no slash after the host, or a malformed path, host
+-- or port.
 abbrev pub IsCause : List ℕ → Cause → Type 0
 IsCause text (Transport transport) = (rest : List ℕ) → ¬ (text ≡ codes "git://" ++ rest)
 IsCause text NoPath = (rest : List ℕ) × (text ≡ codes "git://" ++ rest) × All (λ b. b ≢ 47) rest

@@ -28,8 +28,8 @@
 //!
 //! # Differences from Git
 //!
-//! - Git decodes `%` and two hexadecimal digits in a URL. This crate refuses a `%` in the path. It
-//!   also refuses any host that is not a name, an IPv4 address or an IPv6 address.
+//! - Git decodes `%` and two hexadecimal digits in a URL. This crate refuses a `%` in the path.
+//!   This crate also refuses any host that is not a name, an IPv4 address or an IPv6 address.
 //! - A path has only printable ASCII, and at most 1,000 bytes. A host has at most 255 bytes. These
 //!   limits are those of the first line of a connection.
 //! - Git drops the slash before `~user` in the path of a URL. This crate keeps the slash.

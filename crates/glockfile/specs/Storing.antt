@@ -16,7 +16,7 @@ WhereKnown (Some before) (Some after) P = P before after
 WhereKnown None None P = ⊤
 WhereKnown _ _ P = ⊥
 
--- the file has the same texts after a call as before it
+-- a call gives the file no new text
 abbrev pub KeepsStates : Option Texts → Option Texts → Type 0
 KeepsStates old new = WhereKnown old new (λ before after. after.states ≡ before.states)
 

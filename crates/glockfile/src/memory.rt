@@ -10,8 +10,8 @@ use std::mem;
 
 /// A file in memory, which records each text that it has had.
 ///
-/// The contracts state the texts and the state of this run's lockfile. They do not state which call
-/// fails.
+/// The contracts state the texts and the state of this run's lockfile. The contracts do not state
+/// which call fails.
 #[derive(Drop)]
 pub struct MemoryFile<A: Allocator + Copy = Global> {
     alloc: A,

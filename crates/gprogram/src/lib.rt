@@ -2,8 +2,8 @@
 //! files, and makes devices from standard streams and sockets. The crates `gcmd`, `gtcp` and
 //! `gsimulate` do the work of each command. [`run_gitv2`] returns the exit status.
 //!
-//! The program checks its input in a fixed order, and reports the first fault. It checks the usage
-//! first, then refspecs and prefixes, then each file in turn, and sockets last.
+//! The program checks its input in a fixed order, and reports the first fault. The program checks
+//! the usage first, then refspecs and prefixes, then each file in turn, and sockets last.
 //!
 //! # Proved
 //!
@@ -13,8 +13,8 @@
 //! # Only tested
 //!
 //! The cases of `conformance` run each command through [`run_gitv2`], over files, standard streams
-//! and sockets. They test the work of each command, the order in which files are read, and each
-//! exit status.
+//! and sockets. The cases test the work of each command, the order in which files are read, and
+//! each exit status.
 //!
 //! # What the contracts do not rule out
 //!

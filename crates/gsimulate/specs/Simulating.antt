@@ -65,8 +65,8 @@ CanHappen IsSo server repo events = CanStart server repo × IsSo (new_world serv
 abbrev pub HasWorld : {A : Type 0} → Simulation → (WorldState A → List (Event A) → Type 0) → Type 0
 HasWorld files IsSo = HasEvents files (CanHappen IsSo)
 
--- the reasons why no event happens: the server file is rejected, the client file is rejected, the scenario has a wrong
--- line or memory for it runs out, or no world can start
+-- the reasons why no event happens: the server file, the client file or the scenario is rejected, or server and client
+-- can't start a world
 abbrev pub CannotBegin : {A : Type 0} → Simulation → SimulationFault A → Type 0
 CannotBegin {A} files (faults.Program fault) =
     RefusesFile {A = A} files.server.now fault

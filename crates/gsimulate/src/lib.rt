@@ -1,6 +1,6 @@
-//! `gitv2 simulate`, as a function over bytes and sinks. It runs a scenario between a server and a
-//! client whose repositories are read from files. It prints the outcome of each event, and
-//! afterwards the ids of the client's refs.
+//! `gitv2 simulate`, as a function over bytes and sinks. The program runs a scenario between a
+//! server and a client whose repositories are read from files. The program prints the outcome of
+//! each event, and afterwards the ids of the client's refs.
 //!
 //! # Proved
 //!
@@ -13,8 +13,8 @@
 //!   the scenario has a wrong line. The same holds if the server and the client can't share a
 //!   world. The first fault in this order is reported. If memory for an event runs out, nothing is
 //!   written.
-//! - The program exits with status 0 and prints no fault, or with status 1 and the line of its
-//!   fault, or a prefix of this line if the errors' sink fails.
+//! - The program exits with status 0 and prints no fault, or exits with status 1 and prints the
+//!   line of its fault. If the errors' sink fails, a prefix of the line is printed.
 //! - Each fault has the number, the name, the text and the printed line of `specs/Faults.antt`.
 //!
 //! # Only tested
@@ -24,9 +24,10 @@
 //! # What the contracts do not rule out
 //!
 //! A simulation may report out of memory for a file, the scenario or an event whenever `gcmd`,
-//! `gscenario` and `gworld` may. It may also report out of memory for the output, even if the
-//! output is empty. The contracts do not limit how often the sinks are called, or how long a call
-//! takes. Formatting a fault may return an error (`fmt::Error`) although the text would be right.
+//! `gscenario` and `gworld` may. A simulation may also report out of memory for the output, even if
+//! the output is empty. The contracts do not limit how often the sinks are called, or how long a
+//! call takes. Formatting a fault may return an error (`fmt::Error`) although the text would be
+//! right.
 //!
 //! # Stands on
 //!

@@ -114,8 +114,8 @@ FetchesAt {A} old specs limit ends hello new (Err (program.Fetch fault)) =
     FetchesFrom plain_indexes (plain_index_fails A) (start_of old specs limit ends) hello new (Err fault)
 FetchesAt old specs limit ends hello new (Err _) = ⊥
 
--- the outcome after the fetch: the whole file is replaced by the new text, and then the report is written; if the fetch
--- failed, the file has the old text, and nothing is reported
+-- the outcome after the fetch: after success the whole file is replaced and the report is written; after a failure the
+-- file is unchanged and nothing is reported
 abbrev pub EndsRemote : {A : Type 0} → Bytes → RepoState A → RepoState A → Result (Fetched A) (ProgramFault A)
     → Stored → Output → ProgramOutcome A → Type 0
 EndsRemote old repo new (Ok fetched) stored report outcome =

@@ -110,8 +110,8 @@ module _ {A : Type 0} (server : Server A) (packs : Packs A) (fails : PackFails A
   abbrev pub IsServed : ProgramOutcome A → Type 0
   IsServed outcome = (ended : GitEnd) × HoldsServing ended × (outcome ≡ outcome_of ended)
 
-  -- This number of connections is served, one after the other. Their faults are printed in order, one line each. Or one
-  -- connection can't be accepted, and only the earlier ones are served.
+  -- The given number of connections is served, one after the other, and their faults are printed in order, one line
+  -- each. If a connection can't be accepted, only the earlier connections are served.
   pub record ServesEach (errors : Output) (connections : ℕ) (result : ProgramOutcome A) : Type 0 where
     pub outcomes : List (ProgramOutcome A)
     pub each : All IsServed outcomes

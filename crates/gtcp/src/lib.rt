@@ -1,5 +1,5 @@
-//! The programs of gitv2 that open sockets, as functions over the network. They serve a repository
-//! to clients, list the refs of a server, fetch from a server, or run client and server in one
+//! The programs of gitv2 that open sockets, as functions over the network. The programs serve a
+//! repository, list the refs of a server, fetch from a server, or run client and server in one
 //! process.
 //!
 //! The caller provides the network, its streams and the clock. The contracts can't state which
@@ -10,23 +10,24 @@
 //!
 //! # Proved
 //!
-//! - [`serve_listener`] serves `connections` connections, one after the other. It prints the faults
-//!   of all connections and flushes them, one line per fault and in order. If the errors' sink
-//!   fails, a prefix of these lines is printed (`specs/Sockets.antt`, `Telling.antt`). A request
-//!   for another path is not a fault. The call fails only with `Socket`, after fewer than
+//! - [`serve_listener`] serves `connections` connections, one after the other. The function prints
+//!   and flushes the faults of all connections, one line per fault and in order. If the errors'
+//!   sink fails, a prefix of these lines is printed (`specs/Sockets.antt`, `Telling.antt`). A
+//!   request for another path is not a fault. The call fails only with `Socket`, after fewer than
 //!   `connections` connections.
-//! - [`fetch_on`] fetches with the given refspecs, limit and ends of replies. It starts with the
-//!   first line for the given host and path, and keeps every promise of `gclient::fetch_over`. If
-//!   the first line can't be composed, or memory for the buffers runs out, the repository is
+//! - [`fetch_on`] fetches with the given refspecs, limit and ends of replies. The fetch starts with
+//!   the first line for the given host and path, and keeps every promise of `gclient::fetch_over`.
+//!   If the first line can't be composed, or memory for the buffers runs out, the repository is
 //!   unchanged.
 //! - [`fetch_git_on`] fetches like [`fetch_on`], with a given first line and with options for
 //!   packs.
-//! - [`ls_on`] lists the refs with the given prefixes over the same kind of connection. It refuses
-//!   more than 64 prefixes. Like [`fetch_on`], it refuses a host or a path that is not well-formed.
+//! - [`ls_on`] lists the refs with the given prefixes over the same kind of connection. A listing
+//!   refuses more than 64 prefixes. A listing and a fetch refuse a host or a path that is not
+//!   well-formed.
 //! - [`cmd_ls_remote`] lists refs like [`ls_on`], writes the lines of the reply, and flushes them.
-//!   After any fault except a failed output, it has written nothing (`specs/Listing.antt`,
-//!   `Remote.antt`). With more than 64 prefixes it reports this limit or out of memory, but never a
-//!   missing socket.
+//!   After any fault except a failed output, the program has written nothing (`specs/Listing.antt`,
+//!   `Remote.antt`). With more than 64 prefixes the program reports this limit or out of memory,
+//!   but never a missing socket.
 //! - [`cmd_fetch_remote`] fetches into a stored file. In every state of the storage, the file has
 //!   the old text or the whole new text. The new text is written only if the conversation succeeds.
 //!   The new text describes the repository after the fetch, which only gained objects. The report,
@@ -36,10 +37,10 @@
 //! - [`cmd_serve`] shows the number of its port, and then serves the repository of its file like
 //!   [`serve_listener`]. If the file is refused, no socket opens or the port can't be shown,
 //!   [`cmd_serve`] serves no client.
-//! - Each program exits with status 0 and prints no further line, or with status 1 and the line of
-//!   its fault, or a prefix of this line. The fault is a refused file, a failed conversation, a
-//!   missing socket, out of memory, or a failed output. Before this line [`cmd_serve`] prints only
-//!   the faults of connections, and the other programs print nothing.
+//! - Each program exits with status 0 or 1. With status 0 it prints no further line. With status 1
+//!   it prints the line of its fault, or a prefix of this line. The fault is a refused file, a
+//!   failed conversation, a missing socket, out of memory, or a failed output. Before this line
+//!   [`cmd_serve`] prints only the faults of connections, and the other programs print nothing.
 //! - A [`Timer`] limits the time of each read to more than zero and at most 60 seconds
 //!   (`specs/Deadlines.antt`).
 //! - [`Turns`] subtract the elapsed time of the clock from a client's remaining time. If the clock
@@ -56,34 +57,35 @@
 //!
 //! # Only tested
 //!
-//! The program `conformance` holds connections and pairs over sockets of its own process. It tests
-//! the deadlines [`MAX_FIRST_LINE`], [`MAX_REQUEST`] and [`MAX_SILENCE`] with its own clock. The
-//! script `examples/over-tcp.sh`, which is run by hand, holds conversations with git and its
-//! daemon. The script tests deadlines in real time, and tests that unread input does not hide an
-//! error line. The contracts can't state the contents of a `Cell` between two reads, nor the time
-//! limits of a stream.
+//! The program `conformance` holds connections and pairs over sockets of its own process. The
+//! program tests the deadlines [`MAX_FIRST_LINE`], [`MAX_REQUEST`] and [`MAX_SILENCE`] with its own
+//! clock. The script `examples/over-tcp.sh`, which is run by hand, holds conversations with git and
+//! its daemon. The script tests deadlines in real time, and tests that unread input does not hide
+//! an error line. The contracts can't state the contents of a `Cell` between two reads, nor the
+//! time limits of a stream.
 //!
 //! # What the contracts do not rule out
 //!
 //! The contracts allow any conversation whose bytes fit the result, and do not state that the peer
 //! sent these bytes. The contracts do not state that a connection is opened, accepted, read or
-//! written, nor what the server of a pair does. An implementation may therefore return any reply,
-//! add any objects or report any connection as served, if the bytes of some peer would lead to the
-//! same result. An implementation may send any bytes. It may fail with `Socket` although a
-//! connection can be accepted or opened, or report out of memory. In a pair, an implementation may
-//! report any failed fetch as a message that is too long, and vice versa. [`cmd_fetch_remote`] may
-//! connect before it locks the file. It may also report that the file can't be locked, read or
-//! replaced although it could be.
+//! written, nor what the server of a pair does. An implementation may therefore return any result
+//! to which the bytes of some peer would lead: any reply, any added objects, or any served
+//! connection. An implementation may send any bytes. An implementation may fail with `Socket`
+//! although a connection can be accepted or opened, or report out of memory. In a pair, an
+//! implementation may report any failed fetch as a message that is too long, and vice versa. The
+//! program of [`cmd_fetch_remote`] may connect before it locks the file. The program may also
+//! report that the file can't be locked, read or replaced although it could be.
 //!
-//! [`serve_listener`] may accept further connections between the served ones. [`cmd_serve`] may
-//! listen at another address than the given one, and may show another port, at another time. An
-//! implementation may ignore a deadline or the clock. [`Location::new`] may return `None`.
-//! [`connect_to`] may connect to another address, or fail. A [`Peer`] may read and write other
-//! bytes than those of its stream.
+//! [`serve_listener`] may accept further connections between the served connections. The program of
+//! [`cmd_serve`] may listen at another address than the given one, and may show another port or
+//! show it later. An implementation may ignore a deadline or the clock. [`Location::new`] may
+//! return `None`. [`connect_to`] may connect to another address, or fail. A [`Peer`] may read and
+//! write other bytes than those of its stream.
 //!
 //! A [`MessageSink`] need not flush the inner sink, and a flush that fails may write a part of the
-//! held bytes. If the inner sink does not record its bytes, the contracts do not state when it
-//! receives them. `is_too_long` and `bytes_written` may ignore the effect of a `write` or a flush.
+//! held bytes. If the inner sink does not record its bytes, the contracts do not state when the
+//! inner sink receives bytes. `is_too_long` and `bytes_written` may ignore the effect of a `write`
+//! or a flush.
 //!
 //! # Stands on
 //!

@@ -54,8 +54,7 @@ impl<'a, N: Source, F: Source, W: Sink, A: Allocator + Copy> Answers<'a, N, F, W
         }
     }
 
-    // Runs the server once: it reads the client's first line and replies to it, or replies to one
-    // request.
+    // Runs the server once. The server replies to the client's first line or to one request.
     fn take_turn(&mut self)
         ensures { self.new.is_down ≡ self.old.is_down }
     {
@@ -149,7 +148,7 @@ fn refuse<W: Sink>(fault: &ServeFault, sink: &mut W) {
     }
 }
 
-// Both ends of a connection inside this process.
+// The two ends of a connection inside this process.
 #[derive(Drop)]
 struct Joined<S> {
     near: S,
@@ -301,8 +300,8 @@ where
     exchange(repo, specs, &mut answers, &mut requests)
 }
 
-// Fetches over these requests and answers. The client ends with a flush packet, which the server
-// reads in one last run.
+// Fetches through `requests` and `answers`. At the end the client sends a flush packet, and the
+// server runs once more to read this packet.
 fn exchange<A, N, V, F, W>(
     repo: &mut Repo<A>,
     specs: &[Spec<A>],

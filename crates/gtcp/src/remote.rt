@@ -50,9 +50,9 @@ pub struct Service<'a, A: Allocator + Copy> {
 }
 
 /// `gitv2 serve --listen ADDR --path PATH --connections N [--response-end] FILE`: shows the port of
-/// the listener as the line `listening PORT` on `output`. Then it serves `connections` connections,
-/// one after the other, like [`serve_listener`]. Each fault of a connection is printed as one line
-/// on `errors`, and so is the fault that ends the program.
+/// the listener as the line `listening PORT` on `output`. Then the program serves `connections`
+/// connections, one after the other, like [`serve_listener`]. Each fault of a connection is printed
+/// as one line on `errors`, and so is the fault that ends the program.
 ///
 /// Returns exit status 0 if all connections were served, whatever their faults. Returns 1 if the
 /// file is refused, the socket can't be opened, the port can't be shown, or a connection can't be

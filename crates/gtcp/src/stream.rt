@@ -21,8 +21,9 @@ const MAX_DROPS: usize = 1_024;
 // The maximum number of interrupts of a read, for example while the process is stopped.
 const MAX_INTERRUPTS: u32 = 1_024;
 
-// The number of seconds that a single write waits. A wait in which the peer accepts some bytes does
-// not count. A peer that stops in the middle of such a wait times out up to this much later.
+// The number of seconds that a single write waits. Only waits in which the peer accepts no byte
+// count as silence. A peer that stops in the middle of a wait therefore times out up to five
+// seconds late.
 const TAKING_WAIT: u64 = 5;
 
 /// Connects to an address given as HOST:PORT. Tries the addresses of the host in order, and takes
