@@ -42,7 +42,7 @@ pub enum Gitv2Command {
     Simulate(Simulate),
     /// `upload [--response-end] FILE`
     Upload {
-        /// The end of each reply.
+        /// Whether each reply ends with a response-end packet.
         ends: Ends,
         /// The name of the file of the server's repository.
         file: String,
@@ -56,7 +56,7 @@ pub struct Fetch {
     pub place: Option<Location>,
     /// The maximum size of a pack in bytes.
     pub limit: PackLimit,
-    /// The end of each reply.
+    /// Whether each reply ends with a response-end packet.
     pub ends: Ends,
     /// The name of the file of the client's repository, which is replaced.
     pub file: String,
@@ -71,7 +71,7 @@ pub struct Serve {
     pub place: Location,
     /// The number of connections to serve, from 1 to 1,000,000.
     pub connections: u32,
-    /// The end of each reply.
+    /// Whether each reply ends with a response-end packet.
     pub ends: Ends,
     /// The name of the file of the served repository.
     pub file: String,

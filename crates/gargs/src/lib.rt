@@ -2,7 +2,7 @@
 //!
 //! [`read_command`] takes the arguments from the system, and returns a [`Gitv2Command`] with parsed
 //! parameters. An address and a path become a `Location`, a limit becomes a `PackLimit`, and a flag
-//! selects how replies end. File names, refspecs and prefixes stay unchanged, and no file is
+//! selects the form of replies. File names, refspecs and prefixes stay unchanged, and no file is
 //! opened.
 //!
 //! # Proved
@@ -25,7 +25,7 @@
 //! # Stands on
 //!
 //! The crate uses `clap` for arguments, `gtcp` for locations, and `gcmd` for the limit of a pack
-//! and the end of replies.
+//! and the form of replies.
 #![tactic(auto)]
 
 mod command;

@@ -1,4 +1,4 @@
-//! Reading a command line.
+//! The parser of the command line.
 
 use crate::command::{Fetch, Gitv2Command, Serve, Simulate};
 use crate::number::{connections_of, limit_of};

@@ -57,7 +57,7 @@ pub record ReadsEach (input : Input) (lines : List Packet) (ended : Result (Unit
   pub stops : StopsAfter (length lines) (record { old = between; new = input.read.new }) ended
   pub source : LeavesSource input.is_down ended
 
--- these packets are read, and then reading either goes on or stops for some reason
+-- these packets are read, and perhaps the reason to stop after them is met
 abbrev pub ReadsSome : Input → List Packet → Type 0
 ReadsSome input lines =
     ReadsPackets input.read lines ⊎ ((ended : Result (Unit {0}) PacketFault) × ReadsEach input lines ended)

@@ -81,7 +81,7 @@ struct FileFetch<'a, A: Allocator + Copy> {
     specs: &'a [Spec<A>],
     // The maximum size of a pack in bytes.
     limit: PackLimit,
-    // The end of each reply.
+    // Whether each reply ends with a response-end packet.
     ends: Ends,
 }
 

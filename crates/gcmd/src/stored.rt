@@ -28,7 +28,7 @@ pub struct FetchOptions<'a, A: Allocator + Copy = Global> {
     pub specs: &'a [Spec<A>],
     /// The maximum size of a pack in bytes.
     pub limit: PackLimit,
-    /// The end of each reply.
+    /// Whether each reply ends with a response-end packet.
     pub ends: Ends,
 }
 

@@ -43,8 +43,8 @@
 //!   `Contents`, `Chunk`, `Order`, `FanOut` and `Edges` is returned.
 //! - Two files of a chain may have the same commit. In this case [`CommitGraph::find`] returns one
 //!   of the positions.
-//! - [`CommitGraph::add`] and [`CommitGraph::parents_of`] may fail if out of memory. The contracts
-//!   do not state when. The contracts do not limit time or memory.
+//! - [`CommitGraph::add`] and [`CommitGraph::parents_of`] may fail if out of memory, but the
+//!   contracts do not state when. The contracts do not limit time or memory.
 //!
 //! This crate has no tests of its own.
 //!

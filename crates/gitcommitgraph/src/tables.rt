@@ -187,8 +187,7 @@ fn within<A: Allocator + Copy>(list: Vec<Position, A>, most: usize) -> Option<Ve
     if list.len() <= most { Some(list) } else { None }
 }
 
-// Returns whether the last edge has the mark that ends a list. A table without edges counts as
-// well.
+// Returns whether the last edge has the mark that ends a list. Returns true if there are no edges.
 fn last_is_marked(edges: &[[u8; 4]]) -> bool
     ensures { IsTrue result ↔
         ((d : List ℕ) → 0 < length edges.now → mark ≤ number (slice_index_or edges.now (length edges.now - 1) d)) }

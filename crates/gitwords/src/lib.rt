@@ -30,8 +30,8 @@
 //!
 //! - Git decodes `%` and two hexadecimal digits in a URL. This crate refuses a `%` in the path.
 //!   This crate also refuses any host that is not a name, an IPv4 address or an IPv6 address.
-//! - A path has only printable ASCII, and at most 1,000 bytes. A host has at most 255 bytes. These
-//!   limits are those of the first line of a connection.
+//! - A path has only printable ASCII, and at most 1,000 bytes. A host has at most 255 bytes. The
+//!   first line of a `git://` connection has the same limits.
 //! - Git drops the slash before `~user` in the path of a URL. This crate keeps the slash.
 //! - Git treats an empty port as the default port. This crate refuses an empty port.
 //! - git-daemon(1) refuses the components `.` and `..` of a path. This crate refuses each component

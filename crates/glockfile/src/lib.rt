@@ -9,7 +9,7 @@
 //! - [`open_file`] returns the text of the file, and does not change the file. The run holds the
 //!   lockfile exactly if [`open_file`] returns `Ok`.
 //! - [`replace_file`] gives the file only the new text, or leaves it unchanged if the old text
-//!   equals the new text (`specs/Storing.antt`). In every state since then the file has the old
+//!   equals the new text (`specs/Storing.antt`). During and after the call the file has the old
 //!   text or the whole new text. After `Ok` the file has the new text. At the end the run never
 //!   holds a lockfile.
 //! - The calls of a [`Storage`] have a fixed order: each call requires a state of the lockfile. A

@@ -94,7 +94,7 @@ outcome_of git.Elsewhere = Ok tt
 outcome_of (git.Refused fault) = Err (program.Request fault)
 outcome_of git.WriteFailed = Err program.WriteFailed
 
--- all connections are served; or a socket fails, and fewer are served
+-- all connections are served, or fewer connections and the fault is `Socket`
 abbrev pub IsCount : {A : Type 0} → List (ProgramOutcome A) → ℕ → ProgramOutcome A → Type 0
 IsCount outcomes connections (Ok done) = length outcomes ≡ connections
 IsCount outcomes connections (Err fault) = (fault ≡ program.Socket) × (length outcomes < connections)

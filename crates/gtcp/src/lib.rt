@@ -15,10 +15,10 @@
 //!   sink fails, a prefix of these lines is printed (`specs/Sockets.antt`, `Telling.antt`). A
 //!   request for another path is not a fault. The call fails only with `Socket`, after fewer than
 //!   `connections` connections.
-//! - [`fetch_on`] fetches with the given refspecs, limit and ends of replies. The fetch starts with
-//!   the first line for the given host and path, and keeps every promise of `gclient::fetch_over`.
-//!   If the first line can't be composed, or memory for the buffers runs out, the repository is
-//!   unchanged.
+//! - [`fetch_on`] fetches with the given refspecs, pack limit and form of replies. The fetch starts
+//!   with the first line for the given host and path, and keeps every promise of
+//!   `gclient::fetch_over`. If the first line can't be composed, or memory for the buffers runs
+//!   out, the repository is unchanged.
 //! - [`fetch_git_on`] fetches like [`fetch_on`], with a given first line and with options for
 //!   packs.
 //! - [`ls_on`] lists the refs with the given prefixes over the same kind of connection. A listing

@@ -39,8 +39,8 @@ use std::time::Clock;
 
 // ---- serving
 
-/// The parameters of a server: its address and path, the number of connections, the end of each
-/// reply, and the text of the repository.
+/// The parameters of a server: its address and path, the number of connections, whether replies end
+/// with a response-end packet, and the text of the repository.
 #[derive(Drop)]
 pub struct Service<'a, A: Allocator + Copy> {
     pub place: &'a Location<A>,
@@ -261,7 +261,7 @@ fn show_reply<A: Allocator + Copy, W: Sink>(
 // ---- fetching
 
 /// The parameters of a fetch: the location of the server, the refspecs, the maximum size of a pack,
-/// and the end of each reply.
+/// and whether replies end with a response-end packet.
 #[derive(Drop)]
 pub struct RemoteFetch<'a, A: Allocator + Copy> {
     pub place: &'a Location<A>,
