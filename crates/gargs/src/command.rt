@@ -3,7 +3,7 @@
 use gcmd::{Ends, PackLimit};
 use gtcp::Location;
 
-/// The command of some arguments.
+/// The command that the arguments describe, with its parameters.
 #[derive(Debug, Drop)]
 pub enum Gitv2Command {
     /// `check FILE`
@@ -24,7 +24,7 @@ pub enum Gitv2Command {
     LsTcp {
         /// The location of the server.
         place: Location,
-        /// The prefixes of the refs to list, or none to list all.
+        /// The prefixes of the refs to list. An empty list lists all refs.
         prefixes: Vec<String>,
     },
     /// `pair SERVERFILE CLIENTFILE SPEC...`
@@ -42,7 +42,7 @@ pub enum Gitv2Command {
     Simulate(Simulate),
     /// `upload [--response-end] FILE`
     Upload {
-        /// How replies end.
+        /// Whether each reply ends with a response-end packet.
         ends: Ends,
         /// The name of the file of the server's repository.
         file: String,
@@ -56,34 +56,34 @@ pub struct Fetch {
     pub place: Option<Location>,
     /// The maximum size of a pack in bytes.
     pub limit: PackLimit,
-    /// How replies end.
+    /// Whether each reply ends with a response-end packet.
     pub ends: Ends,
     /// The name of the file of the client's repository, which is replaced.
     pub file: String,
-    /// The refspecs, at least one, not yet checked.
+    /// The refspecs, at least one, which are not parsed yet.
     pub specs: Vec<String>,
 }
 
-/// The parameters of a service.
+/// The parameters of a server.
 #[derive(Debug, Drop)]
 pub struct Serve {
     /// The address at which connections are accepted, and the path that clients must name.
     pub place: Location,
     /// The number of connections to serve, from 1 to 1,000,000.
     pub connections: u32,
-    /// How replies end.
+    /// Whether each reply ends with a response-end packet.
     pub ends: Ends,
-    /// The name of the file of the repository.
+    /// The name of the file of the served repository.
     pub file: String,
 }
 
-/// The files of a simulation.
+/// The names of the files of a simulation.
 #[derive(Debug, Drop)]
 pub struct Simulate {
     /// The name of the file of the server's repository.
     pub server: String,
     /// The name of the file of the client's repository.
     pub client: String,
-    /// The name of the file of the events.
+    /// The name of the file that lists the events.
     pub scenario: String,
 }

@@ -1,28 +1,31 @@
-//! The arguments of the command line, read into a value.
+//! The arguments of the command line, parsed into a command.
 //!
 //! [`read_command`] takes the arguments from the system, and returns a [`Gitv2Command`] with parsed
-//! parts. An address and a path are a `Location`, a limit is a `PackLimit`, flags say how replies
-//! end. Names of files, refspecs and prefixes are unchanged arguments; it looks for no file.
+//! parameters. An address and a path become a `Location`, a limit becomes a `PackLimit`, and a flag
+//! selects the form of replies. File names, refspecs and prefixes stay unchanged, and no file is
+//! opened.
 //!
 //! # Proved
 //!
-//! - It ends, and is safe, whatever the arguments are.
-//! - Within the crate, a limit and a count of connections are the number of their decimal digits,
-//!   at least one digit and nothing more. A limit is at most 67,108,864, a count from 1 to
-//!   1,000,000. No such text is refused (`specs/Numbers.antt`).
+//! - A call ends, and is memory safe, for any arguments.
+//! - Private functions parse a limit and a count of connections from decimal digits only, at least
+//!   one digit. The functions accept exactly the limits up to 67,108,864, and the counts from 1 to
+//!   1,000,000 (`specs/Numbers.antt`).
 //!
 //! # Only tested
 //!
-//! The cases of `conformance` (`data/words`) test which arguments belong to the usage, and what
-//! they mean. They refuse no allocation, since `clap` only takes the global allocator.
+//! The cases of `conformance` (`data/words`) test which arguments match the usage, and which
+//! command they give. The cases can't test failing allocations, since `clap` uses only the global
+//! allocator.
 //!
 //! # What the contracts do not rule out
 //!
-//! A body may refuse any arguments, and return any command for any.
+//! An implementation may refuse any arguments, and may return any command for any arguments.
 //!
 //! # Stands on
 //!
-//! `clap` for arguments, `gtcp` for a location, `gcmd` for the limit of a pack and how replies end.
+//! The crate uses `clap` for arguments, `gtcp` for locations, and `gcmd` for the limit of a pack
+//! and the form of replies.
 #![tactic(auto)]
 
 mod command;

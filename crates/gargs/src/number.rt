@@ -9,7 +9,7 @@ use gcmd::PackLimit;
 // The maximum number of connections to serve.
 const MAX_CONNECTIONS: u32 = 1_000_000;
 
-/// Returns the limit of a pack that the text gives, or `None` if it is not a number or too high.
+/// Returns the pack limit of the text, or `None` if the text is not a number or too high.
 pub(crate) fn limit_of(text: &str) -> Option<PackLimit>
     ensures { MatchOption result (((bytes : ℕ) → bytes ≤ max_pack → Says text.now bytes → ⊥))
         (Says text.now) }
@@ -17,7 +17,7 @@ pub(crate) fn limit_of(text: &str) -> Option<PackLimit>
     PackLimit::new(number_of(text)?)
 }
 
-/// Returns the number of connections that the text gives, or `None` if it is not a number from 1 to
+/// Returns the number of connections of the text, or `None` if the text is not a number from 1 to
 /// 1,000,000.
 pub(crate) fn connections_of(text: &str) -> Option<u32>
     ensures { MatchOption result
@@ -32,7 +32,8 @@ pub(crate) fn connections_of(text: &str) -> Option<u32>
     }
 }
 
-// Returns the number of some decimal digits, at least one. `parse` also takes a `+` before them.
+// Returns the number that the text's decimal digits denote. Refuses a leading `+`, which `parse`
+// accepts.
 fn number_of(text: &str) -> Option<usize>
     ensures { MatchOption result (((number : ℕ) → number < 2 ^ 64 → Says text.now number → ⊥))
         (Says text.now) }

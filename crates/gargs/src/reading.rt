@@ -1,4 +1,4 @@
-//! Reading a command line.
+//! The parser of the command line.
 
 use crate::command::{Fetch, Gitv2Command, Serve, Simulate};
 use crate::number::{connections_of, limit_of};
@@ -8,9 +8,9 @@ use gcmd::{Ends, PackLimit};
 use gtcp::Location;
 use std::alloc::{AllocError, Global};
 
-/// Returns the command of these arguments, the first of which is the program's own name. Returns
-/// `None` if they do not match the usage, which has no help either, and if there is no memory to
-/// read them.
+/// Returns the command of the arguments, the first of which is the program's own name. Returns
+/// `None` if the arguments do not match the usage, or if out of memory. A request for help does not
+/// match the usage.
 pub fn read_command(alloc: Global, words: &[String]) -> Option<Gitv2Command> {
     if words.iter().any(|word| word.as_str() == "--") {
         return None;
@@ -65,7 +65,7 @@ fn fetch_command(alloc: Global, matches: &ArgMatches<'_>) -> Option<Gitv2Command
     }))
 }
 
-// Returns the location of a fetch, or `Some(None)` for standard input and standard output.
+// Returns the location of the server to fetch from, or `Some(None)` for standard input and output.
 fn source_in(alloc: Global, matches: &ArgMatches<'_>) -> Option<Option<Location>> {
     match way_of(matches, "stdio")? {
         Transport::Stdio => Some(None),
@@ -80,7 +80,7 @@ enum Transport {
     Tcp,
 }
 
-// Returns the transport: the flag without an address or a path, or these without the flag.
+// Returns the transport. The arguments must have either the flag, or an address and a path.
 fn way_of(matches: &ArgMatches<'_>, flag: &str) -> Option<Transport> {
     let is_named = matches.get_str("tcp").is_some() || matches.get_str("path").is_some();
     match (matches.get_flag(flag), is_named) {
@@ -90,13 +90,13 @@ fn way_of(matches: &ArgMatches<'_>, flag: &str) -> Option<Transport> {
     }
 }
 
-// Returns the address of this option, and the path.
+// Returns the location that this option and the option `path` give.
 fn place_in(alloc: Global, matches: &ArgMatches<'_>, option: &str) -> Option<Location> {
     Location::new(alloc, matches.get_str(option)?, matches.get_str("path")?)
 }
 
-// Returns the given limit, or that of a fetch if none is given. Returns `None` if it is not a
-// number or too high.
+// Returns the limit in the arguments, or the default limit if there is none. Returns `None` if the
+// limit is not a number or too high.
 fn limit_in(matches: &ArgMatches<'_>) -> Option<PackLimit> {
     match matches.get_str("limit") {
         Some(text) => limit_of(text),
@@ -104,7 +104,7 @@ fn limit_in(matches: &ArgMatches<'_>) -> Option<PackLimit> {
     }
 }
 
-// Returns the values of an argument that may have many.
+// Returns all values of an argument.
 fn words_in(
     alloc: Global,
     matches: &ArgMatches<'_>,

@@ -3,7 +3,7 @@
 use clap::{Arg, ArgAction, Command};
 use std::alloc::{AllocError, Global};
 
-// One or several arguments of a command, under the name by which they are looked up.
+// One or several arguments of a command, with the name that `clap` looks up.
 #[derive(Clone, Copy)]
 enum Word {
     // `--NAME`
@@ -28,7 +28,7 @@ const SPECS: Word = Word::Many("spec");
 
 const TCP: Word = Word::Valued("tcp");
 
-// The commands, each with its arguments.
+// The commands and the arguments of each command.
 const COMMANDS: &[(&str, &[Word])] = &[
     ("check", &[FILE]),
     ("lines", &[]),
@@ -66,7 +66,7 @@ const COMMANDS: &[(&str, &[Word])] = &[
     ),
 ];
 
-/// Returns the program, with all of its commands.
+/// Returns the declaration of the program with all of its commands.
 pub(crate) fn program<'a>(alloc: Global) -> Result<Command<'a>, AllocError> {
     let mut program = Command::new(alloc, "gitv2");
     for &(name, words) in COMMANDS {

@@ -1,4 +1,4 @@
--- `check`: what it reports of a repository's file.
+-- `check`: the report on the repository of a file.
 use Rattle.std.specs.Prelude.{◌≡◌, ◌↔◌, ◌++◌, Bool, IsTrue, if◌then◌else◌, length, codes, Ok, Err}
 use Rattle.std.specs.Fmt.{decimal}
 use Rattle.gpkt.specs.Packets.{Bytes}
@@ -14,7 +14,7 @@ use Rattle.gcmd.specs.Programs.{ProgramOutcome}
 use Rattle.gcmd.specs.declared.check.Report.{Report}
 use Rattle.gcmd.specs.declared.fault.ProgramFault.TheVariants as program
 
--- what there is to report of a repository
+-- the report has the counts of the repository, and the results of both checks
 pub record IsReport {A : Type 0} (repo : Repository A) (report : Report) : Type 0 where
   pub nodes : report.nodes ≡ length repo.graph.entries
   pub refs : report.refs ≡ length repo.refs
@@ -24,7 +24,7 @@ pub record IsReport {A : Type 0} (repo : Repository A) (report : Report) : Type 
 abbrev pub yes_or_no : Bool → Bytes
 yes_or_no holds = if holds then codes "yes" else codes "no"
 
--- the line that reports it
+-- the line of a report
 abbrev pub report_line : Report → Bytes
 report_line report =
     codes "nodes " ++ decimal report.nodes ++ codes " refs " ++ decimal report.refs
@@ -36,15 +36,15 @@ pub record IsRepository (A : Type 0) (file : Bytes) : Type 0 where
   pub names : file ≡ repository_text repo.graph repo.refs repo.head
   pub loadable : IsLoadable Any repo.graph repo.refs repo.head
 
--- the repository that the file names, and its report
+-- the repository that the file describes has this report
 pub record IsReported (A : Type 0) (file : Bytes) (report : Report) : Type 0 where
   pub repo : Repository A
   pub names : file ≡ repository_text repo.graph repo.refs repo.head
   pub loadable : IsLoadable Any repo.graph repo.refs repo.head
   pub reports : IsReport repo report
 
--- what `check` does: the line is written and passed on; or a beginning of it is written, where the sink fails; or
--- nothing, where the file is no repository, or out of memory to judge it
+-- The effect of `check`: the line is written and flushed. If the sink fails, a prefix of the line is written. Nothing
+-- is written if the file is not the text of a repository, or if memory for the checks runs out.
 abbrev pub Checks : {A : Type 0} → Bytes → Output → ProgramOutcome A → Type 0
 Checks {A} file output (Ok done) = (report : Report) × IsReported A file report × Sends output (report_line report)
 Checks {A} file output (Err program.WriteFailed) =

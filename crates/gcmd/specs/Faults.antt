@@ -1,4 +1,4 @@
--- The table of the programs' faults: what is printed of each.
+-- The table of the programs' faults, with the printed parts of each fault.
 use Rattle.std.specs.Prelude.{ℕ, codes, Option, Some, None}
 use Rattle.gname.specs.Faults.{FaultRow, name_fault_row, name_fault_text, out_of_memory, out_of_memory_text}
 use Rattle.gname.specs.declared.faults.NameFault.{NameFault}
@@ -34,8 +34,8 @@ use Rattle.gclient.specs.declared.fault.FetchFault.TheVariants as fetch
 use Rattle.gcmd.specs.declared.fault.ProgramFault.{ProgramFault}
 use Rattle.gcmd.specs.declared.fault.ProgramFault.TheVariants as program
 
--- what is printed of a fault: its number and its name, and, where it has them, the position of a packet in its
--- message, the line of a text, the position of a byte in a name, an id, and a name or a text
+-- the printed parts of a fault: its number and name, and, if the fault has them, the position of a packet in its
+-- message, the line of a text, the index of a byte in a name, an id, and a ref name or an error text
 pub record Printed : Type 0 where
   pub number : ℕ
   pub name : Bytes
@@ -45,13 +45,13 @@ pub record Printed : Type 0 where
   pub id : Option Id
   pub text : Option Bytes
 
--- a number and a name alone
+-- a fault with only a number and a name
 abbrev pub plain : FaultRow → Printed
 plain row = record { number = row.0; name = row.1; frame = None; line = None; at = None; id = None; text = None }
 
 -- ---- names
 
--- the byte at which a name is refused
+-- the index of the byte at which a name is refused
 abbrev pub place_in_name : NameFault → Option ℕ
 place_in_name (name.BadByte at) = Some at
 place_in_name (name.Component at) = Some at
@@ -64,7 +64,7 @@ printed_of_name fault = record (plain (name_fault_row fault)) { at = place_in_na
 
 -- ---- repository texts
 
--- the line that is wrong
+-- the number of the line at which a repository's text is refused
 abbrev pub line_in_text : LoadFault → Option ℕ
 line_in_text (load.Text line) = Some line
 line_in_text (load.ParentLater line) = Some line
@@ -75,20 +75,20 @@ printed_of_text fault = record (plain (load_fault_row fault)) { line = line_in_t
 
 -- ---- repositories that are not served
 
--- the id that two objects have, or that is of another format
+-- the id of two different objects, or the id of another format
 abbrev pub id_in_graph : GraphFault → Option Id
 id_in_graph (graph.Conflict id) = Some id
 id_in_graph (graph.OtherFormat id) = Some id
 id_in_graph _ = None
 
--- the id that is missing
+-- the id of the refused object or of the missing object
 abbrev pub id_in_build : {A : Type 0} → BuildFault A → Option Id
 id_in_build (build.Graph cause) = id_in_graph cause
 id_in_build (build.NotClosed id) = Some id
 id_in_build (build.MissingParent id) = Some id
 id_in_build _ = None
 
--- the ref whose object is missing
+-- the name of the ref whose object is missing
 abbrev pub ref_in_build : {A : Type 0} → BuildFault A → Option Name
 ref_in_build (build.RefMissing name) = Some name
 ref_in_build build.HeadMissing = Some head_name
@@ -100,17 +100,17 @@ printed_of_build fault =
 
 -- ---- requests
 
--- where the message was refused
+-- the position of the packet at which a request was refused
 abbrev pub frame_in_request : ServeFault → Option ℕ
 frame_in_request (serve.Request fault) = Some fault.frame
 frame_in_request _ = None
 
--- the want that is missing
+-- the id of the first missing want
 abbrev pub id_in_request : ServeFault → Option Id
 id_in_request (serve.NotOurs id) = Some id
 id_in_request _ = None
 
--- what a peer said
+-- the error text of a peer
 abbrev pub said_in : Why → Option Bytes
 said_in (why.RemoteErr said) = Some said
 said_in (why.RemoteFatal said) = Some said
@@ -132,17 +132,17 @@ printed_of_request fault = record (plain (number_and_name (serve_fault_row fault
 
 -- ---- fetching
 
--- where a message was refused
+-- the position of the packet at which a message was refused
 abbrev pub frame_in_client : {A : Type 0} → ClientFault A → Option ℕ
 frame_in_client (client.Message fault) = Some fault.frame
 frame_in_client _ = None
 
--- the line of a pack that is wrong
+-- the number of the bad line of a plain pack
 abbrev pub line_in_client : {A : Type 0} → ClientFault A → Option ℕ
 line_in_client (client.Index (index.Bad line)) = Some line
 line_in_client _ = None
 
--- the id that is missing, that two objects have, or that is of another format
+-- the id of a missing object, of two different objects, or of another format
 abbrev pub id_in_repo : {A : Type 0} → RepoFault A → Option Id
 id_in_repo (repo.MissingParent id) = Some id
 id_in_repo (repo.UnconnectedId missing) = Some missing
@@ -150,13 +150,13 @@ id_in_repo (repo.NotConnected missing) = Some missing
 id_in_repo (repo.Graph cause) = id_in_graph cause
 id_in_repo _ = None
 
--- and the id that was acknowledged and not offered
+-- the id of the repository's fault, or the id that was acknowledged but never offered
 abbrev pub id_in_client : {A : Type 0} → ClientFault A → Option Id
 id_in_client (client.StrangeAck id) = Some id
 id_in_client (client.Repo cause) = id_in_repo cause
 id_in_client _ = None
 
--- the ref that is not connected, or what a peer said
+-- the name of the ref that is not connected, or the error text of a peer
 abbrev pub text_in_client : {A : Type 0} → ClientFault A → Option Bytes
 text_in_client (client.Message fault) = said_in fault.why
 text_in_client (client.Repo (repo.UnconnectedRef name)) = Some name
@@ -190,7 +190,7 @@ printed_of (program.Name fault) = printed_of_name fault
 printed_of program.PairLimit = plain (94, codes "PairLimit")
 printed_of program.Socket = plain (96, codes "Socket")
 
--- ---- their texts
+-- ---- texts
 abbrev pub program_fault_text : {A : Type 0} → ProgramFault A → Bytes
 program_fault_text program.Memory = out_of_memory_text
 program_fault_text program.File = codes "the file can't be read or written"

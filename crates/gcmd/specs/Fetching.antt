@@ -1,4 +1,4 @@
--- The program that fetches into the repository of a file: `fetch` (as git-fetch(1)).
+-- `fetch`: the program that fetches into the repository of a file (as git-fetch(1)).
 use Rattle.std.specs.Prelude.{◌≡◌, ◌≢◌, ◌⊎◌, ℕ, ◌+◌, List, ◌∷◌, ◌++◌, length, All, Option, None, Some, Result, Ok, Err}
 use Rattle.std.specs.List.{AllZip}
 use Rattle.gpkt.specs.Packets.{Bytes}
@@ -32,13 +32,13 @@ use Rattle.gcmd.specs.Reporting.{fetch_report}
 use Rattle.gcmd.specs.declared.fault.ProgramFault.{ProgramFault}
 use Rattle.gcmd.specs.declared.fault.ProgramFault.TheVariants as program
 
--- ---- the words
+-- ---- arguments
 
 -- the text is that of a refspec
 abbrev pub IsSpecText : Bytes → Type 0
 IsSpecText text = (spec : Refspec) × IsSpec text spec
 
--- the first word that is no refspec; or one that is, out of memory to keep it
+-- the first argument that is not a refspec, or an argument for which memory runs out
 pub record RefusesWord (words : List Bytes) (fault : SpecFault) : Type 0 where
   pub front : List Bytes
   pub word : Bytes
@@ -47,15 +47,15 @@ pub record RefusesWord (words : List Bytes) (fault : SpecFault) : Type 0 where
   pub before : All IsSpecText front
   pub refused : Reads (IsSpec word) (Err fault)
 
--- what reading words answers: a refspec for each
+-- the result of reading the arguments: a refspec for each, or the fault of the first bad argument
 abbrev pub ReadsSpecs : {A : Type 0} → List Bytes → Result (List Refspec) (ProgramFault A) → Type 0
 ReadsSpecs words (Ok specs) = AllZip IsSpec words specs
 ReadsSpecs words (Err (program.Spec fault)) = RefusesWord words fault
 ReadsSpecs words (Err _) = ⊥
 
--- ---- the file
+-- ---- files
 
--- a client has no HEAD
+-- the HEAD of a client's repository: none
 abbrev pub no_head : {A : Type 0} → Head A
 no_head = head.None
 
@@ -65,7 +65,7 @@ pub record NamesClient {A : Type 0} (file : Bytes) (repo : RepoState A) : Type 0
   pub loadable : IsLoadable Any repo.graph repo.refs (no_head {A = A})
   pub whole : IsConnectedRepo repo
 
--- the file is the text of a repository that has a HEAD, as this line of it says
+-- the file is the text of a repository with a HEAD, at this line
 pub record NamesHead (A : Type 0) (file : Bytes) (line : ℕ) : Type 0 where
   pub repo : Repository A
   pub text : file ≡ repository_text repo.graph repo.refs repo.head
@@ -73,7 +73,7 @@ pub record NamesHead (A : Type 0) (file : Bytes) (line : ℕ) : Type 0 where
   pub stands : repo.head ≢ no_head
   pub place : line ≡ length repo.graph.entries + length repo.refs + 2
 
--- the file is the text of a repository that is no client's, for this cause
+-- the file is the text of a repository that the client refuses, for this cause
 pub record NamesUnconnected (A : Type 0) (file : Bytes) (Cause : History A → RefList → Type 0) : Type 0 where
   pub graph : History A
   pub refs : RefList
@@ -81,7 +81,7 @@ pub record NamesUnconnected (A : Type 0) (file : Bytes) (Cause : History A → R
   pub loadable : IsLoadable Any graph refs (no_head {A = A})
   pub cause : Cause graph refs
 
--- why a file is no client's: it is the text of no repository, or of one that has a HEAD, or of one that is not
+-- the reasons to reject a client's file: it is not the text of a repository, it has a HEAD, or its repository is not
 -- connected
 abbrev pub RefusesClient : {A : Type 0} → Bytes → ProgramFault A → Type 0
 RefusesClient {A} file (program.Text cause) =
@@ -90,12 +90,12 @@ RefusesClient {A} file (program.Fetch (fetch.Client (client.Repo cause))) =
     NamesUnconnected A file (λ graph refs. Opens graph refs (Err cause))
 RefusesClient file _ = ⊥
 
--- what opening it answers
+-- the result of opening a client's file
 abbrev pub OpensClient : {A : Type 0} → Bytes → Result (RepoState A) (ProgramFault A) → Type 0
 OpensClient file (Ok repo) = NamesClient file repo
 OpensClient file (Err fault) = RefusesClient file fault
 
--- ---- packs are plain
+-- ---- plain packs
 
 abbrev pub plain_indexes : {A : Type 0} → Indexes A
 plain_indexes bytes list = IsPack bytes list
@@ -103,49 +103,49 @@ plain_indexes bytes list = IsPack bytes list
 abbrev pub plain_index_fails : Type 0 → IndexFails
 plain_index_fails A bytes fault = IndexRefuses A bytes fault
 
--- ---- the new file and the report
+-- ---- results
 
--- to the old repository objects only came, and its refs are settled
+-- the new repository has the objects of the old one and perhaps more, and its refs are the updated refs
 pub record IsFetchedInto {A : Type 0} (old new : RepoState A) (fetched : Fetched A) : Type 0 where
   pub grows : Grows old.graph.entries new.graph.entries
   pub settles : Settles new.graph.entries old.refs fetched.settled.asks fetched.settled.updates.items new.refs
 
--- the new file is the text of the repository as the fetch left it
+-- the new file is the text of the repository after the fetch
 abbrev pub IsNewFile : {A : Type 0} → RepoState A → RepoState A → Fetched A → Option Bytes → Type 0
 IsNewFile old new fetched None = ⊥
 IsNewFile old new fetched (Some text) = NamesClient text new × IsFetchedInto old new fetched
 
--- the report is written and passed on; or its sink failed
+-- the report is written and flushed, or its sink fails
 abbrev pub SendsReport : {A : Type 0} → Bytes → Output → ProgramOutcome A → Type 0
 SendsReport bytes report (Ok done) = Sends report bytes
 SendsReport bytes report (Err program.WriteFailed) = BreaksOff report bytes
 SendsReport bytes report (Err _) = ⊥
 
--- what reporting answers: that; or out of memory for the report
+-- the result of reporting: the report is sent or its sink fails, or memory for the report runs out
 abbrev pub Reports : {A : Type 0} → Fetched A → Output → ProgramOutcome A → Type 0
 Reports fetched report outcome =
     SendsReport (fetch_report fetched) report outcome ⊎ ((outcome ≡ Err program.Memory) × IsUnwritten report)
 
--- how the program ends once the refs are settled: there is a new file, and that is reported; or it is out of memory for
--- the new file, and nothing is
+-- the outcome after a successful conversation: there is a new file, and the report is sent; or memory for the new file
+-- runs out, and nothing is reported
 abbrev pub Concludes : {A : Type 0} → RepoState A → RepoState A → Fetched A → Output → Option Bytes → ProgramOutcome A → Type 0
 Concludes old new fetched report file outcome =
     (IsNewFile old new fetched file × Reports fetched report outcome)
     ⊎ ((file ≡ None) × IsUnwritten report × (outcome ≡ Err program.Memory))
 
--- how it ends after the conversation; where that failed, there is no new file, and nothing is reported
+-- the outcome after the conversation; if the conversation failed, there is no new file, and nothing is reported
 abbrev pub EndsAfter : {A : Type 0} → RepoState A → RepoState A → Result (Fetched A) (FetchFault A) → Output
     → Option Bytes → ProgramOutcome A → Type 0
 EndsAfter old new (Ok fetched) report file outcome = Concludes old new fetched report file outcome
 EndsAfter old new (Err fault) report file outcome =
     (file ≡ None) × IsUnwritten report × (outcome ≡ Err (program.Fetch fault))
 
--- ---- the program
+-- ---- programs
 
 module _ {A : Type 0} (old : Bytes) (specs : List Refspec) (limit : ℕ) (ends : Ends) (input : Input)
     (output report : Output) (file : Option Bytes)
   where
-    -- the file is no client's; nothing is read or written, and there is no new file
+    -- the client's file is refused; nothing is read or written, and there is no new file
     pub record IsNotFetched (outcome : ProgramOutcome A) : Type 0 where
       pub fault : ProgramFault A
       pub refused : RefusesClient old fault
@@ -155,7 +155,7 @@ module _ {A : Type 0} (old : Bytes) (specs : List Refspec) (limit : ℕ) (ends :
       pub unreported : IsUnwritten report
       pub none : file ≡ None
 
-    -- the repository that the file names fetches by the refspecs
+    -- the repository of the client's file fetches by the refspecs
     pub record IsFetched (outcome : ProgramOutcome A) : Type 0 where
       pub repo : RepoState A
       pub names : NamesClient old repo
@@ -165,6 +165,6 @@ module _ {A : Type 0} (old : Bytes) (specs : List Refspec) (limit : ℕ) (ends :
           (start_of repo specs limit ends) input output new result
       pub concludes : EndsAfter repo new result report file outcome
 
-    -- what `fetch` does
+    -- the effect of `fetch`
     abbrev pub FetchesFile : ProgramOutcome A → Type 0
     FetchesFile outcome = IsFetched outcome ⊎ IsNotFetched outcome

@@ -1,4 +1,4 @@
--- What a program writes to a sink and passes on, and what stands where the sink fails.
+-- The bytes that a program writes to a sink and flushes, and those that are written if the sink fails.
 use Rattle.std.specs.Prelude.{◌≡◌, ◌⊎◌, true, Result, Ok, Err}
 use Rattle.std.specs.Io.KnownBytes.{Appends, Keeps}
 use Rattle.gpkt.specs.Devices.{KeepsPassed}
@@ -6,21 +6,21 @@ use Rattle.gpkt.specs.Sending.{Output, Sends, SendsSome}
 use Rattle.gpkt.specs.declared.device.Down.{Down}
 use Rattle.gpkt.specs.Packets.{Bytes}
 
--- the sink failed at a write: a beginning of these bytes stands, perhaps all of them, and nothing more was passed on
+-- the sink failed at a write: a prefix of these bytes is written, perhaps all of them, and nothing more is flushed
 abbrev pub FailsAtWrite : Output → Bytes → Type 0
 FailsAtWrite output bytes = SendsSome output bytes × Keeps output.passed_on.old output.passed_on.new
 
--- the sink failed at passing on: all of these bytes stand, and what was passed on before stays so, perhaps with more
+-- the sink failed at a flush: all of these bytes are written, and the bytes of earlier flushes remain flushed
 pub record FailsAtFlush (output : Output) (bytes : Bytes) : Type 0 where
   pub written : Appends output.written.old output.written.new bytes
   pub passed_on : KeepsPassed output.passed_on
   pub down : output.is_down ≡ true
 
--- the sink failed before these bytes were written and passed on
+-- the sink failed before these bytes were written and flushed
 abbrev pub BreaksOff : Output → Bytes → Type 0
 BreaksOff output bytes = FailsAtWrite output bytes ⊎ FailsAtFlush output bytes
 
--- what a call did that was to write these bytes and to pass them on
+-- the outcome of a call that writes these bytes and flushes them
 abbrev pub IsSent : Output → Result (Unit {0}) Down → Bytes → Type 0
 IsSent output (Ok done) bytes = Sends output bytes
 IsSent output (Err down) bytes = BreaksOff output bytes

@@ -1,4 +1,4 @@
--- Words that are read as prefixes of names of refs.
+-- Arguments that are read as prefixes of ref names.
 use Rattle.std.specs.Prelude.{◌≡◌, List, ◌∷◌, ◌++◌, All, Result, Ok, Err}
 use Rattle.gname.specs.Names.{IsPrefix, Owns, prefix_fault}
 use Rattle.gname.specs.declared.faults.NameFault.{NameFault}
@@ -6,7 +6,7 @@ use Rattle.gpkt.specs.Packets.{Bytes}
 use Rattle.gcmd.specs.declared.fault.ProgramFault.{ProgramFault}
 use Rattle.gcmd.specs.declared.fault.ProgramFault.TheVariants as program
 
--- the first word that is no prefix, with its fault; or one that is, out of memory to keep it
+-- the first argument that is not a prefix, with its fault; or an argument for which memory runs out
 pub record RefusesPrefix (words : List Bytes) (fault : NameFault) : Type 0 where
   pub front : List Bytes
   pub word : Bytes
@@ -15,7 +15,7 @@ pub record RefusesPrefix (words : List Bytes) (fault : NameFault) : Type 0 where
   pub before : All IsPrefix front
   pub refused : Owns prefix_fault word (Err fault)
 
--- what reading words answers: each as it stands, and all are prefixes
+-- the result of reading the arguments: if each is a prefix, the arguments unchanged
 abbrev pub ReadsPrefixes : {A : Type 0} → List Bytes → Result (List Bytes) (ProgramFault A) → Type 0
 ReadsPrefixes words (Ok prefixes) = (prefixes ≡ words) × All IsPrefix words
 ReadsPrefixes words (Err (program.Name fault)) = RefusesPrefix words fault

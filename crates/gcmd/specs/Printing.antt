@@ -1,5 +1,5 @@
--- The line that is printed of a fault: `gitv2: fault NUMBER NAME`, and then, where the fault has them and in this
--- order, the position of the packet, the line, the position of the byte, and the id, the name or the text.
+-- The printed line of a fault: `gitv2: fault NUMBER NAME`. Then follow the parts that the fault has: the position of
+-- the packet, the line number, the index of the byte, and the id, the ref name or the error text.
 use Rattle.std.specs.Prelude.{ℕ, ◌++◌, ◌&&◌, nat_le, if◌then◌else◌, [], map, codes, Option, None, Some}
 use Rattle.std.specs.Fmt.{decimal}
 use Rattle.gname.specs.Ids.{Id, id_text}
@@ -7,36 +7,36 @@ use Rattle.gpkt.specs.Packets.{Bytes}
 use Rattle.gcmd.specs.Faults.{Printed, printed_of}
 use Rattle.gcmd.specs.declared.fault.ProgramFault.{ProgramFault}
 
--- a byte as it is printed: `?` stands for one outside 32 to 126
+-- a byte as it is printed: `?` replaces each byte outside 32 to 126
 abbrev pub printable : ℕ → ℕ
 printable byte = if nat_le 32 byte && nat_le byte 126 then byte else 63
 
--- a number after its word, where the fault has it
+-- a number after its word, or nothing if the fault has no such number
 abbrev pub number_part : Bytes → Option ℕ → Bytes
 number_part word None = []
 number_part word (Some number) = word ++ decimal number
 
--- a name or a text
+-- a space, and a ref name or an error text in its printable form
 abbrev pub text_part : Bytes → Bytes
 text_part text = codes " " ++ map printable text
 
--- an id
+-- a space, and the hexadecimal digits of an id
 abbrev pub id_part : Id → Bytes
 id_part id = codes " " ++ id_text id
 
--- what the fault is about: an id, or a name or a text
+-- the subject of a fault: an id, a ref name or an error text
 abbrev pub subject_part : Option Id → Option Bytes → Bytes
 subject_part (Some id) text = id_part id
 subject_part None (Some text) = text_part text
 subject_part None None = []
 
--- the line
+-- the printed line of these parts
 abbrev pub printed_line : Printed → Bytes
 printed_line row =
     codes "gitv2: fault " ++ decimal row.number ++ codes " " ++ row.name ++ number_part (codes " frame ") row.frame
     ++ number_part (codes " line ") row.line ++ number_part (codes " at ") row.at
     ++ subject_part row.id row.text ++ codes "\n"
 
--- the line of a fault
+-- the printed line of a fault
 unfoldable pub fault_line : {A : Type 0} → ProgramFault A → Bytes
 fault_line fault = printed_line (printed_of fault)

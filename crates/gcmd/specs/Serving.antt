@@ -1,4 +1,4 @@
--- The programs that serve the repository of a file: `ls --stdio-server` and `upload` (as git-upload-pack(1)).
+-- `ls --stdio-server` and `upload`: the programs that serve the repository of a file (as git-upload-pack(1)).
 use Rattle.std.specs.Prelude.{◌≡◌, ℕ, ◌⊎◌, Result, Ok, Err}
 use Rattle.gpkt.specs.Packets.{Bytes}
 use Rattle.ggraph.specs.Loading.{StopsAt}
@@ -22,36 +22,37 @@ use Rattle.gcmd.specs.Programs.{ProgramOutcome}
 use Rattle.gcmd.specs.declared.fault.ProgramFault.{ProgramFault}
 use Rattle.gcmd.specs.declared.fault.ProgramFault.TheVariants as program
 
--- ---- the file
+-- ---- files
 
--- the file is the text of what a server has, each parent before its children
+-- the file is the text of this graph, these refs and this HEAD, with each parent before its children
 pub record NamesParts {A : Type 0} (file : Bytes) (parts : Server A) : Type 0 where
   pub text : file ≡ repository_text parts.graph parts.refs parts.head
   pub loadable : IsLoadable ParentsFirst parts.graph parts.refs parts.head
 
--- and nothing of it is missing
+-- the file is the text of a server's repository, and no object of the server is missing
 pub record NamesServer {A : Type 0} (file : Bytes) (server : Server A) : Type 0 where
   pub names : NamesParts file server
   pub whole : IsServer server
 
--- why there is no server of such parts; no parent is missing
+-- the reasons why these parts are not a server; a missing parent is impossible
 abbrev pub MissesPart : {A : Type 0} → Server A → BuildFault A → Type 0
 MissesPart parts (build.NotClosed id) = ⊥
 MissesPart parts cause = IsUnserved parts cause
 
--- why a file is not served: it is the text of no repository with parents first, or one of which something is missing
+-- the reasons to reject a file: it is not the text of a repository with parents first, or an object of a ref or of HEAD
+-- is missing
 abbrev pub RefusesFile : {A : Type 0} → Bytes → ProgramFault A → Type 0
 RefusesFile {A} file (program.Text cause) = StopsAt A ParentsFirst file cause
 RefusesFile {A} file (program.Build cause) = (parts : Server A) × NamesParts file parts × MissesPart parts cause
 RefusesFile file _ = ⊥
 
--- what loading it answers
+-- the result of loading a file as a server
 abbrev pub LoadsServer : {A : Type 0} → Bytes → Result (Server A) (ProgramFault A) → Type 0
 LoadsServer file (Ok server) = NamesServer file server
 LoadsServer file (Err fault) = RefusesFile file fault
 
 module _ {A : Type 0} (file : Bytes) (input : Input) (output : Output) where
-  -- the file is not served, and nothing is read or written
+  -- the file is rejected, and nothing is read or written
   pub record IsNotServed (outcome : ProgramOutcome A) : Type 0 where
     pub fault : ProgramFault A
     pub refused : RefusesFile file fault
@@ -59,17 +60,17 @@ module _ {A : Type 0} (file : Bytes) (input : Input) (output : Output) where
     pub unread : IsUnread input
     pub unwritten : IsUnwritten output
 
-  -- the server that the file names does this
+  -- the server of the file has this outcome
   pub record IsServedBy (Does : Server A → ProgramOutcome A → Type 0) (outcome : ProgramOutcome A) : Type 0 where
     pub server : Server A
     pub names : NamesServer file server
     pub does : Does server outcome
 
-  -- what a program does that serves the file
+  -- the effect of a program that serves the file
   abbrev pub ServesFile : (Server A → ProgramOutcome A → Type 0) → ProgramOutcome A → Type 0
   ServesFile Does outcome = IsServedBy Does outcome ⊎ IsNotServed outcome
 
--- ---- packs are plain
+-- ---- plain packs
 
 abbrev pub plain_packs : {A : Type 0} → Packs A
 plain_packs list pack = pack ≡ pack_text list
@@ -77,9 +78,9 @@ plain_packs list pack = pack ≡ pack_text list
 abbrev pub plain_pack_fails : {A : Type 0} → PackFails A
 plain_pack_fails list fault = PackRefuses (pack_text list) fault
 
--- ---- one request, and a connection
+-- ---- exchanges
 
--- how an exchange comes out, after its end
+-- the outcome of a program after the end of an exchange
 abbrev pub outcome_of_exchange : {A : Type 0} → ExchangeEnd → ProgramOutcome A
 outcome_of_exchange exchange.Answered = Ok tt
 outcome_of_exchange exchange.Closed = Ok tt
@@ -87,21 +88,21 @@ outcome_of_exchange exchange.Ended = Ok tt
 outcome_of_exchange (exchange.Refused fault) = Err (program.Request fault)
 outcome_of_exchange exchange.WriteFailed = Err program.WriteFailed
 
--- how a connection does
+-- the outcome of a program after the end of a connection
 abbrev pub outcome_of_connection : {A : Type 0} → End → ProgramOutcome A
 outcome_of_connection end.Closed = Ok tt
 outcome_of_connection end.Ended = Ok tt
 outcome_of_connection (end.Refused fault) = Err (program.Request fault)
 outcome_of_connection end.WriteFailed = Err program.WriteFailed
 
--- a server answers one request
+-- a server replies to one request
 pub record AnswersOne {A : Type 0} (input : Input) (output : Output) (server : Server A)
     (outcome : ProgramOutcome A) : Type 0 where
   pub ended : ExchangeEnd
   pub exchange : ServesOne server plain_packs plain_pack_fails Plain input output ended
   pub comes_out : outcome ≡ outcome_of_exchange ended
 
--- it answers the requests of a connection, so many of them
+-- a server replies to all requests of a connection
 pub record AnswersAll {A : Type 0} (ends : Ends) (input : Input) (output : Output) (server : Server A)
     (outcome : ProgramOutcome A) : Type 0 where
   pub requests : ℕ
@@ -109,10 +110,10 @@ pub record AnswersAll {A : Type 0} (ends : Ends) (input : Input) (output : Outpu
   pub connection : Serves server plain_packs plain_pack_fails ends input output requests ended
   pub comes_out : outcome ≡ outcome_of_connection ended
 
--- what `ls --stdio-server` does
+-- the effect of `ls --stdio-server`
 abbrev pub ServesRequest : {A : Type 0} → Bytes → Input → Output → ProgramOutcome A → Type 0
 ServesRequest file input output = ServesFile file input output (AnswersOne input output)
 
--- what `upload` does
+-- the effect of `upload`
 abbrev pub ServesConnection : {A : Type 0} → Bytes → Ends → Input → Output → ProgramOutcome A → Type 0
 ServesConnection file ends input output = ServesFile file input output (AnswersAll ends input output)

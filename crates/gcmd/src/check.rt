@@ -16,15 +16,15 @@ use ggraph::{GraphFault, Order, Repository, has_connected_refs, load};
 use gpkt::{Down, Sink};
 use std::alloc::Allocator;
 
-/// The maximum length in bytes of a report: its words, and two numbers of 20.
+/// The maximum length in bytes of a report: its words, and two numbers of 20 digits.
 const MAX_REPORT: usize = 76;
 
-/// `gitv2 check FILE`: reports on the repository whose text is `file`, in any order of its nodes.
+/// `gitv2 check FILE`: reports on the repository whose text is `file`, with its nodes in any order.
 /// The report has the number of nodes and refs, whether the graph is closed (`closed`), and whether
-/// the repository is connected (`safe`). A fault is one line on `errors`.
+/// the repository is connected (`safe`). A fault is printed as one line on `errors`.
 ///
-/// Returns the exit status: 0 if the report is written and flushed, 1 if there was a fault. Nothing
-/// is written then, except a prefix of the text if the output failed.
+/// Returns exit status 0 if the report is written and flushed, and 1 after a fault. After a fault
+/// nothing is written to `output`, except a prefix of the report if the output failed.
 pub fn cmd_check<A: Allocator + Copy, W: Sink, E: Sink>(
     alloc: A,
     file: &[u8],
@@ -40,7 +40,7 @@ pub fn cmd_check<A: Allocator + Copy, W: Sink, E: Sink>(
     finish(check(alloc, file, output), errors)
 }
 
-// Writes the report.
+// Writes the report of a file.
 fn check<A: Allocator + Copy, W: Sink>(
     alloc: A,
     file: &[u8],
@@ -61,7 +61,7 @@ fn check<A: Allocator + Copy, W: Sink>(
     }
 }
 
-// The values of a report.
+// The values of a report: the numbers of nodes and refs, and the results of both checks.
 #[derive(Clone, Copy)]
 struct Report {
     nodes: usize,

@@ -11,7 +11,7 @@ use ggraph::IndexFault;
 use gname::Oid;
 use std::alloc::Allocator;
 
-/// Returns the packet at which a message was refused.
+/// Returns the position of the packet at which a message was refused.
 pub(crate) fn frame_in_client<A: Allocator + Copy>(fault: &ClientFault<A>) -> Option<u64>
     ensures { result ≡ frame_in_client fault.now }
 {
@@ -21,7 +21,7 @@ pub(crate) fn frame_in_client<A: Allocator + Copy>(fault: &ClientFault<A>) -> Op
     }
 }
 
-/// Returns the line of a pack that is wrong.
+/// Returns the number of the first bad line in a plain pack.
 pub(crate) fn line_in_client<A: Allocator + Copy>(fault: &ClientFault<A>) -> Option<usize>
     ensures { result ≡ line_in_client fault.now }
 {
@@ -31,8 +31,8 @@ pub(crate) fn line_in_client<A: Allocator + Copy>(fault: &ClientFault<A>) -> Opt
     }
 }
 
-/// Returns the id that is missing, that two objects have, that has another format, or that was
-/// acknowledged and not offered.
+/// Returns the id of the fault: a missing id, an id of two objects or of another format, or an id
+/// that was acknowledged but never offered.
 pub(crate) fn id_in_client<A: Allocator + Copy>(fault: &ClientFault<A>) -> Option<Oid>
     ensures { result ≡ id_in_client fault.now }
 {
@@ -56,7 +56,7 @@ fn id_in_repo<A: Allocator + Copy>(fault: &RepoFault<A>) -> Option<Oid>
     }
 }
 
-/// Returns the ref that is not connected, or the text of a peer.
+/// Returns the name of the ref that is not connected, or the error text of a peer.
 pub(crate) fn text_in_client<A: Allocator + Copy>(fault: &ClientFault<A>) -> Option<&[u8]>
     ensures text { option_copied result ≡ text_in_client fault.now }
     ensures short { IsShortText (option_copied result) }

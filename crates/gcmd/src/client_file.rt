@@ -1,4 +1,4 @@
-//! The client's repository, from its file, and the refspecs, from words.
+//! The client's repository, read from its file, and the refspecs, read from arguments.
 
 ghost use Rattle.std.specs.Prelude.{◌≡◌, ◌↔◌, ◌+◌, ◌++◌, ◌∷◌, [], IfErr, IsTrue, MatchResult, OnOk, Ok, Err, length, map, string_bytes};
 ghost use Rattle.grefs.specs.declared.refspec.fault.SpecFault.TheVariants.{Memory};
@@ -9,9 +9,9 @@ use gclient::{Repo, Spec, SpecFault};
 use ggraph::{Head, LoadFault, Order, Repository, load};
 use std::alloc::Allocator;
 
-/// Reads words as refspecs (git-fetch(1), "<refspec>"), a refspec each.
+/// Reads each word as a refspec (git-fetch(1), "<refspec>").
 ///
-/// Fails with `Spec` at the first word that is not a refspec, and if out of memory.
+/// Fails with `Spec` at the first word that is not a refspec, and also if out of memory.
 pub fn read_specs<A: Allocator + Copy>(
     alloc: A,
     words: &[String<A>],
@@ -40,8 +40,8 @@ fn keep<A: Allocator + Copy>(specs: &mut Vec<Spec<A>, A>, spec: Spec<A>) -> Resu
 
 /// Returns the client's repository whose text is `file`, with either object format.
 ///
-/// Fails with `Text` if the file is not the text of a repository, and at the line of HEAD if it has
-/// one. Otherwise fails with `Fetch` if a ref is not connected. Both may report out of memory.
+/// Fails with `Text` if the file is not the text of a repository, or has a HEAD. Otherwise fails
+/// with `Fetch` if a ref is not connected. Both faults may also report out of memory.
 pub fn open_client<A: Allocator + Copy>(alloc: A, file: &[u8]) -> Result<Repo<A>, ProgramFault<A>>
     ensures { OpensClient file.now result }
 {
@@ -63,8 +63,8 @@ fn is_none<A: Allocator + Copy>(head: &Head<A>) -> bool
     }
 }
 
-// Returns the line of HEAD, counted from 1. Before it are the first line, and a line for each
-// object and each ref.
+// Returns the line number of HEAD, counted from 1. The first line of the file, a line for each
+// object and a line for each ref precede HEAD.
 fn line_of_head<A: Allocator + Copy>(repository: &Repository<A>) -> usize
     ensures { result ≡ length repository.now.graph.entries + length repository.now.refs + 2 }
 {

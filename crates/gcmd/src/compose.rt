@@ -1,4 +1,4 @@
-//! Numbers in texts of bounded length. They allocate nothing.
+//! Numbers in texts of bounded length, composed without allocation.
 
 ghost use Rattle.std.specs.Prelude.{◌≡◌, ◌+◌, ◌≤◌, ◌++◌, length};
 ghost use Rattle.std.specs.Fmt.{decimal};

@@ -1,4 +1,4 @@
-//! The faults with which programs end.
+//! The faults that end a program.
 
 ghost use Rattle.std.specs.Prelude.{◌≡◌, Some};
 ghost use Rattle.gcmd.specs.Faults.{printed_of, program_fault_text};
@@ -17,34 +17,36 @@ use std::alloc::{AllocError, AllocFailed, Allocator, Global};
 use std::error::Error;
 use std::fmt;
 
-/// The reason a program ends with status 1. It is printed as one line.
+/// The reason a program ends with status 1. The reason is printed as one line.
 #[derive(Debug, Drop)]
 pub enum ProgramFault<A: Allocator + Copy = Global> {
-    /// 64: out of memory for a file, for a buffer of standard input or output, or to judge a
+    /// Fault 64: out of memory for a file, for a buffer of standard input or output, or to check a
     /// repository.
     Memory,
-    /// 95: the repository's file could not be read, or could not be written after a fetch.
+    /// Fault 95: the file of the repository could not be read, or could not be written after a
+    /// fetch.
     File,
-    /// 67, 68, 64: a file is not the text of a repository.
+    /// Faults 64, 67 and 68: a file is not the text of a repository.
     Text(LoadFault),
-    /// 71, 64: something is missing in the repository of a file.
+    /// Faults 64 and 71: the object of a ref or of HEAD is missing in the repository of a file.
     Build(BuildFault<A>),
-    /// 20 to 54, 64, 65, 73, 74: a request was refused.
+    /// Faults 20 to 54, 64, 65, 73 and 74: a request was refused.
     Request(ServeFault),
-    /// 20 to 24, 28: a packet to show was refused, or out of memory to read it.
+    /// Faults 20 to 24 and 28: a packet to show was refused, or out of memory to read packets.
     Line(PacketFault),
-    /// 87, 18: a word is not a refspec, or out of memory to keep the refspecs.
+    /// Faults 18 and 87: a word is not a refspec, or out of memory to keep the refspecs.
     Spec(SpecFault),
-    /// 20 to 25, 27 to 30, 41 to 54, 60 to 64, 66, 69, 75, 80, 82 and 84 to 86: a ref of a client's
-    /// repository is not connected (80), fetching into it failed, or out of memory.
+    /// Faults 20 to 25, 27 to 30, 41 to 54, 60 to 64, 66, 69, 75, 80, 82 and 84 to 86: fetching
+    /// into the client's repository failed, or out of memory. Fault 80 reports an unconnected ref.
     Fetch(FetchFault<A>),
-    /// 27: the output failed.
+    /// Fault 27: the output failed.
     WriteFailed,
-    /// 11, 13, 18: a word is not a prefix of names, or out of memory to keep it.
+    /// Faults 11, 13 and 18: a word is not a prefix of ref names, or out of memory to keep the
+    /// prefixes.
     Name(NameFault),
-    /// 94: a message between both ends of a pair is too long.
+    /// Fault 94: a message between the client and the server of a pair is too long.
     PairLimit,
-    /// 96: a socket could not be opened, or a connection could not be accepted.
+    /// Fault 96: a socket could not be opened, or a connection could not be accepted.
     Socket,
 }
 

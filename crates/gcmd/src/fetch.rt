@@ -24,7 +24,7 @@ use std::alloc::{Allocator, Global};
 /// The result of a fetch into a file.
 #[derive(Debug, Drop)]
 pub struct FetchRun<A: Allocator + Copy = Global> {
-    /// The exit status: 0 if the report is written and flushed, 1 if there was a fault.
+    /// The exit status: 0 if the report is written and flushed, 1 after a fault.
     pub status: u8,
     /// The new text of the file, or `None` if the file is unchanged.
     pub file: Option<Vec<u8, A>>,
@@ -32,15 +32,14 @@ pub struct FetchRun<A: Allocator + Copy = Global> {
 
 /// `gitv2 fetch --stdio [--limit N] [--response-end] FILE SPEC...`: fetches by refspecs from the
 /// server at `input` and `output` into the client's repository whose text is `file`
-/// (gitprotocol-v2(5)). A pack has at most as many bytes as `limit` says, and each reply ends as
-/// `ends` says. The outcome of each asked ref is a line of the report: `moved NAME ID`, `same
-/// NAME`, or `notforward NAME` if the move is not a fast-forward. The last line is `unborn NAME` if
-/// HEAD was fetched and the server's HEAD is unborn and points at NAME. A fault is one line on
-/// `errors`.
+/// (gitprotocol-v2(5)). `limit` is the maximum size of a pack, and `ends` states how each reply
+/// ends. The report has a line for each ref: `moved NAME ID`, `same NAME`, or `notforward NAME` if
+/// the move is not a fast-forward. The last line is `unborn NAME` if HEAD was fetched and the
+/// server's HEAD is unborn and points at NAME. A fault is printed as one line on `errors`.
 ///
-/// Returns the exit status, and the new text of the file if the refs were settled. Then the caller
-/// writes the file, and shows the report after it. If the conversation failed the file is
-/// unchanged.
+/// Returns the exit status. Also returns the new text of the file if the conversation succeeded and
+/// memory for the text did not run out. The caller writes this text to the file, and shows the
+/// report only afterwards. If the conversation failed, the file is unchanged.
 pub fn cmd_fetch<A: Allocator + Copy, S: Source, W: Sink, R: Sink, E: Sink>(
     alloc: A,
     file: &[u8],
@@ -82,11 +81,11 @@ struct FileFetch<'a, A: Allocator + Copy> {
     specs: &'a [Spec<A>],
     // The maximum size of a pack in bytes.
     limit: PackLimit,
-    // How each reply ends.
+    // Whether each reply ends with a response-end packet.
     ends: Ends,
 }
 
-// Fetches, and returns the outcome, and the new text of the file if there is one.
+// Fetches into a file. Returns the outcome, and the new text of the file if there is one.
 fn fetch_into<A: Allocator + Copy, S: Source, W: Sink, R: Sink>(
     alloc: A,
     fetch: &FileFetch<'_, A>,
@@ -109,7 +108,7 @@ fn fetch_into<A: Allocator + Copy, S: Source, W: Sink, R: Sink>(
     }
 }
 
-// Does the same for the client's repository of the file.
+// Fetches into the client's repository of the file. Returns the outcome, and the new text if any.
 fn fetch_for<A: Allocator + Copy, S: Source, W: Sink, R: Sink>(
     repo: &mut Repo<A>,
     fetch: &FileFetch<'_, A>,
@@ -142,9 +141,9 @@ fn fetch_for<A: Allocator + Copy, S: Source, W: Sink, R: Sink>(
     }
 }
 
-/// Ends a fetch that settled the refs: makes the new text of the client's file, and reports.
-/// Returns the outcome and the text. If it is out of memory for the text, there is none, and
-/// nothing is reported.
+/// Ends a successful fetch: composes the new text of the client's file, and writes the report.
+/// Returns the outcome and the text. If memory for the text runs out, no text is returned and no
+/// report is written.
 pub fn conclude<A: Allocator + Copy, R: Sink>(
     alloc: A,
     repo: &Repo<A>,
@@ -182,7 +181,7 @@ pub(crate) fn text_of<A: Allocator + Copy>(
 
 /// Writes the report of a fetch, and flushes it.
 ///
-/// Fails with `Memory`, and nothing is written, or with `WriteFailed`.
+/// Fails with `Memory` before anything is written, or with `WriteFailed` if the sink fails.
 pub fn send_report<A: Allocator + Copy, R: Sink>(
     alloc: A,
     fetched: &Fetched<A>,
@@ -199,7 +198,7 @@ pub fn send_report<A: Allocator + Copy, R: Sink>(
     }
 }
 
-/// Writes a text to a sink of reports, and flushes it.
+/// Writes a text to the sink of the report, and flushes it.
 ///
 /// Fails only with `WriteFailed`, after a prefix of the text was written.
 pub fn send_text<A: Allocator + Copy, R: Sink>(

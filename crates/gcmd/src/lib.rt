@@ -1,68 +1,74 @@
-//! The programs of gitv2 as functions over bytes and devices. They serve a repository's file on a
-//! connection or for one request, fetch into it, or check it, and show packets.
+//! The programs of gitv2 as functions over bytes and devices. The programs serve the repository of
+//! a file, fetch into such a repository, check it, or show packets.
 //!
-//! A promise below about the bytes of a device holds if the device knows them, as devices in memory
-//! do.
+//! A device is a source or a sink. A promise about the bytes of a device holds only if the device
+//! records its bytes, as devices in memory do.
 //!
 //! # Proved
 //!
-//! - Every program ends with status 0 and prints nothing, or with 1. With 1 it prints and flushes
-//!   exactly the line of its fault, or a prefix of it if the errors' sink fails
-//!   (`specs/Programs.antt`). [`cmd_failed`] does so for a given fault.
-//! - If a sink fails at a report, at shown packets or at the line of a fault, earlier flushes still
-//!   count. If it failed at a write, nothing more is flushed (`specs/Outputs.antt`).
-//! - [`cmd_upload`] serves one connection as `gserve` describes, from the repository of its file,
-//!   with plain packs, and [`cmd_ls`] one request (`specs/Serving.antt`). It succeeds if the client
-//!   ended the connection, the request got a reply or was a lone flush packet, the input ended
-//!   before a request, or the connection reached the limit of requests. Otherwise the fault is that
-//!   of the refusal, or of the output. The file must be the text of a repository in which each
-//!   parent precedes its children, and the objects of each ref and of HEAD by its id are present.
-//!   For any other file nothing is read or written; the fault is that of the text, of the ref or of
-//!   HEAD.
-//! - [`cmd_fetch`] opens the client's repository of its file, and holds a conversation as `gclient`
-//!   describes, with plain packs (`specs/Fetching.antt`). If the file is not the text of a
-//!   repository without HEAD, or a ref is not connected, nothing is read or written. If the refs
-//!   were settled, the new file is the one text of the repository after the fetch. It only gained
-//!   objects, each ref is connected, and each ref that may move did. The report
-//!   (`specs/Reporting.antt`) is written and flushed, or a prefix of it if its sink fails. At every
-//!   other fault there is no new file and no report. If it is out of memory for the report, there
-//!   is a new file without it. [`read_specs`] reads words as refspecs, or fails at the first word
-//!   that is not one. [`read_prefixes`] reads words as prefixes of names, unchanged, or fails
-//!   likewise (`specs/Prefixes.antt`).
-//! - [`cmd_fetch_stored`] does the same to a stored file, which it locks and reads first
-//!   (`specs/Stored.antt`). In every state of the storage, the file has the old text or the whole
-//!   new one. It writes the new one only if the refs were settled, and the report only after it. At
-//!   the end this run holds no lockfile. [`open_stored`] and [`conclude_stored`] are its two ends,
-//!   for callers that hold another conversation.
-//! - [`cmd_check`] writes and flushes its one line, or a prefix of it if the sink fails. The line
-//!   has the counts, whether the graph is closed, and whether the repository is connected. If the
-//!   file is not a repository, nothing is written.
-//! - [`cmd_lines`] shows exactly the packets of the bytes read, to the end of the input or to the
-//!   first that is refused. It flushes all of them, or writes a prefix if the sink fails. If it
-//!   ends with 0, the source has not failed.
-//! - The number, the name and the text of each fault, and its printed line (`specs/Faults.antt`).
+//! - Every program exits with status 0 or 1. With status 0 the program writes nothing to the
+//!   errors' sink. With status 1 the program prints and flushes exactly the line of its fault
+//!   (`specs/Programs.antt`). If the sink fails, a prefix of the line is printed.
+//! - [`cmd_failed`] prints the line of a given fault.
+//! - If a write to a sink fails, nothing more is flushed. If a flush fails, the bytes of earlier
+//!   flushes remain flushed (`specs/Outputs.antt`).
+//! - [`cmd_upload`] serves one connection, and [`cmd_ls`] one request, from the repository of a
+//!   file and with plain packs (`specs/Serving.antt`). `gserve` describes both exchanges. A
+//!   connection succeeds if the client ends it, the input ends before a request, or the limit of
+//!   requests is reached. A request succeeds if it gets a reply or is a lone flush packet, and also
+//!   if the input is empty. In every other case the fault is the refusal of a request or a failure
+//!   of the output. The served file must be the text of a repository. Each parent must precede its
+//!   children, and the objects of all refs and of a detached HEAD must be present. With any other
+//!   file nothing is read or written, and the fault names the line, the ref or HEAD.
+//! - [`cmd_fetch`] opens the client's repository of a file, and fetches into it with plain packs
+//!   (`specs/Fetching.antt`). `gclient` describes the conversation. The file must be the text of a
+//!   repository without HEAD whose refs are all connected. With any other file nothing is read or
+//!   written. If the conversation succeeds, the new file is the text of the repository after the
+//!   fetch. The fetch only adds objects, every ref is connected, and each ref that may move has
+//!   moved. The report (`specs/Reporting.antt`) is written and flushed, or a prefix of it if its
+//!   sink fails. If memory for the report runs out, there is a new file without a report. After any
+//!   other fault there is no new file and no report.
+//! - [`read_specs`] reads arguments as refspecs, and fails at the first argument that is not a
+//!   refspec.
+//! - [`read_prefixes`] reads arguments as prefixes of ref names, unchanged, and fails at the first
+//!   argument that is not a prefix (`specs/Prefixes.antt`).
+//! - [`cmd_fetch_stored`] fetches in the same manner into a stored file, which it first locks and
+//!   reads (`specs/Stored.antt`). In every state of the storage, the file has the old text or the
+//!   whole new text. The new text is written only after the conversation succeeds, and the report
+//!   only after the new text. At the end the program holds no lockfile.
+//! - [`open_stored`] and [`conclude_stored`] are the first and the last step of
+//!   [`cmd_fetch_stored`], for callers that hold another conversation.
+//! - [`cmd_check`] writes and flushes one line, or a prefix of it if the sink fails. The line shows
+//!   the number of nodes and refs, whether the graph is closed, and whether the repository is
+//!   connected. If the file is not the text of a repository, nothing is written.
+//! - [`cmd_lines`] shows exactly the packets of its input, up to the end or to the first refused
+//!   packet. The program flushes all lines, or writes a prefix of the lines if the sink fails. If
+//!   the exit status is 0, the source has not failed.
+//! - Each fault has the number, the name, the text and the printed line that `specs/Faults.antt`
+//!   and `specs/Printing.antt` state.
 //!
 //! # Only tested
 //!
-//! The cases of `conformance` test the exact bytes of whole runs, that available memory is used,
-//! and that a device is not called again after it failed. They run with a byte a call, and with a
-//! failure at each call in turn.
+//! The cases of `conformance` test the exact bytes of whole runs. The cases also test that
+//! available memory is used, and that a device is not called again after a failure. The cases run
+//! with one byte per call, and with a failure at each call in turn.
 //!
 //! # What the contracts do not rule out
 //!
-//! A call that takes memory can report that there is none, wherever the crates below may. If the
-//! bytes of an output are not known, no clause says what is written to it; but one body serves
-//! every output. No clause says how often a device is called, nor how long anything takes.
-//! Formatting a fault may return an error (`fmt::Error`) although the text would be right.
+//! A call that allocates may report out of memory whenever the crates that it uses may. If a sink
+//! does not record its bytes, the contracts do not state which bytes the sink receives. The
+//! contracts do not limit how often a device is called, or how long a call takes. Formatting a
+//! fault may return an error (`fmt::Error`) although the text would be right. The function
 //! [`cmd_fetch_stored`] may report that a file can't be locked, read or replaced although it could
 //! be.
 //!
 //! # Stands on
 //!
-//! `gserve` for connections and `ganswer` for the server, `gclient` for the client, `gfetchreply`
-//! for the limit of a pack, `glockfile` for stored files. `ggraph` for repositories' texts and
-//! plain packs, `ggrammar` for how replies end, `gpkt` for packets and devices, `gname` for ids.
-//! `arrayvec` for texts of bounded length, `hex` for digits, `itoa` for numbers.
+//! The crate uses `gserve` for connections, `ganswer` for the server, `gclient` for the client,
+//! `gfetchreply` for the limit of a pack, and `glockfile` for stored files. The crate uses `ggraph`
+//! for repository texts and plain packs, `ggrammar` for the ends of replies, `gpkt` for packets and
+//! devices, and `gname` for ids. The crate uses `arrayvec` for texts of bounded length, `hex` for
+//! hexadecimal digits, and `itoa` for decimal numbers.
 #![tactic(auto)]
 
 mod check;

@@ -19,20 +19,21 @@ use ggrammar::compose::add;
 use gpkt::{Down, Packet, PacketBuffer, PacketFault, PacketReader, Sink, Source, laws};
 use std::alloc::Allocator;
 
-/// The maximum length in bytes of a shown data packet before its digits: the word, and a number of
-/// 20.
+/// The maximum length in bytes of the start of a data packet's line: `data `, and a number of 20
+/// digits.
 const MAX_DATA_HEAD: usize = 25;
 
-/// The maximum number of bytes of a payload shown in one call.
+/// The maximum number of payload bytes that one call shows.
 const CHUNK: usize = 512;
 
 /// `gitv2 lines`: shows each packet of `input` on a line of `output`, until the input ends
-/// (gitprotocol-common(5), "pkt-line Format"). A line is `data` with the length and the digits of
-/// the payload, `flush`, `delim` or `response-end`. It reads at most 4,294,967,295 packets.
+/// (gitprotocol-common(5), "pkt-line Format"). A line is `data` with the length and the hexadecimal
+/// digits of the payload, `flush`, `delim` or `response-end`. The program reads at most
+/// 4,294,967,295 packets.
 ///
-/// Returns the exit status: 0 if all packets are shown and flushed, 1 if there was a fault, which
-/// is one line on `errors`. The packets before a refused one are shown and flushed. If it is out of
-/// memory for the reader's buffer, nothing is read or written.
+/// Returns exit status 0 if all packets are shown and flushed. Otherwise prints a fault as one line
+/// on `errors`, and returns 1. The packets before a refused packet are shown and flushed. If memory
+/// for the reader's buffer runs out, nothing is read or written.
 pub fn cmd_lines<A: Allocator + Copy, S: Source, W: Sink, E: Sink>(
     alloc: A,
     input: &mut S,
@@ -49,7 +50,7 @@ pub fn cmd_lines<A: Allocator + Copy, S: Source, W: Sink, E: Sink>(
     finish(show_lines(alloc, input, output), errors)
 }
 
-// Shows the packets.
+// Shows all packets of the input on the output.
 fn show_lines<A: Allocator + Copy, S: Source, W: Sink>(
     alloc: A,
     input: &mut S,
@@ -71,7 +72,7 @@ fn show_lines<A: Allocator + Copy, S: Source, W: Sink>(
     }
 }
 
-// Shows each packet, and flushes the output. Returns how the reading ended.
+// Shows each packet, and flushes the output. Returns the outcome of the reading.
 fn pass_each<A: Allocator + Copy, S: Source, W: Sink>(
     reader: &mut PacketReader<S, A>,
     output: &mut W,
@@ -87,7 +88,7 @@ fn pass_each<A: Allocator + Copy, S: Source, W: Sink>(
     Ok(ended)
 }
 
-// Shows each packet that is read.
+// Shows each packet of the reader, without a flush.
 fn show_each<A: Allocator + Copy, S: Source, W: Sink>(
     reader: &mut PacketReader<S, A>,
     output: &mut W,
@@ -140,7 +141,7 @@ fn show_data<W: Sink>(payload: &[u8], output: &mut W) -> Result<(), Down>
     put(b"\n", output)
 }
 
-// Writes the part before the digits of a data packet.
+// Composes the part of a data packet's line before the digits.
 fn compose_head(len: usize, head: &mut ArrayVec<u8, MAX_DATA_HEAD>)
     requires { head.old.items ≡ [] }
     ensures { head.new.items ≡ codes "data " ++ decimal len }
@@ -149,7 +150,7 @@ fn compose_head(len: usize, head: &mut ArrayVec<u8, MAX_DATA_HEAD>)
     add_number(len as u64, head);
 }
 
-// Writes a space and the digits, if there are some.
+// Writes a space and the digits of the payload, unless the payload is empty.
 fn show_digits<W: Sink>(payload: &[u8], output: &mut W) -> Result<(), Down>
     ensures shown { IsPut (output_of W.contents W.passed_on W.is_down output.old output.new) result
         (digits_part payload.now) }
@@ -162,7 +163,7 @@ fn show_digits<W: Sink>(payload: &[u8], output: &mut W) -> Result<(), Down>
     put_digits(payload, output)
 }
 
-// Writes the digits, chunk by chunk.
+// Writes the hexadecimal digits of the bytes, chunk by chunk.
 fn put_digits<W: Sink>(bytes: &[u8], output: &mut W) -> Result<(), Down>
     ensures put { IsPut (output_of W.contents W.passed_on W.is_down output.old output.new) result
         (encode_lower bytes.now) }

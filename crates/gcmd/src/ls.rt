@@ -15,12 +15,12 @@ use gserve::{ExchangeEnd, OnePack, serve_one};
 use std::alloc::Allocator;
 
 /// `gitv2 ls --stdio-server FILE`: reads one request from `input` and writes its reply to `output`,
-/// from the repository whose text is `file` (gitprotocol-v2(5), "Command Request"). There is no
-/// advertisement before the reply. It replies to any request, also to one for objects. A fault is
+/// from the repository whose text is `file` (gitprotocol-v2(5), "Command Request"). No
+/// advertisement precedes the reply. The request may be `ls-refs` or `fetch`. A fault is printed as
 /// one line on `errors`.
 ///
-/// Returns the exit status: 0 if the request got a reply or was a lone flush packet, or if there
-/// was no input; 1 if there was a fault. All output is flushed before the call returns.
+/// Returns exit status 0 if the request got a reply or was a lone flush packet, or if the input was
+/// empty. Returns 1 after a fault. The program flushes all output before the call returns.
 pub fn cmd_ls<A: Allocator + Copy, S: Source, W: Sink, E: Sink>(
     alloc: A,
     file: &[u8],
@@ -56,7 +56,7 @@ fn answer_one<A: Allocator + Copy, S: Source, W: Sink>(
     outcome_of(serve_one(&server, &mut packer, Ends::Plain, input, output))
 }
 
-// Returns the outcome of an exchange.
+// Returns the outcome of an exchange as the outcome of the program.
 fn outcome_of<A: Allocator + Copy>(ended: ExchangeEnd) -> Result<(), ProgramFault<A>>
     ensures { result ≡ outcome_of_exchange ended }
 {

@@ -1,4 +1,4 @@
-//! Prefixes of names, from words.
+//! Prefixes of ref names, read from arguments.
 
 ghost use Rattle.std.specs.Prelude.{◌≡◌, ◌++◌, ◌∷◌, [], Err, IfErr, MatchResult, Ok, OnOk, map, string_bytes};
 ghost use Rattle.gname.specs.declared.faults.NameFault.TheVariants.{Memory};
@@ -8,9 +8,9 @@ use crate::fault::ProgramFault;
 use gname::{NameFault, Prefix};
 use std::alloc::Allocator;
 
-/// Reads words as prefixes of names of refs (gitprotocol-v2(5), "ls-refs"), a prefix each.
+/// Reads each word as a prefix of ref names (gitprotocol-v2(5), "ls-refs").
 ///
-/// Fails with `Name` at the first word that is not a prefix, and if out of memory.
+/// Fails with `Name` at the first word that is not a prefix, and also if out of memory.
 pub fn read_prefixes<A: Allocator + Copy>(
     alloc: A,
     words: &[String<A>],

@@ -1,6 +1,6 @@
-//! The printed lines of faults. A line is `gitv2: fault NUMBER NAME`, and then, if the fault has
-//! them and in this order, ` frame K`, ` line K`, ` at K`, and a space and the id, the name or the
-//! text. Each byte outside 32 to 126 is printed as `?`.
+//! The printed lines of faults. A line begins with `gitv2: fault NUMBER NAME`. Then follow the
+//! parts that the fault has: ` frame K`, ` line K`, ` at K`, and a space with the id, the name or
+//! the text. Each byte outside 32 to 126 is printed as `?`.
 
 ghost use Rattle.std.specs.Prelude.{◌≡◌, ◌+◌, ◌≤◌, ◌++◌, length, map, None, []};
 ghost use Rattle.std.specs.Option.{option_copied};
@@ -24,8 +24,8 @@ use gname::{HEAD, NameFault, OUT_OF_MEMORY, Oid};
 use gpkt::{Down, Sink, WriteFault};
 use std::alloc::Allocator;
 
-/// The maximum length in bytes of a fault's line: its words, a name of 32, four numbers of 20, and
-/// a text of 1,000.
+/// The maximum length in bytes of a fault's line: its fixed words, a name of 32 bytes, four numbers
+/// of 20 digits, and a text of 1,000 bytes.
 const MAX_FAULT_LINE: usize = 1_145;
 
 /// The printed parts of a fault.
@@ -35,10 +35,10 @@ pub(crate) struct FaultLine<'a> {
     name: &'static str,
     frame: Option<u64>,
     line: Option<usize>,
-    // The index of a byte in a name.
+    // The index of a byte in a refused name.
     at: Option<usize>,
     id: Option<Oid>,
-    // A name, or a text.
+    // A ref name, or the error text of a peer.
     text: Option<&'a [u8]>,
 }
 
@@ -67,7 +67,7 @@ impl<'a> FaultLine<'a> {
         }
     }
 
-    // Returns a fault of which only the number and the name are printed.
+    // Returns the line of a fault with only a number and a name.
     fn plain(number: u32, name: &'static str) -> FaultLine<'a>
         requires { length name.now ≤ max_fault_name }
         ensures number { result.number ≡ number }
@@ -86,7 +86,7 @@ impl<'a> FaultLine<'a> {
         }
     }
 
-    // Returns the line for a text that is not a repository, with the line that is wrong.
+    // Returns the line for a text that is not a repository, with the number of its bad line.
     fn of_text(fault: &LoadFault) -> FaultLine<'a>
         ensures row { row_view result ≡ printed_of_text fault.now }
         ensures short { IsShort result }
@@ -97,7 +97,7 @@ impl<'a> FaultLine<'a> {
         }
     }
 
-    // Returns the line for a refused name, with the byte.
+    // Returns the line for a refused name, with the index of the refused byte.
     fn of_name(fault: &NameFault) -> FaultLine<'a>
         ensures row { row_view result ≡ printed_of_name fault.now }
         ensures short { IsShort result }
@@ -108,7 +108,7 @@ impl<'a> FaultLine<'a> {
         }
     }
 
-    // Returns the line for a repository of which something is missing, with the ref or the id.
+    // Returns the line for a repository that can't be served, with the missing ref or id.
     fn of_build<A: Allocator + Copy>(fault: &'a BuildFault<A>) -> FaultLine<'a>
         ensures row { row_view result ≡ printed_of_build fault.now }
         ensures short { IsShort result }
@@ -120,8 +120,8 @@ impl<'a> FaultLine<'a> {
         }
     }
 
-    // Returns the line for a refused request, with the packet, the text of a peer, or the missing
-    // want.
+    // Returns the line for a refused request, with the position of the packet, the error text of a
+    // peer, or the missing want.
     fn of_request(fault: &'a ServeFault) -> FaultLine<'a>
         ensures row { row_view result ≡ printed_of_request fault.now }
         ensures short { IsShort result }
@@ -134,7 +134,7 @@ impl<'a> FaultLine<'a> {
         }
     }
 
-    // Returns the line for a conversation that failed.
+    // Returns the line for a failed fetch.
     fn of_fetch<A: Allocator + Copy>(fault: &'a FetchFault<A>) -> FaultLine<'a>
         ensures row { row_view result ≡ printed_of_fetch fault.now }
         ensures short { IsShort result }
@@ -147,8 +147,8 @@ impl<'a> FaultLine<'a> {
         }
     }
 
-    // Returns the line for a refused session, with the packet, the line of a pack, the id, and the
-    // ref or the text of a peer.
+    // Returns the line for a fault of the client. The line has the position of the packet, the line
+    // of the pack, the id, and the ref name or the error text of the peer.
     fn of_client<A: Allocator + Copy>(fault: &'a ClientFault<A>) -> FaultLine<'a>
         ensures row { row_view result ≡ printed_of_client fault.now }
         ensures short { IsShort result }
@@ -174,8 +174,8 @@ impl<'a> FaultLine<'a> {
         self.name
     }
 
-    /// Prints the line, and flushes it. At an error a prefix of the line was printed, and the sink
-    /// is down.
+    /// Prints the line, and flushes it. Fails if the sink fails, after a prefix of the line was
+    /// printed.
     pub(crate) fn print<E: Sink>(&self, errors: &mut E) -> Result<(), Down>
         requires { IsShort self.now }
         ensures sent { IsSent (output_of E.contents E.passed_on E.is_down errors.old errors.new)
@@ -187,7 +187,7 @@ impl<'a> FaultLine<'a> {
         send(text.as_slice(), errors)
     }
 
-    // Composes the line.
+    // Composes the text of the line.
     fn compose(&self, text: &mut ArrayVec<u8, MAX_FAULT_LINE>)
         requires short { IsShort self.now }
         requires empty { text.old.items ≡ [] }
@@ -211,7 +211,7 @@ fn as_number(place: Option<usize>) -> Option<u64>
     place.map(|place| place as u64)
 }
 
-// Appends a number after its word, if there is one.
+// Appends a word and a number, if there is a number.
 fn add_place(word: &[u8], place: Option<u64>, text: &mut ArrayVec<u8, MAX_FAULT_LINE>)
     requires { length text.old.items + length word.now + max_decimal ≤ max_fault_line }
     ensures text { text.new.items ≡ text.old.items ++ number_part word.now place }
@@ -223,7 +223,7 @@ fn add_place(word: &[u8], place: Option<u64>, text: &mut ArrayVec<u8, MAX_FAULT_
     }
 }
 
-// Appends the id, the name or the text of the fault.
+// Appends the id of the fault, or its name or text.
 fn add_subject(id: Option<Oid>, printable: Option<&[u8]>, text: &mut ArrayVec<u8, MAX_FAULT_LINE>)
     requires room { length text.old.items + max_subject ≤ max_fault_line }
     requires short { IsShortText (option_copied printable) }
@@ -243,7 +243,7 @@ fn add_subject(id: Option<Oid>, printable: Option<&[u8]>, text: &mut ArrayVec<u8
     }
 }
 
-// Appends a text in its printable form.
+// Appends a text with `?` for each byte that can't be printed.
 fn add_shown(piece: &[u8], text: &mut ArrayVec<u8, MAX_FAULT_LINE>)
     requires { length text.old.items + length piece.now ≤ max_fault_line }
     ensures text { text.new.items ≡ text.old.items ++ map printable piece.now }
@@ -254,7 +254,7 @@ fn add_shown(piece: &[u8], text: &mut ArrayVec<u8, MAX_FAULT_LINE>)
     }
 }
 
-// Returns the byte, or `?` if it can't be printed.
+// Returns the byte, or `?` if the byte is not printable ASCII.
 fn printable(byte: u8) -> u8
     ensures { result ≡ printable byte }
 {
@@ -287,7 +287,7 @@ fn line_in_text(fault: &LoadFault) -> Option<usize>
     }
 }
 
-/// Returns the id that two objects have, or that has another format.
+/// Returns the id of two objects, or the id of another format.
 pub(crate) fn id_in_graph(fault: &GraphFault) -> Option<Oid>
     ensures { result ≡ id_in_graph fault.now }
 {
@@ -346,7 +346,7 @@ fn said_in_request(fault: &ServeFault) -> Option<&[u8]>
     }
 }
 
-/// Returns the text of a peer.
+/// Returns the error text of a peer.
 pub(crate) fn said_in(why: &Why) -> Option<&[u8]>
     ensures text { option_copied result ≡ said_in why.now }
     ensures short { IsShortText (option_copied result) }

@@ -11,8 +11,8 @@ use crate::print::FaultLine;
 use gpkt::{Down, Sink};
 use std::alloc::Allocator;
 
-/// Prints the fault as one line on `errors`, flushes it, and returns the exit status, which is 1.
-/// If the line can't be printed, it can't be reported either.
+/// Prints the fault as one line on `errors`, flushes it, and returns the exit status 1. A failure
+/// of `errors` itself is not reported.
 pub fn cmd_failed<A: Allocator + Copy, E: Sink>(fault: ProgramFault<A>, errors: &mut E) -> u8
     ensures exits { ExitsWith (Err fault)
         (output_of E.contents E.passed_on E.is_down errors.old errors.new) result }
@@ -22,8 +22,8 @@ pub fn cmd_failed<A: Allocator + Copy, E: Sink>(fault: ProgramFault<A>, errors: 
     1
 }
 
-/// Prints the fault as one line on `errors`, and flushes it. At an error a prefix of the line was
-/// printed, and the sink is down.
+/// Prints the fault as one line on `errors`, and flushes it. Fails if the sink fails, after a
+/// prefix of the line was printed.
 pub fn print_fault<A: Allocator + Copy, E: Sink>(
     fault: &ProgramFault<A>,
     errors: &mut E,
@@ -35,8 +35,7 @@ pub fn print_fault<A: Allocator + Copy, E: Sink>(
     FaultLine::of(fault).print(errors)
 }
 
-/// Ends a program with the outcome of its work: prints its fault, if there was one. Returns the
-/// exit status.
+/// Ends a program: prints the fault of `outcome`, if any, and returns the exit status.
 pub fn finish<A: Allocator + Copy, E: Sink>(
     outcome: Result<(), ProgramFault<A>>,
     errors: &mut E,

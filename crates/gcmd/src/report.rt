@@ -10,8 +10,8 @@ use gclient::{Asks, Fetched, RefUpdate};
 use gname::{Oid, RefName};
 use std::alloc::{AllocError, Allocator};
 
-/// Returns the lines of the report: the outcome of each ask, in their order, and the target of an
-/// unborn HEAD of the server. Fails only if out of memory.
+/// Returns the lines of the report: a line for each requested ref update, in order, and a line for
+/// an unborn HEAD of the server. Fails only if out of memory.
 pub(crate) fn report_of<A: Allocator + Copy>(
     alloc: A,
     fetched: &Fetched<A>,
@@ -29,7 +29,7 @@ pub(crate) fn report_of<A: Allocator + Copy>(
     Ok(text)
 }
 
-// Appends the outcome of each ask.
+// Appends a line for each requested ref update.
 fn put_updates<A: Allocator + Copy>(
     text: &mut Vec<u8, A>,
     asks: &Asks<A>,
@@ -51,7 +51,7 @@ fn update_at(updates: &[RefUpdate], place: usize) -> RefUpdate
     updates[place]
 }
 
-// Appends the outcome of the ask at an index.
+// Appends a line for the ref update at an index.
 fn put_ask<A: Allocator + Copy>(
     text: &mut Vec<u8, A>,
     asks: &Asks<A>,
@@ -68,7 +68,7 @@ fn put_ask<A: Allocator + Copy>(
     }
 }
 
-// Appends the outcome of an ask to set a ref to an id.
+// Appends a line for the update of one ref to an id.
 fn put_update<A: Allocator + Copy>(
     text: &mut Vec<u8, A>,
     name: &RefName<A>,
@@ -97,7 +97,7 @@ fn put_moved<A: Allocator + Copy>(
     text.extend_from_slice(b"\n")
 }
 
-// Appends the target of an unborn HEAD of the server.
+// Appends a line for an unborn HEAD of the server, if there is one.
 fn put_unborn<A: Allocator + Copy>(
     text: &mut Vec<u8, A>,
     unborn: &Option<RefName<A>>,
@@ -110,7 +110,7 @@ fn put_unborn<A: Allocator + Copy>(
     }
 }
 
-// Appends a line of a word and the name of a ref.
+// Appends a line that consists of a word and a ref name.
 fn put_line<A: Allocator + Copy>(
     text: &mut Vec<u8, A>,
     word: &[u8],
@@ -123,7 +123,7 @@ fn put_line<A: Allocator + Copy>(
     text.extend_from_slice(b"\n")
 }
 
-// Appends a word, and the name of a ref.
+// Appends a word and a ref name.
 fn put_named<A: Allocator + Copy>(
     text: &mut Vec<u8, A>,
     word: &[u8],

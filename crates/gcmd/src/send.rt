@@ -1,4 +1,4 @@
-//! Writing bytes to a sink, and flushing them.
+//! Functions that write bytes to a sink and flush the sink.
 
 ghost use Rattle.std.specs.Prelude.{◌≡◌};
 ghost use Rattle.gpkt.specs.Sending.{output_of};
@@ -7,8 +7,8 @@ ghost use Rattle.gcmd.specs.Outputs.{IsSent};
 
 use gpkt::{Down, Sink, write_all};
 
-/// Writes bytes and flushes them. At an error a prefix of them was written, and the sink is down.
-/// Nothing more was flushed then, unless the flush itself failed.
+/// Writes the bytes and flushes them. Fails if the sink fails, after a prefix of the bytes was
+/// written. A failed write leaves the flushed bytes unchanged.
 pub(crate) fn send<W: Sink>(bytes: &[u8], sink: &mut W) -> Result<(), Down>
     ensures sent { IsSent (output_of W.contents W.passed_on W.is_down sink.old sink.new) result
         bytes.now }
@@ -20,8 +20,8 @@ pub(crate) fn send<W: Sink>(bytes: &[u8], sink: &mut W) -> Result<(), Down>
     }
 }
 
-/// Writes bytes without flushing them. At an error a prefix of them was written, and the sink is
-/// down.
+/// Writes the bytes without a flush. Fails if the sink fails, after a prefix of the bytes was
+/// written.
 pub(crate) fn put<W: Sink>(bytes: &[u8], sink: &mut W) -> Result<(), Down>
     ensures put { IsPut (output_of W.contents W.passed_on W.is_down sink.old sink.new) result
         bytes.now }

@@ -1,4 +1,4 @@
-//! `gitv2 fetch` into a stored file, which is replaced whole or not at all.
+//! `gitv2 fetch` into a stored file. The file is replaced as a whole or not at all.
 
 ghost use Rattle.std.specs.Prelude.{◌≡◌, Err, Ok, MatchResult, length};
 ghost use Rattle.gpkt.specs.Packets.{Bytes};
@@ -28,27 +28,27 @@ pub struct FetchOptions<'a, A: Allocator + Copy = Global> {
     pub specs: &'a [Spec<A>],
     /// The maximum size of a pack in bytes.
     pub limit: PackLimit,
-    /// How each reply ends.
+    /// Whether each reply ends with a response-end packet.
     pub ends: Ends,
 }
 
-/// A locked file of a client: its text, and the repository of the text.
+/// A locked file of a client: its text, and the repository that the text describes.
 #[derive(Drop)]
 pub struct OpenedFile<A: Allocator + Copy = Global> {
-    /// The text that was read.
+    /// The text of the file when it was locked.
     pub text: Vec<u8, A>,
-    /// The repository.
+    /// The client's repository of that text.
     pub repo: Repo<A>,
 }
 
 /// `gitv2 fetch --stdio [--limit N] [--response-end] FILE SPEC...`: locks and reads the file, and
-/// fetches into its repository from the server at `input` and `output`. Replaces the file whole if
-/// the refs were settled. Then writes the report to `errors`, since `output` leads to the server. A
-/// fault is one line there. Returns the exit status.
+/// fetches into its repository from the server at `input` and `output`. Replaces the whole file if
+/// the conversation succeeded, and then writes the report to `errors`, since `output` leads to the
+/// server. A fault is printed there as one line. Returns the exit status.
 ///
 /// The fault is `File` or `Memory` if the file can't be locked, read or replaced. Nothing is read
-/// from the input or written to the output before the file is locked and read. At every fault the
-/// file has the old text or the whole new one. This run holds no lockfile at the end.
+/// from the input or written to the output before the file is locked and read. After every fault
+/// the file has the old text or the whole new text. At the end this run holds no lockfile.
 pub fn cmd_fetch_stored<A: Allocator + Copy, T: Storage, S: Source, W: Sink, E: Sink>(
     alloc: A,
     file: &mut T,
@@ -71,7 +71,7 @@ pub fn cmd_fetch_stored<A: Allocator + Copy, T: Storage, S: Source, W: Sink, E: 
     exit_after(outcome, errors)
 }
 
-// Ends a program that writes its report to the errors' sink.
+// Ends a program that writes its report to the errors' sink. Returns the exit status.
 fn exit_after<A: Allocator + Copy, E: Sink>(
     outcome: Result<(), ProgramFault<A>>,
     errors: &mut E,
@@ -82,13 +82,13 @@ fn exit_after<A: Allocator + Copy, E: Sink>(
 {
     match outcome {
         Ok(()) => 0,
-        // The report used the same sink, and the sink is down.
+        // The report used the same sink, so the sink is down and can't print the fault.
         Err(ProgramFault::WriteFailed) => 1,
         Err(fault) => cmd_failed(fault, errors),
     }
 }
 
-// Fetches, and returns the outcome.
+// Fetches into a stored file, and returns the outcome.
 fn fetch_stored<A: Allocator + Copy, T: Storage, S: Source, W: Sink, R: Sink>(
     alloc: A,
     file: &mut T,
@@ -113,7 +113,7 @@ fn fetch_stored<A: Allocator + Copy, T: Storage, S: Source, W: Sink, R: Sink>(
     }
 }
 
-// Does the same for an opened file.
+// Fetches into an opened file, and returns the outcome.
 fn fetch_opened<A: Allocator + Copy, T: Storage, S: Source, W: Sink, R: Sink>(
     opened: &mut OpenedFile<A>,
     file: &mut T,
@@ -153,8 +153,8 @@ fn fetch_opened<A: Allocator + Copy, T: Storage, S: Source, W: Sink, R: Sink>(
 
 /// Locks a client's file, reads it, and opens its repository.
 ///
-/// Fails with `File` if the file can't be locked or read, with `Memory`, and as `open_client`. This
-/// run holds no lockfile then.
+/// Fails with `File` if the file can't be locked or read, with `Memory` if out of memory, and with
+/// the faults of `open_client`. After a fault this run holds no lockfile.
 pub fn open_stored<A: Allocator + Copy, T: Storage>(
     alloc: A,
     file: &mut T,
@@ -171,7 +171,7 @@ pub fn open_stored<A: Allocator + Copy, T: Storage>(
     }
 }
 
-// Opens the repository of a locked file, or unlocks the file.
+// Opens the repository of a locked file. Unlocks the file after a fault.
 fn open_text<A: Allocator + Copy, T: Storage>(
     alloc: A,
     file: &mut T,
@@ -189,7 +189,7 @@ fn open_text<A: Allocator + Copy, T: Storage>(
     }
 }
 
-// Unlocks a file without changing it.
+// Unlocks a file without changing it, and returns the fault.
 fn give_up<A: Allocator + Copy, T: Storage, X>(
     file: &mut T,
     fault: ProgramFault<A>,
@@ -203,13 +203,12 @@ fn give_up<A: Allocator + Copy, T: Storage, X>(
     Err(fault)
 }
 
-/// Ends a fetch into a locked file whose text is `old`, after the refs are settled. Replaces the
-/// file by the text of the repository, and only then reports. This run holds no lockfile at the
-/// end.
+/// Ends a successful fetch into a locked file whose text is `old`. Replaces the file by the text of
+/// the repository, and only afterwards writes the report. At the end this run holds no lockfile.
 ///
-/// Fails with `Memory` or `File` if the file can't be replaced. Then nothing is reported, and the
-/// file has the old text or the whole new one. After the file has the new text it fails as
-/// `send_report`.
+/// Fails with `Memory` or `File` if the file can't be replaced. After these faults nothing is
+/// reported, and the file has the old text or the whole new text. After the file has the new text,
+/// the call fails only with the faults of `send_report`.
 pub fn conclude_stored<A: Allocator + Copy, T: Storage, R: Sink>(
     file: &mut T,
     old: &[u8],
@@ -232,7 +231,7 @@ pub fn conclude_stored<A: Allocator + Copy, T: Storage, R: Sink>(
     }
 }
 
-// Replaces the file by the text, and only then reports.
+// Replaces the file by the text, and only afterwards writes the report.
 fn store<A: Allocator + Copy, T: Storage, R: Sink>(
     file: &mut T,
     old: &[u8],

@@ -17,11 +17,11 @@ use std::alloc::Allocator;
 /// `gitv2 upload [--response-end] FILE`: serves one connection from `input` to `output`, from the
 /// repository whose text is `file`. Writes the advertisement, and then the reply to each request
 /// (gitprotocol-v2(5), "Capability Advertisement", "Command Request"). With `Ends::Response` each
-/// reply ends with a response-end packet. A fault is one line on `errors`.
+/// reply ends with a response-end packet. A fault is printed as one line on `errors`.
 ///
-/// Returns the exit status: 0 if the client ended the connection by a lone flush packet, the input
-/// ended before a request, or there were 4,294,967,295 requests; 1 if there was a fault. All output
-/// is flushed before the call returns.
+/// Returns exit status 0 if the client ended the connection with a lone flush packet, the input
+/// ended before a request, or the connection reached 4,294,967,295 requests. Returns 1 after a
+/// fault. The program flushes all output before the call returns.
 pub fn cmd_upload<A: Allocator + Copy, S: Source, W: Sink, E: Sink>(
     alloc: A,
     file: &[u8],

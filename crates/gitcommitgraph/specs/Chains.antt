@@ -11,31 +11,31 @@ use Rattle.gitcommitgraph.specs.Texts.{IsGraphText}
 abbrev pub checksum_of : GraphFile → Id
 checksum_of file = file.checksum
 
--- The commits of a chain of files, the lowest file first. The position of a commit is its place here.
+-- The commits of a chain of files, the lowest file first. The position of a commit is its index in this list.
 abbrev pub graph_commits : List GraphFile → List Commit
 graph_commits files = flat_map file_commits files
 
--- a position at which a commit has this id; or none has it
+-- the position of a commit with this id, or none if no commit has the id
 abbrev pub FindsCommit : List Commit → Id → Option ℕ → Type 0
 FindsCommit commits id result =
     MatchOption result (All (λ c. c.id ≢ id) commits)
     (λ position. (position < length commits) × HoldsAt (λ c. c.id ≡ id) commits position)
 
--- a list of some parents; none if they are more than so many
+-- the list of these parents, or none if there are more parents than the maximum
 abbrev pub ListsParents : {A : Type 0} → ℕ → List ℕ → Option (Vec ℕ A) → Type 0
 ListsParents most parents found =
     MatchOption found (most < length parents) (λ list. (list.items ≡ parents) × (length parents ≤ most))
 
--- each parent of a commit has a position before this one
+-- each parent of the commit has a position less than `end`
 abbrev pub HasParentsBelow : ℕ → Commit → Type 0
 HasParentsBelow end commit = All (λ position. position < end) commit.parents
 
--- each parent of each commit is one of the commits
+-- each parent of each commit is a commit of the list
 abbrev pub AreClosed : List Commit → Type 0
 AreClosed commits = All (HasParentsBelow (length commits)) commits
 
--- A chain with one more file on top. Its base graphs are the files before; each position that it names is that of a
--- commit; and each is less than the number where there is no parent.
+-- The chain with one more file on top. The base graphs of the file are the earlier files, each position in the file is
+-- that of a commit, and there are at most 0x7000_0000 commits.
 pub record AddsFile (old : List GraphFile) (text : List ℕ) (new : List GraphFile) : Type 0 where
   pub file : GraphFile
   pub is : IsGraphText file text
@@ -44,15 +44,15 @@ pub record AddsFile (old : List GraphFile) (text : List ℕ) (new : List GraphFi
   pub few : length (graph_commits new) ≤ no_parent
   pub within : HasPositionsBefore (length (graph_commits new)) file
 
--- ---- the file commit-graph-chain
+-- ---- chain file
 
--- a line: the digits of an id, and LF
+-- a line: the hexadecimal digits of an id, and a line feed
 pub record IsLine (id : Id) (line : List ℕ) : Type 0 where
   pub digits : List ℕ
   pub spelt : IsIdTextOf Sha1 digits id
   pub parts : line ≡ digits ++ 10 ∷ []
 
--- a line for the checksum of each file, the lowest first
+-- a line for the checksum of each file, the lowest file first
 abbrev pub IsChainText : List Id → List ℕ → Type 0
 IsChainText [] text = text ≡ []
 IsChainText (id ∷ ids) text = (line more : List ℕ) × IsLine id line × (text ≡ line ++ more) × IsChainText ids more

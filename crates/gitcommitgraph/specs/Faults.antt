@@ -1,4 +1,4 @@
--- Why a file is not added to a commit-graph, and the texts of faults, as they are printed.
+-- The reasons to refuse a file for a commit-graph, and the printed texts of the faults.
 use Rattle.std.specs.Prelude.{◌≢◌, ⊤, ℕ, ◌<◌, List, [], ◌∷◌, ◌++◌, codes, length, map}
 use Rattle.gname.specs.Faults.{out_of_memory_text}
 use Rattle.gitcommitgraph.specs.Chains.{checksum_of, graph_commits}
@@ -7,16 +7,16 @@ use Rattle.gitcommitgraph.specs.Texts.{IsGraphText}
 use Rattle.gitcommitgraph.specs.declared.fault.CommitGraphFault.{CommitGraphFault}
 use Rattle.gitcommitgraph.specs.declared.fault.CommitGraphFault.TheVariants.{Memory, Header, Contents, Chunk, Order, FanOut, Edges, Bases, TooMany, Parents}
 
--- the text is no file's
+-- the text is not a commit-graph file
 abbrev pub IsNoFile : List ℕ → Type 0
 IsNoFile text = (file : GraphFile) → ¬ IsGraphText file text
 
--- the text is that of a file of which this holds
+-- the text is that of a commit-graph file with this property
 abbrev pub IsOfFile : List ℕ → (GraphFile → Type 0) → Type 0
 IsOfFile text P = (file : GraphFile) × IsGraphText file text × P file
 
--- Why a text is not added to a chain: out of memory; its base graphs are not the files before; there would be too many
--- commits; a position is that of no commit; or the text is no file's.
+-- The reasons to refuse a text for a chain: out of memory, wrong base graphs, too many commits, a position without a
+-- commit, or a text that is not a commit-graph file.
 abbrev pub IsRefused : List GraphFile → List ℕ → CommitGraphFault → Type 0
 IsRefused old text Memory = ⊤
 IsRefused old text Bases = IsOfFile text (λ file. file.bases ≢ map checksum_of old)

@@ -1,4 +1,4 @@
--- What a commit-graph file says (gitformat-commit-graph(5), "CHUNK DATA").
+-- The contents of a commit-graph file (gitformat-commit-graph(5), "CHUNK DATA").
 use Rattle.std.specs.Prelude.{◌≡◌, ℕ, ◌-◌, ◌<◌, ◌≤◌, ◌==◌, ◌⊎◌, if◌then◌else◌, nat_lt, List, [], ◌∷◌, All, length, drop, slice_index_or, slice_range}
 use Rattle.std.specs.List.{AllAdjacentBelow}
 use Rattle.std.specs.Int.{w32, from_be_bytes}
@@ -7,8 +7,8 @@ use Rattle.std.specs.declared.cmp.Ordering.TheVariants.{Less}
 use Rattle.std.specs.Cmp.Lexicographic.{slice_cmp}
 use Rattle.gname.specs.Ids.{Id}
 
--- What a file has: the checksums of its base graphs; the ids of its commits, and for each a row of the commit data; the
--- edges of octopus merges; and its own checksum.
+-- The contents of a file: the checksums of its base graphs, the ids of its commits with their rows of commit data, the
+-- edges of octopus merges, and the file's own checksum.
 pub record GraphFile : Type 0 where
   pub bases : List Id
   pub ids : List Id
@@ -23,33 +23,33 @@ pub record Commit : Type 0 where
 
 -- ---- parents
 
--- the number with four bytes, the highest first
+-- the number that consists of four bytes, the highest byte first
 unfoldable pub number : List ℕ → ℕ
 number bytes = from_be_bytes w32 bytes
 
--- the numbers of a row after the id of the tree, for the first parent and the second
+-- the number for the first parent in a row, after the id of the tree
 abbrev pub first_parent : List ℕ → ℕ
 first_parent row = number (slice_range row 20 24)
 
 abbrev pub second_parent : List ℕ → ℕ
 second_parent row = number (slice_range row 24 28)
 
--- the number where there is no parent
+-- the number that means that there is no parent
 abbrev pub no_parent : ℕ
 no_parent = 0x7000_0000
 
--- the numbers from here on have the highest bit
+-- the lowest number with the highest bit, which marks an edge or a second parent
 abbrev pub mark : ℕ
 mark = 0x8000_0000
 
--- the parents in a list of edges: the positions up to the first number with the highest bit, and that one without it
+-- the parents in a list of edges: the positions up to the first marked number, and that number without its mark
 abbrev pub edge_list : List (List ℕ) → List ℕ
 edge_list [] = []
 edge_list (edge ∷ edges) =
     if nat_lt (number edge) mark then number edge ∷ edge_list edges else (number edge - mark) ∷ []
 
--- The parents that two numbers spell: none, the first, or both. A second number with the highest bit names the place in
--- the edges from which on the other parents are listed.
+-- The parents that the two numbers of a row encode: none, the first, or both. A marked second number refers to the
+-- index in the edges at which the list of further parents starts.
 abbrev pub parents_by : List (List ℕ) → ℕ → ℕ → List ℕ
 parents_by edges first second =
     if first == no_parent then []
@@ -57,13 +57,13 @@ parents_by edges first second =
     else (if nat_lt second mark then first ∷ second ∷ []
     else first ∷ edge_list (drop (second - mark) edges)))
 
--- the parents that a row spells
+-- the parents that a row encodes
 abbrev pub row_parents : List (List ℕ) → List ℕ → List ℕ
 row_parents edges row = parents_by edges (first_parent row) (second_parent row)
 
 -- ---- commits
 
--- the commits with these ids and rows
+-- the commits with these ids and these rows
 abbrev pub commits_of : List (List ℕ) → List Id → List (List ℕ) → List Commit
 commits_of edges [] rows = []
 commits_of edges (id ∷ ids) [] = []
@@ -74,27 +74,27 @@ commits_of edges (id ∷ ids) (row ∷ rows) =
 abbrev pub file_commits : GraphFile → List Commit
 file_commits file = commits_of file.edges file.ids file.rows
 
--- ---- the form of a file
+-- ---- form
 
--- each is so many bytes long
+-- each row has this number of bytes
 abbrev pub AreLong : ℕ → List (List ℕ) → Type 0
 AreLong n rows = All (λ row. length row ≡ n) rows
 
--- each id is less than the next
+-- each id is less than the next id
 abbrev pub IsAscending : List Id → Type 0
 IsAscending ids = AllAdjacentBelow (λ one other. slice_cmp nat_cmp one other ≡ Less) ids (length ids)
 
--- the place that a row names, if any, is one of so many
+-- the edge index in a row, if any, is less than this count
 abbrev pub NamesEdge : ℕ → List ℕ → Type 0
 NamesEdge count row = mark ≤ second_parent row → second_parent row - mark < count
 
--- Each list that a row names begins at an edge. The last edge has the highest bit, so each list has an end.
+-- Each edge list that a row refers to starts at an edge of the table. The last edge is marked, so each list has an end.
 pub record HaveEnds (edges rows : List (List ℕ)) : Type 0 where
   pub last : (d : List ℕ) → 0 < length edges → mark ≤ number (slice_index_or edges (length edges - 1) d)
   pub begins : All (NamesEdge (length edges)) rows
 
--- The form of a file: ids of 20 bytes, which ascend; a row of 36 bytes for each; and edges of 4 bytes. There are so few
--- ids that each has a place less than the number where there is no parent.
+-- The form of a file: ascending ids of 20 bytes, a row of 36 bytes for each id, and edges of 4 bytes. There are at most
+-- 0x7000_0000 ids, so no index is the number that means no parent.
 pub record IsGraphFile (file : GraphFile) : Type 0 where
   pub bases : AreLong 20 file.bases
   pub ids : AreLong 20 file.ids
@@ -106,23 +106,23 @@ pub record IsGraphFile (file : GraphFile) : Type 0 where
   pub ascending : IsAscending file.ids
   pub ended : HaveEnds file.edges file.rows
 
--- ---- the positions that a file names
+-- ---- positions
 
--- there is no parent, or it is before a position
+-- there is no parent, or its position is less than `end`
 abbrev pub IsBefore : ℕ → ℕ → Type 0
 IsBefore end parent = (parent ≡ no_parent) ⊎ (parent < end)
 
--- the parents that a row names itself are before a position
+-- the parents in a row, except those in its edge list, have positions less than `end`
 pub record IsRowBefore (end : ℕ) (row : List ℕ) : Type 0 where
   pub first : IsBefore end (first_parent row)
   pub second : second_parent row < mark → IsBefore end (second_parent row)
 
--- the parent that an edge names is before a position
+-- the parent in an edge has a position less than `end`
 pub record IsEdgeBefore (end : ℕ) (edge : List ℕ) : Type 0 where
   pub inner : number edge < mark → number edge < end
   pub last : mark ≤ number edge → number edge - mark < end
 
--- each position that a file names is before this one
+-- each position in a file is less than `end`
 pub record HasPositionsBefore (end : ℕ) (file : GraphFile) : Type 0 where
   pub rows : All (IsRowBefore end) file.rows
   pub edges : All (IsEdgeBefore end) file.edges

@@ -6,13 +6,13 @@ use Rattle.std.specs.Int.{w32, w64, to_be_bytes}
 use Rattle.gname.specs.Ids.{Id}
 use Rattle.gitcommitgraph.specs.Files.{GraphFile, IsGraphFile}
 
--- ---- the header, and the table of contents
+-- ---- headers
 
--- the signature, version 1, the number of SHA-1, how many chunks there are, and how many base graphs
+-- the signature, version 1, the number for SHA-1, the number of chunks, and the number of base graphs
 abbrev pub header : ℕ → ℕ → List ℕ
 header chunks bases = codes "CGPH" ++ 1 ∷ 1 ∷ chunks ∷ bases ∷ []
 
--- a chunk: its name, and its bytes
+-- a chunk: its name and its bytes
 pub record Chunk : Type 0 where
   pub name : List ℕ
   pub bytes : List ℕ
@@ -20,17 +20,17 @@ pub record Chunk : Type 0 where
 abbrev pub chunk_bytes : Chunk → List ℕ
 chunk_bytes c = c.bytes
 
--- the name in the last row of the table
+-- the name in the last row of the table of contents
 abbrev pub no_name : List ℕ
 no_name = 0 ∷ 0 ∷ 0 ∷ 0 ∷ []
 
--- The table of contents of chunks that begin at this offset. It has a row for each, with its name and its offset, and a
--- last row with the offset at which they end.
+-- The table of contents of chunks that start at this offset. The table has a row for each chunk, with the chunk's name
+-- and offset, and a last row with the offset of the end.
 abbrev pub contents : ℕ → List Chunk → List ℕ
 contents offset [] = no_name ++ to_be_bytes w64 offset
 contents offset (c ∷ chunks) = c.name ++ (to_be_bytes w64 offset ++ contents (offset + length c.bytes) chunks)
 
--- each chunk has a name of four bytes, and no two have the same
+-- each chunk has a name of four bytes, and no two chunks have the same name
 pub record AreNamed (chunks : List Chunk) : Type 0 where
   pub long : All (λ c. length c.name ≡ 4) chunks
   pub named : All (λ c. c.name ≢ no_name) chunks
@@ -40,32 +40,33 @@ pub record AreNamed (chunks : List Chunk) : Type 0 where
 abbrev pub HasChunk : List Chunk → List ℕ → List ℕ → Type 0
 HasChunk chunks name bytes = Contains chunks (record { name = name; bytes = bytes })
 
--- or there is none of this name, and no byte
+-- one of the chunks has this name and these bytes, or no chunk has the name and there are no bytes
 abbrev pub MayHaveChunk : List Chunk → List ℕ → List ℕ → Type 0
 MayHaveChunk chunks name bytes =
     HasChunk chunks name bytes ⊎ ((bytes ≡ []) × All (λ c. c.name ≢ name) chunks)
 
--- ---- the fan-out table
+-- ---- fan-out
 
--- whether an id begins with this byte or a lower one
+-- whether an id begins with this byte or a lower byte
 abbrev pub begins_within : ℕ → Id → Bool
 begins_within byte id = nat_le (slice_index id 0) byte
 
--- the fan-out table for the bytes below a number: for each byte, how many ids begin with it or a lower one
+-- the first rows of the fan-out table: for each byte below the limit, the number of ids that begin with it or a lower
+-- byte
 unfoldable pub fan_out : ℕ → List Id → List ℕ
 fan_out zero ids = []
 fan_out (suc byte) ids = fan_out byte ids ++ to_be_bytes w32 (count_by (begins_within byte) ids)
 
--- ---- the whole text
+-- ---- files
 
--- A text with the frame of a file: the header; the table of contents; the chunks, one after the other; and a checksum.
+-- A text with the frame of a file: the header, the table of contents, the chunks one after the other, and a checksum.
 pub record IsFramed (bases : ℕ) (chunks : List Chunk) (checksum : Id) (text : List ℕ) : Type 0 where
   pub parts : text ≡ header (length chunks) bases
       ++ (contents (8 + 12 * (length chunks + 1)) chunks ++ (flat_map chunk_bytes chunks ++ checksum))
   pub named : AreNamed chunks
   pub long : length checksum ≡ 20
 
--- The text of a file. Chunks with other names are not looked at.
+-- The text of a file. Chunks with other names are ignored.
 pub record IsGraphText (file : GraphFile) (text : List ℕ) : Type 0 where
   pub chunks : List Chunk
   pub framed : IsFramed (length file.bases) chunks file.checksum text

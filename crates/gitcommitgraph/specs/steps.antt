@@ -1,4 +1,4 @@
--- The steps: what only private functions and proofs speak of.
+-- The definitions that only private functions and proofs use.
 pub mod Rows
 pub mod Tables
 pub mod Layers

@@ -1,4 +1,4 @@
-//! The file `commit-graph-chain`.
+//! The file `commit-graph-chain`, which lists the files of a chain.
 
 ghost use Rattle.std.specs.Prelude.{◌≡◌, ◌≢◌, List, IfOk, MatchOption, take, drop};
 ghost use Rattle.gname.specs.Ids.{Id};
@@ -8,10 +8,10 @@ use gname::Oid;
 use gname::laws::texts_have_one_reading;
 use std::alloc::{AllocError, Allocator};
 
-// The number of digits of an id.
+// The number of hexadecimal digits of an id.
 const DIGITS: usize = 40;
 
-// The length of a line: an id and LF.
+// The length in bytes of a line: an id and a line feed.
 const LINE: usize = 41;
 
 /// Parses the text of the file `commit-graph-chain` into the checksums of the files of the chain,
@@ -38,7 +38,7 @@ pub fn parse_chain<A: Allocator + Copy>(
     }
 }
 
-// Returns the id on a line.
+// Returns the id on the line, or `None` if the line is not an id and a line feed.
 fn read_line(line: &[u8; LINE]) -> Option<Oid>
     ensures { MatchOption result ((id : Id) → ¬ IsLine id line.now) (λ id. IsLine id line.now) }
 {

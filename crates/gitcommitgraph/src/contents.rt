@@ -5,33 +5,33 @@ ghost use Rattle.std.specs.Prelude.{◌≡◌, ◌<◌, ◌++◌, ◌↔◌, Lis
 ghost use Rattle.gitcommitgraph.specs.Texts.{header};
 ghost use Rattle.gitcommitgraph.specs.steps.Rows.{AreDistinct, AreRows, IsRising, IsSpan, IsTable, LacksName, row_name, row_offset};
 
-// The length of the header.
+// The length of the header in bytes.
 const HEADER_BYTES: usize = 8;
 
-// The signature, version 1, and the number for SHA-1.
+// The first six bytes of a file: the signature, version 1, and the number for SHA-1.
 const SIGNATURE: &[u8; 6] = b"CGPH\x01\x01";
 
-/// The length of a row of the table of contents: the name and the offset of a chunk.
+/// The length in bytes of a row of the table of contents: the name and the offset of a chunk.
 pub(crate) const ENTRY_BYTES: usize = 12;
 
-// The name in the last row.
+// The name in the last row of the table of contents.
 const NO_NAME: &[u8; 4] = b"\0\0\0\0";
 
-/// A header: the number of chunks and of base graphs.
+/// The counts in a header: the number of chunks and the number of base graphs.
 #[derive(Clone, Copy, Drop)]
 pub(crate) struct Header {
     pub(crate) chunks: u8,
     pub(crate) bases: u8,
 }
 
-/// The position of a chunk: its bytes are from `start` to `end`.
+/// The location of a chunk: its bytes are from `start` up to `end`, without `end`.
 #[derive(Clone, Copy, Drop)]
 pub(crate) struct Span {
     pub(crate) start: usize,
     pub(crate) end: usize,
 }
 
-/// Returns the header at the start of the bytes.
+/// Returns the header at the start of the bytes, or `None` if there is no valid header.
 pub(crate) fn read_header(bytes: &[u8]) -> Option<Header>
     ensures { MatchOption result
         ((chunks bases : ℕ) (rest : List ℕ) → ¬ (bytes.now ≡ header chunks bases ++ rest))
@@ -45,8 +45,9 @@ pub(crate) fn read_header(bytes: &[u8]) -> Option<Header>
     })
 }
 
-/// Returns the rows of the table of contents of `chunks` chunks, in a file without its trailer.
-/// Returns `None` if the chunks are not contiguous up to the end, or if two have the same name.
+/// Returns the rows of the table of contents for `chunks` chunks, in a file without its trailer.
+/// Returns `None` if the chunks are not contiguous up to the end, or if two chunks have the same
+/// name.
 pub(crate) fn read_rows(chunks: u8, body: &[u8]) -> Option<&[[u8; ENTRY_BYTES]]>
     ensures { MatchOption result ((rows : List (List ℕ)) → ¬ IsTable chunks body.now rows)
         (λ rows. IsTable chunks body.now rows.now) }
@@ -61,7 +62,7 @@ pub(crate) fn read_rows(chunks: u8, body: &[u8]) -> Option<&[[u8; ENTRY_BYTES]]>
     }
 }
 
-// Whether the rows are those of chunks between these offsets.
+// Returns whether the rows describe contiguous chunks from `start` to `end`, with distinct names.
 fn are_rows(rows: &[[u8; ENTRY_BYTES]], start: u64, end: u64) -> bool
     ensures { IsTrue result ↔ AreRows start end rows.now }
 {
@@ -80,14 +81,14 @@ fn are_rows(rows: &[[u8; ENTRY_BYTES]], start: u64, end: u64) -> bool
     is_rising(rows) && are_distinct(rows)
 }
 
-// Whether no row has a lower offset than the previous row.
+// Returns whether no row has a lower offset than the previous row.
 fn is_rising(rows: &[[u8; ENTRY_BYTES]]) -> bool
     ensures { IsTrue result ↔ IsRising rows.now }
 {
     rows.is_sorted_by(|one, other| offset_of(one) <= offset_of(other))
 }
 
-// Whether no two rows have the same name.
+// Returns whether all rows have different names.
 fn are_distinct(rows: &[[u8; ENTRY_BYTES]]) -> bool
     ensures { IsTrue result ↔ AreDistinct rows.now }
 {
@@ -99,7 +100,7 @@ fn are_distinct(rows: &[[u8; ENTRY_BYTES]]) -> bool
     true
 }
 
-// Returns the index of the first row with this name.
+// Returns the index of the first row with this name, or `None` if no row has the name.
 fn place_of(rows: &[[u8; ENTRY_BYTES]], name: &[u8; 4]) -> Option<usize>
     ensures { MatchOption result
         ((k : ℕ) (d : List ℕ) → k < length rows.now → ¬ (row_name (slice_index_or rows.now k d) ≡ name.now))
@@ -115,14 +116,14 @@ fn place_of(rows: &[[u8; ENTRY_BYTES]], name: &[u8; 4]) -> Option<usize>
     None
 }
 
-// Returns the name in a row.
+// Returns the chunk name in a row.
 fn name_of(row: &[u8; ENTRY_BYTES]) -> &[u8; 4]
     ensures { result.now ≡ row_name row.now }
 {
     row.first_chunk::<4>().unwrap()
 }
 
-// Returns the offset in a row.
+// Returns the chunk offset in a row.
 #[tactic(auto, unfolding(crate::specs::steps::Rows::row_offset))]
 fn offset_of(row: &[u8; ENTRY_BYTES]) -> u64
     ensures { result ≡ row_offset row.now }
@@ -130,7 +131,7 @@ fn offset_of(row: &[u8; ENTRY_BYTES]) -> u64
     u64::from_be_bytes(*row.last_chunk::<8>().unwrap())
 }
 
-/// Returns the position of the chunk with this name, or `None` if there is none.
+/// Returns the location of the chunk with this name, or `None` if no chunk has the name.
 pub(crate) fn span_of(rows: &[[u8; ENTRY_BYTES]], name: &[u8; 4]) -> Option<Span>
     ensures { MatchOption result (LacksName rows.now name.now) (IsSpan rows.now name.now) }
 {

@@ -9,15 +9,16 @@ use std::alloc::{AllocError, AllocFailed};
 use std::error::Error;
 use std::fmt;
 
-/// Why a file cannot be added to a commit-graph.
+/// The reason a file can't be added to a commit-graph.
 #[derive(Clone, Copy, Debug, PartialEq, Eq, Drop)]
 pub enum CommitGraphFault {
     /// Out of memory.
     Memory,
-    /// The file does not begin like a commit-graph of version 1 with SHA-1 ids, or is truncated.
+    /// The file does not start with the header of a commit-graph of version 1 with SHA-1 ids, or
+    /// the file is truncated.
     Header,
-    /// The table of contents is wrong: the chunks do not fill the file between it and the trailer,
-    /// or two have the same name.
+    /// The table of contents is wrong: the chunks do not fill the file up to the trailer, or two
+    /// chunks have the same name.
     Contents,
     /// A chunk is missing or has a wrong length.
     Chunk,
@@ -27,11 +28,11 @@ pub enum CommitGraphFault {
     FanOut,
     /// An edge list is not terminated.
     Edges,
-    /// The base graphs are not the files that were added earlier.
+    /// The base graphs of the file are not the files that were added earlier.
     Bases,
     /// There are more commits than positions.
     TooMany,
-    /// The position of a parent is not that of a commit.
+    /// The position of a parent is not the position of a commit.
     Parents,
 }
 

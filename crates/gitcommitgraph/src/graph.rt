@@ -17,7 +17,7 @@ use gname::Oid;
 use std::alloc::{AllocError, Allocator};
 use std::marker::Model;
 
-/// A commit-graph: a single file, or the files of a chain.
+/// A commit-graph: a single file, or all files of a chain.
 #[derive(Drop)]
 pub struct CommitGraph<A: Allocator + Copy> {
     alloc: A,
@@ -38,7 +38,7 @@ impl<A: Allocator + Copy> Model for CommitGraph<A> {
 }
 
 impl<A: Allocator + Copy> CommitGraph<A> {
-    /// Returns a commit-graph without files. It allocates no memory.
+    /// Returns a commit-graph without files. Allocates no memory.
     pub fn new(alloc: A) -> CommitGraph<A>
         ensures { result ≡ [] }
     {
@@ -49,13 +49,13 @@ impl<A: Allocator + Copy> CommitGraph<A> {
         }
     }
 
-    /// Adds a single file, or the next file of a chain, lowest first. The bytes are kept unchanged.
-    /// Their checksum is not checked.
+    /// Adds a single file, or the next file of a chain, from the lowest to the highest. Keeps the
+    /// bytes unchanged, and does not check their checksum.
     ///
-    /// Fails with `Bases` if the base graphs are not the files added earlier, and with `TooMany` if
-    /// there are more commits than positions. Fails with `Parents` if the file names a position
-    /// without a commit. Fails with `Memory`, and with any other fault if the bytes are not a
-    /// commit-graph file. The commit-graph is then unchanged.
+    /// Fails with `Bases` if the base graphs of the file are not the files added earlier, and with
+    /// `TooMany` if there are more commits than positions. Fails with `Parents` if the file has a
+    /// position without a commit, and with `Memory` if out of memory. Fails with any other fault if
+    /// the bytes are not a commit-graph file. After a failure the commit-graph is unchanged.
     pub fn add(&mut self, bytes: Vec<u8, A>) -> Result<(), CommitGraphFault>
         ensures ok { OnOk result (AddsFile self.old bytes.items self.new) }
         ensures err { IfErr result (IsRefused self.old bytes.items) }
@@ -77,8 +77,8 @@ impl<A: Allocator + Copy> CommitGraph<A> {
         Ok(())
     }
 
-    /// A law: each parent of a commit is one of the commits, and there are at most 0x7000_0000
-    /// commits.
+    /// A law: each parent of a commit is a commit of the commit-graph, and there are at most
+    /// 0x7000_0000 commits.
     pub fn laws(&self)
         ensures closed { AreClosed (graph_commits self.now) }
         ensures few { length (graph_commits self.now) ≤ no_parent }
@@ -93,14 +93,14 @@ impl<A: Allocator + Copy> CommitGraph<A> {
         self.count
     }
 
-    /// Whether there are no commits.
+    /// Returns whether the commit-graph has no commits.
     pub fn is_empty(&self) -> bool
         ensures { result ≡ (length (graph_commits self.now) == 0) }
     {
         self.count == 0
     }
 
-    /// Returns the position of a commit with this id, or `None` if there is none.
+    /// Returns the position of a commit with this id, or `None` if no commit has the id.
     pub fn find(&self, id: &Oid) -> Option<Position>
         ensures { FindsCommit (graph_commits self.now) id.now result }
     {
@@ -124,8 +124,8 @@ impl<A: Allocator + Copy> CommitGraph<A> {
         layer.id(place)
     }
 
-    /// Returns the positions of the parents of the commit at this position, in order, or `None` if
-    /// there are more than `most`. Fails only if out of memory.
+    /// Returns the positions of the parents of the commit at this position, in order. Returns
+    /// `None` if the commit has more than `most` parents. Fails only if out of memory.
     pub fn parents_of(
         &self,
         position: Position,
@@ -142,7 +142,7 @@ impl<A: Allocator + Copy> CommitGraph<A> {
     }
 }
 
-// Returns the position of a commit with this id.
+// Returns the position of the first commit with this id.
 fn find_commit<A: Allocator + Copy>(layers: &[Layer<A>], id: &[u8; ID_BYTES]) -> Option<usize>
     requires { length (graph_commits layers.now) ≤ no_parent }
     ensures { FindsCommit (graph_commits layers.now) id.now result }
@@ -157,7 +157,7 @@ fn find_commit<A: Allocator + Copy>(layers: &[Layer<A>], id: &[u8; ID_BYTES]) ->
     None
 }
 
-// Returns the file of the commit at this position, and its place there.
+// Returns the file that has the commit at this position, and the index of the commit in the file.
 fn layer_at<A: Allocator + Copy>(layers: &[Layer<A>], position: usize) -> (&Layer<A>, usize)
     requires { position < length (graph_commits layers.now) }
     ensures { IsIn layers.now position result.0.now result.1 }
@@ -165,7 +165,8 @@ fn layer_at<A: Allocator + Copy>(layers: &[Layer<A>], position: usize) -> (&Laye
     find_layer(layers, position).unwrap()
 }
 
-// Returns the file of the commit at this position, and its place there; `None` past the end.
+// Returns the file that has the commit at this position, and the index of the commit in the file.
+// Returns `None` for a position past the last commit.
 fn find_layer<A: Allocator + Copy>(
     layers: &[Layer<A>],
     position: usize,

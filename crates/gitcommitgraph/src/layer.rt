@@ -1,4 +1,4 @@
-//! A file of a commit-graph.
+//! A single file of a commit-graph.
 
 ghost use Rattle.std.specs.Prelude.{◌≡◌, ◌↔◌, ◌*◌, ◌<◌, List, IfOk, IsTrue, MatchOption, MatchResult, length, map};
 ghost use Rattle.std.specs.List.{HoldsAt};
@@ -20,16 +20,16 @@ use gname::laws::ids_have_one_format;
 use std::alloc::{AllocError, Allocator};
 use std::marker::Model;
 
-// The length of the fan-out table.
+// The length of the fan-out table in bytes.
 const FAN_OUT_BYTES: usize = 1_024;
 
-// The length of an edge.
+// The length of an edge in bytes.
 const EDGE_BYTES: usize = 4;
 
-// An empty span.
+// The location of a chunk that is absent: an empty span.
 const NOWHERE: Span = Span { start: 0, end: 0 };
 
-// The positions of the chunks of a file.
+// The locations of the chunks of a file.
 #[derive(Clone, Copy, Drop)]
 struct Places {
     fan_out: Span,
@@ -39,7 +39,7 @@ struct Places {
     bases: Span,
 }
 
-/// A file of a commit-graph, whose form was checked.
+/// A file of a commit-graph. The form of the file has been checked.
 #[derive(Drop)]
 pub(crate) struct Layer<A: Allocator + Copy> {
     bytes: Vec<u8, A>,
@@ -60,11 +60,11 @@ impl<A: Allocator + Copy> Model for Layer<A> {
 }
 
 impl<A: Allocator + Copy> Layer<A> {
-    /// Parses the bytes of a file.
+    /// Parses and checks the bytes of a file.
     ///
-    /// Fails with `Header`, `Contents` or `Chunk` if one of these is wrong, and with `Order` if the
-    /// ids do not ascend. Fails with `FanOut` if the fan-out table does not match them, and with
-    /// `Edges` if an edge list is not terminated.
+    /// Fails with `Header`, `Contents` or `Chunk` if the header, the table of contents or a chunk
+    /// is wrong. Fails with `Order` if the ids do not ascend, with `FanOut` if the fan-out table
+    /// does not match the ids, and with `Edges` if an edge list has no end.
     pub(crate) fn read(bytes: Vec<u8, A>) -> Result<Layer<A>, CommitGraphFault>
         ensures { MatchResult result (λ file. IsGraphText file bytes.items)
             (λ fault. (old : List GraphFile) → IsRefused old bytes.items fault) }
@@ -74,21 +74,21 @@ impl<A: Allocator + Copy> Layer<A> {
         Ok(Layer { bytes, places })
     }
 
-    /// Returns the number of commits.
+    /// Returns the number of commits in the file.
     pub(crate) fn len(&self) -> usize
         ensures { result ≡ length (file_commits self.now) }
     {
         self.tables().ids.len()
     }
 
-    /// Returns the place of the commit with this id.
+    /// Returns the index of the commit with this id, or `None` if the file has no such commit.
     pub(crate) fn find(&self, id: &[u8; ID_BYTES]) -> Option<usize>
         ensures { FindsCommit (file_commits self.now) id.now result }
     {
         self.tables().find(id)
     }
 
-    /// Returns the id of the commit at this place.
+    /// Returns the id of the commit at this index.
     pub(crate) fn id(&self, place: usize) -> Oid
         requires { place < length (file_commits self.now) }
         ensures id { HoldsAt (λ commit. commit.id ≡ result) (file_commits self.now) place }
@@ -97,8 +97,8 @@ impl<A: Allocator + Copy> Layer<A> {
         id_of_bytes(&self.tables().ids[place])
     }
 
-    /// Returns the parents of the commit at this place, or `None` if there are more than `most`.
-    /// Fails only if out of memory.
+    /// Returns the parents of the commit at this index, or `None` if the commit has more than
+    /// `most` parents. Fails only if out of memory.
     pub(crate) fn parents_of(
         &self,
         alloc: A,
@@ -112,14 +112,14 @@ impl<A: Allocator + Copy> Layer<A> {
         self.tables().parents_of(alloc, place, most)
     }
 
-    /// Whether each position that the file names is before `end`.
+    /// Returns whether each position in the file is less than `end`.
     pub(crate) fn is_before(&self, end: usize) -> bool
         ensures { IsTrue result ↔ HasPositionsBefore end self.now }
     {
         self.tables().are_before(end)
     }
 
-    /// Whether the base graphs of the file are these files.
+    /// Returns whether the base graphs of the file are exactly these files.
     pub(crate) fn is_above(&self, layers: &[Layer<A>]) -> bool
         ensures { IsTrue result ↔ (self.now.bases ≡ map checksum_of layers.now) }
     {
@@ -135,21 +135,21 @@ impl<A: Allocator + Copy> Layer<A> {
         true
     }
 
-    // Returns the checksums of the base graphs.
+    // Returns the checksums of the base graphs of the file.
     fn bases(&self) -> &[[u8; ID_BYTES]]
         ensures { result.now ≡ self.now.bases }
     {
         cut_rows(self.bytes.as_slice(), &self.places.bases)
     }
 
-    // Returns the trailer.
+    // Returns the trailer of the file.
     fn checksum(&self) -> &[u8; ID_BYTES]
         ensures { result.now ≡ self.now.checksum }
     {
         self.bytes.as_slice().last_chunk::<ID_BYTES>().unwrap()
     }
 
-    // Returns the tables.
+    // Returns the tables of the file.
     fn tables(&self) -> Tables<'_>
         ensures ids { result.ids.now ≡ self.now.ids }
         ensures rows { result.rows.now ≡ self.now.rows }
@@ -163,8 +163,8 @@ impl<A: Allocator + Copy> Layer<A> {
     }
 }
 
-// Returns the positions of the chunks of a file, after checking their lengths. Fails with `Header`,
-// `Contents` or `Chunk`.
+// Returns the locations of the chunks of a file, after a check of their lengths. Fails with
+// `Header`, `Contents` or `Chunk`.
 fn read_places(bytes: &[u8]) -> Result<Places, CommitGraphFault>
     ensures { MatchResult result (IsCut bytes.now)
         (λ fault. (old : List GraphFile) → IsRefused old bytes.now fault) }
@@ -187,7 +187,7 @@ fn read_places(bytes: &[u8]) -> Result<Places, CommitGraphFault>
     Ok(places)
 }
 
-// Checks the tables at these positions. Fails with `Order`, `FanOut` or `Edges`.
+// Checks the tables at these locations. Fails with `Order`, `FanOut` or `Edges`.
 fn test_tables(bytes: &[u8], places: &Places) -> Result<(), CommitGraphFault>
     requires { IsCut bytes.now places.now }
     ensures { MatchResult result (λ _. AreTested bytes.now places.now)
@@ -206,7 +206,7 @@ fn test_tables(bytes: &[u8], places: &Places) -> Result<(), CommitGraphFault>
     Ok(())
 }
 
-// Returns the positions of the chunks of these rows, or `None` if one is missing.
+// Returns the locations of the chunks of these rows, or `None` if a required chunk is missing.
 fn find_places(rows: &[[u8; ENTRY_BYTES]]) -> Option<Places>
     ensures { MatchOption result (LacksChunk rows.now) (ArePlaces rows.now) }
 {
@@ -219,7 +219,7 @@ fn find_places(rows: &[[u8; ENTRY_BYTES]]) -> Option<Places>
     })
 }
 
-// Returns the position of an optional chunk.
+// Returns the location of an optional chunk, or an empty span if the chunk is absent.
 fn optional_span_of(rows: &[[u8; ENTRY_BYTES]], name: &[u8; 4]) -> Span
     ensures { MayBeSpan rows.now name.now result }
 {
@@ -229,7 +229,7 @@ fn optional_span_of(rows: &[[u8; ENTRY_BYTES]], name: &[u8; 4]) -> Span
     }
 }
 
-// Whether the chunks of a file with `bases` base graphs have the right lengths.
+// Returns whether the chunks of a file with `bases` base graphs have the right lengths.
 fn have_lengths(places: &Places, bases: usize) -> bool
     requires { bases < 256 }
     ensures { IsTrue result ↔ HaveLengths places.now bases }
@@ -243,14 +243,14 @@ fn have_lengths(places: &Places, bases: usize) -> bool
         && size_of(&places.bases) == bases * ID_BYTES
 }
 
-// Returns the length of the span.
+// Returns the length of a span in bytes.
 fn size_of(span: &Span) -> usize
     ensures { result ≡ size span.now }
 {
     span.end.saturating_sub(span.start)
 }
 
-// Returns the tables at these positions.
+// Returns the tables at these locations.
 fn tables_of<'a>(bytes: &'a [u8], places: &Places) -> Tables<'a>
     requires { AreWithin bytes.now places.now }
     ensures fan_out { result.fan_out.now ≡ table 4 bytes.now places.now.fan_out }
@@ -266,7 +266,7 @@ fn tables_of<'a>(bytes: &'a [u8], places: &Places) -> Tables<'a>
     }
 }
 
-// Returns the SHA-1 id with these bytes.
+// Returns the SHA-1 id that consists of these bytes.
 fn id_of_bytes(bytes: &[u8; ID_BYTES]) -> Oid
     ensures bytes { result ≡ bytes.now }
     ensures format { IsIdOf Sha1 result }
@@ -276,14 +276,14 @@ fn id_of_bytes(bytes: &[u8; ID_BYTES]) -> Oid
     Oid::from_bytes(bytes).unwrap()
 }
 
-// Whether two checksums are equal.
+// Returns whether two checksums are equal.
 fn is_same(one: &[u8; ID_BYTES], other: &[u8; ID_BYTES]) -> bool
     ensures { IsTrue result ↔ (one.now ≡ other.now) }
 {
     one == other
 }
 
-// Returns the rows of the table at this span.
+// Returns the rows, each of `N` bytes, of the table at this span.
 fn cut_rows<'a, const N: usize>(bytes: &'a [u8], span: &Span) -> &'a [[u8; N]]
     requires some { 0 < N }
     requires within { IsWithin bytes.now span.now }

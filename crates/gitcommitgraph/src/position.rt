@@ -4,10 +4,11 @@ ghost use Rattle.std.specs.Prelude.{◌≡◌};
 
 use std::marker::Model;
 
-/// The maximum number of commits. This value as a parent position means no parent.
+/// The maximum number of commits. As the position of a parent, this value means that there is no
+/// parent.
 pub(crate) const MAX_COMMITS: usize = 0x7000_0000;
 
-/// The position of a commit in a commit-graph: how many commits are before it. The positions of a
+/// The position of a commit in a commit-graph: the number of commits before it. The positions of a
 /// chain continue from one file to the next.
 #[derive(Clone, Copy, Debug, PartialEq, Eq, Drop)]
 pub struct Position {

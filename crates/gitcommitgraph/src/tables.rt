@@ -9,24 +9,26 @@ ghost use Rattle.gitcommitgraph.specs.steps.Tables.{AreBetween, IsFanOut, IsPlac
 use crate::position::Position;
 use std::alloc::{AllocError, Allocator};
 
-/// The length of an id.
+/// The length of an id in bytes.
 pub(crate) const ID_BYTES: usize = 20;
 
-/// The length of a row of the commit data.
+/// The length in bytes of a row of the commit data.
 pub(crate) const ROW_BYTES: usize = 36;
 
-// The offsets of the two parent numbers in a row.
+// The offsets of the two parent numbers in a row of the commit data.
 const FIRST_PARENT: usize = 20;
 
 const SECOND_PARENT: usize = 24;
 
-// The number that means no parent.
+// The parent number that means that there is no parent.
 const NO_PARENT: u32 = 0x7000_0000;
 
-// The bit of the last edge of a list, and of a second parent that refers to an edge list.
+// The highest bit, which marks the last edge of a list. The same bit marks a second parent number
+// that refers to an edge list.
 const MARK: u32 = 0x8000_0000;
 
-/// The tables of a file: the fan-out table, the ids, a row of commit data for each, and the edges.
+/// The tables of a file: the fan-out table, the ids, a row of commit data for each id, and the
+/// edges.
 #[derive(Clone, Copy)]
 pub(crate) struct Tables<'a> {
     pub(crate) fan_out: &'a [[u8; 4]],
@@ -36,7 +38,7 @@ pub(crate) struct Tables<'a> {
 }
 
 impl Tables<'_> {
-    /// Returns the place of an id, or `None` if it is not found.
+    /// Returns the index of an id, or `None` if the table of ids does not have it.
     pub(crate) fn find(&self, id: &[u8; ID_BYTES]) -> Option<usize>
         requires ascending { IsAscending self.now.ids.now }
         requires fan_out { IsFanOut self.now.fan_out.now self.now.ids.now }
@@ -49,7 +51,7 @@ impl Tables<'_> {
         }
     }
 
-    // Returns the start and end of the ids that begin with this byte.
+    // Returns the start and the end of the range of ids that begin with this byte.
     fn places_of(&self, byte: u8) -> (usize, usize)
         requires ascending { IsAscending self.now.ids.now }
         requires fan_out { IsFanOut self.now.fan_out.now self.now.ids.now }
@@ -62,7 +64,7 @@ impl Tables<'_> {
         (self.ids_within(byte - 1), end)
     }
 
-    // Returns how many ids begin with this byte or a lower byte.
+    // Returns the number of ids that begin with this byte or a lower byte, from the fan-out table.
     fn ids_within(&self, byte: u8) -> usize
         requires { IsFanOut self.now.fan_out.now self.now.ids.now }
         ensures { result ≡ count_by (begins_within byte) self.now.ids.now }
@@ -70,8 +72,8 @@ impl Tables<'_> {
         number(&self.fan_out[usize::from(byte)]) as usize
     }
 
-    /// Returns the positions of the parents of the commit at this place, in order, or `None` if
-    /// there are more than `most`. Fails only if out of memory.
+    /// Returns the positions of the parents of the commit at this index, in order. Returns `None`
+    /// if the commit has more than `most` parents. Fails only if out of memory.
     pub(crate) fn parents_of<A: Allocator + Copy>(
         &self,
         alloc: A,
@@ -99,14 +101,14 @@ impl Tables<'_> {
         follow(&self.edges[(second - MARK) as usize..], list, most)
     }
 
-    /// Whether the ids ascend.
+    /// Returns whether the ids ascend.
     pub(crate) fn are_ascending(&self) -> bool
         ensures { IsTrue result ↔ IsAscending self.now.ids.now }
     {
         self.ids.is_sorted_by(|one, other| one.cmp(other).is_lt())
     }
 
-    /// Whether the fan-out table matches the ids, which ascend.
+    /// Returns whether the fan-out table matches the ids.
     pub(crate) fn is_fan_out(&self) -> bool
         requires ascending { IsAscending self.now.ids.now }
         requires long { length self.now.fan_out.now ≡ 256 }
@@ -120,14 +122,14 @@ impl Tables<'_> {
         true
     }
 
-    /// Whether each edge list that a row names is terminated.
+    /// Returns whether each edge list that a row refers to has an end.
     pub(crate) fn lists_end(&self) -> bool
         ensures { IsTrue result ↔ HaveEnds self.now.edges.now self.now.rows.now }
     {
         last_is_marked(self.edges) && name_edges(self.rows, self.edges.len())
     }
 
-    /// Whether each position that rows and edges name is before `end`.
+    /// Returns whether each position in the rows and edges is less than `end`.
     pub(crate) fn are_before(&self, end: usize) -> bool
         ensures { IsTrue result ↔
             (All (IsRowBefore end) self.now.rows.now × All (IsEdgeBefore end) self.now.edges.now) }
@@ -136,7 +138,7 @@ impl Tables<'_> {
     }
 }
 
-// Returns the place of an id among ascending ids.
+// Returns the index of an id among ascending ids, or `None` if they do not contain the id.
 fn search(ids: &[[u8; ID_BYTES]], id: &[u8; ID_BYTES]) -> Option<usize>
     requires { IsAscending ids.now }
     ensures { IsPlaceOf ids.now id.now result }
@@ -147,7 +149,7 @@ fn search(ids: &[[u8; ID_BYTES]], id: &[u8; ID_BYTES]) -> Option<usize>
     }
 }
 
-// Returns how many of the ascending ids begin with this byte or a lower byte.
+// Returns the number of ascending ids that begin with this byte or a lower byte.
 fn ids_within(ids: &[[u8; ID_BYTES]], byte: usize) -> usize
     requires { IsAscending ids.now }
     ensures { result ≡ count_by (begins_within byte) ids.now }
@@ -155,8 +157,8 @@ fn ids_within(ids: &[[u8; ID_BYTES]], byte: usize) -> usize
     ids.partition_point(|id| usize::from(id[0]) <= byte)
 }
 
-// Returns the list with the parents from the edges appended, or `None` if there are more than
-// `most`.
+// Appends the parents from an edge list to `list`. Returns `None` if the list would have more than
+// `most` parents.
 fn follow<A: Allocator + Copy>(
     edges: &[[u8; 4]],
     mut list: Vec<Position, A>,
@@ -178,14 +180,14 @@ fn follow<A: Allocator + Copy>(
     Ok(within(list, most))
 }
 
-// Returns the list, or `None` if it has more than `most` items.
+// Returns the list, or `None` if the list has more than `most` items.
 fn within<A: Allocator + Copy>(list: Vec<Position, A>, most: usize) -> Option<Vec<Position, A>>
     ensures { ListsParents most list.items result }
 {
     if list.len() <= most { Some(list) } else { None }
 }
 
-// Whether the last edge ends a list.
+// Returns whether the last edge has the mark that ends a list. Returns true if there are no edges.
 fn last_is_marked(edges: &[[u8; 4]]) -> bool
     ensures { IsTrue result ↔
         ((d : List ℕ) → 0 < length edges.now → mark ≤ number (slice_index_or edges.now (length edges.now - 1) d)) }
@@ -196,14 +198,14 @@ fn last_is_marked(edges: &[[u8; 4]]) -> bool
     }
 }
 
-// Whether each edge place that a row names is below `count`.
+// Returns whether each row that refers to an edge list has an edge index less than `count`.
 fn name_edges(rows: &[[u8; ROW_BYTES]], count: usize) -> bool
     ensures { IsTrue result ↔ All (NamesEdge count) rows.now }
 {
     rows.iter().all(|row| names_edge(row, count))
 }
 
-// Whether the edge place that a row names is below `count`.
+// Returns whether the edge index in the row, if any, is less than `count`.
 fn names_edge(row: &[u8; ROW_BYTES], count: usize) -> bool
     ensures { IsTrue result ↔ NamesEdge count row.now }
 {
@@ -211,14 +213,14 @@ fn names_edge(row: &[u8; ROW_BYTES], count: usize) -> bool
     second < MARK || ((second - MARK) as usize) < count
 }
 
-// Whether the parents that rows name directly are before `end`.
+// Returns whether the parents in the rows, except those in edge lists, are less than `end`.
 fn rows_are_before(rows: &[[u8; ROW_BYTES]], end: usize) -> bool
     ensures { IsTrue result ↔ All (IsRowBefore end) rows.now }
 {
     rows.iter().all(|row| is_row_before(row, end))
 }
 
-// Whether the parents that a row names directly are before `end`.
+// Returns whether the parents in the row, except those in its edge list, are less than `end`.
 fn is_row_before(row: &[u8; ROW_BYTES], end: usize) -> bool
     ensures { IsTrue result ↔ IsRowBefore end row.now }
 {
@@ -226,21 +228,21 @@ fn is_row_before(row: &[u8; ROW_BYTES], end: usize) -> bool
     is_before(first, end) && (second >= MARK || is_before(second, end))
 }
 
-// Whether a parent is before `end`, or there is none.
+// Returns whether the parent is less than `end` or absent.
 fn is_before(parent: u32, end: usize) -> bool
     ensures { IsTrue result ↔ IsBefore end parent }
 {
     parent == NO_PARENT || (parent as usize) < end
 }
 
-// Whether the parents that edges name are before `end`.
+// Returns whether the parents in all edges are less than `end`.
 fn edges_are_before(edges: &[[u8; 4]], end: usize) -> bool
     ensures { IsTrue result ↔ All (IsEdgeBefore end) edges.now }
 {
     edges.iter().all(|edge| is_edge_before(edge, end))
 }
 
-// Whether the parent that an edge names is before `end`.
+// Returns whether the parent in the edge is less than `end`.
 fn is_edge_before(edge: &[u8; 4], end: usize) -> bool
     ensures { IsTrue result ↔ IsEdgeBefore end edge.now }
 {
@@ -260,7 +262,7 @@ fn parents(row: &[u8; ROW_BYTES]) -> (u32, u32)
     )
 }
 
-// Returns the big-endian number with these bytes.
+// Returns the big-endian number that consists of these bytes.
 #[tactic(auto, unfolding(crate::specs::Files::number))]
 fn number(bytes: &[u8; 4]) -> u32
     ensures { result ≡ number bytes.now }

@@ -1,4 +1,4 @@
--- The text of the answer to a command line, where it goes, and the exit status that follows it.
+-- The text of the answer to a command line, its stream, and its exit status.
 use Rattle.std.specs.Prelude.{ℕ, List, string_bytes}
 use Rattle.gname.specs.Faults.{out_of_memory_text}
 use Rattle.gitwords.specs.declared.answer.Answer.{Answer}
@@ -11,7 +11,7 @@ answer_text (Asked text) = string_bytes text
 answer_text (Usage text) = string_bytes text
 answer_text Memory = out_of_memory_text
 
--- what was asked for goes to standard output
+-- help and version are printed on standard output
 abbrev pub answer_stream : Answer → Stream
 answer_stream (Asked text) = Output
 answer_stream (Usage text) = Error

@@ -1,20 +1,20 @@
--- What is true of each command that arguments ask for.
+-- The properties of each parsed command.
 use Rattle.std.specs.Prelude.{ℕ, ◌≤◌, List, length, IfSome}
 use Rattle.gitwords.specs.Urls.{IsGitUrl, IsListenAddress}
 use Rattle.gitwords.specs.declared.command.GitrepoCommand.{GitrepoCommand}
 use Rattle.gitwords.specs.declared.command.GitrepoCommand.TheVariants.{Check, Clone, Fetch, Ls, Serve, UploadPack}
 use Rattle.gitwords.specs.declared.url.GitUrl.{GitUrl}
 
--- the parts of a URL
+-- the values are the parts of a URL
 abbrev pub IsUrl : GitUrl → Type 0
 IsUrl url = (text : List ℕ) × IsGitUrl text url.host.now url.port url.path.now
 
--- a number of connections that are served
+-- a number of connections that a server accepts as a limit
 abbrev pub IsServed : ℕ → Type 0
 IsServed count = (1 ≤ count) × (count ≤ 1_000_000)
 
--- A URL is one, there is a refspec for a fetch, connections are accepted at HOST:PORT, and there is at least one, also at
--- once, also from one address.
+-- A URL is valid, a fetch has a refspec, a server has an address HOST:PORT, and each given limit of connections is from
+-- 1 to 1,000,000.
 abbrev pub IsCommand : GitrepoCommand → Type 0
 IsCommand (Check dir) = Unit {0}
 IsCommand (Clone asked) = IsUrl asked.url

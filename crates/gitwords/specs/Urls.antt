@@ -1,4 +1,4 @@
--- URLs of the Git transport (git-clone(1), "GIT URLS"): git://HOST[:PORT]/PATH
+-- URLs of the `git://` transport (git-clone(1), "GIT URLS"): git://HOST[:PORT]/PATH
 use Rattle.std.specs.Prelude.{◌≡◌, ◌≢◌, ◌⊎◌, ℕ, ◌≤◌, Bool, ◌==◌, ◌&&◌, ◌||◌, IsTrue, List, [], ◌∷◌, ◌++◌, All, codes}
 use Rattle.std.specs.Prelude.{length, nat_le, not}
 use Rattle.std.specs.List.{list_all}
@@ -10,17 +10,17 @@ use Rattle.gitwords.specs.declared.fault.Cause.TheVariants.{Transport, NoPath, B
 
 -- ---- hosts
 
--- a letter, a digit, a dash, a dot or a low line
+-- a letter, a digit, a dash, a dot or an underscore
 abbrev pub is_name_byte : ℕ → Bool
 is_name_byte b =
     (nat_le 65 b && nat_le b 90) || (nat_le 97 b && nat_le b 122) || (nat_le 48 b && nat_le b 57)
     || b == 45 || b == 46 || b == 95
 
--- the most bytes of a host, as of one in the first line of a connection
+-- the maximum length of a host in bytes, as in the first line of a connection
 abbrev pub max_host : ℕ
 max_host = 255
 
--- a name, or an IPv4 address
+-- a host name or an IPv4 address
 abbrev pub is_host_name : List ℕ → Bool
 is_host_name host = nat_le 1 (length host) && nat_le (length host) max_host && list_all is_name_byte host
 
@@ -33,18 +33,18 @@ IsHost host = IsTrue (is_host_name host) ⊎ IsBracketed host
 
 -- ---- addresses
 
--- the port of the Git transport
+-- the default port of `git://`
 abbrev pub default_port : ℕ
 default_port = 9418
 
--- HOST[:PORT]
+-- the text is HOST[:PORT], with this host and this port
 abbrev pub IsAuthority : List ℕ → List ℕ → ℕ → Type 0
 IsAuthority text host port =
     IsHost host
     × (((text ≡ host) × (port ≡ default_port))
     ⊎ ((digits : List ℕ) × IsPort digits port × (text ≡ host ++ 58 ∷ digits)))
 
--- HOST:PORT of a listening socket: the system picks the port if it is 0
+-- the text is HOST:PORT, the address of a listening socket; the port 0 lets the system pick a port
 pub record IsListenAddress (text : List ℕ) : Type 0 where
   pub host : List ℕ
   pub digits : List ℕ
@@ -56,47 +56,47 @@ pub record IsListenAddress (text : List ℕ) : Type 0 where
 
 -- ---- paths
 
--- printable ASCII without the percent sign
+-- a printable ASCII byte that is not a percent sign
 abbrev pub is_path_byte : ℕ → Bool
 is_path_byte b = nat_le 32 b && nat_le b 126 && not (b == 37)
 
--- the most bytes of a path, as of one in the first line of a connection
+-- the maximum length of a path in bytes, as in the first line of a connection
 abbrev pub max_path : ℕ
 max_path = 1000
 
--- at most 1,000 such bytes
+-- at most 1,000 bytes of printable ASCII without percent signs
 abbrev pub is_path_text : List ℕ → Bool
 is_path_text text = nat_le (length text) max_path && list_all is_path_byte text
 
--- a slash and more
+-- a path: a slash, and more bytes that a path may have
 abbrev pub IsPath : List ℕ → Type 0
 IsPath path = ((rest : List ℕ) × (path ≡ 47 ∷ rest)) × IsTrue (is_path_text path)
 
 -- ---- URLs
 
--- the parts of a text that begins with git:// : what comes before the next slash, and the rest
+-- a text that begins with git:// is split at the next slash into HOST[:PORT] and the path
 pub record IsCut (text authority path : List ℕ) : Type 0 where
   pub parts : text ≡ codes "git://" ++ (authority ++ path)
   pub before : All (λ b. b ≢ 47) authority
   pub slash : (rest : List ℕ) × (path ≡ 47 ∷ rest)
 
--- git://HOST[:PORT]/PATH
+-- the text is git://HOST[:PORT]/PATH, with this host, port and path
 pub record IsGitUrl (text host : List ℕ) (port : ℕ) (path : List ℕ) : Type 0 where
   pub authority : List ℕ
   pub cut : IsCut text authority path
   pub names : IsAuthority authority host port
   pub is_path : IsPath path
 
--- a text is the URL of one host, port and path
+-- a URL has only one host, one port and one path
 abbrev pub UrlsHaveOneReading : Type 0
 UrlsHaveOneReading = (text host other : List ℕ) (port number : ℕ) (path rest : List ℕ)
     → IsGitUrl text host port path → IsGitUrl text other number rest → (host ≡ other) × (port ≡ number) × (path ≡ rest)
 
--- no HOST[:PORT]
+-- the text is not HOST[:PORT]
 abbrev pub IsNoAuthority : List ℕ → Type 0
 IsNoAuthority text = (host : List ℕ) (port : ℕ) → ¬ (IsAuthority text host port)
 
--- a host and a colon, and no port after them
+-- the text is a host and a colon, but no valid port follows
 pub record HasBadPort (text : List ℕ) : Type 0 where
   pub host : List ℕ
   pub digits : List ℕ
@@ -104,8 +104,8 @@ pub record HasBadPort (text : List ℕ) : Type 0 where
   pub names : IsHost host
   pub bad : (port : ℕ) → ¬ (IsPort digits port)
 
--- Why a text is refused: it does not begin with git:// ; or it has no further slash; or the path is malformed; or
--- what comes before the path is no HOST[:PORT], for its port or for another reason.
+-- The reasons to refuse a text as a URL: another start than git:// , no slash after the host, or a malformed path, host
+-- or port.
 abbrev pub IsCause : List ℕ → Cause → Type 0
 IsCause text (Transport transport) = (rest : List ℕ) → ¬ (text ≡ codes "git://" ++ rest)
 IsCause text NoPath = (rest : List ℕ) × (text ≡ codes "git://" ++ rest) × All (λ b. b ≢ 47) rest
@@ -113,7 +113,7 @@ IsCause text BadPath = (authority path : List ℕ) × IsCut text authority path 
 IsCause text BadHost = (authority path : List ℕ) × IsCut text authority path × IsNoAuthority authority
 IsCause text BadPort = (authority path : List ℕ) × IsCut text authority path × HasBadPort authority
 
--- the cause for which a text is no HOST[:PORT]
+-- the reason why a text is not HOST[:PORT]
 abbrev pub IsAuthorityCause : List ℕ → Cause → Type 0
 IsAuthorityCause text BadHost = IsNoAuthority text
 IsAuthorityCause text BadPort = IsNoAuthority text × HasBadPort text

@@ -5,12 +5,12 @@ ghost use Rattle.gitwords.specs.Answers.{answer_status, answer_stream, answer_te
 
 use gname::OUT_OF_MEMORY_TEXT;
 
-/// An answer that `gitrepo` prints instead of running a command.
+/// A text that `gitrepo` prints instead of running a command.
 #[derive(Debug, Drop)]
 pub enum Answer {
-    /// The help or the version, as lines.
+    /// The requested help or version.
     Asked(String),
-    /// The first mistake in the arguments, and the usage, as lines.
+    /// The first mistake in the arguments, and the usage of the command.
     Usage(String),
     /// Out of memory.
     Memory,
@@ -26,7 +26,7 @@ pub enum Stream {
 }
 
 impl Answer {
-    /// Returns the text to print. It ends with a line feed, except for `Memory`.
+    /// Returns the text of the answer. Every text except that of `Memory` ends with a line feed.
     pub fn text(&self) -> &str
         ensures { result.now ≡ answer_text self.now }
     {
@@ -36,7 +36,7 @@ impl Answer {
         }
     }
 
-    /// Returns the stream on which it is printed.
+    /// Returns the stream on which the answer is printed.
     pub fn stream(&self) -> Stream
         ensures { result ≡ answer_stream self.now }
     {
@@ -46,7 +46,8 @@ impl Answer {
         }
     }
 
-    /// Returns the exit status: 0, 2 for wrong usage, or 1 if out of memory.
+    /// Returns the exit status of the answer: 0 for help or version, 2 for wrong usage, 1 if out of
+    /// memory.
     pub fn status(&self) -> u8
         ensures { result ≡ answer_status self.now }
     {

@@ -6,7 +6,7 @@ use crate::url::GitUrl;
 use gname::Prefix;
 use grefs::Spec;
 
-/// A parsed command. Its texts are borrowed from the arguments.
+/// A parsed command. Its texts borrow from the arguments.
 #[derive(Debug, Drop)]
 pub enum GitrepoCommand<'a> {
     /// `check DIR`
@@ -20,7 +20,7 @@ pub enum GitrepoCommand<'a> {
     Fetch(FetchArgs<'a>),
     /// `ls URL [PREFIX]...`
     Ls(LsArgs<'a>),
-    /// `serve --listen ADDR [--connections N] [--max-connections N] [--max-per-address N] [--export-all] BASE`
+    /// `serve --listen ADDR [OPTION]... BASE`
     Serve(ServeArgs<'a>),
     /// `upload-pack DIR`
     UploadPack {
@@ -29,17 +29,19 @@ pub enum GitrepoCommand<'a> {
     },
 }
 
-/// How much `clone` and `fetch` print on standard error (git-fetch(1), "--quiet", "--progress").
+/// The amount of output of `clone` and `fetch` on standard error (git-fetch(1), "--quiet",
+/// "--progress").
 #[derive(Clone, Copy, Debug, PartialEq, Eq, Drop)]
 pub struct Verbosity {
-    /// `--quiet`: print no report, and show progress only if `progress` is set.
+    /// `--quiet`: print no report, and show progress only with `--progress`.
     pub quiet: bool,
     /// `--progress`: show progress even if standard error is not a terminal.
     pub progress: bool,
 }
 
 impl Verbosity {
-    /// Whether progress is shown, depending on whether standard error is a terminal.
+    /// Returns whether progress is shown. `is_terminal` states whether standard error is a
+    /// terminal.
     pub fn shows_progress(self, is_terminal: bool) -> bool
         ensures { result ≡ (self.progress || (is_terminal && not self.quiet)) }
     {
@@ -50,7 +52,7 @@ impl Verbosity {
 /// The arguments of `clone`.
 #[derive(Clone, Copy, Debug, Drop)]
 pub struct CloneArgs<'a> {
-    /// How much to print.
+    /// The amount of output.
     pub verbosity: Verbosity,
     /// The repository of the server.
     pub url: GitUrl<'a>,
@@ -61,7 +63,7 @@ pub struct CloneArgs<'a> {
 /// The arguments of `fetch`.
 #[derive(Debug, Drop)]
 pub struct FetchArgs<'a> {
-    /// How much to print.
+    /// The amount of output.
     pub verbosity: Verbosity,
     /// The directory of the repository.
     pub dir: &'a str,
@@ -76,25 +78,26 @@ pub struct FetchArgs<'a> {
 pub struct LsArgs<'a> {
     /// The repository of the server.
     pub url: GitUrl<'a>,
-    /// The prefixes of names to list. All names are listed if there are none.
+    /// The prefixes of the refs to list. An empty list lists all refs.
     pub prefixes: Vec<Prefix>,
 }
 
 /// The arguments of `serve`.
 #[derive(Clone, Copy, Debug, Drop)]
 pub struct ServeArgs<'a> {
-    /// The address to listen at, HOST:PORT. The system picks the port if it is 0.
+    /// The address to listen at, HOST:PORT. If the port is 0, the system picks a free port.
     pub listen: &'a str,
-    /// The number of connections to serve, from 1 to 1,000,000, or `None` if there is no limit.
+    /// The total number of connections to serve, from 1 to 1,000,000. `None` means no limit.
     pub connections: Option<u32>,
-    /// The maximum number of connections at once, from 1 to 1,000,000, or `None` if not given.
+    /// The maximum number of simultaneous connections, from 1 to 1,000,000, or `None` for the
+    /// default.
     pub max_connections: Option<u32>,
-    /// The maximum number of connections at once from one address, from 1 to 1,000,000, or `None`
-    /// if not given.
+    /// The maximum number of simultaneous connections from one address, from 1 to 1,000,000, or
+    /// `None` for the default.
     pub max_per_address: Option<u32>,
     /// Whether to serve repositories without a file `git-daemon-export-ok` (git-daemon(1),
     /// "--export-all").
     pub export_all: bool,
-    /// The base directory.
+    /// The base directory, which contains all served repositories.
     pub base: &'a str,
 }

@@ -1,4 +1,4 @@
-//! Why a text is not a URL.
+//! The reasons why a text is not a URL of `git://`.
 
 ghost use Rattle.std.specs.Prelude.{◌≡◌, Some};
 ghost use Rattle.gitwords.specs.Faults.{cause_text, transport_text, url_fault_text};
@@ -6,47 +6,47 @@ ghost use Rattle.gitwords.specs.Faults.{cause_text, transport_text, url_fault_te
 use std::error::Error;
 use std::fmt;
 
-/// A URL that `gitrepo` cannot fetch from. Its text is one sentence that names the URL and says
-/// what to do.
+/// A URL from which `gitrepo` can't fetch. The printed text is one sentence that names the URL and
+/// suggests a remedy.
 #[derive(Clone, Copy, Debug, Drop)]
 pub struct UrlFault<'a> {
-    /// The URL.
+    /// The refused text.
     pub url: &'a str,
-    /// The cause.
+    /// The reason to refuse the text.
     pub cause: Cause,
 }
 
-/// Why a URL is refused.
+/// The reason to refuse a URL.
 #[derive(Clone, Copy, Debug, PartialEq, Eq, Drop)]
 pub enum Cause {
-    /// It does not begin with `git://`.
+    /// The URL does not begin with `git://`.
     Transport(Transport),
-    /// No slash follows the host.
+    /// The URL has no slash after the host.
     NoPath,
     /// The text before the path is not a host: a name, an IPv4 address, or an IPv6 address in
     /// brackets.
     BadHost,
-    /// No number from 1 to 65,535 follows the host and its colon.
+    /// The text after the host and its colon is not a number from 1 to 65,535.
     BadPort,
     /// The path has more than 1,000 bytes, a percent sign, or a byte that is not printable ASCII.
     BadPath,
 }
 
-/// How Git reaches a repository whose URL does not begin with `git://` (git-clone(1), "GIT URLS").
+/// The transport of a URL that does not begin with `git://` (git-clone(1), "GIT URLS").
 #[derive(Clone, Copy, Debug, PartialEq, Eq, Drop)]
 pub enum Transport {
-    /// By ssh: `ssh://`, or the form `HOST:PATH`.
+    /// The ssh transport: `ssh://`, or the form `HOST:PATH`.
     Ssh,
-    /// By HTTP or HTTPS.
+    /// HTTP or HTTPS.
     Http,
-    /// By a local path: `file://`, or a path.
+    /// The local transport: `file://`, or a path.
     File,
-    /// Git itself does not know the transport.
+    /// A transport that is unknown to Git, too.
     Unknown,
 }
 
 impl Cause {
-    // Returns the rest of the sentence, after the URL.
+    // Returns the part of the sentence that follows the URL.
     fn phrase(self) -> &'static str
         ensures { result.now ≡ cause_text self }
     {
@@ -95,7 +95,7 @@ impl Transport {
     }
 }
 
-// Whether a text has a colon before its first slash, like HOST:PATH.
+// Returns whether the text has a colon before its first slash, like HOST:PATH.
 fn has_host(text: &str) -> bool {
     match text.split_once(':') {
         Some((host, _)) => !host.contains('/'),

@@ -1,21 +1,21 @@
-//! Laws of the definitions.
+//! Laws that follow from the definitions in `specs/`.
 
 ghost use Rattle.gitwords.specs.Clean.{PiecesAreClean};
 ghost use Rattle.gitwords.specs.Served.{PathsHaveOneReading};
 ghost use Rattle.gitwords.specs.Urls.{UrlsHaveOneReading};
 
-/// Laws: pieces cleaned one by one give the whole cleaned text, and a clean text has only allowed
-/// bytes.
+/// A law: cleaning two pieces of a text one after the other gives the cleaned text, and a cleaned
+/// text has only bytes that a terminal may show.
 pub fn pieces_are_clean()
     ensures { PiecesAreClean }
 {}
 
-/// A law: a client's path names at most one directory.
+/// A law: the path of a request names at most one directory.
 pub fn paths_have_one_reading()
     ensures { PathsHaveOneReading }
 {}
 
-/// A law: a URL has exactly one host, port and path.
+/// A law: a URL has exactly one host, one port and one path.
 pub fn urls_have_one_reading()
     ensures { UrlsHaveOneReading }
 {}

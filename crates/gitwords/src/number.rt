@@ -7,7 +7,7 @@ ghost use Rattle.gitwords.specs.Numbers.{IsCount};
 // The maximum number of connections.
 const MAX_CONNECTIONS: u32 = 1_000_000;
 
-/// Returns the number of connections in a text: decimal digits for a number from 1 to 1,000,000.
+/// Returns the number of connections in a text of decimal digits, from 1 to 1,000,000.
 pub(crate) fn connections_of(text: &str) -> Option<u32>
     ensures { MatchOption result ((count : ℕ) → ¬ (IsCount text.now count)) (IsCount text.now) }
 {
@@ -17,8 +17,8 @@ pub(crate) fn connections_of(text: &str) -> Option<u32>
     }
 }
 
-/// Returns the number with these decimal digits, if it is below 2^32. `parse` would also accept a
-/// leading `+`.
+/// Returns the number that the text's decimal digits denote, if it is less than 2^32. Refuses a
+/// leading `+`, which `parse` accepts.
 pub(crate) fn number_of(digits: &str) -> Option<u32>
     ensures { MatchOption result
         ((number : ℕ) → number < 2 ^ 32 → ¬ (IsNumber 10 digits.now number))

@@ -1,4 +1,4 @@
-//! Reading the arguments.
+//! The parser of the arguments.
 
 ghost use Rattle.std.specs.Prelude.{◌≤◌, IfOk, IfSome, length};
 ghost use Rattle.gitwords.specs.Commands.{IsCommand, IsServed, IsUrl};
@@ -17,7 +17,7 @@ use grefs::{Spec, SpecFault};
 use std::alloc::{AllocError, AllocFailed, Global};
 use std::fmt;
 
-// Why arguments that `clap` accepts are not a command.
+// The reasons why arguments that `clap` accepts are not a command.
 #[derive(Drop)]
 enum WordFault<'a> {
     // The argument with this name is missing.
@@ -30,11 +30,11 @@ enum WordFault<'a> {
     Memory,
 }
 
-/// Parses the arguments into a command. The first argument is the program name. The command is
+/// Parses the arguments, the first of which is the program name, into a command. The command is
 /// well-formed (`specs/Commands.antt`).
 ///
-/// Otherwise fails with the answer to print: the requested help or version, the mistake in the
-/// arguments, or out of memory.
+/// Fails with the answer to print: the requested help or version, a mistake in the arguments, or
+/// out of memory.
 pub fn read_words<'a>(alloc: Global, words: &'a [String]) -> Result<GitrepoCommand<'a>, Answer>
     ensures { IfOk result IsCommand }
 {
@@ -55,7 +55,7 @@ fn parse<'a>(alloc: Global, words: &'a [String]) -> Result<ArgMatches<'a>, clap:
     program(alloc)?.try_get_matches_from(words)
 }
 
-// Returns the answer to arguments that `clap` refuses, and to the flags for help and the version.
+// Returns the answer for an error of `clap`: wrong arguments, help or the version.
 fn answer_of_clap(alloc: Global, error: clap::Error) -> Answer {
     let kind = error.kind();
     if kind == ErrorKind::OutOfMemory {
@@ -70,7 +70,7 @@ fn answer_of_clap(alloc: Global, error: clap::Error) -> Answer {
     }
 }
 
-// Returns the answer to wrong arguments of a command, in `clap`'s form.
+// Returns the answer for wrong arguments of a command, in the format of `clap`.
 fn answer_of(alloc: Global, name: &str, fault: WordFault<'_>) -> Answer {
     if let WordFault::Memory = fault {
         return Answer::Memory;
@@ -183,7 +183,7 @@ fn listen<'a>(words: &ArgMatches<'a>) -> Result<&'a str, WordFault<'a>>
     }
 }
 
-// Returns the number of connections from an option, if it is present.
+// Returns the number of connections that an option gives, if the option is present.
 fn connections<'a>(words: &ArgMatches<'a>, name: &'static str) -> Result<Option<u32>, WordFault<'a>>
     ensures { IfOk result (λ count. IfSome count IsServed) }
 {

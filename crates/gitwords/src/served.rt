@@ -1,4 +1,4 @@
-//! The directories that a client's path may name.
+//! The directories that the path of a request may name.
 
 ghost use Rattle.std.specs.Prelude.{◌≡◌, ◌≢◌, ◌⊎◌, ◌++◌, ◌∷◌, [], IfOk, List, ℕ, MatchOption, string_bytes};
 ghost use Rattle.std.specs.List.{list_all};
@@ -7,7 +7,7 @@ ghost use Rattle.gitwords.specs.Served.{IsServedPath, StaysBelow, components, en
 use std::alloc::{AllocError, Allocator};
 use std::marker::Model;
 
-/// The ending of a directory name, after the client's path.
+/// The ending that is appended to a path to get a directory name.
 #[derive(Clone, Copy, Debug, PartialEq, Eq, Drop)]
 pub enum Ending {
     /// `PATH/.git`
@@ -21,7 +21,7 @@ pub enum Ending {
 }
 
 impl Ending {
-    /// Returns the endings in the order that Git tries them.
+    /// Returns the endings in the order in which Git tries them.
     pub fn in_order() -> [Ending; 4]
         ensures { result ≡ endings }
     {
@@ -33,7 +33,7 @@ impl Ending {
         ]
     }
 
-    /// Returns the text of the ending.
+    /// Returns the ending as text.
     pub fn text(self) -> &'static str
         ensures { result.now ≡ ending_text self }
     {
@@ -46,7 +46,7 @@ impl Ending {
     }
 }
 
-/// A client's path, whose components may each be the name of a directory (git-daemon(1)).
+/// The path of a request, each component of which may be the name of a directory (git-daemon(1)).
 #[derive(Debug, Drop)]
 pub struct ServedPath<'a> {
     relative: &'a str,
@@ -61,9 +61,9 @@ impl<'a> Model for ServedPath<'a> {
 }
 
 impl<'a> ServedPath<'a> {
-    /// Parses the path of a client, and removes its first slash and an optional slash at its end.
-    /// Returns `None` if it does not begin with a slash, or if a component is empty or begins with
-    /// a dot. A path like this does not name a directory.
+    /// Parses the path of a request, and removes its first slash and an optional slash at its end.
+    /// Returns `None` if the path does not begin with a slash, or if a component is empty or begins
+    /// with a dot.
     pub fn parse(path: &'a str) -> Option<ServedPath<'a>>
         ensures { MatchOption result ((rest : List ℕ) → ¬ (IsServedPath path.now rest))
             (IsServedPath path.now) }
@@ -95,7 +95,7 @@ impl<'a> ServedPath<'a> {
     }
 }
 
-// Returns the text without the slash at its end, if there is one.
+// Returns the text without a slash at its end.
 fn without_last_slash(text: &str) -> &str
     ensures { (text.now ≡ result.now ++ 47 ∷ [])
         ⊎ ((text.now ≡ result.now) × ((front : List ℕ) → text.now ≢ front ++ 47 ∷ [])) }
@@ -106,7 +106,7 @@ fn without_last_slash(text: &str) -> &str
     }
 }
 
-// Whether each component may be the name of a directory.
+// Returns whether each component of the path may be the name of a directory.
 fn has_names(relative: &str) -> bool
     ensures { result ≡ list_all is_name (components relative.now) }
 {
@@ -116,7 +116,7 @@ fn has_names(relative: &str) -> bool
         .all(|part| is_name(part))
 }
 
-// Whether a component is not empty, and its first byte is not a dot.
+// Returns whether a component is not empty and does not begin with a dot.
 fn is_name(component: &[u8]) -> bool
     ensures { result ≡ is_name component.now }
 {

@@ -1,4 +1,4 @@
-//! Cleaning bytes from a peer for a terminal.
+//! Cleaning the bytes from a peer before a terminal shows them.
 
 ghost use Rattle.std.specs.Prelude.{◌≡◌, ◌++◌, IfOk, OnOk};
 ghost use Rattle.gitwords.specs.Clean.{clean_byte, clean_text};
@@ -26,7 +26,7 @@ pub fn clean_byte(byte: u8, shown: Shown) -> u8
     }
 }
 
-/// Returns the cleaned bytes. Fails only if out of memory.
+/// Returns a text with each byte cleaned. Fails only if out of memory.
 pub fn clean<A: Allocator + Copy>(
     alloc: A,
     bytes: &[u8],
@@ -40,8 +40,8 @@ pub fn clean<A: Allocator + Copy>(
         .collect(alloc)
 }
 
-/// Appends the cleaned bytes to a text. Fails only if out of memory, and may then have appended
-/// some of them.
+/// Appends the cleaned bytes to a text. Fails only if out of memory, perhaps after some of the
+/// bytes are appended.
 pub fn push_clean<A: Allocator + Copy>(
     text: &mut Vec<u8, A>,
     bytes: &[u8],

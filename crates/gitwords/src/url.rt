@@ -1,4 +1,4 @@
-//! URLs of the Git transport, and addresses.
+//! URLs of the `git://` transport, and listening addresses.
 
 ghost use Rattle.std.specs.Prelude.{◌≡◌, ◌≢◌, ◌++◌, ◌∷◌, ◌≤◌, [], All, IfErr, IfOk, List, MatchBool, MatchOption, MatchResult, codes, decimal, string_bytes, ℕ};
 ghost use Rattle.std.specs.Net.Grammar.{IsNumber};
@@ -11,10 +11,10 @@ use crate::number::number_of;
 use std::alloc::{AllocError, Allocator};
 use std::net::Ipv6Addr;
 
-/// The default port of the Git transport.
+/// The default port of `git://`.
 pub const DEFAULT_PORT: u16 = 9418;
 
-// The maximum length of a host and of a path, as in the first line of a connection.
+// The maximum lengths of a host and of a path, as in the first line of a connection.
 const MAX_HOST: usize = 255;
 
 const MAX_PATH: usize = 1_000;
@@ -22,13 +22,13 @@ const MAX_PATH: usize = 1_000;
 // The highest port.
 const MAX_PORT: u32 = 65_535;
 
-// The beginning of a URL of the Git transport.
+// The start of a `git://` URL.
 const SCHEME: &str = "git://";
 
-/// A URL of the Git transport: `git://HOST[:PORT]/PATH` (git-clone(1), "GIT URLS").
+/// A URL of the `git://` transport: `git://HOST[:PORT]/PATH` (git-clone(1), "GIT URLS").
 #[derive(Clone, Copy, Debug, Drop)]
 pub struct GitUrl<'a> {
-    /// A name, an IPv4 address, or an IPv6 address in its brackets: at most 255 bytes.
+    /// A name, an IPv4 address, or an IPv6 address in brackets. The host has at most 255 bytes.
     pub host: &'a str,
     /// The port, from 1 to 65,535.
     pub port: u16,
@@ -37,9 +37,9 @@ pub struct GitUrl<'a> {
 }
 
 impl<'a> GitUrl<'a> {
-    /// Parses a URL. The path is kept unchanged, including a `~user` at its beginning.
+    /// Parses a URL. The path stays unchanged, including a `~user` at its start.
     ///
-    /// Fails if the text is not such a URL. The fault has the text and the cause.
+    /// Fails if the text is not a URL of this form. The fault has the text and the cause.
     pub fn parse(text: &'a str) -> Result<GitUrl<'a>, UrlFault<'a>>
         ensures url { MatchResult result
             (λ url. IsGitUrl text.now url.host.now url.port url.path.now)
@@ -63,8 +63,8 @@ impl<'a> GitUrl<'a> {
     }
 }
 
-/// Whether a text is the address of a listening socket, HOST:PORT. The port is from 0 to 65,535,
-/// and the system picks one if it is 0.
+/// Returns whether a text is the address of a listening socket, HOST:PORT. The port is from 0 to
+/// 65,535, and 0 lets the system pick a port.
 pub(crate) fn is_listen_address(text: &str) -> bool
     ensures { MatchBool result (IsListenAddress text.now) (¬ (IsListenAddress text.now)) }
 {
@@ -74,7 +74,7 @@ pub(crate) fn is_listen_address(text: &str) -> bool
     }
 }
 
-// Whether decimal digits make a number up to 65,535.
+// Returns whether the decimal digits denote a number up to 65,535.
 fn is_port_or_zero(digits: &str) -> bool
     ensures { MatchBool result ((port : ℕ) × IsNumber 10 digits.now port × (port ≤ 65_535))
         ((port : ℕ) → port ≤ 65_535 → ¬ (IsNumber 10 digits.now port)) }
@@ -107,7 +107,7 @@ fn read_url(text: &str) -> Result<GitUrl<'_>, Cause>
     }
 }
 
-// Returns the text before the first slash, and the rest, or `None` if there is no slash.
+// Returns the text before the first slash, and the rest. Returns `None` if the text has no slash.
 fn split_path(text: &str) -> Option<(&str, &str)>
     ensures { MatchOption result (All (λ b. b ≢ 47) text.now)
         (λ parts. (text.now ≡ parts.0.now ++ parts.1.now) × All (λ b. b ≢ 47) parts.0.now
@@ -137,7 +137,7 @@ fn is_path_byte(byte: u8) -> bool
     (b' '..=b'~').contains(&byte) && byte != b'%'
 }
 
-// Returns the host and the port of HOST[:PORT].
+// Returns the host and the port of the text HOST[:PORT].
 fn read_authority(text: &str) -> Result<(&str, u16), Cause>
     ensures { MatchResult result (λ parts. IsAuthority text.now parts.0.now parts.1)
         (IsAuthorityCause text.now) }
@@ -157,7 +157,7 @@ fn read_authority(text: &str) -> Result<(&str, u16), Cause>
     }
 }
 
-// Returns the texts before and after the last colon, or `None` if there is no colon.
+// Returns the texts before and after the last colon, or `None` if the text has no colon.
 fn split_port(text: &str) -> Option<(&str, &str)>
     ensures { MatchOption result (All (λ b. b ≢ 58) text.now)
         (λ parts. (text.now ≡ parts.0.now ++ 58 ∷ parts.1.now)
@@ -166,7 +166,7 @@ fn split_port(text: &str) -> Option<(&str, &str)>
     text.rsplit_once(':')
 }
 
-// Returns the number with these decimal digits, from 1 to 65,535.
+// Returns the port number, from 1 to 65,535, that these decimal digits denote.
 fn port_of(digits: &str) -> Option<u16>
     ensures { MatchOption result ((port : ℕ) → ¬ (IsPort digits.now port)) (IsPort digits.now) }
 {
@@ -209,7 +209,7 @@ fn is_bracketed(text: &str) -> bool
     }
 }
 
-// Returns the text between two brackets, or `None` if there are no brackets around it.
+// Returns the text between enclosing brackets, or `None` if brackets do not enclose the text.
 fn in_brackets(text: &str) -> Option<&str>
     ensures { MatchOption result ((inner : List ℕ) → ¬ (text.now ≡ 91 ∷ (inner ++ 93 ∷ [])))
         (λ inner. text.now ≡ 91 ∷ (inner.now ++ 93 ∷ [])) }

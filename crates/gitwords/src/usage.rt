@@ -1,10 +1,10 @@
-//! The commands, and their `clap` definitions.
+//! The commands of the program, declared to `clap`.
 
 use clap::{Arg, ArgAction, Command};
 use std::alloc::{AllocError, Global};
 
-/// A command: its name, the first line of its help, its usage line, its arguments, and the end of
-/// its help.
+/// A command: its name, the first line of its help, its usage line, its arguments, and the last
+/// part of its help.
 pub(crate) struct Row {
     name: &'static str,
     about: &'static str,
@@ -13,14 +13,15 @@ pub(crate) struct Row {
     notes: &'static str,
 }
 
-// One or more arguments of a command. The first text is the look-up name, the last one is the help.
+// One or more arguments of a command. The first text is the name for look-up, and the last text is
+// the help.
 #[derive(Clone, Copy)]
 enum Word {
     // `--NAME`
     Flag(&'static str, &'static str),
-    // `--NAME VALUE`, which is required.
+    // `--NAME VALUE`, a required option.
     Valued(&'static str, &'static str, &'static str),
-    // `--NAME VALUE`, which is optional.
+    // `--NAME VALUE`, which may be absent.
     Optional(&'static str, &'static str, &'static str),
     // A required argument.
     One(&'static str, &'static str),
@@ -172,7 +173,7 @@ It needs GIT_PROTOCOL=version=2 in its environment, which sshd has to accept.",
     },
 ];
 
-/// Returns the program with all its commands.
+/// Returns the declaration of the program with all its commands.
 pub(crate) fn program<'a>(alloc: Global) -> Result<Command<'a>, AllocError> {
     let mut program = Command::new(alloc, PROGRAM)
         .about("Clone, fetch and serve Git repositories over git://")
@@ -187,7 +188,7 @@ pub(crate) fn program<'a>(alloc: Global) -> Result<Command<'a>, AllocError> {
     Ok(program)
 }
 
-/// Returns the usage line of a command.
+/// Returns the usage line of the command, or of the program for an unknown command.
 pub(crate) fn usage_of(name: &str) -> &'static str {
     match COMMANDS.iter().find(|row| row.name == name) {
         Some(row) => row.usage,

@@ -1,31 +1,32 @@
-//! A file that is replaced whole, or not at all, with git's lockfile protocol (`lockfile.h` in
-//! git's sources).
+//! A file that is replaced as a whole or not at all, with Git's lockfile protocol (`lockfile.h` in
+//! Git's sources).
 //!
-//! A run creates `FILE.lock`, which fails if it exists, and only then reads FILE. It writes the new
-//! text to the lockfile, syncs it, and renames it over FILE.
+//! A run creates `FILE.lock`, which fails if this lockfile already exists, and only then reads
+//! FILE. The run writes the new text to the lockfile, syncs the lockfile, and renames it over FILE.
 //!
 //! # Proved
 //!
-//! - [`open_file`] returns the text of the file, and adds none. The run holds the lockfile exactly
-//!   if it returns `Ok`.
-//! - [`replace_file`] adds only the new text, or none if the old text equals it
-//!   (`specs/Storing.antt`). So in every state since then the file has the old text or the whole
-//!   new one. After `Ok` it has the new one. In all cases the run holds no lockfile at the end.
-//! - The calls of a [`Storage`] are in order: each requires the right state of the lockfile. A text
-//!   is renamed only after it is synced, and read only under the lock.
-//! - [`MemoryFile`] is such a storage, and knows all of its texts.
+//! - [`open_file`] returns the text of the file, and does not change the file. The run holds the
+//!   lockfile exactly if [`open_file`] returns `Ok`.
+//! - [`replace_file`] gives the file only the new text, or leaves it unchanged if the old text
+//!   equals the new text (`specs/Storing.antt`). During and after the call the file has the old
+//!   text or the whole new text. After `Ok` the file has the new text. At the end the run never
+//!   holds a lockfile.
+//! - The calls of a [`Storage`] have a fixed order: each call requires a state of the lockfile. A
+//!   text is renamed only after it is synced, and read only under the lock.
+//! - [`MemoryFile`] is a storage that records all of its texts.
 //!
 //! # Only tested
 //!
-//! The cases of `conformance` test which call of a `MemoryFile` fails, and whether a lockfile is
-//! left.
+//! The cases of `conformance` test a failure at each call of a `MemoryFile`, and whether a lockfile
+//! is left.
 //!
 //! # What the contracts do not rule out
 //!
-//! No contract can describe the contents of a system file: only the order of the calls of a
-//! [`StoredFile`] is proved. A crash leaves the old text or the new one if the file system renames
-//! atomically, and syncs as requested. A lockfile that the system does not remove stays. Each call
-//! may fail.
+//! No contract can describe the contents of a file of the system, so the contracts of
+//! [`StoredFile`] state only the order of its calls. If the file system renames atomically and
+//! syncs on request, a crash leaves the old text or the new text. A lockfile that the system
+//! refuses to remove stays. Each call may fail.
 #![tactic(auto)]
 
 mod memory;

@@ -8,9 +8,10 @@ use std::alloc::{Allocator, Global};
 use std::marker::Model;
 use std::mem;
 
-/// A file in memory. It stores each text that it has had.
+/// A file in memory, which records each text that it has had.
 ///
-/// The failing call is only tested: a clause sees the texts, and the state of this run's lockfile.
+/// The contracts state the texts and the state of this run's lockfile. The contracts do not state
+/// which call fails.
 #[derive(Drop)]
 pub struct MemoryFile<A: Allocator + Copy = Global> {
     alloc: A,
@@ -22,26 +23,26 @@ pub struct MemoryFile<A: Allocator + Copy = Global> {
     calls: usize,
 }
 
-// The calls that fail. The first call is 1.
+// The calls that fail. Calls are numbered from 1.
 #[derive(Clone, Copy)]
 enum Trouble {
     None,
-    // This call.
+    // The call with this number fails.
     At(usize),
-    // This call and all later ones.
+    // The call with this number and all later calls fail.
     From(usize),
-    // All later calls. This call does its work, but also fails.
+    // The call with this number has its effect but fails. All later calls fail.
     After(usize),
 }
 
 // The outcome of a call.
 #[derive(Clone, Copy, PartialEq, Eq)]
 enum Effect {
-    // It does its work.
+    // The call has its effect, and succeeds.
     Done,
-    // It does its work, and fails.
+    // The call has its effect, but fails.
     Unanswered,
-    // It changes nothing, and fails.
+    // The call has no effect, and fails.
     Refused,
 }
 
@@ -58,7 +59,7 @@ impl<A: Allocator + Copy> Model for MemoryFile<A> {
 }
 
 impl<A: Allocator + Copy> MemoryFile<A> {
-    /// Returns a file with this text, whose calls work. Fails only if out of memory.
+    /// Returns a file with this text, on which no call is set to fail. Fails only if out of memory.
     pub fn new(alloc: A, text: &[u8]) -> Result<MemoryFile<A>, StorageFault>
         ensures states { IfOk result (λ file. file.texts.states ≡ text.now ∷ []) }
         ensures lockfile { IfOk result (λ file. file.lockfile ≡ Absent) }
@@ -76,7 +77,7 @@ impl<A: Allocator + Copy> MemoryFile<A> {
         })
     }
 
-    /// Returns the file with a lockfile of another run.
+    /// Returns the file with a lockfile that another run holds.
     pub fn locked_by_another(mut self) -> MemoryFile<A>
         ensures { result ≡ self }
     {
@@ -84,7 +85,7 @@ impl<A: Allocator + Copy> MemoryFile<A> {
         self
     }
 
-    /// Makes the call with this number fail and change nothing. The first call is 1.
+    /// Makes the call with this number fail without effect. Calls are numbered from 1.
     pub fn fail_call(mut self, call: usize) -> MemoryFile<A>
         ensures { result ≡ self }
     {
@@ -92,8 +93,8 @@ impl<A: Allocator + Copy> MemoryFile<A> {
         self
     }
 
-    /// Makes the call with this number and all later ones fail and change nothing, as in a run that
-    /// was killed before it.
+    /// Makes the call with this number and all later calls fail without effect, as if the run was
+    /// killed before this call.
     pub fn stop_from(mut self, call: usize) -> MemoryFile<A>
         ensures { result ≡ self }
     {
@@ -101,8 +102,8 @@ impl<A: Allocator + Copy> MemoryFile<A> {
         self
     }
 
-    /// Makes the call with this number do its work and fail. All later ones fail and change
-    /// nothing, as in a run that was killed right after it.
+    /// Makes the call with this number fail after it has its effect. All later calls fail without
+    /// effect, as if the run was killed right after this call.
     pub fn stopping_after(mut self, call: usize) -> MemoryFile<A>
         ensures { result ≡ self }
     {
@@ -110,19 +111,19 @@ impl<A: Allocator + Copy> MemoryFile<A> {
         self
     }
 
-    /// Returns each text that the file has had. The last one is the current text.
+    /// Returns each text that the file has had. The last text is the current one.
     pub fn states(&self) -> &[Vec<u8, A>]
         ensures { map (λ v. v.items) result.now ≡ self.now.texts.states }
     {
         self.states.as_slice()
     }
 
-    /// Whether there is a lockfile, of this run or of another.
+    /// Returns whether a lockfile exists, of this run or of another run.
     pub fn is_locked(&self) -> bool {
         self.is_locked
     }
 
-    /// Returns the number of calls.
+    /// Returns the number of calls so far.
     pub fn calls(&self) -> usize {
         self.calls
     }

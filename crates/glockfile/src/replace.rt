@@ -1,4 +1,4 @@
-//! Locking and reading a file, and then replacing it whole, or not at all.
+//! Locking and reading a file, and then replacing it as a whole or not at all.
 
 ghost use Rattle.std.specs.Prelude.{◌≡◌, IfOk, MatchResult, OnOk};
 ghost use Rattle.glockfile.specs.Storing.{Adds, Holds, MayAdd, Replaces, WhereKnown};
@@ -7,7 +7,7 @@ ghost use Rattle.glockfile.specs.declared.storage.Lockfile.TheVariants.{Absent, 
 use crate::storage::{Storage, StorageFault};
 use std::alloc::Allocator;
 
-/// Locks the file, and then reads it.
+/// Locks the file, and then reads its text.
 ///
 /// Fails with `Failed` if the lockfile already exists or a call fails, and with `Memory` if out of
 /// memory. After a failure this run holds no lockfile.
@@ -31,11 +31,11 @@ pub fn open_file<A: Allocator + Copy, T: Storage>(
     }
 }
 
-/// Replaces the text of a locked file, `old`, by `new`, and unlocks it. Writes nothing if both are
-/// equal.
+/// Replaces the text `old` of a locked file by `new`, and unlocks the file. Writes nothing if both
+/// texts are equal.
 ///
-/// Fails with `Failed` or `Memory`, and the file then has the old text, or the whole new one. This
-/// run holds no lockfile at the end.
+/// Fails with `Failed` or `Memory`. After a failure the file has the old text or the whole new
+/// text. At the end this run holds no lockfile.
 pub fn replace_file<T: Storage>(file: &mut T, old: &[u8], new: &[u8]) -> Result<(), StorageFault>
     requires { T.lockfile file.old ≡ Empty }
     ensures replaced { WhereKnown (T.texts file.old) (T.texts file.new)
@@ -57,7 +57,7 @@ pub fn replace_file<T: Storage>(file: &mut T, old: &[u8], new: &[u8]) -> Result<
     }
 }
 
-// Writes the new text, syncs it, and renames it over the file.
+// Writes the new text to the lockfile, syncs it, and renames it over the file.
 fn write_new<T: Storage>(file: &mut T, new: &[u8]) -> Result<(), StorageFault>
     requires { T.lockfile file.old ≡ Empty }
     ensures replaced { WhereKnown (T.texts file.old) (T.texts file.new)

@@ -11,7 +11,7 @@ use std::alloc::{AllocError, AllocFailed, Allocator};
 use std::error::Error;
 use std::{fmt, io};
 
-/// Why a stored file could not be read or replaced.
+/// The reason a stored file could not be read or replaced.
 #[derive(Clone, Copy, Debug, PartialEq, Eq)]
 pub enum StorageFault {
     /// Out of memory.
@@ -62,21 +62,22 @@ impl From<io::Error> for StorageFault {
 /// The state of this run's lockfile.
 #[derive(Clone, Copy, Debug, PartialEq, Eq)]
 pub enum Lockfile {
-    /// This run holds none.
+    /// This run holds no lockfile.
     Absent,
-    /// It was created, and is empty.
+    /// The lockfile was created, and is empty.
     Empty,
-    /// It has the new text.
+    /// The lockfile has the new text, which is not synced yet.
     Written,
-    /// The new text is on the disk.
+    /// The lockfile has the new text, and the text is synced to disk.
     Synced,
     /// A call failed. The lockfile can only be removed.
     Unusable,
 }
 
-/// One file and its lockfile (git's `lockfile.h`).
+/// A file that can be replaced, with its lockfile (Git's `lockfile.h`).
 ///
-/// Only a synced text is renamed. So after a crash at any moment the file has one of the states.
+/// Only a synced text is renamed over the file. After a crash the file therefore has one of its
+/// recorded states.
 pub trait Storage {
     // Each text that the file has had, and the text written to the lockfile, if they are known.
     ghost texts: { Self → Option Texts };
@@ -84,7 +85,7 @@ pub trait Storage {
     // The state of this run's lockfile.
     ghost lockfile: { Self → Lockfile };
 
-    /// Creates the lockfile. Fails if there is one already, and then changes nothing.
+    /// Creates the lockfile. Fails without a change if a lockfile already exists.
     fn lock(&mut self) -> Result<(), StorageFault>
         requires { lockfile self.old ≡ Absent }
         ensures lockfile { MatchResult result (λ _. lockfile self.new ≡ Empty)
@@ -113,8 +114,8 @@ pub trait Storage {
             (λ _. lockfile self.new ≡ Unusable) }
         ensures texts { texts self.new ≡ texts self.old };
 
-    /// Renames the lockfile over the file. After `Err` the file has the old text, or the whole new
-    /// one.
+    /// Renames the lockfile over the file. After `Err` the file has the old text or the whole new
+    /// text.
     fn rename(&mut self) -> Result<(), StorageFault>
         requires { lockfile self.old ≡ Synced }
         ensures lockfile { MatchResult result (λ _. lockfile self.new ≡ Absent)
@@ -122,8 +123,8 @@ pub trait Storage {
         ensures states { WhereKnown (texts self.old) (texts self.new)
             (λ before after. Renames before after result) };
 
-    /// Removes the lockfile of this run. If the system refuses that, it stays, and nobody can lock
-    /// the file until it is removed.
+    /// Removes the lockfile of this run. If the system refuses the removal, the lockfile stays, and
+    /// no run can lock the file until the lockfile is removed.
     fn unlock(&mut self)
         requires { lockfile self.old ≢ Absent }
         ensures lockfile { lockfile self.new ≡ Absent }

@@ -1,4 +1,4 @@
-//! A real file.
+//! A file of the operating system.
 
 ghost use Rattle.std.specs.Prelude.{◌≡◌, None};
 ghost use Rattle.glockfile.specs.declared.storage.Lockfile.TheVariants.{Absent};
@@ -12,10 +12,10 @@ use std::marker::Model;
 use std::os::unix::fs::OpenOptionsExt;
 use std::path::{Path, PathBuf};
 
-/// A file of the system and its lockfile, whose name is the file's name and `.lock`.
+/// A file of the system, and its lockfile. The lockfile's name is the file's name and `.lock`.
 ///
-/// If the name is that of a symbolic link, its target is locked and replaced, and must be a regular
-/// file. The new file has the permissions of the old one. A process that is killed can leave its
+/// If the name is a symbolic link, its target is locked and replaced. The target must be a regular
+/// file. The new file has the permissions of the old file. A process that is killed can leave its
 /// lockfile.
 #[derive(Drop)]
 pub struct StoredFile<'r, R: Files, A: Allocator + Copy = Global> {
@@ -29,7 +29,7 @@ pub struct StoredFile<'r, R: Files, A: Allocator + Copy = Global> {
 // The lockfile of this run.
 #[derive(Drop)]
 struct Lock<R: Files, A: Allocator + Copy> {
-    // The locked file. It is not a symbolic link.
+    // The path of the locked file, which is not a symbolic link.
     target: PathBuf<A>,
     path: PathBuf<A>,
     file: R::File,
@@ -44,7 +44,7 @@ impl<'r, R: Files, A: Allocator + Copy> Model for StoredFile<'r, R, A> {
 }
 
 impl<'r, R: Files, A: Allocator + Copy> StoredFile<'r, R, A> {
-    /// Returns the file with this name. Nothing is opened yet.
+    /// Returns the file with this name, without opening it.
     pub fn new(alloc: A, files: &'r R, name: &'r str) -> StoredFile<'r, R, A>
         ensures { result ≡ Absent }
     {
@@ -58,10 +58,11 @@ impl<'r, R: Files, A: Allocator + Copy> StoredFile<'r, R, A> {
     }
 }
 
-// The permissions of a lockfile until it has those of the file: only its owner can open it.
+// The permissions of a new lockfile: only its owner can open it. Later the lockfile has the
+// permissions of the file.
 const OWNER_ALONE: u32 = 0o600;
 
-// Creates the lockfile, with the permissions of the file.
+// Creates the lockfile, with the permissions of the file to lock.
 fn make_lock<R: Files, A: Allocator + Copy>(
     files: &R,
     alloc: A,
@@ -86,7 +87,7 @@ fn make_lock<R: Files, A: Allocator + Copy>(
     }
 }
 
-// Returns the path of the file to lock: the target if the name is that of a symbolic link.
+// Returns the path of the file to lock. For a symbolic link this is the path of its target.
 fn target_of<R: Files, A: Allocator + Copy>(
     files: &R,
     alloc: A,
@@ -108,7 +109,7 @@ fn check_is_regular<R: Files>(files: &R, path: &str) -> Result<Metadata, Storage
     }
 }
 
-// Gives the lockfile the permissions of the file, once it is locked.
+// Gives the lockfile the permissions of the locked file.
 fn share_permissions<R: Files, A: Allocator + Copy>(
     files: &R,
     lock: &Lock<R, A>,
@@ -117,7 +118,7 @@ fn share_permissions<R: Files, A: Allocator + Copy>(
     Ok(lock.file.set_permissions(metadata.permissions())?)
 }
 
-// Syncs the directory of a new name to disk.
+// Syncs the directory of the renamed file to disk.
 fn sync_directory<R: Files>(files: &R, target: Path<'_>) -> Result<(), StorageFault> {
     let directory = match target.parent() {
         Some(parent) if !parent.as_str().is_empty() => parent.as_str(),
@@ -172,7 +173,7 @@ impl<R: Files, A: Allocator + Copy> Storage for StoredFile<'_, R, A> {
             return Err(StorageFault::Failed);
         };
         fs::rename(self.files, lock.path.as_str(), lock.target.as_str())?;
-        // The file is replaced, even if its directory can't be synced.
+        // The file is already replaced, so a failure to sync its directory is not reported.
         let _ = sync_directory(self.files, lock.target.as_path());
         self.lock = None;
         self.lockfile = Lockfile::Absent;

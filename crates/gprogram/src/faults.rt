@@ -1,9 +1,9 @@
-//! Faults before any work.
+//! Faults that end a program before its work starts.
 
 use gcmd::{ProgramFault, cmd_failed};
 use gpkt::Sink;
 
-/// Prints the fault on one line, and returns the exit status, which is 1.
+/// Prints the fault on one line, and returns the exit status 1.
 pub(crate) fn fail<E: Sink>(fault: ProgramFault, errors: &mut E) -> u8 {
     cmd_failed(fault, errors)
 }

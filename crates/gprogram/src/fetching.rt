@@ -1,4 +1,4 @@
-//! Fetches into the repository of a file, which is replaced whole or not at all.
+//! Fetches into the repository of a file. The file is replaced as a whole or not at all.
 
 use crate::faults::fail;
 use crate::streams::let_go;
@@ -35,7 +35,7 @@ where
     }
 }
 
-// Fetches over TCP, and reports on standard output.
+// Fetches over TCP, and writes the report to standard output.
 fn fetch_remote<R, E>(rt: &R, asked: &Fetch, place: &Location, specs: &[Spec], errors: &mut E) -> u8
 where
     R: Files + Print + AllocGlobal + Clock + Net,
@@ -53,7 +53,7 @@ where
     cmd_fetch_remote(rt, rt.alloc(), &mut file, &fetch, &mut report, errors)
 }
 
-// Fetches on standard input and standard output, and reports on standard error.
+// Fetches over standard input and output, and writes the report to standard error.
 fn fetch_stdio<R, E>(rt: &R, asked: &Fetch, specs: &[Spec], errors: &mut E) -> u8
 where
     R: Files + Input + Print + AllocGlobal,

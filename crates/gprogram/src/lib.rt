@@ -1,29 +1,30 @@
 //! The program `gitv2` as a function of the runtime. [`run_gitv2`] reads the arguments, opens
-//! files, and makes devices of standard streams and sockets. It passes all of them to the work in
-//! `gcmd`, `gtcp` and `gsimulate`, and returns the exit status.
+//! files, and makes devices from standard streams and sockets. The crates `gcmd`, `gtcp` and
+//! `gsimulate` do the work of each command. [`run_gitv2`] returns the exit status.
 //!
-//! Faults have an order: the usage before any file, refspecs and prefixes before the first file, a
-//! file's faults before the next file, and all files before a socket.
+//! The program checks its input in a fixed order, and reports the first fault. The program checks
+//! the usage first, then refspecs and prefixes, then each file in turn, and sockets last.
 //!
 //! # Proved
 //!
-//! It ends, with no index out of range, no overflow and no use after free, whatever the arguments,
-//! the files and the streams are.
+//! [`run_gitv2`] ends for any arguments, files and streams, with no index out of range, no overflow
+//! and no use after free.
 //!
 //! # Only tested
 //!
-//! The work of each command, its files, the order in which files are read, and each exit status.
-//! `conformance` runs each command through [`run_gitv2`], over files, standard streams and sockets.
+//! The cases of `conformance` run each command through [`run_gitv2`], over files, standard streams
+//! and sockets. The cases test the work of each command, the order in which files are read, and
+//! each exit status.
 //!
 //! # What the contracts do not rule out
 //!
-//! Anything else: no contract can say which bytes a file, a stream or a socket of the system gives
-//! or takes.
+//! The contracts state nothing further about the work. No contract can state the bytes that a file,
+//! a stream or a socket of the system reads or writes.
 //!
 //! # Stands on
 //!
-//! `gargs` for the arguments, `gcmd`, `gtcp` and `gsimulate` for the work, `glockfile` for a file
-//! that is replaced, `gpkt` for devices.
+//! The crate uses `gargs` for the arguments, `gcmd`, `gtcp` and `gsimulate` for the commands,
+//! `glockfile` for files that are replaced, and `gpkt` for devices.
 #![tactic(auto)]
 
 mod faults;

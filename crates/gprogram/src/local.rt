@@ -59,16 +59,17 @@ where
     status
 }
 
-/// The service on standard input and standard output.
+/// A server on standard input and output.
 #[derive(Clone, Copy)]
 pub(crate) enum StdioService {
-    /// One request, without an advertisement before it: `gitv2 ls --stdio-server FILE`.
+    /// Serves one request, without an advertisement before the reply: `gitv2 ls --stdio-server
+    /// FILE`.
     Request,
-    /// A connection: `gitv2 upload FILE`.
+    /// Serves one connection: `gitv2 upload FILE`.
     Connection(Ends),
 }
 
-/// Serves the repository of a file.
+/// Serves the repository of a file on standard input and output.
 pub(crate) fn serve<R, E>(rt: &R, served: StdioService, file: &str, errors: &mut E) -> u8
 where
     R: Files + Input + Print + AllocGlobal,
@@ -80,7 +81,7 @@ where
     }
 }
 
-// Serves the repository of a text.
+// Serves the repository with this text.
 fn serve_text<R, E>(rt: &R, served: StdioService, text: &[u8], errors: &mut E) -> u8
 where
     R: Input + Print + AllocGlobal,

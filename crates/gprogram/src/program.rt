@@ -1,4 +1,4 @@
-//! The arguments of the program, and the work of each command.
+//! The start of the program, which selects the command of its arguments.
 
 use crate::fetching::fetch;
 use crate::local::{StdioService, check, serve, show_lines};
@@ -17,10 +17,10 @@ const USAGE: &[u8] = b"gitv2: usage\n";
 const WRONG_USAGE: u8 = 2;
 
 /// Runs `gitv2` with the arguments of the runtime, over its files, standard streams and sockets.
-/// Faults and the usage line go to `stderr`.
+/// Faults and the usage line are written to `stderr`.
 ///
-/// Returns the exit status: 0 on success, 1 if a fault was printed. Returns 2 if the arguments do
-/// not match the usage or are not UTF-8, or if there is no memory to read them.
+/// Returns exit status 0 on success, and 1 if a fault was printed. Returns 2 if the arguments do
+/// not match the usage or are not UTF-8, or if out of memory for the arguments.
 pub fn run_gitv2<R, W>(rt: &R, stderr: &mut W) -> u8
 where
     R: Env + Files + Input + Print + AllocGlobal + Clock + Net,
@@ -38,7 +38,7 @@ where
     }
 }
 
-// Returns the command of the arguments.
+// Returns the command of the arguments, or `None` if they do not match the usage.
 fn command_of<R: Env + AllocGlobal>(rt: &R) -> Option<Gitv2Command> {
     let words: Vec<String> = env::args(rt).ok()?.collect(rt.alloc()).ok()?;
     read_command(rt.alloc(), words.as_slice())

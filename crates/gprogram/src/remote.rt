@@ -22,7 +22,7 @@ where
     }
 }
 
-// Serves the repository of a text to those who connect.
+// Serves the repository with this text to clients.
 fn listen_for<R, E>(rt: &R, asked: &Serve, text: &[u8], errors: &mut E) -> u8
 where
     R: Print + AllocGlobal + Clock + Net,
@@ -58,7 +58,7 @@ where
     cmd_ls_remote(rt, rt.alloc(), &listing, &mut output, errors)
 }
 
-/// The names of both files of `pair`, and its refspecs, not yet parsed.
+/// The file names of `pair`, and its refspecs, which are not parsed yet.
 #[derive(Clone, Copy)]
 pub(crate) struct Meeting<'a> {
     pub(crate) server: &'a str,
@@ -78,7 +78,7 @@ where
     }
 }
 
-// Loads the server before the client's file is read.
+// Loads the server, and only then reads the client's file.
 fn pair_by<R, E>(rt: &R, meeting: Meeting<'_>, specs: &[Spec], errors: &mut E) -> u8
 where
     R: Files + Print + AllocGlobal + Net,
@@ -90,7 +90,7 @@ where
     }
 }
 
-// Returns the server of the repository of a file.
+// Returns a server of the repository in the file.
 fn open_server<R: Files + AllocGlobal>(rt: &R, file: &str) -> Result<Server, ProgramFault> {
     match read(rt, file) {
         Ok(text) => load_server(rt.alloc(), text.as_slice()),
@@ -98,7 +98,7 @@ fn open_server<R: Files + AllocGlobal>(rt: &R, file: &str) -> Result<Server, Pro
     }
 }
 
-// Fetches from the server into the repository of a file.
+// Fetches from the server into the repository of the client's file, and prints the report.
 fn pair_with<R, E>(rt: &R, server: &Server, client: &str, specs: &[Spec], errors: &mut E) -> u8
 where
     R: Files + Print + AllocGlobal + Net,

@@ -1,4 +1,4 @@
-//! Both ends under the events of a scenario.
+//! The simulation of a client and a server under the events of a scenario.
 
 use crate::faults::fail;
 use crate::files::read;
@@ -22,7 +22,7 @@ where
     }
 }
 
-// Simulates with the server of a text.
+// Runs a simulation whose server has the repository with this text.
 fn simulate_server<R, E>(rt: &R, asked: &Simulate, server: &[u8], errors: &mut E) -> u8
 where
     R: Files + Print + AllocGlobal,

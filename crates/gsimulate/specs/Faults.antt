@@ -1,4 +1,4 @@
--- The table of a simulation's faults: what is printed of each.
+-- The table of a simulation's faults, with the printed line of each fault.
 use Rattle.std.specs.Prelude.{ℕ, ◌++◌, codes}
 use Rattle.std.specs.Fmt.{decimal}
 use Rattle.gname.specs.Ids.{Id, id_text}
@@ -15,20 +15,20 @@ use Rattle.gworld.specs.declared.fault.WorldFault.TheVariants as world
 use Rattle.gsimulate.specs.declared.fault.SimulationFault.{SimulationFault}
 use Rattle.gsimulate.specs.declared.fault.SimulationFault.TheVariants as faults
 
--- the number and the name of each
+-- the number and the name of a simulation's fault
 abbrev pub simulation_fault_row : {A : Type 0} → SimulationFault A → FaultRow
 simulation_fault_row (faults.Program fault) = ((printed_of fault).number, (printed_of fault).name)
 simulation_fault_row (faults.Scenario fault) = scenario_fault_row fault
 simulation_fault_row (faults.World fault) = world_fault_row fault
 simulation_fault_row faults.Memory = scenario_fault_row scenario.Memory
 
--- ---- the lines that are printed
+-- ---- lines
 
--- out of memory to go on
+-- the line for out of memory
 abbrev pub memory_line : Bytes
 memory_line = codes "gitv2: fault 91 Memory\n"
 
--- a line is wrong
+-- the line for a wrong line of the scenario
 abbrev pub wrong_line : ℕ → Bytes
 wrong_line line = codes "gitv2: fault 92 Scenario line " ++ (decimal line ++ codes "\n")
 
@@ -36,7 +36,7 @@ abbrev pub scenario_line : ScenarioFault → Bytes
 scenario_line (scenario.Scenario line) = wrong_line line
 scenario_line scenario.Memory = memory_line
 
--- two objects have this id
+-- the line for two different objects with this id
 abbrev pub disagreement : Id → Bytes
 disagreement id = codes "gitv2: fault 90 Disagree " ++ (id_text id ++ codes "\n")
 
@@ -50,7 +50,7 @@ simulation_fault_line (faults.Scenario fault) = scenario_line fault
 simulation_fault_line (faults.World fault) = world_line fault
 simulation_fault_line faults.Memory = memory_line
 
--- ---- their texts
+-- ---- texts
 
 abbrev pub simulation_fault_text : {A : Type 0} → SimulationFault A → Bytes
 simulation_fault_text (faults.Program fault) = program_fault_text fault

@@ -1,4 +1,4 @@
--- The lines of a simulation: what came of each event, and then the client's refs.
+-- The lines of a simulation: the outcome of each event, and then the client's refs.
 use Rattle.std.specs.Prelude.{ℕ, List, ◌++◌, codes}
 use Rattle.std.specs.Fmt.{decimal}
 use Rattle.std.specs.List.{flat_map}
@@ -9,11 +9,11 @@ use Rattle.grefs.specs.RefLists.{RefList}
 use Rattle.gworld.specs.declared.outcome.Outcome.{Outcome}
 use Rattle.gworld.specs.declared.outcome.Outcome.TheVariants as outcomes
 
--- a number after its word
+-- a word, and a decimal number
 abbrev pub count_text : Bytes → ℕ → Bytes
 count_text word number = word ++ decimal number
 
--- what came of an event
+-- the text for the outcome of an event
 abbrev pub outcome_text : Outcome → Bytes
 outcome_text outcomes.Done = codes "done"
 outcome_text (outcomes.Asked request) = count_text (codes "asked ") request
@@ -30,10 +30,10 @@ outcome_text (outcomes.Fault number) = count_text (codes "fault ") number
 abbrev pub outcome_line : Outcome → Bytes
 outcome_line outcome = outcome_text outcome ++ codes "\n"
 
--- a ref, which is a name and an id
+-- the line for a ref
 abbrev pub ref_line : Name × Id → Bytes
 ref_line ref = codes "ref " ++ (id_text ref.1 ++ (codes " " ++ (ref.0 ++ codes "\n")))
 
--- a line for each outcome, and then one for each ref
+-- the lines for all outcomes, followed by the lines for all refs
 abbrev pub simulated_text : List Outcome → RefList → Bytes
 simulated_text outcomes refs = flat_map outcome_line outcomes ++ flat_map ref_line refs

@@ -1,4 +1,4 @@
--- What a simulation does: the files are taken in their order, the events happen, and it is shown what came of them.
+-- The effect of a simulation: the files are read in order, the events happen, and their outcomes are printed.
 use Rattle.std.specs.Prelude.{◌≡◌, ◌⊎◌, ℕ, List, Result, Ok, Err}
 use Rattle.gpkt.specs.Packets.{Bytes}
 use Rattle.ganswer.specs.Servers.{Server}
@@ -22,23 +22,23 @@ use Rattle.gsimulate.specs.declared.fault.SimulationFault.{SimulationFault}
 use Rattle.gsimulate.specs.declared.fault.SimulationFault.TheVariants as faults
 use Rattle.gsimulate.specs.declared.simulate.Simulation.{Simulation}
 
--- how a simulation comes out: it is done, or a fault was met
+-- the outcome of a simulation: success or a fault
 abbrev pub Ending : Type 0 → Type 0
 Ending A = Result (Unit {0}) (SimulationFault A)
 
--- packs are plain
+-- the packing and indexing of plain packs
 abbrev pub plain_tools : (A : Type 0) → PackTools A
 plain_tools A = tools_of plain_packs plain_pack_fails plain_indexes (plain_index_fails A)
 
--- ---- the files
+-- ---- files
 
--- the first file names a server
+-- the server file describes a server with this property
 pub record HasServer {A : Type 0} (files : Simulation) (IsSo : Server A → Type 0) : Type 0 where
   pub server : Server A
   pub names : NamesServer files.server.now server
   pub so : IsSo server
 
--- and the second a client's repository
+-- the server file and the client file describe a server and a client's repository with this property
 pub record HasEnds {A : Type 0} (files : Simulation) (IsSo : Server A → RepoState A → Type 0) : Type 0 where
   pub server : Server A
   pub repo : RepoState A
@@ -46,7 +46,7 @@ pub record HasEnds {A : Type 0} (files : Simulation) (IsSo : Server A → RepoSt
   pub opens : NamesClient files.client.now repo
   pub so : IsSo server repo
 
--- and the third some events
+-- the three files describe a server, a client's repository and events with this property
 pub record HasEvents {A : Type 0} (files : Simulation) (IsSo : Server A → RepoState A → List (Event A) → Type 0)
     : Type 0 where
   pub server : Server A
@@ -57,7 +57,7 @@ pub record HasEvents {A : Type 0} (files : Simulation) (IsSo : Server A → Repo
   pub reads : IsScenario files.scenario.now events
   pub so : IsSo server repo events
 
--- a world can begin between the two, in which the events happen
+-- the server and the client can start a world, and the property holds for this world and the events
 abbrev pub CanHappen : {A : Type 0} → (WorldState A → List (Event A) → Type 0)
     → Server A → RepoState A → List (Event A) → Type 0
 CanHappen IsSo server repo events = CanStart server repo × IsSo (new_world server repo) events
@@ -65,8 +65,8 @@ CanHappen IsSo server repo events = CanStart server repo × IsSo (new_world serv
 abbrev pub HasWorld : {A : Type 0} → Simulation → (WorldState A → List (Event A) → Type 0) → Type 0
 HasWorld files IsSo = HasEvents files (CanHappen IsSo)
 
--- why no event happens: the first file is no server's; or the second no client's; or the third has a wrong line, or
--- it is out of memory for it; or no world can begin between server and client
+-- the reasons why no event happens: the server file, the client file or the scenario is rejected, or server and client
+-- can't start a world
 abbrev pub CannotBegin : {A : Type 0} → Simulation → SimulationFault A → Type 0
 CannotBegin {A} files (faults.Program fault) =
     RefusesFile {A = A} files.server.now fault
@@ -77,16 +77,16 @@ CannotBegin {A} files (faults.World fault) =
     HasEvents {A = A} files (λ server repo events. CannotStart server repo fault)
 CannotBegin files faults.Memory = ⊥
 
--- ---- what is shown
+-- ---- output
 
--- the text is written and passed on; or the output failed at it; or out of memory for it
+-- the text is written and flushed; or the output fails, or memory for the text runs out
 abbrev pub Shows : {A : Type 0} → Bytes → Output → Ending A → Type 0
 Shows text output (Ok done) = Sends output text
 Shows text output (Err (faults.Program program.WriteFailed)) = BreaksOff output text
 Shows text output (Err (faults.Program program.Memory)) = IsUnwritten output
 Shows text output (Err _) = ⊥
 
--- all events happened, each as is promised, and what came of them is shown, with the client's refs as they are then
+-- all events happened with the promises of their steps, and their outcomes and the client's final refs are printed
 pub record IsRun {A : Type 0} (output : Output) (ending : Ending A) (w : WorldState A) (events : List (Event A))
     : Type 0 where
   pub outcomes : List Outcome
@@ -94,15 +94,15 @@ pub record IsRun {A : Type 0} (output : Output) (ending : Ending A) (w : WorldSt
   pub run : RunWith (Promises (plain_tools A)) w events outcomes new
   pub shows : Shows (simulated_text outcomes new.repo.refs) output ending
 
--- the run stopped out of memory before an event, and nothing is shown
+-- memory ran out before an event, and nothing is printed
 pub record IsStopped {A : Type 0} (w : WorldState A) (events : List (Event A)) : Type 0 where
   pub outcomes : List Outcome
   pub new : WorldState A
   pub front : RunsFront (Promises (plain_tools A)) w events outcomes new
 
--- ---- the simulation
+-- ---- simulations
 
--- what a simulation does: that; or a fault was met before, and nothing is written
+-- the fault of a simulation before it prints its outcomes: memory for an event runs out, or no event can happen
 abbrev pub StopsBefore : {A : Type 0} → Simulation → SimulationFault A → Type 0
 StopsBefore {A} files faults.Memory = HasWorld {A = A} files IsStopped
 StopsBefore files fault = CannotBegin files fault
@@ -116,12 +116,12 @@ pub record IsNotRun {A : Type 0} (files : Simulation) (output : Output) (ending 
 abbrev pub Simulates : {A : Type 0} → Simulation → Output → Ending A → Type 0
 Simulates {A} files output ending = HasWorld {A = A} files (IsRun output ending) ⊎ IsNotRun files output ending
 
--- where the simulation is done nothing is printed, and the status is 0; else the fault's line is printed, and it is 1
+-- after success nothing is printed, and the status is 0; after a fault the fault's line is printed, and the status is 1
 abbrev pub ExitsWith : {A : Type 0} → Ending A → Output → ℕ → Type 0
 ExitsWith (Ok done) errors status = IsUnwritten errors × (status ≡ 0)
 ExitsWith (Err fault) errors status = Prints errors (simulation_fault_line fault) × (status ≡ 1)
 
--- a simulation does its work, and ends as that came out
+-- a simulation has an outcome, and exits with the line and the status of this outcome
 pub record Runs (A : Type 0) (files : Simulation) (output errors : Output) (status : ℕ) : Type 0 where
   pub ending : Ending A
   pub simulates : Simulates files output ending

@@ -10,17 +10,18 @@ use std::alloc::{Allocator, Global};
 use std::error::Error;
 use std::fmt;
 
-/// The reason a simulation ends with status 1. It is printed as one line.
+/// The reason a simulation ends with status 1. The reason is printed as one line.
 #[derive(Debug, Drop)]
 pub enum SimulationFault<A: Allocator + Copy = Global> {
-    /// 64, 67, 68, 71, 80: a file is not one of a server or of a client, or memory ran out for it
-    /// or for the output. 27: the output failed.
+    /// Faults 64, 67, 68, 71 and 80: a file does not describe a server or a client, or out of
+    /// memory for a file or for the output. Fault 27: the output failed.
     Program(ProgramFault<A>),
-    /// 92: a line of the scenario is wrong. 91: out of memory for its events.
+    /// Fault 92: a line of the scenario is wrong. Fault 91: out of memory for the events of the
+    /// scenario.
     Scenario(ScenarioFault),
-    /// 97, 90: no world can begin between this server and this client.
+    /// Faults 90 and 97: the server and the client can't start a simulation together.
     World(WorldFault),
-    /// 91: out of memory for the next event.
+    /// Fault 91: out of memory for the next event.
     Memory,
 }
 

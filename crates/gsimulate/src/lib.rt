@@ -1,37 +1,39 @@
-//! `gitv2 simulate`, as a function over bytes and sinks. It runs a scenario between the server of
-//! one repository's file and the client of another's. It shows the outcome of each event, and the
-//! ids of the client's refs afterwards.
+//! `gitv2 simulate`, as a function over bytes and sinks. The program runs a scenario between a
+//! server and a client whose repositories are read from files. The program prints the outcome of
+//! each event, and afterwards the ids of the client's refs.
 //!
 //! # Proved
 //!
-//! - [`cmd_simulate`] runs the events of the scenario, one after the other, with plain packs. They
-//!   happen in a world of the server and the client's repository of the files. Each step is one of
-//!   `gworld`, with all of its promises. The output is exactly a line for each outcome, and then
-//!   one for each ref of the client after the run. All of it is flushed, or a prefix is written if
-//!   the output fails (`specs/Lines.antt`, `Simulating.antt`).
-//! - If a file is not one of a server or of a client, the scenario has a wrong line, or no world
-//!   can begin between the two, no event happens, and nothing is written. If there are several such
-//!   faults, it reports the first, in this order. If a run stops out of memory, nothing is written.
-//! - It ends with status 0 and prints nothing, or with 1 and the line of its fault, or a prefix of
-//!   the line if the errors' sink fails. The number, the name, the text and the line of each fault
-//!   (`specs/Faults.antt`).
+//! - [`cmd_simulate`] runs the events of the scenario, one after the other, with plain packs. The
+//!   events happen in a world (see `gworld`) of the server and of the client's repository. Each
+//!   step is a step of `gworld`, with all of its promises. The output is exactly one line for each
+//!   outcome, and then one line for each ref of the client after the run. The whole output is
+//!   flushed, or a prefix is written if the output fails (`specs/Lines.antt`, `Simulating.antt`).
+//! - No event happens and nothing is written if a file does not describe a server or a client, or
+//!   the scenario has a wrong line. The same holds if the server and the client can't share a
+//!   world. The first fault in this order is reported. If memory for an event runs out, nothing is
+//!   written.
+//! - The program exits with status 0 and prints no fault, or exits with status 1 and prints the
+//!   line of its fault. If the errors' sink fails, a prefix of the line is printed.
+//! - Each fault has the number, the name, the text and the printed line of `specs/Faults.antt`.
 //!
 //! # Only tested
 //!
-//! Available memory is used.
+//! Only tests show that all available memory is used.
 //!
 //! # What the contracts do not rule out
 //!
-//! It may report out of memory for a file, for the scenario or for an event, wherever `gcmd`,
-//! `gscenario` and `gworld` may, and for the output, even if that is empty. No clause says how
-//! often the sinks are called, nor how long anything takes. Formatting a fault may return an error
-//! (`fmt::Error`) although the text would be right.
+//! A simulation may report out of memory for a file, the scenario or an event whenever `gcmd`,
+//! `gscenario` and `gworld` may. A simulation may also report out of memory for the output, even if
+//! the output is empty. The contracts do not limit how often the sinks are called, or how long a
+//! call takes. Formatting a fault may return an error (`fmt::Error`) although the text would be
+//! right.
 //!
 //! # Stands on
 //!
-//! `gworld` for worlds and `gscenario` for scenarios, `gcmd` for the shared parts of programs,
-//! `ggraph` for plain packs and refs. `gname` for ids and names, `gpkt` for sinks, `ggrammar` and
-//! `arrayvec` for texts of bounded length, `itoa` for numbers.
+//! The crate uses `gworld` for worlds, `gscenario` for scenarios, `gcmd` for the shared parts of
+//! programs, and `ggraph` for plain packs and refs. The crate uses `gname` for ids and names,
+//! `gpkt` for sinks, `ggrammar` and `arrayvec` for texts of bounded length, and `itoa` for numbers.
 #![tactic(auto)]
 
 mod fault;

@@ -1,4 +1,4 @@
-//! The outcomes of events, and the ids of refs, as lines.
+//! The printed lines of a simulation: the outcomes of its events, and the ids of the client's refs.
 
 ghost use Rattle.std.specs.Prelude.{◌≡◌, ◌<◌, ◌++◌, IfOk, OnOk, Some, length, slice_get};
 ghost use Rattle.std.specs.List.{flat_map};
@@ -11,7 +11,7 @@ use gworld::Outcome;
 use itoa::{Buffer, Integer};
 use std::alloc::{AllocError, Allocator};
 
-/// Returns a line for each outcome, and then one for each ref. Fails only if out of memory.
+/// Returns a line for each outcome, followed by a line for each ref. Fails only if out of memory.
 pub(crate) fn text_of<A: Allocator + Copy>(
     alloc: A,
     outcomes: &[Outcome],
@@ -76,7 +76,7 @@ fn put_outcome<A: Allocator + Copy>(
     }
 }
 
-// Appends how many refs are asked for, and how many objects are wanted.
+// Appends the number of requested ref updates, and the number of wanted objects.
 fn put_taken<A: Allocator + Copy>(
     text: &mut Vec<u8, A>,
     asks: usize,
@@ -89,8 +89,8 @@ fn put_taken<A: Allocator + Copy>(
     put_count(text, b" wants=", wants)
 }
 
-// Appends how many refs moved, how many had their ids already, and how many did not move because it
-// was not a fast-forward.
+// Appends the numbers of refs that moved, that had their ids already, and that did not move because
+// the move is not a fast-forward.
 fn put_settled<A: Allocator + Copy>(
     text: &mut Vec<u8, A>,
     moved: usize,
@@ -105,7 +105,7 @@ fn put_settled<A: Allocator + Copy>(
     put_count(text, b" notforward=", not_forward)
 }
 
-// Appends a number after its word.
+// Appends a word and a number.
 fn put_count<A: Allocator + Copy, I: Integer>(
     text: &mut Vec<u8, A>,
     word: &[u8],

@@ -1,4 +1,4 @@
-//! The printed line of a fault.
+//! The printed line of a simulation's fault.
 
 ghost use Rattle.std.specs.Prelude.{◌≡◌, ◌+◌, ◌≤◌, ◌++◌, length};
 ghost use Rattle.gcmd.specs.Printing.{fault_line};
@@ -17,13 +17,14 @@ use gworld::{ScenarioFault, WorldFault};
 use itoa::Buffer;
 use std::alloc::Allocator;
 
-/// The maximum length in bytes of such a line: its text, and the digits of an id.
+/// The maximum length in bytes of a fault's line: its words, and the digits of an id or of a
+/// number.
 const MAX_LINE: usize = 128;
 
-/// The line of a simulation that is out of memory.
+/// The line of a fault that reports out of memory for an event or for the scenario.
 const MEMORY_LINE: &[u8] = b"gitv2: fault 91 Memory\n";
 
-/// Ends a simulation with its outcome: prints its fault, if there was one. Returns the exit status.
+/// Ends a simulation: prints the fault of its outcome, if any, and returns the exit status.
 pub(crate) fn finish<A: Allocator + Copy, E: Sink>(
     ending: Result<(), SimulationFault<A>>,
     errors: &mut E,
@@ -41,8 +42,7 @@ pub(crate) fn finish<A: Allocator + Copy, E: Sink>(
     }
 }
 
-// Prints the fault as one line, and flushes it. If the line can't be printed, it can't be reported
-// either.
+// Prints the fault as one line, and flushes it. A failure of `errors` itself is not reported.
 fn print<A: Allocator + Copy, E: Sink>(fault: &SimulationFault<A>, errors: &mut E)
     ensures printed { Prints (output_of E.contents E.passed_on E.is_down errors.old errors.new)
         (simulation_fault_line fault.now) }
@@ -86,7 +86,7 @@ fn print_world<A: Allocator + Copy, E: Sink>(fault: &WorldFault, errors: &mut E)
     }
 }
 
-// Prints the number of the wrong line of a scenario.
+// Prints the fault of a scenario with the number of its wrong line.
 fn print_wrong_line<A: Allocator + Copy, E: Sink>(line: usize, errors: &mut E)
     ensures printed { Prints (output_of E.contents E.passed_on E.is_down errors.old errors.new)
         (wrong_line line) }
@@ -107,7 +107,7 @@ fn wrong_line(line: usize) -> ArrayVec<u8, MAX_LINE>
     text
 }
 
-// Prints the id that server and client hold with different objects.
+// Prints the fault of a server and a client that hold different objects with the same id.
 fn print_disagreement<A: Allocator + Copy, E: Sink>(id: &Oid, errors: &mut E)
     ensures printed { Prints (output_of E.contents E.passed_on E.is_down errors.old errors.new)
         (disagreement id.now) }

@@ -1,4 +1,4 @@
-//! Running a scenario.
+//! The run of a scenario between a server and a client.
 
 ghost use Rattle.std.specs.Prelude.{◌≡◌, MatchResult, Err};
 ghost use Rattle.gpkt.specs.Sending.{output_of};
@@ -19,7 +19,7 @@ use gpkt::Sink;
 use gworld::{Event, Outcome, Scenario, World};
 use std::alloc::Allocator;
 
-/// A simulation, given by the texts of its files.
+/// The parameters of a simulation: the texts of its three files.
 #[derive(Clone, Copy)]
 pub struct Simulation<'a> {
     /// The text of the served repository.
@@ -31,14 +31,14 @@ pub struct Simulation<'a> {
 }
 
 /// `gitv2 simulate SERVERFILE CLIENTFILE SCENARIO`: runs the events of a scenario between a server
-/// and a client that fetches from it, with plain packs (gitprotocol-v2(5)). The outcome of each
-/// event is a line on `output`. Then each ref of the client is one, `ref ID NAME`, in the byte
-/// order of the names. A fault is one line on `errors`. It is the first fault in the server's file,
-/// the client's, the scenario, between the two repositories, and during the events. An event that
-/// is refused is not a fault; the refusal is its outcome.
+/// and a client that fetches from it, with plain packs (gitprotocol-v2(5)). Prints the outcome of
+/// each event as a line on `output`. Then prints each ref of the client as a line `ref ID NAME`, in
+/// the byte order of the names. A fault is printed as one line on `errors`. Faults are checked in
+/// this order: the server's file, the client's file, the scenario, the two repositories together,
+/// and the events. A refused event is not a fault of the simulation; its refusal is its outcome.
 ///
-/// Returns the exit status: 0 if the lines are written and flushed, 1 if there was a fault. Nothing
-/// is written then, except a prefix of the text if the output failed.
+/// Returns exit status 0 if the lines are written and flushed, and 1 after a fault. After a fault
+/// nothing is written to `output`, except a prefix of the lines if the output failed.
 pub fn cmd_simulate<A: Allocator + Copy, W: Sink, E: Sink>(
     alloc: A,
     files: &Simulation<'_>,
@@ -80,7 +80,7 @@ fn begin<A: Allocator + Copy>(
     begin_between(alloc, server, repo, files)
 }
 
-// Loads the server, and the client's repository.
+// Loads the server and the client's repository from their files.
 fn load_ends<A: Allocator + Copy>(
     alloc: A,
     files: &Simulation<'_>,
@@ -92,7 +92,7 @@ fn load_ends<A: Allocator + Copy>(
     Ok((server, repo))
 }
 
-// Reads the scenario before the world begins, so that its fault is the first.
+// Reads the scenario before the world starts, because a fault of the scenario has precedence.
 fn begin_between<A: Allocator + Copy>(
     alloc: A,
     server: Server<A>,
@@ -109,7 +109,7 @@ fn begin_between<A: Allocator + Copy>(
     }
 }
 
-// Returns the world between the two, and its events.
+// Returns the world of the server and the client, together with the events.
 fn begin_world<A: Allocator + Copy>(
     server: Server<A>,
     repo: Repo<A>,
@@ -124,7 +124,7 @@ fn begin_world<A: Allocator + Copy>(
     }
 }
 
-// Runs the events in the world, and shows their outcomes.
+// Runs the events in the world, and prints their outcomes.
 fn happen<A: Allocator + Copy, W: Sink>(
     alloc: A,
     running: &mut World<PlainPack, A>,
@@ -142,7 +142,7 @@ fn happen<A: Allocator + Copy, W: Sink>(
     }
 }
 
-// Shows the outcomes of the events, and the refs.
+// Prints the outcomes of the events, and the client's refs.
 fn show<A: Allocator + Copy, W: Sink>(
     alloc: A,
     outcomes: &[Outcome],
@@ -159,7 +159,7 @@ fn show<A: Allocator + Copy, W: Sink>(
     }
 }
 
-// Writes a text, and flushes it.
+// Writes the text to the output, and flushes it.
 fn send<A: Allocator + Copy, W: Sink>(text: &[u8], output: &mut W) -> Result<(), SimulationFault<A>>
     ensures shows { Shows {A = A} text.now (output_of W.contents W.passed_on W.is_down output.old
         output.new) result }

@@ -1,6 +1,6 @@
--- Deadlines: how long a read waits for a peer.
+-- The maximum duration of a read from a peer.
 use Rattle.std.specs.Prelude.{ℕ}
 
--- the longest that a read waits, in nanoseconds
+-- the maximum duration of a read, in nanoseconds
 abbrev pub longest_wait : ℕ
 longest_wait = 60_000_000_000

@@ -1,9 +1,9 @@
--- A sink that holds a message back until it is passed on.
+-- A sink that holds a message back until a flush.
 use Rattle.std.specs.Prelude.{ℕ, Bool}
 use Rattle.gpkt.specs.Packets.{Bytes}
 
--- the sink inside, the bytes that are held back, how many were written to the sink inside, whether a message was too
--- long, whether there was no memory to hold one, and whether the sink has failed
+-- the inner sink, the held bytes, the number of bytes written to the inner sink, whether a message was too long,
+-- whether memory for a message ran out, and whether the sink has failed
 pub record Holding (W : Type 0) : Type 0 where
   pub inner : W
   pub held : Bytes
@@ -12,6 +12,6 @@ pub record Holding (W : Type 0) : Type 0 where
   pub lacks_memory : Bool
   pub down : Bool
 
--- the most bytes of a message
+-- the maximum length of a message in bytes
 abbrev pub max_message : ℕ
 max_message = 32_768

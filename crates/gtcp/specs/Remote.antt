@@ -1,4 +1,4 @@
--- The programs that open sockets (as git-daemon(1), git-ls-remote(1), git-fetch(1)): what each does and writes, and
+-- The programs that open sockets (as git-daemon(1), git-ls-remote(1), git-fetch(1)): their effects, their output and
 -- the new file.
 use Rattle.std.specs.Prelude.{◌≡◌, ◌⊎◌, ◌<◌, List, ℕ, ◌++◌, codes, Result, Ok, Err}
 use Rattle.std.specs.Fmt.{decimal}
@@ -31,19 +31,19 @@ use Rattle.glockfile.specs.declared.storage.Lockfile.TheVariants.{Absent}
 use Rattle.gtcp.specs.Listing.{reply_lines}
 use Rattle.gtcp.specs.Sockets.{FetchesFrom, FetchesOn, FitPrefixes, ListsFrom, RefusesPrefixes, ServesEach, asked_for}
 
--- a fault was met for such a cause, and nothing is written
+-- the outcome is a fault for such a cause, and nothing is written
 abbrev pub StopsBefore : {A : Type 0} → (ProgramFault A → Type 0) → Output → ProgramOutcome A → Type 0
 StopsBefore {A} Cause output outcome =
     (fault : ProgramFault A) × Cause fault × (outcome ≡ Err fault) × IsUnwritten output
 
 -- ---- serving
 
--- the line that shows the port that is listened at
+-- the line that shows the port of the listener
 abbrev pub port_line : ℕ → Bytes
 port_line port = codes "listening " ++ decimal port ++ codes "\n"
 
--- what showing a port does: its line is written and passed on; or there is no such socket, or there is no memory for
--- the line, or the output failed at it
+-- the outcome of showing a port: its line is written and flushed; or there is no socket, memory for the line runs out,
+-- or the output fails
 abbrev pub Announces : {A : Type 0} → Output → ProgramOutcome A → Type 0
 Announces output (Ok done) = (port : ℕ) × (port < 65_536) × Sends output (port_line port)
 Announces output (Err program.Socket) = IsUnwritten output
@@ -51,26 +51,26 @@ Announces output (Err program.Memory) = IsUnwritten output
 Announces output (Err program.WriteFailed) = (port : ℕ) × (port < 65_536) × BreaksOff output (port_line port)
 Announces output (Err _) = ⊥
 
--- why a file is served to nobody: it is no server's; or it is, and no connection is accepted
+-- the reasons why no client is served: the file is rejected, or no port can be announced
 abbrev pub ServesNobody : {A : Type 0} → Bytes → Output → ProgramFault A → Type 0
 ServesNobody {A} file output fault =
     (RefusesFile file fault × IsUnwritten output)
     ⊎ ((server : Server A) × NamesServer file server × Announces {A = A} output (Err fault))
 
 module _ {A : Type 0} (file path : Bytes) (ends : Ends) (connections : ℕ) (output : Output) where
-  -- the port is shown, and the repository that the file names is served to so many
+  -- the port is shown, and the repository of the file is served on this number of connections
   pub record IsServedToAll (errors : Output) (outcome : ProgramOutcome A) : Type 0 where
     pub server : Server A
     pub names : NamesServer file server
     pub announces : Announces {A = A} output (Ok tt)
     pub serves : ServesEach server plain_packs plain_pack_fails path ends errors connections outcome
 
-  -- what `serve` does before it ends: that; or it is served to nobody
+  -- the effect of `serve` before it exits: the connections are served, or no client is served
   abbrev pub ServesRemote : Output → ProgramOutcome A → Type 0
   ServesRemote errors outcome =
       IsServedToAll errors outcome ⊎ StopsBefore (ServesNobody file output) errors outcome
 
--- it does that, and then it ends as that came out
+-- a server program runs, and then exits with the status of its outcome
 pub record RunsServing (A : Type 0) {E : Type 0} (errors : E → E → Output) (old new : E)
     (Serves : Output → ProgramOutcome A → Type 0) (status : ℕ) : Type 0 where
   pub middle : E
@@ -80,8 +80,8 @@ pub record RunsServing (A : Type 0) {E : Type 0} (errors : E → E → Output) (
 
 -- ---- listing
 
--- what asking the server at a place answers: a reply as it came over a socket; or there are too many prefixes, or there
--- is no socket, or the conversation failed
+-- the result of a listing: the reply of a conversation over a socket; or a fault: too many prefixes, no socket, or a
+-- failed conversation
 abbrev pub AsksRemote : {A : Type 0} → List Bytes → Hello → Result LsReply (ProgramFault A) → Type 0
 AsksRemote {A} prefixes hello (Ok reply) =
     FitPrefixes prefixes × ListsFrom {A = A} (asked_for prefixes) hello (Ok reply)
@@ -91,12 +91,12 @@ AsksRemote prefixes hello (Err (program.Fetch fault)) =
     ⊎ ((cause : MessageFault) × RefusesPrefixes prefixes cause × (fault ≡ fetch.Client (client.Message cause)))
 AsksRemote prefixes hello (Err _) = ⊥
 
--- the lines of a reply are written and passed on, or the output failed at them; or there is no memory for them
+-- the lines of a reply are written and flushed, or the output fails; or memory for the lines runs out
 abbrev pub ShowsReply : {A : Type 0} → LsReply → Output → ProgramOutcome A → Type 0
 ShowsReply reply output outcome =
     SendsReport (reply_lines reply) output outcome ⊎ ((outcome ≡ Err program.Memory) × IsUnwritten output)
 
--- what `ls --tcp` does: that, of the server's reply; or a fault was met before
+-- the effect of `ls --tcp`: the server's reply is shown, or there is a fault and nothing is shown
 abbrev pub ListsRemote : {A : Type 0} → List Bytes → Hello → Output → ProgramOutcome A → Type 0
 ListsRemote {A} prefixes hello output outcome =
     ((reply : LsReply) × AsksRemote {A = A} prefixes hello (Ok reply) × ShowsReply reply output outcome)
@@ -104,7 +104,7 @@ ListsRemote {A} prefixes hello output outcome =
 
 -- ---- fetching
 
--- the repository of a client fetches over a socket; or there is none, and nothing came
+-- a client's repository fetches over a socket; or there is no socket, and the repository is unchanged
 abbrev pub FetchesAt : {A : Type 0} → RepoState A → List Refspec → ℕ → Ends → Hello → RepoState A
     → Result (Fetched A) (ProgramFault A) → Type 0
 FetchesAt {A} old specs limit ends hello new (Ok fetched) =
@@ -114,8 +114,8 @@ FetchesAt {A} old specs limit ends hello new (Err (program.Fetch fault)) =
     FetchesFrom plain_indexes (plain_index_fails A) (start_of old specs limit ends) hello new (Err fault)
 FetchesAt old specs limit ends hello new (Err _) = ⊥
 
--- how it ends after that: the file is replaced whole by the text of the new repository, and only then that is reported;
--- where nothing was fetched the file has the old text, and nothing is reported
+-- the outcome after the fetch: after success the whole file is replaced and the report is written; after a failure the
+-- file is unchanged and nothing is reported
 abbrev pub EndsRemote : {A : Type 0} → Bytes → RepoState A → RepoState A → Result (Fetched A) (ProgramFault A)
     → Stored → Output → ProgramOutcome A → Type 0
 EndsRemote old repo new (Ok fetched) stored report outcome =
@@ -126,7 +126,7 @@ EndsRemote old repo new (Err fault) stored report outcome =
 module _ {A : Type 0} (specs : List Refspec) (limit : ℕ) (ends : Ends) (hello : Hello) (stored : Stored)
     (report : Output)
   where
-    -- the file is not opened: it stays, and nothing is reported
+    -- the file is not opened and not changed, and nothing is reported
     pub record IsNotOpened (outcome : ProgramOutcome A) : Type 0 where
       pub fault : ProgramFault A
       pub refused : RefusesStored stored.old fault
@@ -134,7 +134,7 @@ module _ {A : Type 0} (specs : List Refspec) (limit : ℕ) (ends : Ends) (hello 
       pub kept : IsKept stored
       pub unreported : IsUnwritten report
 
-    -- the repository that the file's text names fetches over a socket
+    -- the repository of the file fetches over a socket
     pub record IsFetchedRemote (outcome : ProgramOutcome A) : Type 0 where
       pub old : Bytes
       pub held : Holds stored.old old
@@ -145,28 +145,28 @@ module _ {A : Type 0} (specs : List Refspec) (limit : ℕ) (ends : Ends) (hello 
       pub fetches : FetchesAt repo specs limit ends hello new result
       pub ends_so : EndsRemote old repo new result stored report outcome
 
-    -- what `fetch --tcp` does to a stored file; at the end this run holds no lockfile
+    -- the effect of `fetch --tcp` on a stored file; at the end this run holds no lockfile
     abbrev pub FetchesRemote : ProgramOutcome A → Type 0
     FetchesRemote outcome = (stored.lockfile ≡ Absent) × (IsFetchedRemote outcome ⊎ IsNotOpened outcome)
 
--- ---- both ends
+-- ---- pairs
 
--- the first line of a pair's client
+-- the first line of the client in a pair
 abbrev pub pair_hello : Hello
 pair_hello = record { path = codes "/"; host = codes "127.0.0.1" }
 
 module _ {A : Type 0} (old : RepoState A) (specs : List Refspec) (new : RepoState A) where
-  -- the repository of a client fetches from the server of a pair
+  -- the client's repository fetches from the server of the pair
   abbrev pub FetchesAsClient : Result (Fetched A) (FetchFault A) → Type 0
   FetchesAsClient result =
       FetchesOn plain_indexes (plain_index_fails A) (start_of old specs default_limit Plain) pair_hello new result
 
-  -- that failed
+  -- the fetch of the client failed
   abbrev pub FailsAsClient : Type 0
   FailsAsClient = (cause : FetchFault A) × FetchesAsClient (Err cause)
 
-  -- the client's conversation; it failed where a message is too long, or where there is no memory to hold one. Or there
-  -- is no connection, or no memory for its buffers, and nothing came.
+  -- The result of a fetch in a pair: that of the client's conversation. The conversation failed if a message is too
+  -- long or memory for a message runs out. Without a connection or memory for its buffers, the repository is unchanged.
   abbrev pub FetchesInPair : Result (Fetched A) (ProgramFault A) → Type 0
   FetchesInPair (Ok fetched) = FetchesAsClient (Ok fetched)
   FetchesInPair (Err (program.Fetch fault)) = FetchesAsClient (Err fault)
@@ -176,7 +176,7 @@ module _ {A : Type 0} (old : RepoState A) (specs : List Refspec) (new : RepoStat
   FetchesInPair (Err _) = ⊥
 
 module _ {A : Type 0} (client : Bytes) (specs : List Refspec) where
-  -- the repository that the client's file names was fetched into, and that is reported
+  -- the fetch into the repository of the client's file succeeded, and the report is written
   pub record IsMet (output : Output) (outcome : ProgramOutcome A) : Type 0 where
     pub repo : RepoState A
     pub names : NamesClient client repo
@@ -186,13 +186,13 @@ module _ {A : Type 0} (client : Bytes) (specs : List Refspec) where
     pub into : IsFetchedInto repo new fetched
     pub reports : Reports fetched output outcome
 
-  -- why it is not: the file is no client's; or the fetch failed
+  -- the reasons why a pair fails: the client's file is rejected, or the fetch failed
   abbrev pub CannotMeet : ProgramFault A → Type 0
   CannotMeet fault =
       RefusesClient client fault
       ⊎ ((repo : RepoState A) × (new : RepoState A) × NamesClient client repo
       × FetchesInPair repo specs new (Err fault))
 
-  -- what `pair` does: that; or a fault was met before
+  -- the effect of `pair`: the fetch succeeds, or there is a fault and nothing is reported
   abbrev pub Meets : Output → ProgramOutcome A → Type 0
   Meets output outcome = IsMet output outcome ⊎ StopsBefore CannotMeet output outcome

@@ -1,5 +1,5 @@
--- Conversations over a socket. Which bytes pass through one is not known to any clause: a call holds one where it
--- does as over other devices, of some input and output.
+-- Conversations over a socket. The contracts don't know the bytes that pass through a socket. A call over a socket
+-- holds a conversation over some input and output.
 use Rattle.std.specs.Prelude.{◌≡◌, ◌⊎◌, ◌<◌, ◌≤◌, ℕ, Bool, true, false, List, length, All, Result, Ok, Err}
 use Rattle.gpkt.specs.Sending.{Input, Output}
 use Rattle.gpkt.specs.Packets.{Bytes}
@@ -32,17 +32,17 @@ use Rattle.gtcp.specs.Telling.{PrintsFaults, faults_of}
 -- ---- fetching
 
 module _ {A : Type 0} (indexes : Indexes A) (index_fails : IndexFails) (start : Start A) (hello : Hello) where
-  -- a fetch is held over a socket, from the first line on
+  -- a fetch over a socket, from the first line on
   pub record HoldsFetch (new : RepoState A) (result : Result (Fetched A) (FetchFault A)) : Type 0 where
     pub input : Input
     pub output : Output
     pub fetches : FetchesGit indexes index_fails start hello input output new result
 
-  -- that; or there is no memory for the buffers of the socket, and nothing came
+  -- a fetch over a socket; or memory for the buffers of the socket runs out, and the repository is unchanged
   abbrev pub FetchesFrom : RepoState A → Result (Fetched A) (FetchFault A) → Type 0
   FetchesFrom new result = HoldsFetch new result ⊎ ((result ≡ Err fetch.NoBuffer) × (new ≡ start.repo))
 
-  -- that; or there is no such first line, and nothing came
+  -- a fetch with this first line; or the first line is refused, and the repository is unchanged
   abbrev pub FetchesOn : RepoState A → Result (Fetched A) (FetchFault A) → Type 0
   FetchesOn new result =
       (IsHello hello × FetchesFrom new result)
@@ -51,34 +51,34 @@ module _ {A : Type 0} (indexes : Indexes A) (index_fails : IndexFails) (start : 
 
 -- ---- listing
 
--- what is asked: the refs with these prefixes, what symbolic refs point at, and what tags lead to
+-- the request for the refs with these prefixes, the targets of symbolic refs, and peeled tags
 abbrev pub asked_for : List Bytes → LsRefsAsked
 asked_for prefixes =
     let named = ls_with no_ls_refs Symrefs true in
     record (ls_with named Peel true) { prefixes = prefixes }
 
--- why it is not asked: there are too many prefixes, or there is no memory for them
+-- the reasons to refuse the request: too many prefixes, or out of memory
 abbrev pub RefusesPrefixes : List Bytes → MessageFault → Type 0
 RefusesPrefixes prefixes cause =
     (cause.frame ≡ 0) × ((has_room : Bool) × IsBuildReason true has_room cause.why
     × (has_room ≡ false → max_prefixes < length prefixes))
 
--- there are not too many prefixes
+-- the number of prefixes is within the limit
 abbrev pub FitPrefixes : List Bytes → Type 0
 FitPrefixes prefixes = length prefixes ≤ max_prefixes
 
 module _ {A : Type 0} (asked : LsRefsAsked) (hello : Hello) where
-  -- a listing is held over a socket, from the first line on
+  -- a listing over a socket, from the first line on
   pub record HoldsListing (result : Result LsReply (FetchFault A)) : Type 0 where
     pub input : Input
     pub output : Output
     pub lists : ListsGit asked hello input output result
 
-  -- that; or there is no memory for the buffers of the socket
+  -- a listing over a socket; or memory for the buffers of the socket runs out
   abbrev pub ListsFrom : Result LsReply (FetchFault A) → Type 0
   ListsFrom result = HoldsListing result ⊎ (result ≡ Err fetch.NoBuffer)
 
--- that, of these prefixes; or there is no such request, or no such first line
+-- a listing with these prefixes; or the request or the first line is refused
 abbrev pub ListsOn : {A : Type 0} → List Bytes → Hello → Result LsReply (FetchFault A) → Type 0
 ListsOn prefixes hello result =
     (IsHello hello × FitPrefixes prefixes × ListsFrom (asked_for prefixes) hello result)
@@ -87,31 +87,31 @@ ListsOn prefixes hello result =
 
 -- ---- serving
 
--- how a connection comes out; that its client asked for another path is no fault of it
+-- the outcome of a connection; a request for another path is not a fault
 abbrev pub outcome_of : {A : Type 0} → GitEnd → ProgramOutcome A
 outcome_of (git.Served served) = outcome_of_connection served.end
 outcome_of git.Elsewhere = Ok tt
 outcome_of (git.Refused fault) = Err (program.Request fault)
 outcome_of git.WriteFailed = Err program.WriteFailed
 
--- all are served, or fewer
+-- all connections are served, or fewer connections and the fault is `Socket`
 abbrev pub IsCount : {A : Type 0} → List (ProgramOutcome A) → ℕ → ProgramOutcome A → Type 0
 IsCount outcomes connections (Ok done) = length outcomes ≡ connections
 IsCount outcomes connections (Err fault) = (fault ≡ program.Socket) × (length outcomes < connections)
 
 module _ {A : Type 0} (server : Server A) (packs : Packs A) (fails : PackFails A) (path : Bytes) (ends : Ends) where
-  -- a connection is served over a socket, and how it ended
+  -- a connection is served over a socket, with this end
   pub record HoldsServing (ended : GitEnd) : Type 0 where
     pub input : Input
     pub output : Output
     pub serves : ServesGit server packs fails path ends input output ended
 
-  -- a connection is served, and comes out so
+  -- a connection is served, with this outcome
   abbrev pub IsServed : ProgramOutcome A → Type 0
   IsServed outcome = (ended : GitEnd) × HoldsServing ended × (outcome ≡ outcome_of ended)
 
-  -- So many connections are served, one after the other, and the faults of all of them are printed, a line each, in
-  -- their order. Or one of them can't be accepted, and those before it are.
+  -- The given number of connections is served, one after the other, and their faults are printed in order, one line
+  -- each. If a connection can't be accepted, only the earlier connections are served.
   pub record ServesEach (errors : Output) (connections : ℕ) (result : ProgramOutcome A) : Type 0 where
     pub outcomes : List (ProgramOutcome A)
     pub each : All IsServed outcomes

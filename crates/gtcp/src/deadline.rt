@@ -9,24 +9,24 @@ ghost use Rattle.gtcp.specs.steps.Deadlines.{LeavesOf, first_line_time, request_
 use std::marker::Model;
 use std::time::{Duration, Instant};
 
-/// The seconds that a client of the server has for its whole first line, starting at the accept.
+/// The maximum time in seconds for a client's whole first line, from the accept on.
 pub const MAX_FIRST_LINE: u64 = 10;
 
-/// The seconds that a client of the server has for a whole request, starting when the server waits
-/// for it.
+/// The maximum time in seconds for a client's whole request, from the moment when the server starts
+/// to wait for the request.
 pub const MAX_REQUEST: u64 = 60;
 
-/// The seconds for which any peer may accept no byte, and for which a server may send none.
+/// The maximum time in seconds during which a peer accepts no byte, or a server sends no byte.
 pub const MAX_SILENCE: u64 = 60;
 
-/// The seconds within which an address must accept a connection.
+/// The maximum time in seconds until an address accepts a connection.
 pub const MAX_CONNECT: u64 = 60;
 
-/// The time that a client of the server has left.
+/// The remaining time of a client of the server.
 #[derive(Drop)]
 pub(crate) struct TimeLeft {
     left: Duration,
-    // When `left` was measured.
+    // The moment at which `left` was measured.
     at: Instant,
 }
 
@@ -44,7 +44,7 @@ impl Model for TimeLeft {
 }
 
 impl TimeLeft {
-    /// Returns the time for a first line that begins now.
+    /// Returns the time for a first line that starts now.
     pub(crate) fn for_first_line(now: Instant) -> TimeLeft
         ensures { result ≡ (first_line_time, instant_nanos now) }
     {
@@ -54,7 +54,7 @@ impl TimeLeft {
         }
     }
 
-    /// Returns the time for a request that begins now.
+    /// Returns the time for a request that starts now.
     pub(crate) fn for_request(now: Instant) -> TimeLeft
         ensures { result ≡ (request_time, instant_nanos now) }
     {
@@ -64,7 +64,7 @@ impl TimeLeft {
         }
     }
 
-    /// Returns the time left now, or `None` if none is left or if the clock went back.
+    /// Returns the time that remains now, or `None` if no time remains or the clock went backwards.
     pub(crate) fn until(self, now: Instant) -> Option<TimeLeft>
         ensures { LeavesOf self (instant_nanos now) result }
     {
@@ -76,7 +76,7 @@ impl TimeLeft {
         Some(TimeLeft { left, at: now })
     }
 
-    /// Returns how long a read may wait, so that it ends in time.
+    /// Returns the maximum duration of a read that ends in time.
     pub(crate) fn wait(&self) -> Duration
         ensures wait { as_nanos result ≡ self.now.0 }
         ensures most { as_nanos result ≤ longest_wait }

@@ -1,4 +1,4 @@
-//! A client of the server at the other end of a stream.
+//! A client that talks over a stream to a server.
 
 ghost use Rattle.std.specs.Prelude.{◌≡◌, ◌≤◌, ◌+◌, ℕ, IfOk, OnErr};
 ghost use Rattle.gdag.specs.Reach.{Grows};
@@ -29,13 +29,14 @@ use std::net::OpenStream;
 
 /// Fetches by refspecs from the server at the other end of the stream. Writes the first line of a
 /// `git://` connection (gitprotocol-pack(5), "Git Transport"), which names the host and the path,
-/// and then does the same as `gclient::fetch_over`.
+/// and then fetches like `gclient::fetch_over`.
 ///
-/// Fails with 42 at packet 0 if the host or the path is not well-formed. Fails with 53 if out of
-/// memory for the first line, and with 28 for the stream's buffers. Nothing is read or written
-/// then. Otherwise fails as `fetch_over`: the refs are unchanged, and the graph only gained
-/// objects. A read fails if the server sends no byte for [`MAX_SILENCE`](crate::MAX_SILENCE)
-/// seconds, and a write if it accepts none.
+/// Fails with `BadText` (42) at packet 0 if the host or the path is not well-formed. Fails with
+/// `Memory` (53) if out of memory for the first line, and with `NoBuffer` (28) if out of memory for
+/// the buffers of the stream. After these three faults nothing was read or written. Otherwise fails
+/// with the faults of `fetch_over`: the refs are unchanged, and the graph only gained objects. A
+/// read fails if the server sends no byte for [`MAX_SILENCE`](crate::MAX_SILENCE) seconds, and a
+/// write fails if the server accepts no byte for the same time.
 pub fn fetch_on<A, K, S>(
     stream: S,
     host: &[u8],
@@ -78,9 +79,9 @@ where
     fetch_git_on(stream, repo, indexer, &fetch)
 }
 
-/// Fetches as [`fetch_on`] does, with a given first line and with options for packs.
+/// Fetches like [`fetch_on`], with a given first line and with options for packs.
 ///
-/// Fails as `fetch_on` does, but not for the host or the path.
+/// Fails like `fetch_on`, but never because of the host or the path.
 pub fn fetch_git_on<A, K, S>(
     stream: S,
     repo: &mut Repo<A>,
@@ -106,7 +107,7 @@ where
     fetch_from(&Peer::new(stream, Silence), repo, indexer, fetch)
 }
 
-/// Fetches as [`fetch_on`] does, with a given first line.
+/// Fetches like [`fetch_git_on`] from a peer.
 pub(crate) fn fetch_from<A, K, S>(
     peer: &Peer<S, Silence>,
     repo: &mut Repo<A>,
@@ -139,12 +140,12 @@ where
         return Err(FetchFault::NoBuffer);
     };
     let fetched = fetch_between(&mut reader, &mut writer, repo, indexer, fetch);
-    // Bytes that could not be written are not tried again.
+    // Does not retry bytes that could not be written.
     let (_peer, _unwritten) = writer.into_parts();
     fetched
 }
 
-// Fetches between a reader and a writer.
+// Fetches over a reader and a writer.
 fn fetch_between<A: Allocator + Copy, K: Indexer<A>, R: Read, W: Write>(
     reader: &mut R,
     writer: &mut W,
@@ -172,14 +173,17 @@ fn fetch_between<A: Allocator + Copy, K: Indexer<A>, R: Read, W: Write>(
 }
 
 /// Lists the refs of the server at the other end of the stream (gitprotocol-v2(5), "ls-refs").
-/// Lists those that begin with one of the prefixes, or all if there are none. The list has the
-/// targets of symbolic refs, peeled tags, and an unborn `HEAD` if the server offers it.
+/// Lists the refs that begin with one of the prefixes, or all refs if there are no prefixes. The
+/// list has the targets of symbolic refs, peeled tags, and an unborn `HEAD` if the server offers
+/// it.
 ///
-/// Fails with 48 at packet 0 at a 65th prefix, and with 42 at packet 0 if the host or the path is
-/// not well-formed. Fails with 53 if out of memory for the request and the first line, and with 28
-/// for the stream's buffers. Nothing is read or written then. Otherwise fails as
-/// `gclient::list_git`. A read fails if the server sends no byte for
-/// [`MAX_SILENCE`](crate::MAX_SILENCE) seconds, and a write if it accepts none.
+/// Fails with `Limit` (48) at packet 0 if there are more than 64 prefixes. Fails with `BadText`
+/// (42) at packet 0 if the host or the path is not well-formed. Fails with `Memory` (53) if out of
+/// memory for the request or the first line, and with `NoBuffer` (28) if out of memory for the
+/// buffers of the stream. After these faults nothing was read or written. Otherwise fails with the
+/// faults of `gclient::list_git`. A read fails if the server sends no byte for
+/// [`MAX_SILENCE`](crate::MAX_SILENCE) seconds, and a write fails if the server accepts no byte for
+/// the same time.
 pub fn ls_on<A, S>(
     alloc: A,
     stream: S,
@@ -202,7 +206,7 @@ where
     }
 }
 
-/// Lists refs as [`ls_on`] does, with a given first line and request.
+/// Lists refs like [`ls_on`], with a given first line and a given request.
 pub(crate) fn ls_from<A, S>(
     alloc: A,
     peer: &Peer<S, Silence>,
@@ -221,12 +225,12 @@ where
         return Err(FetchFault::NoBuffer);
     };
     let listed = list_between(alloc, &mut reader, &mut writer, hello, asked);
-    // Bytes that could not be written are not tried again.
+    // Does not retry bytes that could not be written.
     let (_peer, _unwritten) = writer.into_parts();
     listed
 }
 
-// Lists refs between a reader and a writer.
+// Lists refs over a reader and a writer.
 fn list_between<A: Allocator + Copy, R: Read, W: Write>(
     alloc: A,
     reader: &mut R,
@@ -242,9 +246,9 @@ fn list_between<A: Allocator + Copy, R: Read, W: Write>(
     list_git(hello, &mut source, &mut sink, asked, alloc)
 }
 
-/// Returns a request for refs, with their targets and peeled ids.
+/// Returns a request for refs, with the targets of symbolic refs and with peeled ids.
 ///
-/// Fails with `Limit` at a 65th prefix, and if out of memory.
+/// Fails with `Limit` if there are more than 64 prefixes, and with `Memory` if out of memory.
 pub(crate) fn request_for<A: Allocator + Copy>(
     alloc: A,
     prefixes: &[Prefix<A>],

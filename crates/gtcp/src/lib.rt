@@ -1,88 +1,98 @@
-//! The programs of gitv2 that open sockets, as functions over the network. They serve a repository
-//! to those who connect, list the refs of a server, fetch from it, or run both ends in one process.
+//! The programs of gitv2 that open sockets, as functions over the network. The programs serve a
+//! repository, list the refs of a server, fetch from a server, or run client and server in one
+//! process.
 //!
-//! The caller provides the network, its streams and the clock. No clause can say which bytes a
-//! socket gives or takes. So a call over a socket holds a conversation as `gserve` and `gclient`
-//! describe it for any devices, over some input and output whose bytes need not be known
-//! (`specs/Sockets.antt`). Within the crate, the clauses of a conversation between any reader and
-//! writer say which of their bytes it read and wrote.
+//! The caller provides the network, its streams and the clock. The contracts can't state which
+//! bytes a socket sends or receives. A call over a socket therefore holds the conversation that
+//! `gserve` or `gclient` specifies, over some input and output with unknown bytes
+//! (`specs/Sockets.antt`). Inside the crate, the contracts of a conversation over a reader and a
+//! writer state the bytes that were read and written.
 //!
 //! # Proved
 //!
-//! - [`serve_listener`] serves `connections` connections, one after the other. It prints the faults
-//!   of all of them, a line each, in their order, and flushes them. If the errors' sink fails, it
-//!   printed a prefix of these lines (`specs/Sockets.antt`, `Telling.antt`). A client that asks for
-//!   another path is not a fault of a connection. Fails only with `Socket`, and then it served
-//!   fewer.
-//! - [`fetch_on`] holds a fetch with the given refspecs and limit, and replies that end as given.
-//!   It starts at the first line for this host and path, and has every promise of
-//!   `gclient::fetch_over`. Otherwise there is no such first line, or it is out of memory for its
-//!   buffers, and nothing arrived. [`fetch_git_on`] does the same with a given first line and with
-//!   options for packs. [`ls_on`] holds a listing in the same way, for the given prefixes. Both
-//!   refuse a host or a path that is not well-formed, and more than 64 prefixes.
-//! - [`cmd_ls_remote`] writes the lines of the reply to such a listing and flushes them. On any
-//!   fault except one of its output, it writes nothing (`specs/Listing.antt`, `Remote.antt`). It
-//!   reports more than 64 prefixes as such, or as out of memory, but not as a missing socket.
-//! - [`cmd_fetch_remote`] fetches into a stored file. In every state of the storage, the file holds
-//!   the old text or the whole new one. The new one appears only if the refs were settled. It is
-//!   the text of the repository after the fetch, which only gained objects. The report, with the
-//!   outcome of each ask, is written only after that. At the end the run holds no lockfile
-//!   (`specs/Remote.antt`, and `Stored.antt` of `gcmd`).
-//! - [`cmd_pair`] reports such a fetch, and stores nothing.
-//! - [`cmd_serve`] shows the number of a port, and then does the same as [`serve_listener`] with
-//!   the repository of its file. Otherwise it shows no line, or a prefix of it, and serves nobody.
-//! - Each program ends with status 0 and prints nothing more, or with 1 and the line of its fault,
-//!   or a prefix of the line. The fault is a refused file, a failed conversation, no socket, out of
-//!   memory, or a failed output. Before that [`cmd_serve`] prints only the faults of connections,
-//!   and the others print nothing.
-//! - A [`Timer`] gives each read a time limit, which is not zero and at most 60 seconds
-//!   (`specs/Deadlines.antt`). [`Turns`] reduce a client's time by the time that has passed on the
-//!   clock. The client has none left if the clock went back. It gets the full time again only when
-//!   the server begins to wait for a request (`specs/steps/Deadlines.antt`, `Turns.antt`; these
-//!   clauses are private).
-//! - A [`Location`] has the given address and path. Its host is the text before a port, which is a
-//!   decimal number up to 65,535 (`specs/Places.antt`).
-//! - A [`MessageSink`] wrote or holds each byte that it was given. It holds bytes without writing
-//!   any, and refuses those that make a message too long (`MessageSink::hold`,
-//!   `specs/Messages.antt`). As a sink it writes nothing to the inner sink before a flush. Then it
-//!   writes all that it holds, at most 32,768 bytes, and these count as flushed. Only a pair whose
-//!   fetch failed reports fault 94.
+//! - [`serve_listener`] serves `connections` connections, one after the other. The function prints
+//!   and flushes the faults of all connections, one line per fault and in order. If the errors'
+//!   sink fails, a prefix of these lines is printed (`specs/Sockets.antt`, `Telling.antt`). A
+//!   request for another path is not a fault. The call fails only with `Socket`, after fewer than
+//!   `connections` connections.
+//! - [`fetch_on`] fetches with the given refspecs, pack limit and form of replies. The fetch starts
+//!   with the first line for the given host and path, and keeps every promise of
+//!   `gclient::fetch_over`. If the first line can't be composed, or memory for the buffers runs
+//!   out, the repository is unchanged.
+//! - [`fetch_git_on`] fetches like [`fetch_on`], with a given first line and with options for
+//!   packs.
+//! - [`ls_on`] lists the refs with the given prefixes over the same kind of connection. A listing
+//!   refuses more than 64 prefixes. A listing and a fetch refuse a host or a path that is not
+//!   well-formed.
+//! - [`cmd_ls_remote`] lists refs like [`ls_on`], writes the lines of the reply, and flushes them.
+//!   After any fault except a failed output, the program has written nothing (`specs/Listing.antt`,
+//!   `Remote.antt`). With more than 64 prefixes the program reports this limit or out of memory,
+//!   but never a missing socket.
+//! - [`cmd_fetch_remote`] fetches into a stored file. In every state of the storage, the file has
+//!   the old text or the whole new text. The new text is written only if the conversation succeeds.
+//!   The new text describes the repository after the fetch, which only gained objects. The report,
+//!   with the outcome of each ref update, is written only after the new text. At the end the run
+//!   holds no lockfile (`specs/Remote.antt`, and `Stored.antt` of `gcmd`).
+//! - [`cmd_pair`] fetches inside one process and writes the same report, but stores nothing.
+//! - [`cmd_serve`] shows the number of its port, and then serves the repository of its file like
+//!   [`serve_listener`]. If the file is refused, no socket opens or the port can't be shown,
+//!   [`cmd_serve`] serves no client.
+//! - Each program exits with status 0 or 1. With status 0 it prints no further line. With status 1
+//!   it prints the line of its fault, or a prefix of this line. The fault is a refused file, a
+//!   failed conversation, a missing socket, out of memory, or a failed output. Before this line
+//!   [`cmd_serve`] prints only the faults of connections, and the other programs print nothing.
+//! - A [`Timer`] limits the time of each read to more than zero and at most 60 seconds
+//!   (`specs/Deadlines.antt`).
+//! - [`Turns`] subtract the elapsed time of the clock from a client's remaining time. If the clock
+//!   goes backwards, the client has no time left. The client gets the full time again only when the
+//!   server starts to wait for a request (`specs/steps/Deadlines.antt` and `Turns.antt`, for
+//!   private functions).
+//! - A [`Location`] has the given address and path. Its host is the text of the address before the
+//!   port, and the port is a decimal number up to 65,535 (`specs/Places.antt`).
+//! - A [`MessageSink`] has written or still holds each byte that its caller wrote.
+//!   `MessageSink::hold` stores bytes without writing them, and refuses bytes that make a message
+//!   too long (`specs/Messages.antt`). The inner sink receives nothing before a flush. A flush
+//!   writes all held bytes, at most 32,768, to the inner sink. From then on these bytes count as
+//!   flushed. Only a pair whose fetch failed reports `PairLimit` (94).
 //!
 //! # Only tested
 //!
-//! The program `conformance` holds connections and pairs over sockets of its own process. It tests
-//! the deadlines [`MAX_FIRST_LINE`], [`MAX_REQUEST`] and [`MAX_SILENCE`] with its own clock. The
-//! script `examples/over-tcp.sh`, run by hand, holds conversations with git and its daemon. It
-//! tests deadlines in real time, and that unread input hides no line. No clause can say what a cell
-//! holds from one read to the next, nor which limits a stream was given.
+//! The program `conformance` holds connections and pairs over sockets of its own process. The
+//! program tests the deadlines [`MAX_FIRST_LINE`], [`MAX_REQUEST`] and [`MAX_SILENCE`] with its own
+//! clock. The script `examples/over-tcp.sh`, which is run by hand, holds conversations with git and
+//! its daemon. The script tests deadlines in real time, and tests that unread input does not hide
+//! an error line. The contracts can't state the contents of a `Cell` between two reads, nor the
+//! time limits of a stream.
 //!
 //! # What the contracts do not rule out
 //!
-//! The bytes of a conversation are any that fit the results. No clause says that they are the
-//! peer's. Nor does one say that a connection is made, accepted, read or written, or what a pair's
-//! server does. So a body may return any reply, bring any objects, or report any connection as
-//! served, if some peer's bytes would lead to it. It may send any bytes. It may fail with `Socket`
-//! although a connection can be accepted or made, or report out of memory. In a pair it may report
-//! any failed fetch as a message that is too long, or not. [`cmd_fetch_remote`] may connect before
-//! it locks the file, and may report that the file can't be locked, read or replaced although it
-//! could be.
+//! The contracts allow any conversation whose bytes fit the result, and do not state that the peer
+//! sent these bytes. The contracts do not state that a connection is opened, accepted, read or
+//! written, nor what the server of a pair does. An implementation may therefore return any result
+//! to which the bytes of some peer would lead: any reply, any added objects, or any served
+//! connection. An implementation may send any bytes. An implementation may fail with `Socket`
+//! although a connection can be accepted or opened, or report out of memory. In a pair, an
+//! implementation may report any failed fetch as a message that is too long, and vice versa. The
+//! program of [`cmd_fetch_remote`] may connect before it locks the file. The program may also
+//! report that the file can't be locked, read or replaced although it could be.
 //!
-//! [`serve_listener`] may accept other connections between those that it serves. [`cmd_serve`] may
-//! listen at another address than the given one, and may show another port, at another time. A body
-//! may ignore a deadline, or the clock. [`Location::new`] may return `None`. [`connect_to`] may
-//! connect to another address, or fail. A [`Peer`] may read and write other bytes than those of its
-//! stream.
+//! [`serve_listener`] may accept further connections between the served connections. The program of
+//! [`cmd_serve`] may listen at another address than the given one, and may show another port or
+//! show it later. An implementation may ignore a deadline or the clock. [`Location::new`] may
+//! return `None`. [`connect_to`] may connect to another address, or fail. A [`Peer`] may read and
+//! write other bytes than those of its stream.
 //!
-//! A [`MessageSink`] need not flush the inner sink, and at a flush that fails it may write a part
-//! of what it holds. If the bytes of the inner sink are not known, nothing is said about when it
-//! writes. `is_too_long` and `bytes_written` may ignore the effect of a `write` or a flush.
+//! A [`MessageSink`] need not flush the inner sink, and a flush that fails may write a part of the
+//! held bytes. If the inner sink does not record its bytes, the contracts do not state when the
+//! inner sink receives bytes. `is_too_long` and `bytes_written` may ignore the effect of a `write`
+//! or a flush.
 //!
 //! # Stands on
 //!
-//! `gserve` and `gclient` for connections, `gcmd` for the shared parts of programs, `glockfile` for
-//! stored files; `ganswer` for the server, `ghello`, `grequest`, `glsreply` and `gfetchreply` for
-//! messages. `ggrammar` and `gpkt` for what these share, `ggraph` for plain packs, `gname` for
-//! prefixes.
+//! The crate uses `gserve` and `gclient` for connections, `gcmd` for the shared parts of programs,
+//! and `glockfile` for stored files. The crate uses `ganswer` for the server, and `ghello`,
+//! `grequest`, `glsreply` and `gfetchreply` for messages. The crate uses `ggrammar` and `gpkt` for
+//! the shared parts of messages, `ggraph` for plain packs, and `gname` for prefixes.
 #![tactic(auto)]
 
 mod deadline;

@@ -1,4 +1,4 @@
-//! The lines of listed refs.
+//! The printed lines of listed refs.
 
 ghost use Rattle.std.specs.Prelude.{◌≡◌, ◌<◌, ◌++◌, IfOk, OnOk, Some, length, slice_get};
 ghost use Rattle.std.specs.List.{flat_map};
@@ -10,8 +10,8 @@ use glsreply::{LsReply, RefLine, RefText};
 use gname::RefName;
 use std::alloc::{AllocError, Allocator};
 
-/// Returns the lines of a reply: first the ref that an unborn `HEAD` points at, and then each ref.
-/// Fails only if out of memory.
+/// Returns the lines of a reply: first the target of an unborn `HEAD`, and then each ref. Fails
+/// only if out of memory.
 pub(crate) fn text_of<A: Allocator + Copy>(
     alloc: A,
     reply: &LsReply<A>,
@@ -24,7 +24,7 @@ pub(crate) fn text_of<A: Allocator + Copy>(
     Ok(text)
 }
 
-// Appends the line of an unborn HEAD.
+// Appends the line of an unborn HEAD, if there is one.
 fn put_unborn<A: Allocator + Copy>(
     text: &mut Vec<u8, A>,
     target: Option<&RefName<A>>,
@@ -48,7 +48,7 @@ fn put_target<A: Allocator + Copy>(
     text.extend_from_slice(b"\n")
 }
 
-// Appends a word, and the name of a ref.
+// Appends a word and a ref name.
 fn put_named<A: Allocator + Copy>(
     text: &mut Vec<u8, A>,
     word: &[u8],
@@ -60,7 +60,7 @@ fn put_named<A: Allocator + Copy>(
     text.extend_from_slice(name.as_bytes())
 }
 
-// Appends a line for each ref.
+// Appends a line for each ref of the reply.
 fn put_refs<A: Allocator + Copy>(
     text: &mut Vec<u8, A>,
     reply: &LsReply<A>,

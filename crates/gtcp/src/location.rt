@@ -6,9 +6,8 @@ ghost use Rattle.gtcp.specs.Places.{IsPlace, IsPort};
 use ghello::Hello;
 use std::alloc::{Allocator, Global};
 
-/// The location of a served repository (git-fetch(1), "GIT URLS"): the text of an address,
-/// HOST:PORT, and a path. The host and the path have the form that the first line of a connection
-/// takes.
+/// The location of a served repository (git-fetch(1), "GIT URLS"): the text HOST:PORT of an
+/// address, and a path. The host and the path are valid in the first line of a `git://` connection.
 #[derive(Debug, Drop)]
 pub struct Location<A: Allocator + Copy = Global> {
     address: String<A>,
@@ -16,10 +15,10 @@ pub struct Location<A: Allocator + Copy = Global> {
 }
 
 impl<A: Allocator + Copy> Location<A> {
-    /// Makes a location of an address and a path. The host is the text of the address before its
+    /// Makes a location from an address and a path. The host is the text of the address before its
     /// last `:`, and the port is a decimal number up to 65,535.
     ///
-    /// Returns `None` if the address has another form, if the host or the path is not well-formed
+    /// Returns `None` if the address has no such port, if the host or the path is not well-formed
     /// (gitprotocol-pack(5), "Git Transport"), or if out of memory.
     pub fn new(alloc: A, address: &str, path: &str) -> Option<Location<A>>
         ensures { IfSome result (λ place. (string_bytes place.address ≡ address.now)
@@ -49,7 +48,7 @@ impl<A: Allocator + Copy> Location<A> {
     }
 }
 
-// Whether the text is a decimal number up to 65,535.
+// Returns whether the text is a decimal number up to 65,535.
 fn is_port(text: &str) -> bool
     ensures { IsTrue result → IsPort text.now }
 {

@@ -1,4 +1,4 @@
-//! Messages held back until they are whole.
+//! Messages that a sink holds back until they are complete.
 
 ghost use Rattle.std.specs.Prelude.{◌≡◌, ◌≤◌, ◌<◌, ◌+◌, ◌++◌, ◌||◌, [], false, true, ◌&&◌, length, take, drop, nat_lt, not, is_err, IsErr, IsOk, OnErr, OnOk};
 ghost use Rattle.std.specs.Io.KnownBytes.{Appends, Keeps, append_known};
@@ -10,17 +10,17 @@ use gpkt::{Down, Sink};
 use std::alloc::{Allocator, Global};
 use std::marker::Model;
 
-/// The maximum length in bytes of a message between both ends of a pair. A connection that nobody
-/// reads has room for one.
+/// The maximum length in bytes of a message between the client and the server of a pair. The
+/// buffers of a connection have room for one message that is not yet read.
 pub const MAX_MESSAGE: usize = 32_768;
 
-/// A sink that holds a message back until it is flushed. It goes down at a message that is too
-/// long, and writes none of it to the inner sink.
+/// A sink that holds a message back until a flush. If a message is too long, the sink fails, and
+/// nothing of the message is written to the inner sink.
 #[derive(Drop)]
 pub struct MessageSink<W, A: Allocator + Copy = Global> {
     sink: W,
     held: Vec<u8, A>,
-    // How many bytes were written to the inner sink.
+    // The number of bytes that were written to the inner sink.
     written: usize,
     is_too_long: bool,
     lacks_memory: bool,
@@ -49,7 +49,7 @@ impl<W, A: Allocator + Copy> Model for MessageSink<W, A> {
 }
 
 impl<W, A: Allocator + Copy> MessageSink<W, A> {
-    /// Returns a sink that holds nothing. Allocates nothing yet.
+    /// Returns a sink that holds no bytes. Allocates no memory yet.
     pub fn new(alloc: A, sink: W) -> MessageSink<W, A>
         ensures { result ≡ record {
           inner = sink;
@@ -70,35 +70,35 @@ impl<W, A: Allocator + Copy> MessageSink<W, A> {
         }
     }
 
-    /// Returns how many bytes were written to the inner sink, at most `usize::MAX`.
+    /// Returns the number of bytes that were written to the inner sink, at most `usize::MAX`.
     pub fn bytes_written(&self) -> usize
         ensures { result ≡ self.now.written }
     {
         self.written
     }
 
-    /// Whether a message was too long.
+    /// Returns whether a message was too long.
     pub fn is_too_long(&self) -> bool
         ensures { result ≡ self.now.too_long }
     {
         self.is_too_long
     }
 
-    /// Whether there was no memory to hold a message.
+    /// Returns whether memory to hold a message ran out.
     pub fn lacks_memory(&self) -> bool
         ensures { result ≡ self.now.lacks_memory }
     {
         self.lacks_memory
     }
 
-    /// Whether it has failed.
+    /// Returns whether the sink has failed.
     pub fn has_failed(&self) -> bool
         ensures { result ≡ self.now.down }
     {
         self.is_down
     }
 
-    // Records that it has failed, and returns the error.
+    // Marks the sink as failed, and returns the error.
     fn fail<T>(&mut self) -> Result<T, Down>
         ensures same { self.new ≡ record self.old { down = true } }
         ensures err { IsErr result }
@@ -109,10 +109,10 @@ impl<W, A: Allocator + Copy> MessageSink<W, A> {
 }
 
 impl<W: Sink, A: Allocator + Copy> MessageSink<W, A> {
-    /// Holds more bytes of a message, and writes nothing.
+    /// Holds more bytes of a message, without writing any to the inner sink.
     ///
-    /// Fails if the message would then have more than [`MAX_MESSAGE`] bytes, and if out of memory.
-    /// The held bytes are unchanged then, and the sink is down.
+    /// Fails if the message would have more than [`MAX_MESSAGE`] bytes, or if out of memory. After
+    /// a fault the held bytes are unchanged, and the sink is down.
     pub fn hold(&mut self, bytes: &[u8]) -> Result<(), Down>
         requires { self.old.down ≡ false }
         ensures inner { self.new.inner ≡ self.old.inner }
@@ -141,7 +141,7 @@ impl<W: Sink, A: Allocator + Copy> MessageSink<W, A> {
         }
     }
 
-    // Writes the held bytes to the inner sink. At an error the rest is still held.
+    // Writes the held bytes to the inner sink. After an error the unwritten bytes are still held.
     fn write_held(&mut self) -> Result<(), Down>
         ensures bytes { Keeps (append_known (W.contents self.old.inner) self.old.held)
             (append_known (W.contents self.new.inner) self.new.held) }
@@ -157,7 +157,8 @@ impl<W: Sink, A: Allocator + Copy> MessageSink<W, A> {
     }
 }
 
-// Writes bytes from the front, and returns how many: all of them, unless the sink failed.
+// Writes the bytes in order, and returns the number of written bytes: all of them, unless the sink
+// failed.
 fn write_front<W: Sink>(bytes: &[u8], sink: &mut W) -> (usize, Result<(), Down>)
     ensures bound { result.0 ≤ length bytes.now }
     ensures all { OnOk result.1 (result.0 ≡ length bytes.now) }
@@ -174,7 +175,7 @@ fn write_front<W: Sink>(bytes: &[u8], sink: &mut W) -> (usize, Result<(), Down>)
     (count, Ok(()))
 }
 
-// Removes `count` bytes from the front.
+// Removes the first `count` bytes.
 fn remove_front<A: Allocator>(held: &mut Vec<u8, A>, count: usize)
     requires { count ≤ length held.old.items }
     ensures { held.new.items ≡ drop count held.old.items }
@@ -184,7 +185,7 @@ fn remove_front<A: Allocator>(held: &mut Vec<u8, A>, count: usize)
     held.truncate(len - count);
 }
 
-// Bytes written to the inner sink count as flushed, so nothing is written there before a flush.
+// Bytes in the inner sink count as flushed, so nothing is written to the inner sink before a flush.
 impl<W: Sink, A: Allocator + Copy> Sink for MessageSink<W, A> {
     ghost contents = { λ h. append_known (W.contents h.inner) h.held };
 

@@ -1,4 +1,4 @@
-//! Both ends of a connection in one process, turn by turn.
+//! A client and a server in one process, which take turns.
 
 ghost use Rattle.std.specs.Prelude.{◌≡◌, ◌||◌, [], None, true, IfOk, IsErr};
 ghost use Rattle.gdag.specs.Reach.{Grows};
@@ -24,23 +24,23 @@ use std::alloc::Allocator;
 use std::io::{BufReader, Read, Write};
 use std::net::{Net, OpenListener, OpenStream, SocketAddr, TcpListener, TcpStream};
 
-// The input of the client. When it has read all that the server flushed, the server has its turn.
+// The input of the client. When the client has read all that the server flushed, the server runs.
 #[derive(Drop)]
 struct Answers<'a, N, F, W, A: Allocator + Copy> {
     server: &'a Server<A>,
-    // The client's end.
+    // The client's end of the connection.
     near: N,
-    // The server's end.
+    // The server's end of the connection.
     far: F,
     far_sink: MessageSink<W, A>,
     has_advertised: bool,
-    // How many bytes the client has read.
+    // The number of bytes that the client has read.
     read: usize,
     is_down: bool,
 }
 
 impl<'a, N: Source, F: Source, W: Sink, A: Allocator + Copy> Answers<'a, N, F, W, A> {
-    // Returns the input of a client whose server has had no turn.
+    // Returns the input of a client whose server has not run yet.
     fn new(server: &'a Server<A>, near: N, far_end: (F, W)) -> Self {
         let (far, far_sink) = far_end;
         Answers {
@@ -54,7 +54,7 @@ impl<'a, N: Source, F: Source, W: Sink, A: Allocator + Copy> Answers<'a, N, F, W
         }
     }
 
-    // Takes the server's turn: it hears the client's first line, or replies to one request.
+    // Runs the server once. The server replies to the client's first line or to one request.
     fn take_turn(&mut self)
         ensures { self.new.is_down ≡ self.old.is_down }
     {
@@ -78,7 +78,7 @@ impl<'a, N: Source, F: Source, W: Sink, A: Allocator + Copy> Answers<'a, N, F, W
         )
     }
 
-    // Returns how many written bytes of the server the client has not read.
+    // Returns the number of bytes that the server has written and the client has not read.
     fn bytes_left(&self) -> usize {
         self.far_sink.bytes_written().saturating_sub(self.read)
     }
@@ -122,7 +122,8 @@ impl<N: Source, F: Source, W: Sink, A: Allocator + Copy> Source for Answers<'_, 
     }
 }
 
-// Hears the client's first line as the server, and advertises or reports why it refuses the line.
+// Reads the client's first line as the server, and writes the advertisement or the reason to refuse
+// the line.
 fn greet<A: Allocator + Copy, F: Source, W: Sink>(server: &Server<A>, far: &mut F, sink: &mut W) {
     match hear(far, server.graph().allocator()) {
         Ok(_hello) => advertise(server, sink),
@@ -130,14 +131,14 @@ fn greet<A: Allocator + Copy, F: Source, W: Sink>(server: &Server<A>, far: &mut 
     }
 }
 
-// Writes the advertisement alone, for a client that asks for nothing.
+// Writes only the advertisement, by serving a client that sends no request.
 fn advertise<A: Allocator + Copy, W: Sink>(server: &Server<A>, sink: &mut W) {
     let mut nothing = SliceSource::new(b"");
     let mut packer = OnePack::new(&PlainPack);
     let _served = serve(server, &mut packer, Ends::Plain, &mut nothing, sink);
 }
 
-// Writes the line of a refusal, and flushes it. Allocates nothing.
+// Writes the error line of a refusal, and flushes it. Allocates no memory.
 fn refuse<W: Sink>(fault: &ServeFault, sink: &mut W) {
     let mut text = [0; MAX_ERR_TEXT];
     let len = err_text(fault, &mut text);
@@ -147,18 +148,18 @@ fn refuse<W: Sink>(fault: &ServeFault, sink: &mut W) {
     }
 }
 
-// Both ends of one connection of this process.
+// The two ends of a connection inside this process.
 #[derive(Drop)]
 struct Joined<S> {
     near: S,
     far: S,
 }
 
-// The maximum number of strangers that may connect before the client's own connection is found.
+// The maximum number of other connections that are accepted before the client's own connection.
 const MAX_STRANGERS: usize = 16;
 
-// The address at which both ends meet, with any free port. After it, the host and the path that the
-// client names.
+// The address at which client and server connect, with any free port. The client names the host and
+// the path of the two following constants.
 const MEETING: &str = "127.0.0.1:0";
 
 const HOST: &[u8] = b"127.0.0.1";
@@ -170,7 +171,7 @@ fn connect<N: Net>(net: &N) -> Option<Joined<N::Stream>> {
     join(net, &listener)
 }
 
-// Connects to the listener, and accepts that connection.
+// Connects to the listener, and accepts the same connection.
 fn join<N: Net>(net: &N, listener: &N::Listener) -> Option<Joined<N::Stream>> {
     let address = listener.local_addr().ok()?;
     let near = TcpStream::connect(net, address).ok()?;
@@ -178,7 +179,7 @@ fn join<N: Net>(net: &N, listener: &N::Listener) -> Option<Joined<N::Stream>> {
     Some(Joined { near, far })
 }
 
-// Accepts the connection of this peer.
+// Accepts the connection of this client.
 fn accept_from<L: OpenListener>(listener: &L, client: SocketAddr) -> Option<L::Stream> {
     for _ in 0..MAX_STRANGERS {
         let (stream, peer) = listener.accept().ok()?;
@@ -189,13 +190,13 @@ fn accept_from<L: OpenListener>(listener: &L, client: SocketAddr) -> Option<L::S
     None
 }
 
-/// Fetches by refspecs from the server into the repository, over a connection of this process, with
-/// plain packs.
+/// Fetches by refspecs from the server into the repository, over a connection inside this process
+/// and with plain packs.
 ///
 /// Fails with `PairLimit` if a message would have more than [`MAX_MESSAGE`](crate::MAX_MESSAGE)
-/// bytes: none of it is written, and both ends stop. Fails with `Socket` if there is no such
-/// connection, and with `Memory` if out of memory for its buffers or to hold a message. Otherwise
-/// fails as `gclient::fetch_over`.
+/// bytes: nothing of the message is written, and client and server stop. Fails with `Socket` if the
+/// connection can't be opened, and with `Memory` if out of memory for its buffers or for a message.
+/// Otherwise fails with the faults of `gclient::fetch_over`.
 pub(crate) fn fetch_in_pair<A: Allocator + Copy, N>(
     net: &N,
     server: &Server<A>,
@@ -219,7 +220,7 @@ where
     }
 }
 
-// Fetches in the same way over a connection with these ends.
+// Fetches over a connection with these two ends.
 fn fetch_between<A, S>(
     server: &Server<A>,
     repo: &mut Repo<A>,
@@ -245,7 +246,7 @@ where
     }
 }
 
-// Fetches in the same way over these devices of the client's end.
+// Fetches over these devices of the client's end.
 fn fetch_from_far<A, N, V, S>(
     server: &Server<A>,
     repo: &mut Repo<A>,
@@ -273,7 +274,7 @@ where
     }
 }
 
-// Fetches in the same way over these devices of both ends.
+// Fetches over these devices of both ends.
 fn converse<A, N, V, F, W>(
     server: &Server<A>,
     repo: &mut Repo<A>,
@@ -299,8 +300,8 @@ where
     exchange(repo, specs, &mut answers, &mut requests)
 }
 
-// Fetches in the same way by these requests. The client ends with a flush packet, and the server
-// has a last turn to hear it.
+// Fetches through `requests` and `answers`. At the end the client sends a flush packet, and the
+// server runs once more to read this packet.
 fn exchange<A, N, V, F, W>(
     repo: &mut Repo<A>,
     specs: &[Spec<A>],
@@ -327,8 +328,8 @@ where
     }
 }
 
-// Returns why both ends stopped: a message was too long, there was no memory to hold it, or
-// otherwise the client's fault.
+// Returns the reason why client and server stopped: a message was too long, memory for a message
+// ran out, or the client's own fault.
 fn fault_of<V: Sink, W: Sink, A: Allocator + Copy>(
     fault: FetchFault<A>,
     requests: &MessageSink<V, A>,
@@ -346,7 +347,7 @@ fn fault_of<V: Sink, W: Sink, A: Allocator + Copy>(
     ProgramFault::Fetch(fault)
 }
 
-// Fetches as the client's end.
+// Fetches as the client of the pair.
 fn fetch_as_client<A: Allocator + Copy, S: Source, W: Sink>(
     repo: &mut Repo<A>,
     specs: &[Spec<A>],
@@ -372,7 +373,7 @@ fn fetch_as_client<A: Allocator + Copy, S: Source, W: Sink>(
     fetch_git(repo, answers, requests, &PlainPack, &fetch)
 }
 
-// Returns the first line that the client writes.
+// Returns the first line of the client.
 fn hello_of_pair<A: Allocator + Copy>(alloc: A) -> Result<Hello<A>, MessageFault>
     ensures { MakesHello pair_hello result }
 {

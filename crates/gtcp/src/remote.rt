@@ -39,8 +39,8 @@ use std::time::Clock;
 
 // ---- serving
 
-/// The service: its address and path, the number of connections, how replies end, and the text of
-/// the repository.
+/// The parameters of a server: its address and path, the number of connections, whether replies end
+/// with a response-end packet, and the text of the repository.
 #[derive(Drop)]
 pub struct Service<'a, A: Allocator + Copy> {
     pub place: &'a Location<A>,
@@ -50,13 +50,13 @@ pub struct Service<'a, A: Allocator + Copy> {
 }
 
 /// `gitv2 serve --listen ADDR --path PATH --connections N [--response-end] FILE`: shows the port of
-/// the listener as the line `listening PORT` on `output`. Then it serves `connections` connections,
-/// one after the other, as [`serve_listener`] does. The fault of a connection is one line on
-/// `errors`, and so is the fault that ends the program.
+/// the listener as the line `listening PORT` on `output`. Then the program serves `connections`
+/// connections, one after the other, like [`serve_listener`]. Each fault of a connection is printed
+/// as one line on `errors`, and so is the fault that ends the program.
 ///
-/// Returns the exit status: 0 if all connections were served, whatever their faults. Returns 1 if
-/// the file is not served, there is no such socket, the port can't be shown, or a connection can't
-/// be accepted.
+/// Returns exit status 0 if all connections were served, whatever their faults. Returns 1 if the
+/// file is refused, the socket can't be opened, the port can't be shown, or a connection can't be
+/// accepted.
 pub fn cmd_serve<A: Allocator + Copy, N, W: Sink, E: Sink>(
     net: &N,
     alloc: A,
@@ -77,7 +77,7 @@ where
     finish(outcome, errors)
 }
 
-// Loads the server, and lends it to those who connect.
+// Loads the server, and serves its clients.
 fn serve_all<A: Allocator + Copy, N, W: Sink, E: Sink>(
     net: &N,
     alloc: A,
@@ -100,7 +100,7 @@ where
     }
 }
 
-// Serves `connections` connections at the location, and prints only their faults.
+// Serves `connections` connections at the location, and prints only the faults of connections.
 fn serve_at<A: Allocator + Copy, N, W: Sink, E: Sink>(
     net: &N,
     server: &Server<A>,
@@ -135,7 +135,7 @@ where
     }
 }
 
-// Shows the port of the listener.
+// Shows the port of the listener on the output.
 fn announce<A: Allocator + Copy, L: OpenListener, W: Sink>(
     alloc: A,
     listener: &L,
@@ -168,21 +168,21 @@ fn show_port<A: Allocator + Copy, W: Sink>(
 
 // ---- listing
 
-/// The listing: the location of the server, and the prefixes of the refs, or all refs if there are
-/// none.
+/// The parameters of a listing: the location of the server, and the prefixes of the refs to list.
+/// An empty list of prefixes lists all refs.
 #[derive(Drop)]
 pub struct Listing<'a, A: Allocator + Copy> {
     pub place: &'a Location<A>,
     pub prefixes: &'a [Prefix<A>],
 }
 
-/// `gitv2 ls --tcp ADDR --path PATH [PREFIX]...`: lists the refs of a server, a line each on
-/// `output`, as a written reply spells them (gitprotocol-v2(5), "ls-refs"). An unborn `HEAD` is the
-/// first line, if the server has one. A fault is one line on `errors`. It is `Socket` if no address
-/// of the location accepts a connection within [`MAX_CONNECT`](crate::MAX_CONNECT) seconds, and
-/// otherwise as [`ls_on`](crate::ls_on) fails.
+/// `gitv2 ls --tcp ADDR --path PATH [PREFIX]...`: lists the refs of a server on `output`, one per
+/// line, in the text form of a reply (gitprotocol-v2(5), "ls-refs"). An unborn `HEAD` is the first
+/// line, if the server has one. A fault is printed as one line on `errors`. The fault is `Socket`
+/// if no address of the location accepts a connection within [`MAX_CONNECT`](crate::MAX_CONNECT)
+/// seconds. Otherwise the faults are those of [`ls_on`](crate::ls_on).
 ///
-/// Returns the exit status: 0 if the lines are written and flushed, 1 if there was a fault.
+/// Returns exit status 0 if the lines are written and flushed, and 1 after a fault.
 pub fn cmd_ls_remote<A: Allocator + Copy, N, W: Sink, E: Sink>(
     net: &N,
     alloc: A,
@@ -219,7 +219,7 @@ where
     }
 }
 
-// Asks the server.
+// Requests the list of refs from the server.
 fn ask_remote<A: Allocator + Copy, N>(
     net: &N,
     alloc: A,
@@ -260,8 +260,8 @@ fn show_reply<A: Allocator + Copy, W: Sink>(
 
 // ---- fetching
 
-/// The fetch: the location of the server, the refspecs, the maximum size of a pack, and how replies
-/// end.
+/// The parameters of a fetch: the location of the server, the refspecs, the maximum size of a pack,
+/// and whether replies end with a response-end packet.
 #[derive(Drop)]
 pub struct RemoteFetch<'a, A: Allocator + Copy> {
     pub place: &'a Location<A>,
@@ -272,15 +272,15 @@ pub struct RemoteFetch<'a, A: Allocator + Copy> {
 
 /// `gitv2 fetch --tcp ADDR --path PATH [--limit N] [--response-end] FILE SPEC...`: locks and reads
 /// the client's file, connects to the server, and fetches by refspecs into the repository of the
-/// file. If the refs were settled it replaces the file whole, and only then writes the report to
-/// `report`. A fault is one line on `errors`.
+/// file. If the conversation succeeds, the program replaces the whole file, and then writes the
+/// report to `report`. A fault is printed as one line on `errors`.
 ///
-/// Returns the exit status: 0 if the report is written and flushed, 1 if there was a fault. The
-/// fault is `File` or `Memory` if the file can't be locked, read or replaced. It connects to nobody
-/// before the file is locked and read. The fault is `Socket` if no address of the location accepts
-/// a connection within [`MAX_CONNECT`](crate::MAX_CONNECT) seconds, and otherwise as
-/// [`fetch_on`](crate::fetch_on) fails. At every fault the file has the old text or the whole new
-/// one, and at the end this run holds no lockfile.
+/// Returns exit status 0 if the report is written and flushed, and 1 after a fault. The fault is
+/// `File` or `Memory` if the file can't be locked, read or replaced. The program opens no
+/// connection before the file is locked and read. The fault is `Socket` if no address of the
+/// location accepts a connection within [`MAX_CONNECT`](crate::MAX_CONNECT) seconds. Otherwise the
+/// faults are those of [`fetch_on`](crate::fetch_on). After every fault the file has the old text
+/// or the whole new text, and at the end this run holds no lockfile.
 pub fn cmd_fetch_remote<A, N, T, R, E>(
     net: &N,
     alloc: A,
@@ -307,7 +307,7 @@ where
     finish(fetch_remote(net, alloc, file, fetch, report), errors)
 }
 
-// Fetches, and returns the outcome.
+// Fetches into a stored file, and returns the outcome.
 fn fetch_remote<A, N, T, R>(
     net: &N,
     alloc: A,
@@ -332,7 +332,7 @@ where
     }
 }
 
-// Does the same for an opened file.
+// Fetches into an opened file, and returns the outcome.
 fn fetch_opened<A, N, T, R>(
     net: &N,
     opened: &mut OpenedFile<A>,
@@ -396,9 +396,9 @@ where
     }
 }
 
-// ---- both ends
+// ---- pairs
 
-/// Both ends of a fetch: the server, the text of the client's repository, and the refspecs.
+/// The parameters of a pair: the server, the text of the client's repository, and the refspecs.
 #[derive(Drop)]
 pub struct Pair<'a, A: Allocator + Copy> {
     pub server: &'a Server<A>,
@@ -407,11 +407,11 @@ pub struct Pair<'a, A: Allocator + Copy> {
 }
 
 /// `gitv2 pair SERVERFILE CLIENTFILE SPEC...`, after the server is loaded: fetches by refspecs from
-/// one repository into the other, over a connection of this process, turn by turn. Reports on
-/// `output` as `fetch` does. A message has at most [`MAX_MESSAGE`](crate::MAX_MESSAGE) bytes. No
-/// file is written. A fault is one line on `errors`.
+/// the server into the client's repository, over a connection inside this process. Writes the same
+/// report as `fetch` to `output`. A message has at most [`MAX_MESSAGE`](crate::MAX_MESSAGE) bytes.
+/// No file is written. A fault is printed as one line on `errors`.
 ///
-/// Returns the exit status: 0 if the report is written and flushed, 1 if there was a fault.
+/// Returns exit status 0 if the report is written and flushed, and 1 after a fault.
 pub fn cmd_pair<A: Allocator + Copy, N, W: Sink, E: Sink>(
     net: &N,
     pair: &Pair<'_, A>,
@@ -447,7 +447,7 @@ where
     }
 }
 
-// Fetches into the client's repository and reports.
+// Fetches into the client's repository, and writes the report.
 fn meet_client<A: Allocator + Copy, N, W: Sink>(
     net: &N,
     server: &Server<A>,

@@ -1,4 +1,4 @@
-//! A repository served to those who connect.
+//! A server that offers one repository to its clients.
 
 ghost use Rattle.std.specs.Prelude.{◌≡◌};
 ghost use Rattle.gpkt.specs.Change.{change_of};
@@ -21,17 +21,18 @@ use std::io::{BufReader, BufWriter, Read, Write};
 use std::net::{OpenListener, OpenStream};
 use std::time::Clock;
 
-/// Serves `connections` connections, one after the other, each starting at its first line
-/// (gitprotocol-pack(5), "Git Transport"). The fault of one is one line on `errors`, and the next
-/// is still served. If there is no memory for a buffer, a connection is served without one.
+/// Serves `connections` connections, one after the other, each from its first line on
+/// (gitprotocol-pack(5), "Git Transport"). The fault of a connection is printed as one line on
+/// `errors`, and the next connection is still served. If memory for a buffer runs out, a connection
+/// is served without the buffer.
 ///
-/// A client has [`MAX_FIRST_LINE`](crate::MAX_FIRST_LINE) seconds for its first line, starting at
-/// the accept. It has [`MAX_REQUEST`](crate::MAX_REQUEST) for each request, starting when the
-/// server waits for it. The read that is active when they are over fails, and so does each read if
-/// the clock fails or went back. A write fails if the client accepts no byte for
-/// [`MAX_SILENCE`](crate::MAX_SILENCE) seconds.
+/// A client has [`MAX_FIRST_LINE`](crate::MAX_FIRST_LINE) seconds for its first line, from the
+/// accept on. The client has [`MAX_REQUEST`](crate::MAX_REQUEST) seconds for each request, from the
+/// moment when the server starts to wait for the request. When this time is over, the current read
+/// fails. Every read fails if the clock fails or goes backwards. A write fails if the client
+/// accepts no byte for [`MAX_SILENCE`](crate::MAX_SILENCE) seconds.
 ///
-/// Fails with `Socket` if a connection can't be accepted, and serves none after that.
+/// Fails with `Socket` if a connection can't be accepted, and serves no further connection.
 pub fn serve_listener<C, A, K, L, S, E>(
     clock: &C,
     server: &Server<A>,
@@ -63,7 +64,7 @@ where
     serve_each(&export, packer, &listening, errors)
 }
 
-// The listener, the number of connections to serve, and the clock of their clients' time.
+// The listener, the number of connections to serve, and the clock for the clients' deadlines.
 #[derive(Drop)]
 struct Listening<'a, C, L> {
     clock: &'a C,
@@ -71,7 +72,7 @@ struct Listening<'a, C, L> {
     connections: u32,
 }
 
-// Serves the connections of a listener.
+// Serves all connections of a listener.
 fn serve_each<C, A, K, L, S, E>(
     export: &Export<'_, A>,
     packer: &K,
@@ -103,8 +104,8 @@ where
     Ok(())
 }
 
-// Prints the fault of a connection, if it had one and all before it could be printed. Returns
-// whether faults can still be printed.
+// Prints the fault of a connection, if there is one and all earlier faults could be printed.
+// Returns whether later faults can still be printed.
 fn tell<A: Allocator + Copy, E: Sink>(
     outcome: Result<(), ProgramFault<A>>,
     can_tell: bool,
@@ -141,7 +142,7 @@ where
     outcome_of(ended)
 }
 
-// Serves it through buffers, if there is memory for them.
+// Serves a peer through buffers. Leaves out a buffer for which memory runs out.
 fn serve_peer<A, K, S, T>(export: &Export<'_, A>, packer: &K, peer: &Peer<S, T>) -> GitEnd
 where
     A: Allocator + Copy,
@@ -160,7 +161,7 @@ where
     }
 }
 
-// Serves it from a reader.
+// Serves a peer, with the requests from a reader.
 fn serve_from<A, K, R, S, T>(
     export: &Export<'_, A>,
     packer: &K,
@@ -180,7 +181,7 @@ where
     match BufWriter::with_capacity(alloc, MESSAGE_BUFFER, peer) {
         Ok(mut writer) => {
             let ended = serve_between(export, packer, reader, &mut writer);
-            // Bytes that could not be written are not tried again.
+            // Does not retry bytes that could not be written.
             let (_peer, _unwritten) = writer.into_parts();
             ended
         }
@@ -191,7 +192,7 @@ where
     }
 }
 
-// Serves it between a reader and a writer.
+// Serves a connection over a reader and a writer.
 fn serve_between<A: Allocator + Copy, K: Packer<A>, R: Read, W: Write>(
     export: &Export<'_, A>,
     packer: &K,
@@ -207,7 +208,7 @@ fn serve_between<A: Allocator + Copy, K: Packer<A>, R: Read, W: Write>(
     serve_git(export, &mut OnePack::new(packer), &mut source, &mut sink)
 }
 
-// Returns the outcome of a connection. A client that asks for another path is not a fault of it.
+// Returns the outcome of a connection. A request for another path is not a fault.
 fn outcome_of<A: Allocator + Copy>(ended: GitEnd) -> Result<(), ProgramFault<A>>
     ensures { result ≡ outcome_of ended }
 {

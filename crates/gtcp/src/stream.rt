@@ -1,4 +1,4 @@
-//! A stream to any peer.
+//! A stream to a peer, with time limits.
 
 ghost use Rattle.std.specs.Io.{ReadsAtMost};
 
@@ -9,26 +9,28 @@ use std::io::{self, ErrorKind, Read, Write};
 use std::net::{Net, OpenStream, Shutdown, TcpStream, ToSocketAddrs};
 use std::time::Duration;
 
-/// The maximum number of bytes of a message in one write.
+/// The maximum number of bytes of a message in a single write.
 pub(crate) const MESSAGE_BUFFER: usize = 65_536;
 
-// The bytes of one read, and the most reads, of input to discard.
+// The number of bytes in each read of input that is discarded. The next constant limits these
+// reads.
 const DROPPED_BYTES: usize = 4_096;
 
 const MAX_DROPS: usize = 1_024;
 
-// How often a read may be interrupted, as by a process that is stopped and continues.
+// The maximum number of interrupts of a read, for example while the process is stopped.
 const MAX_INTERRUPTS: u32 = 1_024;
 
-// A write waits for this many seconds at a time. A wait in which the peer accepts some bytes does
-// not count, so a peer that stops in the middle of one is given up that much later.
+// The number of seconds that a single write waits. Only waits in which the peer accepts no byte
+// count as silence. A peer that stops in the middle of a wait therefore times out up to five
+// seconds late.
 const TAKING_WAIT: u64 = 5;
 
-/// Connects to the first of the addresses of a text, HOST:PORT, that accepts a connection within
-/// [`MAX_CONNECT`] seconds.
+/// Connects to an address given as HOST:PORT. Tries the addresses of the host in order, and takes
+/// the first that accepts a connection within [`MAX_CONNECT`] seconds.
 ///
-/// Fails as the look-up of the host does. If no address accepts a connection, fails as the last one
-/// did.
+/// Fails with the error of the host look-up. If no address accepts a connection, fails with the
+/// error of the last address.
 pub fn connect_to<N: Net>(net: &N, address: &str) -> io::Result<N::Stream> {
     let limit = Duration::from_secs(MAX_CONNECT);
     let mut last = io::Error::from(ErrorKind::AddrNotAvailable);
@@ -42,9 +44,9 @@ pub fn connect_to<N: Net>(net: &N, address: &str) -> io::Result<N::Stream> {
 }
 
 /// The stream to a peer, shared by a reader and a writer: `&Peer` reads and writes. A read fails if
-/// the peer sends nothing in the time that the timer leaves it. A write fails if the peer accepts
-/// nothing for [`MAX_SILENCE`] seconds. Both fail if the system refuses such a limit, and if they
-/// are called while another call is under way.
+/// the peer sends nothing within the time limit of the timer. A write fails if the peer accepts
+/// nothing for [`MAX_SILENCE`] seconds. Both calls fail if the system refuses such a limit, or if
+/// another call on the peer is active.
 #[derive(Drop)]
 pub struct Peer<S, T> {
     stream: RefCell<S>,
@@ -52,8 +54,8 @@ pub struct Peer<S, T> {
 }
 
 impl<S: OpenStream, T> Peer<S, T> {
-    /// Returns the peer at the other end of a stream. Each message is sent at once, without waiting
-    /// for the next.
+    /// Returns the peer at the other end of a stream. Turns off Nagle's algorithm, so that each
+    /// message is sent at once.
     pub fn new(stream: S, timer: T) -> Peer<S, T> {
         let _ = stream.set_nodelay(true);
         Peer {
@@ -64,10 +66,10 @@ impl<S: OpenStream, T> Peer<S, T> {
 }
 
 impl<S: Read + OpenStream, T> Peer<S, T> {
-    /// Shuts down writing, so that the last message and the end are sent, and then discards unread
-    /// input, without waiting. Closing a socket with unread input resets the connection, and the
-    /// peer might then lose the last message. It may still lose it if more arrives before the
-    /// socket is closed, or after it.
+    /// Shuts down writing, so that the last message and the end of the stream are sent. Then
+    /// discards unread input, without waiting for more. If a socket is closed with unread input,
+    /// the connection is reset, and the peer might lose the last message. The peer may still lose
+    /// this message if more input arrives later.
     pub fn hang_up(&self) {
         if let Ok(mut stream) = self.stream.try_borrow_mut() {
             let _ = stream.shutdown(Shutdown::Write);
@@ -79,7 +81,7 @@ impl<S: Read + OpenStream, T> Peer<S, T> {
 }
 
 impl<S: Read + OpenStream, T: Timer> Peer<S, T> {
-    // Reads once, within the time that the timer leaves the peer.
+    // Reads once, within the time limit of the timer.
     fn read_in_time(&self, buf: &mut [u8]) -> io::Result<usize>
         ensures { ReadsAtMost result buf.new }
     {
@@ -128,7 +130,8 @@ impl<S: Write + OpenStream, T: Timer> Write for &Peer<S, T> {
     }
 }
 
-// Whether a write that failed with this error took nothing, and may be tried again.
+// Returns whether the peer accepted no byte in a write with this error, so that the write may be
+// tried again.
 fn is_waiting(kind: ErrorKind) -> bool {
     matches!(
         kind,
@@ -136,12 +139,12 @@ fn is_waiting(kind: ErrorKind) -> bool {
     )
 }
 
-// Returns the error of a call while another is active.
+// Returns the error of a call that starts while another call is active.
 fn in_use() -> io::Error {
     io::Error::from(ErrorKind::ResourceBusy)
 }
 
-// Discards the input that has arrived; the stream waits for nothing.
+// Discards the input that has arrived. The stream must not block.
 fn drop_unread<S: Read>(stream: &mut S) {
     let mut dropped = [0; DROPPED_BYTES];
     for _ in 0..MAX_DROPS {

@@ -1,4 +1,4 @@
-//! Timers for the reads of a stream.
+//! Timers that limit the reads of a stream.
 
 ghost use Rattle.std.specs.Prelude.{◌≤◌, ◌<◌, IfOk, IfSome};
 ghost use Rattle.std.specs.Duration.{as_nanos};
@@ -11,19 +11,19 @@ use std::cell::Cell;
 use std::io;
 use std::time::{Clock, Duration, Instant};
 
-/// The time that the reads of one stream may wait.
+/// A timer that limits the reads of one stream.
 pub trait Timer {
-    /// Returns how long the next read may wait: more than zero, and at most 60 seconds. Fails with
-    /// `TimedOut` if the peer has no time left.
+    /// Returns the maximum duration of the next read: more than zero, and at most 60 seconds. Fails
+    /// with `TimedOut` if the peer has no time left.
     fn next_read(&self) -> io::Result<Duration>
         ensures some { IfOk result (λ limit. 0 < as_nanos limit) }
         ensures most { IfOk result (λ limit. as_nanos limit ≤ longest_wait) };
 
-    /// Records that bytes were written: the peer has sent its message.
+    /// Records that bytes were written, and thus that the peer's last message is complete.
     fn note_write(&self);
 }
 
-/// A client's timer for its server: each read may wait for [`MAX_SILENCE`] seconds.
+/// A client's timer for its server: each read may last [`MAX_SILENCE`] seconds.
 #[derive(Clone, Copy)]
 pub struct Silence;
 
@@ -35,20 +35,20 @@ impl Timer for Silence {
     fn note_write(&self) {}
 }
 
-// The message for which a client of the server has time.
+// The message that a client of the server may send now.
 #[derive(Drop)]
 enum Turn {
-    // Its first line, or a request, with this time left.
+    // The first line or a request that has started, with the remaining time.
     Given(TimeLeft),
-    // A request, starting at the next read.
+    // A request whose time starts at the next read.
     Awaited,
-    // None: its time is over, or the clock failed.
+    // No message: the time is over, or the clock failed.
     Over,
 }
 
 impl Turn {
-    // Returns the time that the client has left now, or `None` if none is left or if the clock went
-    // back.
+    // Returns the client's remaining time, or `None` if no time remains or the clock went
+    // backwards.
     fn time_left(self, now: Instant) -> Option<TimeLeft>
         ensures { LeavesTurn self (instant_nanos now) result }
     {
@@ -61,8 +61,8 @@ impl Turn {
 }
 
 /// A server's timer for its client. The client has [`MAX_FIRST_LINE`](crate::MAX_FIRST_LINE)
-/// seconds for its first line, and [`MAX_REQUEST`](crate::MAX_REQUEST) for each request after it,
-/// however many reads they take.
+/// seconds for its first line, and [`MAX_REQUEST`](crate::MAX_REQUEST) seconds for each later
+/// request, regardless of the number of reads.
 #[derive(Drop)]
 pub struct Turns<'c, C> {
     clock: &'c C,
@@ -82,8 +82,8 @@ impl<'c, C: Clock> Turns<'c, C> {
         }
     }
 
-    // Returns the time that the client has left now, or `None` if none is left, or if the clock
-    // fails or went back. It stays `None` until something is written.
+    // Returns the client's remaining time, or `None` if no time remains or the clock fails or went
+    // backwards. After `None`, each call returns `None` until bytes are written.
     fn take_time(&self) -> Option<TimeLeft>
         ensures { IfSome result (λ time. 0 < time.0) }
     {

@@ -8,22 +8,22 @@ use Rattle.gcmd.specs.Outputs.{FailsAtWrite}
 use Rattle.gcmd.specs.steps.Outputs.{IsPut}
 use Rattle.gcmd.specs.Lines.{shown_lines, ReadsEach, ReadsSome, ShowsSome}
 
--- ---- what is shown
+-- ---- chunks
 
--- how many bytes of a payload are shown in one call
+-- the maximum number of payload bytes that one call shows
 abbrev pub chunk : ℕ
 chunk = 512
 
--- ---- its steps, by how reading ended, or the sink's failure
+-- ---- steps
 
--- the packets are shown
+-- the packets are shown without a flush
 abbrev pub ShowsEach : Input → Output → Result (Result (Unit {0}) PacketFault) Down → Type 0
 ShowsEach input output (Ok ended) =
     (lines : List Packet) × ReadsEach input lines ended × IsPut output (Ok tt) (shown_lines lines)
 ShowsEach input output (Err down) =
     (lines : List Packet) × ReadsSome input lines × FailsAtWrite output (shown_lines lines)
 
--- and passed on
+-- the packets are shown and flushed
 abbrev pub HasPassed : Input → Output → Result (Result (Unit {0}) PacketFault) Down → Type 0
 HasPassed input output (Ok ended) =
     (lines : List Packet) × ReadsEach input lines ended × Sends output (shown_lines lines)

@@ -1,4 +1,4 @@
--- The steps of printing a fault: its row, and how long the parts of its line are at most.
+-- The steps of printing a fault: the parts of its line, and their maximum lengths.
 use Rattle.std.specs.Prelude.{ℕ, ◌+◌, ◌*◌, ◌≤◌, length, Option, None, Some, ⊤}
 use Rattle.std.specs.Option.{option_copied}
 use Rattle.gname.specs.Names.{max_name}
@@ -6,7 +6,7 @@ use Rattle.gpkt.specs.Packets.{Bytes}
 use Rattle.gcmd.specs.Faults.{Printed}
 use Rattle.gcmd.specs.declared.print.FaultLine.{FaultLine}
 
--- a row without where its texts lie in memory
+-- the printed parts of a fault's line, by value
 abbrev pub row_view : FaultLine → Printed
 row_view row = record {
   number = row.number;
@@ -18,19 +18,19 @@ row_view row = record {
   text = option_copied row.text;
 }
 
--- the most digits of a number of 64 bits
+-- the maximum number of digits of a 64-bit number
 abbrev pub max_decimal : ℕ
 max_decimal = 20
 
--- the most bytes of a fault's name
+-- the maximum length of a fault's name in bytes
 abbrev pub max_fault_name : ℕ
 max_fault_name = 32
 
--- a space, and a name or a text
+-- the maximum length of a space and a ref name or an error text
 abbrev pub max_subject : ℕ
 max_subject = 1 + max_name
 
--- the most bytes of a line: 32 of its words, the name, four numbers and the subject
+-- the maximum length of a fault's line: 32 bytes of fixed words, the name, four numbers and the subject
 abbrev pub max_fault_line : ℕ
 max_fault_line = 32 + max_fault_name + 4 * max_decimal + max_subject
 
@@ -38,7 +38,7 @@ abbrev pub IsShortText : Option Bytes → Type 0
 IsShortText None = ⊤
 IsShortText (Some text) = length text ≤ max_name
 
--- a name of at most 32 bytes, and a text of at most 1,000
+-- the name has at most 32 bytes, and the text at most 1,000 bytes
 pub record IsShort (row : FaultLine) : Type 0 where
   pub name : length row.name.now ≤ max_fault_name
   pub text : IsShortText (option_copied row.text)

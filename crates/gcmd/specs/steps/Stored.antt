@@ -11,14 +11,15 @@ use Rattle.gcmd.specs.Programs.{ProgramOutcome, Prints}
 use Rattle.gcmd.specs.Stored.{IsReplaced, Stored, storage_fault}
 use Rattle.gcmd.specs.declared.fault.ProgramFault.TheVariants as program
 
--- the file is replaced and then that is reported; or it is not replaced, and nothing is
+-- the file is replaced and then the report is written; or the replacement fails, and nothing is reported
 abbrev pub StoresAndReports : {A : Type 0} → Bytes → Bytes → Fetched A → Stored → Output → ProgramOutcome A → Type 0
 StoresAndReports {A} old text fetched stored report outcome =
     (IsReplaced old text stored (Ok tt) × Holds stored.new text × Reports fetched report outcome)
     ⊎ ((fault : StorageFault) × IsReplaced old text stored (Err fault) × IsUnwritten report
     × (outcome ≡ Err (storage_fault fault)))
 
--- how a program ends after its report, where that went to the sink of its errors
+-- the rest of a program that wrote its report to the errors' sink: after a fault the fault's line is printed, unless
+-- the sink is down
 abbrev pub ExitsNext : {A : Type 0} → ProgramOutcome A → Output → ℕ → Type 0
 ExitsNext (Ok done) errors status = IsUnwritten errors × (status ≡ 0)
 ExitsNext (Err program.WriteFailed) errors status = IsUnwritten errors × (status ≡ 1)

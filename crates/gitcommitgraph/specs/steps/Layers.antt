@@ -1,4 +1,4 @@
--- The steps of a file in memory: where its chunks lie.
+-- The steps of a file in memory: the locations of its chunks.
 use Rattle.std.specs.Prelude.{◌≡◌, ℕ, ◌-◌, ◌*◌, ◌/◌, ◌%◌, ◌<◌, ◌≤◌, ◌⊎◌, List, codes, length, drop, slice_index, slice_range}
 use Rattle.gitcommitgraph.specs.Files.{GraphFile, HaveEnds, IsAscending, IsGraphFile, no_parent}
 use Rattle.gitcommitgraph.specs.Texts.{Chunk, IsFramed, HasChunk, MayHaveChunk}
@@ -7,14 +7,14 @@ use Rattle.gitcommitgraph.specs.steps.Tables.{IsFanOut}
 use Rattle.gitcommitgraph.specs.declared.contents.Span.{Span}
 use Rattle.gitcommitgraph.specs.declared.layer.Places.{Places}
 
--- the bytes that lie there, and the rows of a table that lies there
+-- the bytes of a span
 abbrev pub part : List ℕ → Span → List ℕ
 part bytes span = slice_range bytes span.start span.end
 
 abbrev pub table : ℕ → List ℕ → Span → List (List ℕ)
 table n bytes span = pieces n (part bytes span)
 
--- the file with these bytes, whose chunks lie there
+-- the file with these bytes, whose chunks are at these locations
 abbrev pub file_at : List ℕ → Places → GraphFile
 file_at bytes places = record {
   bases = table 20 bytes places.bases;
@@ -24,13 +24,13 @@ file_at bytes places = record {
   checksum = drop (length bytes - 20) bytes;
 }
 
--- ---- finding the chunks
+-- ---- chunks
 
--- such a chunk lies there, or there is none and no byte
+-- the chunk with this name is at this span, or there is no such chunk and the span is empty
 pub record MayBeSpan (rows : List (List ℕ)) (name : List ℕ) (span : Span) : Type 0 where
   pub cases : IsSpan rows name span ⊎ (LacksName rows name × (span.start ≡ 0) × (span.end ≡ 0))
 
--- the chunks of these rows lie there
+-- the chunks of these rows are at these locations
 pub record ArePlaces (rows : List (List ℕ)) (places : Places) : Type 0 where
   pub fan_out : IsSpan rows (codes "OIDF") places.fan_out
   pub ids : IsSpan rows (codes "OIDL") places.ids
@@ -38,15 +38,15 @@ pub record ArePlaces (rows : List (List ℕ)) (places : Places) : Type 0 where
   pub edges : MayBeSpan rows (codes "EDGE") places.edges
   pub bases : MayBeSpan rows (codes "BASE") places.bases
 
--- one of the chunks that must be there is not
+-- a required chunk is missing
 pub record LacksChunk (rows : List (List ℕ)) : Type 0 where
   pub cases : LacksName rows (codes "OIDF") ⊎ (LacksName rows (codes "OIDL") ⊎ LacksName rows (codes "CDAT"))
 
--- how many bytes lie there
+-- the length of a span in bytes
 abbrev pub size : Span → ℕ
 size span = span.end - span.start
 
--- the lengths of the chunks of a file with so many base graphs
+-- the lengths of the chunks of a file with this number of base graphs are right
 pub record HaveLengths (places : Places) (bases : ℕ) : Type 0 where
   pub fan_out : size places.fan_out ≡ 1024
   pub ids : size places.ids % 20 ≡ 0
@@ -56,9 +56,9 @@ pub record HaveLengths (places : Places) (bases : ℕ) : Type 0 where
   pub edges : size places.edges % 4 ≡ 0
   pub bases_at : size places.bases ≡ 20 * bases
 
--- ---- a file whose chunks were found
+-- ---- tables
 
--- what lies there is some of the bytes
+-- the span is within the bytes
 pub record IsWithin (bytes : List ℕ) (span : Span) : Type 0 where
   pub ordered : span.start ≤ span.end
   pub inside : span.end ≤ length bytes
@@ -70,7 +70,7 @@ pub record AreWithin (bytes : List ℕ) (places : Places) : Type 0 where
   pub edges : IsWithin bytes places.edges
   pub bases : IsWithin bytes places.bases
 
--- the text has the frame of a file, and the chunks lie there
+-- the text has the frame of a file, and its chunks are at these locations
 pub record IsCut (bytes : List ℕ) (places : Places) : Type 0 where
   pub bases_count : ℕ
   pub chunks : List Chunk
@@ -84,13 +84,13 @@ pub record IsCut (bytes : List ℕ) (places : Places) : Type 0 where
   pub bases : MayHaveChunk chunks (codes "BASE") (part bytes places.bases)
   pub lengths : HaveLengths places bases_count
 
--- the tables that lie there have their form
+-- the tables at these locations have the right form
 pub record AreTested (bytes : List ℕ) (places : Places) : Type 0 where
   pub ascending : IsAscending (table 20 bytes places.ids)
   pub fan_out : IsFanOut (table 4 bytes places.fan_out) (table 20 bytes places.ids)
   pub ended : HaveEnds (table 4 bytes places.edges) (table 36 bytes places.rows)
 
--- a file whose form was tested
+-- a file in memory whose form has been checked
 pub record IsFileAt (bytes : List ℕ) (places : Places) : Type 0 where
   pub within : AreWithin bytes places
   pub formed : IsGraphFile (file_at bytes places)

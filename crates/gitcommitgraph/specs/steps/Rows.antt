@@ -6,18 +6,18 @@ use Rattle.std.specs.Simd.{first_chunks}
 use Rattle.gitcommitgraph.specs.Texts.{no_name}
 use Rattle.gitcommitgraph.specs.declared.contents.Span.{Span}
 
--- some bytes cut into pieces of so many
+-- the bytes cut into pieces of this length
 abbrev pub pieces : ℕ → List ℕ → List (List ℕ)
 pieces n bytes = first_chunks n (length bytes / n) bytes
 
--- the name in a row, and the offset in it
+-- the chunk name in a row
 abbrev pub row_name : List ℕ → List ℕ
 row_name row = take 4 row
 
 unfoldable pub row_offset : List ℕ → ℕ
 row_offset row = from_be_bytes w64 (drop 4 row)
 
--- one row has no lower offset than the one before
+-- no row has a lower offset than the previous row
 abbrev pub IsRising : List (List ℕ) → Type 0
 IsRising rows = AllAdjacentBelow (λ one other. row_offset one ≤ row_offset other) rows (length rows)
 
@@ -25,7 +25,7 @@ IsRising rows = AllAdjacentBelow (λ one other. row_offset one ≤ row_offset ot
 abbrev pub AreDistinct : List (List ℕ) → Type 0
 AreDistinct rows = AllPairs (λ one other. row_name one ≢ row_name other) rows
 
--- the rows of chunks that lie between two offsets: a row for each, and a last one
+-- the rows for contiguous chunks between two offsets: a row for each chunk, and a last row for the end
 pub record AreRows (start end : ℕ) (rows : List (List ℕ)) : Type 0 where
   pub first : (d : List ℕ) → row_offset (slice_index_or rows 0 d) ≡ start
   pub rising : IsRising rows
@@ -33,13 +33,13 @@ pub record AreRows (start end : ℕ) (rows : List (List ℕ)) : Type 0 where
   pub unnamed : (d : List ℕ) → row_name (slice_index_or rows (length rows - 1) d) ≡ no_name
   pub distinct : AreDistinct rows
 
--- the rows of so many chunks, after the header of a file without its trailer
+-- the rows of the table of contents for this number of chunks, in a file without its trailer
 pub record IsTable (count : ℕ) (body : List ℕ) (rows : List (List ℕ)) : Type 0 where
   pub inside : 8 + 12 * (count + 1) ≤ length body
   pub cut : rows ≡ pieces 12 (slice_range body 8 (8 + 12 * (count + 1)))
   pub are : AreRows (8 + 12 * (count + 1)) (length body) rows
 
--- a chunk with this name lies here
+-- the chunk with this name is at this span
 pub record IsSpan (rows : List (List ℕ)) (name : List ℕ) (span : Span) : Type 0 where
   pub place : ℕ
   pub inside : place + 1 < length rows

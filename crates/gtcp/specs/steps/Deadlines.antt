@@ -1,4 +1,4 @@
--- The steps of deadlines: the time that a client of the server has left.
+-- The steps of deadlines: the remaining time of a client of the server.
 use Rattle.std.specs.Prelude.{◌≡◌, ◌⊎◌, ◌<◌, ◌≤◌, ◌+◌, ◌-◌, ℕ, Option, None, Some}
 
 -- ---- times, in nanoseconds
@@ -7,14 +7,14 @@ use Rattle.std.specs.Prelude.{◌≡◌, ◌⊎◌, ◌<◌, ◌≤◌, ◌+◌,
 abbrev pub first_line_time : ℕ
 first_line_time = 10_000_000_000
 
--- the time for a request, from the moment when the server waits for it
+-- the time for a request, from the moment when the server starts to wait for it
 abbrev pub request_time : ℕ
 request_time = 60_000_000_000
 
--- ---- what is left
+-- ---- remainders
 
--- How much is left now, if so much was left at an earlier moment: the time that has passed by the clock is taken off.
--- Nothing is left if all of it has passed, or if the clock went back.
+-- The remaining time now, from the remaining time at an earlier moment: the elapsed time of the clock is subtracted. No
+-- time remains if all of it has elapsed or the clock went backwards.
 abbrev pub LeavesOf : ℕ × ℕ → ℕ → Option (ℕ × ℕ) → Type 0
 LeavesOf (left, at) now (Some (rest, moment)) =
     (moment ≡ now) × (at ≤ now) × (rest + (now - at) ≡ left) × (0 < rest)

@@ -1,4 +1,4 @@
--- The steps of the programs that open sockets: a listing, serving, and both ends.
+-- The steps of the programs that open sockets: a listing, serving, and pairs.
 use Rattle.std.specs.Prelude.{◌≡◌, ◌⊎◌, ℕ, Bool, true, false, List, length, All, Result, Ok, Err}
 use Rattle.gpkt.specs.Sending.{Output, IsUnwritten, Passes, Sends, SendsSome}
 use Rattle.gpkt.specs.Packets.{Bytes}
@@ -17,19 +17,19 @@ use Rattle.gtcp.specs.Telling.{PrintsNone, fault_lines, faults_of}
 
 -- ---- listing
 
--- the request for these prefixes, or why there is none
+-- the request for these prefixes, or the reason to refuse them
 abbrev pub MakesRequest : List Bytes → Result LsRefsAsked MessageFault → Type 0
 MakesRequest prefixes (Ok asked) = (asked ≡ asked_for prefixes) × FitPrefixes prefixes
 MakesRequest prefixes (Err cause) = RefusesPrefixes prefixes cause
 
 -- ---- serving
 
--- the faults so far are printed, where it is known whether the sink is well still
+-- the faults so far are printed; the flag states whether the sink still works
 abbrev pub PrintsSoFar : {A : Type 0} → Output → List (ProgramFault A) → Bool → Type 0
 PrintsSoFar errors faults true = PrintsNone errors faults ⊎ Passes errors (fault_lines faults)
 PrintsSoFar errors faults false = SendsSome errors (fault_lines faults)
 
--- what telling of a connection does: its fault is printed where there is one, and all before could be printed
+-- the effect of reporting a connection: its fault is printed, if there is one and all earlier faults could be printed
 abbrev pub Tells : {A : Type 0} → ProgramOutcome A → Bool → Bool → Output → Type 0
 Tells (Ok done) could can errors = IsUnwritten errors × (can ≡ could)
 Tells (Err fault) false can errors = IsUnwritten errors × (can ≡ false)
@@ -37,17 +37,18 @@ Tells (Err fault) true true errors = Sends errors (fault_line fault)
 Tells (Err fault) true false errors = SendsSome errors (fault_line fault)
 
 module _ {A : Type 0} (server : Server A) (packs : Packs A) (fails : PackFails A) (path : Bytes) (ends : Ends) where
-  -- so many connections are served so far, and their faults are printed, where it is known
-  -- whether the sink of the faults is well still
+  -- this number of connections is served so far, and their faults are printed; the flag states whether the sink of the
+  -- faults still works
   pub record ServesSoFar (errors : Output) (is_up : Bool) (connections : ℕ) : Type 0 where
     pub outcomes : List (ProgramOutcome A)
     pub each : All (IsServed server packs fails path ends) outcomes
     pub prints : PrintsSoFar errors (faults_of outcomes) is_up
     pub count : length outcomes ≡ connections
 
--- ---- both ends
+-- ---- pairs
 
--- why both ends stopped: a message was too long, or there was no memory to hold one, or else the client's fault
+-- the reason why client and server stopped: a message was too long, memory for a message ran out, or the client's own
+-- fault
 abbrev pub IsPairFault : {A : Type 0} → FetchFault A → Bool → Bool → ProgramFault A → Type 0
 IsPairFault cause true lacks_memory fault = fault ≡ program.PairLimit
 IsPairFault cause false true fault = fault ≡ program.Memory

@@ -1,4 +1,4 @@
--- The steps of conversations over a socket: between the devices of its two ends.
+-- The steps of conversations over a socket: conversations over a reader and a writer.
 use Rattle.std.specs.Prelude.{Bool, false, None, Result}
 use Rattle.gpkt.specs.Change.{Change}
 use Rattle.gpkt.specs.Sending.{Input, Output}
@@ -18,13 +18,14 @@ use Rattle.gclient.specs.declared.fetched.Fetched.{Fetched}
 use Rattle.gclient.specs.GitFetches.{FetchesGit}
 use Rattle.gclient.specs.Listings.{ListsGit}
 
--- ---- a reader and a writer
+-- ---- devices
 
--- a source over a reader that begins well, with this change of what there is to read
+-- a source over a reader that has not failed before, with the reader's remaining bytes before and after
 abbrev pub input_by : Change → Bool → Input
 input_by read failed = record { read = read; was_down = false; is_down = failed }
 
--- a sink over a writer that begins well, with this change of what is written; what the writer passes on is not known
+-- a sink over a writer that has not failed before, with the written bytes before and after; the flushed bytes are
+-- unknown
 abbrev pub output_by : Change → Bool → Output
 output_by written failed = record {
   written = written;
@@ -36,7 +37,7 @@ output_by written failed = record {
 -- ---- fetching
 
 module _ {A : Type 0} (indexes : Indexes A) (index_fails : IndexFails) (start : Start A) (hello : Hello) where
-  -- a fetch is held between a reader and a writer, with this change of what each has
+  -- a fetch over a reader and a writer, with their bytes before and after
   abbrev pub FetchesBetween : Change → Change → RepoState A → Result (Fetched A) (FetchFault A) → Type 0
   FetchesBetween read written new result =
       (reader_failed writer_failed : Bool)
@@ -46,7 +47,7 @@ module _ {A : Type 0} (indexes : Indexes A) (index_fails : IndexFails) (start : 
 -- ---- listing
 
 module _ {A : Type 0} (asked : LsRefsAsked) (hello : Hello) where
-  -- a listing is held between a reader and a writer, with this change of what each has
+  -- a listing over a reader and a writer, with their bytes before and after
   abbrev pub ListsBetween : Change → Change → Result LsReply (FetchFault A) → Type 0
   ListsBetween read written result =
       (reader_failed writer_failed : Bool)
@@ -55,13 +56,13 @@ module _ {A : Type 0} (asked : LsRefsAsked) (hello : Hello) where
 -- ---- serving
 
 module _ {A : Type 0} (server : Server A) (packs : Packs A) (fails : PackFails A) (path : Bytes) (ends : Ends) where
-  -- a connection is served between a reader and a writer, with this change of what each has, and how it ended
+  -- a served connection over a reader and a writer, with their bytes before and after, and its end
   abbrev pub ServesBetween : Change → Change → GitEnd → Type 0
   ServesBetween read written ended =
       (reader_failed writer_failed : Bool)
       × ServesGit server packs fails path ends (input_by read reader_failed) (output_by written writer_failed) ended
 
-  -- a connection is served from a reader, with this change of what it has, and into a socket
+  -- a served connection from a reader, with its bytes before and after, into a socket
   abbrev pub ServesFrom : Change → GitEnd → Type 0
   ServesFrom read ended =
       (reader_failed : Bool) × (output : Output)
