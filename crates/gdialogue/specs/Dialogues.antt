@@ -16,13 +16,14 @@ use Rattle.gdialogue.specs.declared.dialogue.Dialogue.{Dialogue}
 use Rattle.gdialogue.specs.declared.dialogue.DialogueStage.{DialogueStage}
 use Rattle.gdialogue.specs.declared.dialogue.DialogueStage.TheVariants as stage
 
--- the reason to refuse a message whose packets stop
+-- the reason to refuse a message when no more packets arrive
 abbrev pub reason_of : Stop → Why
 reason_of stop.Ended = why.Ended
 reason_of (stop.Refused fault) = why.Line fault
 reason_of stop.Failed = why.Line Io
 
--- the fault for which a message is refused: a packet that the grammar rejects, or a message whose packets stop
+-- the fault for which a message is refused: a packet that the grammar rejects, or a message that is incomplete when no
+-- more packets arrive
 pub data IsRefused (judge : Judge) (brings : List Packet → Packet → Bool)
     : List Packet → Option Stop → MessageFault → Type 0 where
   packet : (front : List Packet) (packet : Packet) (why : Why) → IsOpen judge front

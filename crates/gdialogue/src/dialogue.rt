@@ -30,8 +30,8 @@ enum DialogueStage<M, R> {
 /// One end of a dialogue: a conversation of packets ([`Conversation`]).
 ///
 /// A dialogue receives one message after another and sends the answer of its [`Side`] to each,
-/// until a last answer. A message is refused at the first packet that its grammar rejects, or if
-/// the packets stop. The answer to a refused message is the last.
+/// until a last answer. A message is refused at the first packet that its grammar rejects, or if no
+/// more packets arrive. The answer to a refused message is the last.
 #[derive(Drop)]
 pub struct Dialogue<S, M, R> {
     side: S,
@@ -118,7 +118,7 @@ impl<S: Side<M, R>, M: Message + Drop, R: Reply + Drop> Dialogue<S, M, R> {
         }
     }
 
-    // Refuses a message because the packets stopped.
+    // Refuses an incomplete message because no more packets arrive.
     fn refuse(&mut self, message: M, frame: u64, why: Stop) -> DialogueStage<M, R>
         ensures stopped { (talk : Talk)
             → HoldsHearing S.judge S.brings S.opens S.answers S.refuses M.judge M.brings M.holds R.may
@@ -217,7 +217,7 @@ impl<S: Side<M, R>, M: Message + Drop, R: Reply + Drop> Conversation for Dialogu
     }
 }
 
-// Returns the reason to refuse a message whose packets stop.
+// Returns the reason to refuse a message when no more packets arrive.
 fn reason_of(why: Stop) -> Why
     ensures { result ≡ reason_of why }
 {

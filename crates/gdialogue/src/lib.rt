@@ -12,7 +12,8 @@
 //!   nothing that is not an answer (`Answered` in `specs/Dialogues.antt`).
 //! - A dialogue ends with a last answer, with a reply that ends it early, or with a refused
 //!   message (`HasEnded`). A message is refused at the first packet that its grammar rejects, with
-//!   the position of the packet and the reason. It is also refused if the packets stop.
+//!   the position of the packet and the reason. An incomplete message is also refused if no more
+//!   packets arrive.
 //! - A reply sends only packets that its contract permits, and sends them completely. The packets
 //!   need not be known beforehand (`SaysSome` in `specs/Sides.antt`).
 //! - Each dialogue ends: every call leaves fewer packets of the message, fewer calls of the

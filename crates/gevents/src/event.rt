@@ -26,7 +26,7 @@ pub enum End {
     Silent,
     /// The peer accepted no byte for too long.
     Stalled,
-    /// The connection as a whole lasted too long.
+    /// The connection lasted too long.
     Overdue,
     /// The socket failed while bytes were pending, or the system could not watch the socket.
     Lost,

@@ -3,22 +3,22 @@
 //! An [`EventLoop`] accepts peers at a listener and reports each [`Event`]: a peer has connected,
 //! or a connection has ended. The caller starts a conversation with each peer that has connected.
 //! The loop moves bytes between the sockets and the conversations, each when its socket is ready
-//! (`mio`). So no peer waits until another peer sends or receives.
+//! (`mio`). No peer has to wait until another peer sends or receives.
 //!
 //! - A peer moves bytes at most 256 times before another peer has its turn.
 //! - [`Limits`] sets the maximum number of connections, in all and from one IP address. The loop
 //!   reports any further peer as refused.
-//! - Each peer has time limits: for its first message, for the first byte and the rest of a
-//!   request, for receiving bytes, and for the whole connection. If a peer sends too late, its
-//!   conversation is notified that the device failed, and may send its last packets. Any other late
-//!   peer is disconnected. Both kinds of late peers have one more turn first, since a ready socket
-//!   may not have been reported yet.
+//! - Each peer has time limits for its first message, the first byte of a request, the rest of a
+//!   request, receiving bytes, and the whole connection. If a peer sends too late, its conversation
+//!   is notified that the device failed, and may send its last packets. Any other late peer is
+//!   disconnected. Both kinds of late peers have one more turn first, since a ready socket may not
+//!   have been reported yet.
 //! - A connection allocates memory for received bytes only when the first byte arrives. Before
 //!   that it needs a few hundred bytes, and the memory of the conversation. Its send queue has room
 //!   for two packets of the maximum size. The queue is freed when all its bytes are sent and no
 //!   more bytes have arrived.
-//! - The thread sleeps while no socket is ready. It checks the deadlines ten times a second while
-//!   there are peers.
+//! - The thread sleeps while no socket is ready. The loop checks the deadlines ten times a second
+//!   while there are peers.
 //! - A conversation that spends time on an answer blocks all other conversations for that time.
 //!
 //! # Proved
@@ -29,8 +29,8 @@
 //!   After `Over` and `Silent` the conversation is done and no bytes are pending. After `Memory` no
 //!   bytes are pending either. `Stalled` is never reported for a peer that was only expected to
 //!   send.
-//! - A turn that ends the connection of a peer returns this connection, with its address, its
-//!   count of sent bytes and its kind of end (`HandsOut` in `specs/Turns.antt`).
+//! - A turn that ends a connection returns this connection, with the peer's address, the count of
+//!   sent bytes and the kind of end (`HandsOut` in `specs/Turns.antt`).
 //! - For any reader, the connection receives all bytes of each read, which does not extend past
 //!   the end of the current packet. The connection receives the end of the input only when the
 //!   input has ended. A successful read receives at least one byte, or the end of the input
@@ -49,16 +49,16 @@
 //!
 //! # What the contracts do not rule out
 //!
-//! - No contract says which bytes a socket delivers or accepts. So the contracts relate the bytes
-//!   of a connection to each read and write of any reader and writer, but not to its socket.
+//! - No contract says which bytes a socket delivers or accepts. The contracts relate the bytes of
+//!   a connection to each read and write of any reader and writer, but not to its socket.
 //! - A peer might never have its turn, or be disconnected at once. A connection might never be
 //!   returned.
-//! - The loop might refuse every peer, fail, or end at once. It might send nothing to a refused
-//!   peer.
-//! - The loop might spin, or wait for a peer with pending bytes. It might write an empty slice to
-//!   a socket, and treat the result 0 as the end.
-//! - The loop might time out a peer at any moment, or never. It might report any ended connection
-//!   as `Lost` or `Overdue`, and an `Over` connection as `Silent`.
+//! - The loop might refuse every peer, fail, or end at once. The loop might send nothing to a
+//!   refused peer.
+//! - The loop might spin, or wait for a peer with pending bytes. The loop might write an empty
+//!   slice to a socket, and treat the result 0 as the end.
+//! - The loop might time out a peer at any moment, or never. The loop might report any ended
+//!   connection as `Lost` or `Overdue`, and an `Over` connection as `Silent`.
 //! - The loop might drop a conversation that was started, or a connection between two turns.
 //! - No contract covers the duration of a connection. No contract says that the address of a peer
 //!   is the address in [`Event::Connected`].

@@ -52,9 +52,9 @@ enum Move {
 }
 
 impl<C: Conversation, A: Allocator + Copy> Peer<C, A> {
-    /// Moves bytes until the socket would block, or the connection has ended. The next answer may
-    /// take long to compute. So the turn also ends when bytes arrive after the conversation queued
-    /// packets.
+    /// Moves bytes until the socket would block, or the connection has ended. The turn also ends
+    /// when bytes arrive after the conversation queued packets, since the next answer may need much
+    /// time.
     pub(crate) fn advance(&mut self, now: Instant, limits: &Limits) -> After
         ensures { EndsBy C.turn self.new.connection result }
     {

@@ -16,7 +16,8 @@ pub fn limits_are_the_constants()
     ensures band { MAX_BAND ≡ max_band }
 {}
 
-/// The front of given bytes encodes at most one packet, which ends at only one position.
+/// At most one packet is encoded at the front of the same bytes, and the packet ends at only one
+/// position.
 #[tactic(auto, using(crate::proofs::Readings::one_reading_lem))]
 pub fn one_reading()
     ensures { OneReading }

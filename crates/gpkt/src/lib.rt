@@ -24,8 +24,8 @@
 //! - If the flushed bytes are known, writing flushes nothing, and a successful
 //!   [`push`](PacketWriter::push) flushes all written bytes (`HasPushed`).
 //! - [`write_all`] writes all of its bytes, or a prefix of these bytes if the sink goes down.
-//! - A device over std's readers and writers goes down exactly when the inner call fails, or when
-//!   a write accepts no byte of a nonempty slice. The contracts of two private functions over the
+//! - A device over std's readers and writers goes down exactly when the inner call fails, or a
+//!   write accepts no byte of a nonempty slice. The contracts of two private functions over the
 //!   inner result state this.
 //! - Bytes begin with at most one encoded packet, which ends at only one position. Bytes that a
 //!   reader rejects begin with no encoded packet, and the reader has only one reason. The canonical

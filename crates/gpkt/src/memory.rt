@@ -1,5 +1,5 @@
-//! Devices in memory, and a wrapper that limits a device. They serve tests, and callers with their
-//! bytes in memory.
+//! Devices in memory, and a wrapper that limits a device. These devices serve tests, and callers
+//! whose bytes are in memory.
 
 ghost use Rattle.std.specs.Prelude.{◌≡◌, ◌<◌, ◌≤◌, ◌⊎◌, ◌++◌, [], false, Some, length, take, drop};
 
@@ -64,7 +64,7 @@ fn copy_front(from: &[u8], to: &mut [u8]) -> usize
     count
 }
 
-/// A sink that stores the written bytes. It fails only if there is not enough memory.
+/// A sink that stores the written bytes. The sink fails only if there is not enough memory.
 #[derive(Drop)]
 pub struct VecSink<A: Allocator + Copy = Global> {
     written: Vec<u8, A>,

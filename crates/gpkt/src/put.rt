@@ -12,8 +12,8 @@ use crate::packet::{DIGITS, MAX_PAYLOAD};
 /// Writes all of the bytes, in as many calls of the sink as needed. The sink is not called if
 /// `bytes` is empty.
 ///
-/// After an error, a prefix of the bytes was written, and the sink is down. [`Sink::flush`] flushes
-/// written bytes that are still buffered. A sink that was down before the call stays down.
+/// After an error, only a prefix of the bytes was written, and the sink is down. Written bytes may
+/// still be buffered until a [`Sink::flush`]. A sink that was down before the call stays down.
 pub fn write_all<W: Sink>(sink: &mut W, bytes: &[u8]) -> Result<(), Down>
     ensures ok { OnOk result (Appends (W.contents sink.old) (W.contents sink.new) bytes.now) }
     ensures err { OnErr result

@@ -38,8 +38,9 @@ impl<S: Source, A: Allocator + Copy> PacketReader<S, A> {
     ghost use Rattle.gpkt.specs.Lending.{LendsPacket};
 
     /// Allocates a buffer and returns a reader that has not failed. Fails only with
-    /// [`PacketFault::Memory`], and then drops the source unread. To keep a borrowed source in that
-    /// case, allocate the buffer first and call [`with_buffer`](PacketReader::with_buffer).
+    /// [`PacketFault::Memory`], and then drops the source unread. A caller that must keep a
+    /// borrowed source allocates the buffer first and calls
+    /// [`with_buffer`](PacketReader::with_buffer).
     pub fn new(alloc: A, source: S) -> Result<PacketReader<S, A>, PacketFault>
     where
         S: Drop,

@@ -56,8 +56,8 @@ impl<R: Read> Source for FromRead<'_, R> {
 /// A sink that borrows one of std's writers and writes to it. The flushed bytes of the sink are
 /// unknown.
 ///
-/// The sink goes down after any error of the writer, even `Interrupted`. It also goes down if a
-/// write accepts no byte of a nonempty slice.
+/// The sink goes down after any error of the writer, even `Interrupted`. The sink also goes down if
+/// a write accepts no byte of a nonempty slice.
 #[derive(Drop)]
 pub struct ToWrite<'a, W> {
     writer: &'a mut W,

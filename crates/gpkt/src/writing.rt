@@ -15,7 +15,7 @@ use std::marker::Model;
 
 /// Writes packets with lower-case digits to a sink, without allocating.
 ///
-/// After [`Io`](WriteFault::Io), a part of the packet was written, and every later call returns
+/// After [`Io`](WriteFault::Io), only a part of the packet was written. Every later call returns
 /// [`Failed`](WriteFault::Failed) and writes nothing. [`Payload`](WriteFault::Payload) means that
 /// the payload with its line feed has more than 65,516 bytes. After `Payload`, nothing was written,
 /// and the writer stays usable.

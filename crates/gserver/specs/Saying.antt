@@ -30,8 +30,8 @@ module _ (ends : Ends) (goes_on : Bool) where
   abbrev pub SaysEnd : May
   SaysEnd said goes = (said ≡ Flush ∷ ends_with ends) × (goes ≡ goes_on)
 
-  -- the packets of a pack and the end of the reply, or the packets before a fault of the packer and the packet that
-  -- reports the fault
+  -- the packets of a pack and the end of the reply, or the packets before a packer's fault and the packet that reports
+  -- it
   abbrev pub EndsPack : List Packet → Option PackFault → May
   EndsPack packets None said goes = (said ≡ packets ++ Flush ∷ ends_with ends) × (goes ≡ goes_on)
   EndsPack packets (Some fault) said goes = (said ≡ packets ++ fatal_packet fault ∷ []) × (goes ≡ false)

@@ -108,8 +108,8 @@ module _ {A R : Type 0} (server_of : R → Server A) where
         pub same : server_of packer ≡ server_of found
         pub fault : IsFault says host (FetchRefuses (server_of found) (fails_of packer) asked) kept text
 
-      -- the reasons to reject a fetch request: the host cannot open the repository and has this text, there is not
-      -- enough memory, or the opened repository cannot answer
+      -- the reasons to reject a fetch request: the host cannot open the repository, memory is short, or the opened
+      -- repository cannot answer
       abbrev pub CannotSend : R → FetchAsked → Option R → Option ServeFault → Bytes → Type 0
       CannotSend repo asked new kept text =
           ((new ≡ Some repo) × (Opens (Err text) ⊎ LacksMemory says host kept text))

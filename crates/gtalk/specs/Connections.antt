@@ -25,8 +25,8 @@ abbrev pub bytes_in : Option Bytes → Bytes
 bytes_in None = []
 bytes_in (Some bytes) = bytes
 
--- if no packets were queued, the flushed bytes stay flushed, perhaps with more after them; otherwise, all bytes written
--- by then are flushed, perhaps with more after them
+-- if no packets were queued, the flushed bytes stay flushed; otherwise, all bytes written so far are flushed; more
+-- bytes may be flushed in both cases
 abbrev pub HasPassed : Bytes → Option Bytes → Change → Change → Type 0
 HasPassed said between written passed_on =
     ((said ≡ []) × KeepsPassed passed_on)
@@ -73,7 +73,7 @@ module _ {C A : Type 0} where
     pub kept : IsKept connection.stopped partial connection.incoming
     pub said : canonical_all talk.said ≡ sent ++ drop connection.sent (bytes_in connection.outgoing)
 
-  -- some received and sent bytes match the state of the connection
+  -- there are received and sent bytes that match the state of the connection
   abbrev pub IsHeld : (C → Talk → Type 0) → Connection C A → Type 0
   IsHeld holds connection = (received : Bytes) × (sent : Bytes) × Holds holds connection received sent
 

@@ -45,21 +45,21 @@ abbrev pub IsPartial : Option Stop → Bytes → Type 0
 IsPartial None kept = IsPartialPacket kept
 IsPartial (Some why) kept = Unit {0}
 
--- the packets stop because of the received bytes, if at all, and not because the input ends
+-- if no more packets arrive, the reason is in the received bytes, and not the end of the input
 abbrev pub IsByBytes : Option Stop → Type 0
 IsByBytes None = Unit {0}
 IsByBytes (Some (stop.Refused Truncated)) = ⊥
 IsByBytes (Some (stop.Refused fault)) = Unit {0}
 IsByBytes (Some why) = ⊥
 
--- the packets stop because the input ends
+-- no more packets arrive because the input has ended
 abbrev pub IsByEnd : Option Stop → Type 0
 IsByEnd (Some stop.Ended) = Unit {0}
 IsByEnd (Some (stop.Refused Truncated)) = Unit {0}
 IsByEnd other = ⊥
 
--- The unread bytes of the source and whether it is down, for each reason why packets stop. The source is at its end
--- after `Ended` and `Truncated`, and down exactly after `Failed`.
+-- The unread bytes of the source and whether it is down, for each reason why no more packets arrive. The source is at
+-- its end after `Ended` and `Truncated`, and down exactly after `Failed`.
 abbrev pub LeavesSource : Option Stop → Option Bytes → Bool → Type 0
 LeavesSource None remaining down = down ≡ false
 LeavesSource (Some stop.Ended) remaining down = IsAtEnd remaining × (down ≡ false)

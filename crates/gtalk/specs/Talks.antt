@@ -18,7 +18,7 @@ no_talk = record { heard = []; stopped = None; said = [] }
 abbrev pub talk_after : Talk → Packet → Talk
 talk_after talk packet = record { heard = talk.heard ++ packet ∷ []; stopped = talk.stopped; said = talk.said }
 
--- the history in which the packets stopped for this reason
+-- the history in which no more packets arrive, for this reason
 abbrev pub stop_talk : Talk → Stop → Talk
 stop_talk talk why = record { heard = talk.heard; stopped = Some why; said = talk.said }
 

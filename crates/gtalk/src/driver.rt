@@ -140,7 +140,7 @@ fn send<C: Conversation, A: Allocator + Copy, W: Sink>(
     Ok(())
 }
 
-// Sends some of the pending bytes.
+// Sends a prefix of the pending bytes, by one write.
 fn send_some<C: Conversation, A: Allocator + Copy, W: Sink>(
     connection: &mut Connection<C, A>,
     sink: &mut W,

@@ -69,8 +69,8 @@ impl<C: Conversation, A: Allocator + Copy> Connection<C, A> {
         }
     }
 
-    /// Returns the maximum number of bytes to receive in the next call. The limit is 0 only after
-    /// the packets stopped.
+    /// Returns the maximum number of bytes to receive in the next call. The limit is 0 only if no
+    /// more packets arrive.
     pub fn receive_limit(&self) -> usize
         ensures lacks { Lacks (partial_of self.now) result }
         ensures some { has_stopped self.now ≡ None → 0 < result }

@@ -13,13 +13,14 @@
 //!   packets that the conversation queued (`Holds` in `specs/Connections.antt`). The contract of
 //!   each call states the change of these bytes (`Moves`).
 //! - While more packets may arrive, the connection asks for at least one byte, and no call
-//!   accepts more bytes than the connection asks for. So no byte after the last packet is read.
+//!   accepts more bytes than the connection asks for. Therefore no byte after the last packet is
+//!   read.
 //! - A conversation receives the reason why no more packets arrive ([`Stop`]). `Failed` is
 //!   reported only if the source is down, `Ended` and `Truncated` only if the source is at its end
 //!   (`LeavesSource`). Refused bytes are not a packet.
-//! - [`drive`] returns if its devices do. It receives all bytes that it reads and writes all
-//!   bytes that it sends, in order. It succeeds only if the conversation is done, or if no more
-//!   packets arrive. After success all queued packets are sent and flushed.
+//! - [`drive`] returns if its devices do. The connection receives all bytes that are read, and
+//!   writes all bytes that it sends, in order. [`drive`] succeeds only if the conversation is done,
+//!   or if no more packets arrive. After success all queued packets are sent and flushed.
 //! - [`drive`] fails with `Io` only if the sink is down, and otherwise only if there is not
 //!   enough memory. After a failure all packets of earlier turns were flushed, and a prefix of the
 //!   last turn was written (`BreaksOff`).

@@ -5,9 +5,9 @@
 //!
 //! - [`crc32_of`] and [`Crc32`] return the CRC-32 of the bytes. [`adler32_of`] and [`Adler32`]
 //!   return their Adler-32. Both checksums can be computed from pieces of the bytes.
-//! - [`Inflater::inflate`] appends at most `most` bytes. Their Adler-32 is in the last four bytes
-//!   of the stream, which does not extend past the end of the input. On failure `body` is
-//!   unchanged. [`Inflater::inflate_front`] appends at most `count` bytes.
+//! - [`Inflater::inflate`] appends at most `most` bytes. The last four bytes of the stream are
+//!   the Adler-32 of the inflated bytes. The stream does not extend past the end of the input. On
+//!   failure `body` is unchanged. [`Inflater::inflate_front`] appends at most `count` bytes.
 //! - [`put_stored`] appends exactly the stream of stored blocks that `specs/Stored.antt` defines.
 //! - [`Deflater::deflate`] appends a header, unspecified bytes as the blocks, and the Adler-32 of
 //!   the input. On failure `out` is unchanged.

@@ -1,4 +1,4 @@
--- The reading of one packet: its head, given by the four digits, and its payload.
+-- The reading of one packet: the four digits, which form its head, and the payload.
 use Rattle.std.specs.Prelude.{◌≡◌, ℕ, ◌+◌, ◌<◌, ◌≤◌, Bool, true, false, [], length, take}
 use Rattle.std.specs.Prelude.{Option, Some, None, option_map, Result, Ok, Err}
 use Rattle.std.specs.Io.KnownBytes.{Consumes, IsAtEnd}

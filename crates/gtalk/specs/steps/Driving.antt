@@ -25,7 +25,7 @@ calls_left Speaks steps = steps + 1
 calls_left Listens steps = 0
 calls_left Done steps = 0
 
--- 1 while more packets may arrive, and 0 after the packets stopped
+-- 1 while more packets may arrive, and 0 after that
 abbrev pub count_unstopped : Option Stop → ℕ
 count_unstopped None = 1
 count_unstopped (Some why) = 0
