@@ -15,7 +15,8 @@ abbrev pub SaysNothing : List Packet → Bool → Type 0
 SaysNothing packets goes = (packets ≡ []) × (goes ≡ true)
 
 module _ {R : Type 0} (may : R → List Packet → Bool → Type 0) where
-  -- after these packets of a reply, the new state permits no rest that the old state did not permit
+  -- these packets, followed by any packets that may complete the reply from the new state, may complete the reply from
+  -- the old state
   abbrev pub LeadsTo : R → R → List Packet → Said → Type 0
   LeadsTo old new said More = (rest : List Packet) (goes : Bool) → may new rest goes → may old (said ++ rest) goes
   LeadsTo old new said Whole = may old said true

@@ -37,8 +37,8 @@ module _ {C A : Type 0} (holds : C → Talk → Type 0) where
     pub moves : Moves holds old new [] said
     pub counted : length said ≡ count
 
-  -- The connection receives all bytes that were read. A successful read receives at least one byte, or receives the end
-  -- of the input as the last event.
+  -- The connection receives all bytes that were read. A successful read receives at least one byte, or the end of the
+  -- input.
   pub record HearsOnce {E : Type 0} (old new : Connection C A) (read : Change) (result : Result Unit E) : Type 0 where
     pub more : Bytes
     pub received : Consumes read.old read.new more

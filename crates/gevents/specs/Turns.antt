@@ -1,4 +1,4 @@
--- The outcome of a peer's turn, and the connection that the loop returns when it ends.
+-- The outcome of a peer's turn, and the ended connection that the loop returns.
 use Rattle.std.specs.Prelude.{◌≡◌, Option, Some, None}
 use Rattle.gtalk.specs.declared.connection.Connection.{Connection}
 use Rattle.gtalk.specs.declared.conversation.Conversation.{Ghosts}

@@ -44,7 +44,7 @@ impl<A: Allocator + Copy> Addresses<A> {
         }
     }
 
-    /// Counts one peer less with this IP address.
+    /// Counts one peer fewer with this IP address.
     pub(crate) fn remove(&mut self, ip: IpAddr) {
         let Some(at) = self.position(ip) else {
             return;

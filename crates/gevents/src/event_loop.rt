@@ -209,7 +209,7 @@ impl<'l, C: Conversation + Drop, A: Allocator + Copy> EventLoop<'l, C, A> {
         }
     }
 
-    // Reads the clock. If it fails, the time is unchanged.
+    // Reads the clock. If the clock fails, the stored time is unchanged.
     fn look<R: Clock>(&mut self, rt: &R) {
         if let Ok(now) = Instant::now(rt) {
             self.now = now;

@@ -14,9 +14,9 @@
 //!   disconnected. Both kinds of late peers have one more turn first, since a ready socket may not
 //!   have been reported yet.
 //! - A connection allocates memory for received bytes only when the first byte arrives. Before
-//!   that it needs a few hundred bytes, and the memory of the conversation. Its send queue has room
-//!   for two packets of the maximum size. The queue is freed when all its bytes are sent and no
-//!   more bytes have arrived.
+//!   that, a connection needs a few hundred bytes and the memory of its conversation. The send
+//!   queue of a connection has room for two packets of the maximum size. The queue is freed when
+//!   all its bytes are sent and no more bytes have arrived.
 //! - The thread sleeps while no socket is ready. The loop checks the deadlines ten times a second
 //!   while there are peers.
 //! - A conversation that spends time on an answer blocks all other conversations for that time.
@@ -37,8 +37,8 @@
 //!   (`HearsOnce`). After a successful read the conversation is not notified of a failed device.
 //! - For any writer, exactly the bytes that a write accepted count as sent and are removed from
 //!   the pending bytes.
-//! - The only function for reporting a failed device to a conversation does report it. No
-//!   contract states when this function is called.
+//! - Only one function notifies a conversation of a failed device. Its contract states the
+//!   notification, but no contract states when the function is called.
 //! - No call panics, overflows or reads out of bounds, and each call returns.
 //!
 //! # Only tested

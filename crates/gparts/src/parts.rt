@@ -34,7 +34,7 @@ pub trait PartPacker<A: Allocator + Copy> {
             (pack_fails self.now entries.now) };
 
     /// Writes the next bytes of the pack into the front of `out`, and returns their number, or 0
-    /// when the pack is complete. After 0 or a fault, the caller should drop the parts.
+    /// when the pack is complete. After the result 0 or a fault, the caller should drop the parts.
     fn part(&self, parts: &mut Self::Parts, out: &mut [u8]) -> Result<usize, PackFault>
         requires { 0 < length out.old }
         ensures { MatchResult result

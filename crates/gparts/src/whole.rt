@@ -23,7 +23,7 @@ impl<'a, K> WholePack<'a, K> {
     }
 }
 
-/// A pack that was built at once, and is returned in parts.
+/// A pack that was built completely and is returned in parts.
 #[derive(Drop)]
 pub struct WholeParts<A: Allocator + Copy> {
     pack: Vec<u8, A>,

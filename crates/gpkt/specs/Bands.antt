@@ -68,6 +68,6 @@ BandIsRead = (band : BandPacket) → band_form (band_payload band) ≡ Ok band
 abbrev pub BandIsPayload : Type 0
 BandIsPayload = (payload : Bytes) (band : BandPacket) → band_form payload ≡ Ok band → payload ≡ band_payload band
 
--- the payload fits into a packet exactly when its bytes without the band byte number at most `max_band`
+-- the payload fits into a packet exactly when it has at most `max_band` bytes after the band byte
 abbrev pub BandFits : Type 0
 BandFits = (band : BandPacket) → (length (band_bytes band) ≤ max_band) ↔ (length (band_payload band) ≤ max_payload)

@@ -11,6 +11,6 @@ pub record Change : Type 0 where
 abbrev pub change_of : {D : Type 0} → (D → Option Bytes) → D → D → Change
 change_of bytes_of old new = record { old = bytes_of old; new = bytes_of new }
 
--- the predicate holds of the old and the new bytes if the old bytes are known, and then the new bytes are known too
+-- if the old bytes are known, the new bytes are known too, and the predicate holds of both
 abbrev pub WhereKnown : Change → (Bytes → Bytes → Type 0) → Type 0
 WhereKnown bytes P = MatchOption bytes.old ⊤ (λ old. MatchOption bytes.new ⊥ (λ new. P old new))

@@ -11,7 +11,7 @@ TakesSome result bytes = 0 < length bytes → IfOk result (λ count. 0 < count)
 abbrev pub AnswersDown : {A E : Type 0} → Bool → Result A E → Type 0
 AnswersDown was_down result = IsTrue was_down → IsErr result
 
--- a flush leaves all written bytes flushed, if the flushed bytes were known before
+-- all written bytes are flushed after the call, if the flushed bytes were known before
 abbrev pub PassesAll : Option Bytes → Change → Type 0
 PassesAll written passed_on = IsSome passed_on.old → passed_on.new ≡ written
 

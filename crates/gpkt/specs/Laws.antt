@@ -26,7 +26,7 @@ RefusedIsNoPacket =
     (fault : PacketFault) (line : Packet) (bytes front rest : Bytes) → NoPacket fault bytes
     → front ++ rest ≡ bytes → ¬ Spells line front
 
--- a reader rejects the same bytes only for one reason
+-- there is at most one fault for which a reader rejects the same bytes
 abbrev pub OneFault : Type 0
 OneFault = (fault other : PacketFault) (bytes : Bytes) → NoPacket fault bytes → NoPacket other bytes → fault ≡ other
 

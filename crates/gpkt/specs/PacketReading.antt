@@ -14,7 +14,7 @@ pub record Reader (S : Type 0) : Type 0 where
   pub source : S
   pub failed : Bool
 
--- the first four bytes are digits of this number
+-- the first four bytes are the hexadecimal digits of the number `announced`
 abbrev pub AnnouncesAtFront : Bytes → ℕ → Type 0
 AnnouncesAtFront bytes announced = (digit_count ≤ length bytes) × (number_of (take digit_count bytes) ≡ Some announced)
 
@@ -46,7 +46,7 @@ Gives old new (Err Io) = (front : Bytes) × (old ≡ front ++ new) × IsPartialP
 Gives old new (Err Failed) = new ≡ old
 Gives old new (Err Memory) = ⊥
 
--- the result of a read, which may leave the input unknown if it was unknown before
+-- the result of a read, if the input is known
 abbrev pub Reads : Change → Result (Option Packet) PacketFault → Type 0
 Reads bytes result = WhereKnown bytes (λ old new. Gives old new result)
 

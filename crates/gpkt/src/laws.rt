@@ -80,8 +80,8 @@ pub fn text_reads_back()
 {}
 
 /// A payload decodes to a band exactly when it is the band byte and then the bytes of that band.
-/// The payload fits into a packet exactly when those bytes number at most
-/// [`MAX_BAND`](crate::MAX_BAND).
+/// The payload fits into a packet exactly when it has at most [`MAX_BAND`](crate::MAX_BAND) bytes
+/// after the band byte.
 #[tactic(auto, using(crate::proofs::Bands::band_is_read, crate::proofs::Bands::band_is_payload))]
 pub fn bands_are_read()
     ensures payload { BandIsRead }

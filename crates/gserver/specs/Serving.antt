@@ -27,7 +27,7 @@ use Rattle.gserver.specs.declared.side.ServerSide.{ServerSide}
 abbrev pub max_requests : ℕ
 max_requests = 4294967295
 
--- whether the connection accepts another request after one more than this number of requests
+-- whether the connection accepts another request after the current one, given the number of earlier requests
 abbrev pub goes_on_after : ℕ → Bool
 goes_on_after requests = nat_lt requests max_requests
 
@@ -77,7 +77,7 @@ module _ {A R : Type 0} (server_of : R → Server A) where
     pub goes_on : goes ≡ true
 
   module _ {H : Type 0} (says : H → ServeFault → Bytes → Type 0) (host : H) where
-    -- the reasons to reject the first line: the host finds no repository and has this text, or there is not enough
+    -- the reasons to reject the first line: the host finds no repository and returns this text, or there is not enough
     -- memory
     abbrev pub CannotGreet : (Result R Bytes → Type 0) → Option R → Option ServeFault → Bytes → Type 0
     CannotGreet Finds new kept text = (new ≡ None) × (Finds (Err text) ⊎ LacksMemory says host kept text)
@@ -108,14 +108,14 @@ module _ {A R : Type 0} (server_of : R → Server A) where
         pub same : server_of packer ≡ server_of found
         pub fault : IsFault says host (FetchRefuses (server_of found) (fails_of packer) asked) kept text
 
-      -- the reasons to reject a fetch request: the host cannot open the repository, memory is short, or the opened
-      -- repository cannot answer
+      -- the reasons to reject a fetch request: the host cannot open the repository, there is not enough memory, or the
+      -- opened repository cannot answer
       abbrev pub CannotSend : R → FetchAsked → Option R → Option ServeFault → Bytes → Type 0
       CannotSend repo asked new kept text =
           ((new ≡ Some repo) × (Opens (Err text) ⊎ LacksMemory says host kept text))
           ⊎ CannotSendFrom asked new kept text
 
-      -- the answer to a request from this repository
+      -- the answer of this repository to a request
       abbrev pub AnswersAsked : R → Asked → Bool → Option R → List Packet → Bool → Type 0
       AnswersAsked repo Empty goes_on new said goes = (new ≡ Some repo) × (said ≡ []) × (goes ≡ false)
       AnswersAsked repo (Ls asked) goes_on new said goes =
@@ -128,7 +128,7 @@ module _ {A R : Type 0} (server_of : R → Server A) where
       CannotAnswer repo (Ls asked) new kept text = (new ≡ Some repo) × LacksMemory says host kept text
       CannotAnswer repo (Fetches asked) new kept text = CannotSend repo asked new kept text
 
--- the host and the end of replies stay the same
+-- the host, and the packets that end each reply, stay the same
 pub record Stays {A H R : Type 0} (old new : ServerSide A H R) : Type 0 where
   pub host : new.host ≡ old.host
   pub ends : new.ends ≡ old.ends
@@ -146,14 +146,14 @@ OpensFresh side said goes = IsFresh side × SaysNothing said goes
 module _ {A H R : Type 0} (server_of : R → Server A) (packs_of : R → Packs A) (fails_of : R → PackFails A)
     (finds : H → Hello → Result R Bytes → Type 0) (opens : H → R → Result R Bytes → Type 0)
     (says : H → ServeFault → Bytes → Type 0) where
-  -- the packets of a first line, and an answer that fits the repository that the host finds for them
+  -- the packets are a first line, and the answer fits the repository that the host finds for this line
   pub record AnswersFirst (old new : ServerSide A H R) (lines said : List Packet) (goes : Bool) : Type 0 where
     pub asked : Hello
     pub says_so : hello.Says lines asked
     pub answers : AnswersHello server_of says old.host.now (finds old.host.now asked) new.repo new.fault said goes
     pub requests : new.requests ≡ old.requests
 
-  -- the packets of a request, and an answer that fits the request or an error packet
+  -- the packets are a request, and the answer fits the request or is an error packet
   pub record AnswersRequest (repo : R) (old new : ServerSide A H R) (lines said : List Packet)
       (goes : Bool) : Type 0 where
     pub asked : Asked
@@ -164,7 +164,7 @@ module _ {A H R : Type 0} (server_of : R → Server A) (packs_of : R → Packs A
         repo asked new.repo new.fault) said goes
     pub requests : new.requests ≡ count_request asked old.requests
 
-  -- the packets of a message, and an answer that fits the message
+  -- the packets are a message, and the answer fits this message
   abbrev pub AnswersBy : Option R → ServerSide A H R → ServerSide A H R → List Packet → List Packet → Bool → Type 0
   AnswersBy None old new lines said goes = AnswersFirst old new lines said goes
   AnswersBy (Some repo) old new lines said goes = AnswersRequest repo old new lines said goes

@@ -20,17 +20,17 @@
 //!   ends.
 //! - An empty request gets no reply, and ends the connection.
 //! - The side may instead send an error packet with the host's text, and end the connection. The
-//!   side rejects a first line only if there is not enough memory, or if the host may have this
+//!   side rejects a first line only if there is not enough memory, or if the host may return this
 //!   text for the line (`CannotGreet`). The side rejects a request only for lack of memory, for a
-//!   fault of the request with this repository, or with a text that the host may have as it opens
+//!   fault of the request with this repository, or with a text that the host may return as it opens
 //!   the repository (`CannotAnswer`). A message that its grammar rejects gets the host's text for
 //!   that fault (`RefusesMessage`).
 //! - The side stores the fault that it reported ([`ServerSide::fault`]). There is no stored fault
 //!   while the connection accepts messages.
-//! - A connection begins with no repository, no request and no fault (`OpensFresh`). The host and
-//!   the end of replies stay as passed to [`ServerSide::new`]. Each ls-refs or fetch request is
-//!   counted. A connection ends only after an error packet, an empty request, a failed pack or the
-//!   last permitted request.
+//! - A connection begins with no repository, no request and no fault (`OpensFresh`). The host,
+//!   and the packets that end each reply, stay as passed to [`ServerSide::new`]. Each ls-refs or
+//!   fetch request is counted. A connection ends only after an error packet, an empty request, a
+//!   failed pack or the last permitted request.
 //! - [`ServerSide::repo`], [`ServerSide::requests`] and [`ServerSide::fault`] return the state of
 //!   the side.
 //! - Each call of [`Reply::say`](gdialogue::Reply) queues a packet or leaves fewer steps, so a

@@ -31,8 +31,8 @@ use std::alloc::Allocator;
 /// The maximum number of requests after which a connection accepts another request.
 pub const MAX_REQUESTS: u32 = u32::MAX;
 
-/// The server's end of a connection. It receives a first line, which names a repository, and then
-/// one request after another.
+/// The server's end of a connection. The server receives a first line, which names a repository,
+/// and then one request after another.
 ///
 /// A message that is refused or cannot be answered gets an error packet. The connection then ends.
 #[derive(Drop)]

@@ -25,8 +25,8 @@ abbrev pub bytes_in : Option Bytes → Bytes
 bytes_in None = []
 bytes_in (Some bytes) = bytes
 
--- if no packets were queued, the flushed bytes stay flushed; otherwise, all bytes written so far are flushed; more
--- bytes may be flushed in both cases
+-- if no packets were queued, the flushed bytes stay flushed; otherwise, all bytes written before the last turn are
+-- flushed
 abbrev pub HasPassed : Bytes → Option Bytes → Change → Change → Type 0
 HasPassed said between written passed_on =
     ((said ≡ []) × KeepsPassed passed_on)
@@ -61,8 +61,8 @@ module _ {C A : Type 0} where
   IsTurn turn connection Speaks = turn connection.conversation ≡ Speaks
   IsTurn turn connection Done = IsDone turn connection
 
-  -- the received and sent bytes match a history that the conversation accepts; the queued packets are the sent bytes
-  -- and then the pending bytes
+  -- The received and sent bytes match a history that the conversation accepts. The queued packets are encoded as the
+  -- sent bytes and then the pending bytes.
   pub record Holds (holds : C → Talk → Type 0) (connection : Connection C A) (received sent : Bytes) : Type 0 where
     pub talk : Talk
     pub held : holds connection.conversation talk

@@ -1,4 +1,4 @@
-//! One end of a protocol of packets.
+//! One end of a packet protocol.
 
 ghost use Rattle.std.specs.Prelude.{◌≡◌, []};
 ghost use Rattle.gpkt.specs.Packets.{packet_of};
