@@ -1,4 +1,4 @@
--- A dialogue: messages that were heard, and what was said to each.
+-- A dialogue: the messages that one end receives, and its answer to each.
 use Rattle.std.specs.Prelude.{◌≡◌, ℕ, ◌+◌, ◌-◌, ◌^◌, Bool, true, false, List, [], ◌∷◌, ◌++◌, length, Option, Some, None}
 use Rattle.gpkt.specs.Packets.{Packet}
 use Rattle.gpkt.specs.declared.fault.PacketFault.TheVariants.{Io}
@@ -16,13 +16,14 @@ use Rattle.gdialogue.specs.declared.dialogue.Dialogue.{Dialogue}
 use Rattle.gdialogue.specs.declared.dialogue.DialogueStage.{DialogueStage}
 use Rattle.gdialogue.specs.declared.dialogue.DialogueStage.TheVariants as stage
 
--- why a message is refused of which no packet comes any more
+-- the reason to refuse a message when no more packets arrive
 abbrev pub reason_of : Stop → Why
 reason_of stop.Ended = why.Ended
 reason_of (stop.Refused fault) = why.Line fault
 reason_of stop.Failed = why.Line Io
 
--- why a message is refused: its last packet does not fit, or no packet comes any more
+-- the fault for which a message is refused: a packet that the grammar rejects, or a message that is incomplete when no
+-- more packets arrive
 pub data IsRefused (judge : Judge) (brings : List Packet → Packet → Bool)
     : List Packet → Option Stop → MessageFault → Type 0 where
   packet : (front : List Packet) (packet : Packet) (why : Why) → IsOpen judge front
@@ -39,8 +40,8 @@ turn_of (stage.Says reply) = Speaks
 turn_of (stage.Ends reply) = Speaks
 turn_of stage.Over = Done
 
--- how much is left: two turns for each message that is answered, and the packets of this one, of which there are fewer
--- than 2^60
+-- a bound on the rest of a dialogue: two turns for each message still to answer, and fewer than 2^60 packets in the
+-- current message
 abbrev pub left_of : {M R : Type 0} → (R → ℕ) → ℕ → DialogueStage M R → Left
 left_of calls messages (stage.Hears message frame) = record { turns = messages + messages + 2; steps = 2 ^ 60 - frame }
 left_of calls messages (stage.Says reply) = record { turns = messages + messages + 3; steps = calls reply }
@@ -50,15 +51,15 @@ left_of calls messages stage.Over = record { turns = 0; steps = 0 }
 module _ {S : Type 0} (judge : S → Judge) (brings : S → List Packet → Packet → Bool)
     (opens : S → List Packet → Bool → Type 0) (answers : S → List Packet → List Packet → Bool → S → Type 0)
     (refuses : S → MessageFault → List Packet → S → Type 0) where
-  -- The first end opened the dialogue; then these messages were heard, one after the other, each was answered by the
-  -- end as it then was, and all of this was said.
+  -- The dialogue from the end's first state until now. The end sent its opening, and then answered each of the received
+  -- messages in the state that it had reached.
   pub data Answered (first : S) : List Packet → List Packet → S → Type 0 where
     opened : (said : List Packet) → opens first said true → Answered first [] said first
     more : (heard said lines reply : List Packet) (mid last : S) → Answered first heard said mid
         → IsWhole (judge mid) lines → answers mid lines reply true last
         → Answered first (heard ++ lines) (said ++ reply) last
 
-  -- how a dialogue ends: with its opening, with an answer that is the last, or with a message that is refused
+  -- the end of a dialogue: after its opening, after a last answer, or after a refused message
   pub data HasEnded (first : S) : List Packet → Option Stop → List Packet → S → Type 0 where
     opened : (said : List Packet) → opens first said false → HasEnded first [] None said first
     last : (heard said lines reply : List Packet) (mid last : S) → Answered first heard said mid
@@ -69,14 +70,14 @@ module _ {S : Type 0} (judge : S → Judge) (brings : S → List Packet → Pack
         → refuses mid fault reply last
         → HasEnded first (heard ++ lines) stop (said ++ reply) last
 
-  -- so far, a dialogue that goes on or has ended
+  -- the dialogue so far, which either continues or has ended
   abbrev pub IsSoFar : S → Bool → List Packet → Option Stop → List Packet → S → Type 0
   IsSoFar first true heard stop said side = Answered first heard said side × (stop ≡ None)
   IsSoFar first false heard stop said side = HasEnded first heard stop said side
 
   module _ {M R : Type 0} (judge_of : M → Judge) (brings_of : M → List Packet → Packet → Bool)
       (message_holds : M → List Packet → Type 0) (may : R → List Packet → Bool → Type 0) where
-    -- a message is being heard, and all that came before it was answered
+    -- the end is receiving a message, and all earlier messages are answered
     pub record HoldsHearing (side : S) (message : M) (frame : ℕ) (talk : Talk) : Type 0 where
       pub first : S
       pub heard : List Packet
@@ -90,19 +91,19 @@ module _ {S : Type 0} (judge : S → Judge) (brings : S → List Packet → Pack
       pub count : frame ≡ length front
       pub unstopped : talk.stopped ≡ None
 
-    -- an answer is being said: with all that it may still say the message is answered
+    -- the end is sending an answer, and the message is answered once any permitted rest of the reply is sent
     pub record HoldsSaying (side : S) (reply : R) (talk : Talk) : Type 0 where
       pub first : S
       pub due : (rest : List Packet) (goes : Bool) → may reply rest goes
           → IsSoFar first goes talk.heard talk.stopped (talk.said ++ rest) side
 
-    -- the last packets are being said: with all that it may still say the dialogue has ended
+    -- the end is sending its last reply, and the dialogue has ended once any permitted rest of the reply is sent
     pub record HoldsEnding (side : S) (reply : R) (talk : Talk) : Type 0 where
       pub first : S
       pub due : (rest : List Packet) (goes : Bool) → may reply rest goes
           → HasEnded first talk.heard talk.stopped (talk.said ++ rest) side
 
-    -- the dialogue has ended
+    -- the dialogue has ended with these packets received and queued
     pub record HoldsOver (side : S) (talk : Talk) : Type 0 where
       pub first : S
       pub ended : HasEnded first talk.heard talk.stopped talk.said side
@@ -113,6 +114,6 @@ module _ {S : Type 0} (judge : S → Judge) (brings : S → List Packet → Pack
     HoldsStage side (stage.Ends reply) talk = HoldsEnding side reply talk
     HoldsStage side stage.Over talk = HoldsOver side talk
 
-    -- this was heard and said so far in a dialogue
+    -- the packets received and queued so far match the state of the dialogue
     abbrev pub Holds : Dialogue S M R → Talk → Type 0
     Holds dialogue talk = HoldsStage dialogue.side dialogue.stage talk

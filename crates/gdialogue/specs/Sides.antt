@@ -1,4 +1,4 @@
--- What one end of a dialogue says.
+-- The packets that one end of a dialogue sends.
 use Rattle.std.specs.Prelude.{◌≡◌, Bool, true, false, List, [], ◌++◌}
 use Rattle.gpkt.specs.Packets.{Bytes, Packet, canonical_all}
 use Rattle.gdialogue.specs.declared.side.Answer.{Answer}
@@ -6,29 +6,30 @@ use Rattle.gdialogue.specs.declared.side.Answer.TheVariants as answer
 use Rattle.gdialogue.specs.declared.side.Said.{Said}
 use Rattle.gdialogue.specs.declared.side.Said.TheVariants.{More, Whole, Last}
 
--- A reply whose packets are known: exactly these are still to be said, and then the dialogue goes on.
+-- a reply whose packets are known: exactly these packets are still to be sent, and then the dialogue continues
 abbrev pub SaysExactly : {R : Type 0} → (R → List Packet) → R → List Packet → Bool → Type 0
 SaysExactly rest reply packets goes = (packets ≡ rest reply) × (goes ≡ true)
 
--- before the first message nothing is said
+-- the end sends no packet before the first message
 abbrev pub SaysNothing : List Packet → Bool → Type 0
 SaysNothing packets goes = (packets ≡ []) × (goes ≡ true)
 
 module _ {R : Type 0} (may : R → List Packet → Bool → Type 0) where
-  -- these packets of a reply were said: what may follow them, or that they are all
+  -- these packets, followed by any packets that may complete the reply from the new state, may complete the reply from
+  -- the old state
   abbrev pub LeadsTo : R → R → List Packet → Said → Type 0
   LeadsTo old new said More = (rest : List Packet) (goes : Bool) → may new rest goes → may old (said ++ rest) goes
   LeadsTo old new said Whole = may old said true
   LeadsTo old new said Last = may old said false
 
-  -- some packets of a reply were said, as these bytes
+  -- these bytes encode the next packets of a reply
   pub record SaysSome (old new : R) (bytes : Bytes) (result : Said) : Type 0 where
     pub said : List Packet
     pub spelt : bytes ≡ canonical_all said
     pub leads : LeadsTo old new said result
 
-  -- An answer may say these packets, and then the dialogue goes on or not. It never goes on after a last answer,
-  -- whatever the reply says of that.
+  -- the packets that an answer may send, and whether the dialogue then continues; it never continues after a last
+  -- answer
   abbrev pub MayAnswer : Answer R → List Packet → Bool → Type 0
   MayAnswer (answer.GoesOn reply) packets goes = may reply packets goes
   MayAnswer (answer.Last reply) packets goes = (goes ≡ false) × ((reply_goes : Bool) × may reply packets reply_goes)

@@ -1,4 +1,4 @@
-//! A dialogue, from one end.
+//! One end of a dialogue as a conversation of packets.
 
 ghost use Rattle.std.specs.Prelude.{◌≡◌, [], Bool, List, true};
 ghost use Rattle.gpkt.specs.Packets.{Packet, packet_of};
@@ -15,23 +15,23 @@ use gtalk::{Conversation, Outgoing, Stop, Turn};
 use std::alloc::Allocator;
 use std::mem;
 
-// The next part of a dialogue.
+// The current stage of a dialogue.
 #[derive(Drop)]
 enum DialogueStage<M, R> {
-    // A message, and the number of its packets so far.
+    // The dialogue receives this message, of which it has received this many packets.
     Hears(M, u64),
-    // A reply, after which the dialogue may continue.
+    // The dialogue sends this reply, and may continue after it.
     Says(R),
-    // The last reply.
+    // The dialogue sends its last reply.
     Ends(R),
     Over,
 }
 
 /// One end of a dialogue: a conversation of packets ([`Conversation`]).
 ///
-/// It hears one message after another and says the answer of its [`Side`] to each, until a last
-/// answer. A message is refused at the first packet that does not fit, or if the packets stop. The
-/// side's answer to a refused message is the last.
+/// A dialogue receives one message after another and sends the answer of its [`Side`] to each,
+/// until a last answer. A message is refused at the first packet that its grammar rejects, or if no
+/// more packets arrive. The answer to a refused message is the last.
 #[derive(Drop)]
 pub struct Dialogue<S, M, R> {
     side: S,
@@ -39,14 +39,14 @@ pub struct Dialogue<S, M, R> {
 }
 
 impl<S, M, R> Dialogue<S, M, R> {
-    /// Returns the side.
+    /// Returns the side of the dialogue.
     pub fn side(&self) -> &S
         ensures { result.now ≡ self.now.side }
     {
         &self.side
     }
 
-    /// Returns the side, as the dialogue left it.
+    /// Returns the side in its current state.
     pub fn into_side(self) -> S
     where
         S: Drop,
@@ -75,7 +75,7 @@ impl<S: Side<M, R>, M: Message + Drop, R: Reply + Drop> Dialogue<S, M, R> {
         }
     }
 
-    /// Returns a dialogue that this end opens, with a reply to nothing.
+    /// Returns a dialogue that this end opens with `reply`.
     pub fn speak_first(side: S, reply: R) -> Dialogue<S, M, R>
         ensures holds { ((said : List Packet) (goes : Bool) → R.may reply said goes → S.opens side said goes)
             → Holds S.judge S.brings S.opens S.answers S.refuses M.judge M.brings M.holds R.may result no_talk }
@@ -87,7 +87,7 @@ impl<S: Side<M, R>, M: Message + Drop, R: Reply + Drop> Dialogue<S, M, R> {
         }
     }
 
-    // Takes the next packet of a message.
+    // Receives the next packet of a message.
     fn hear_packet(
         &mut self,
         mut message: M,
@@ -118,7 +118,7 @@ impl<S: Side<M, R>, M: Message + Drop, R: Reply + Drop> Dialogue<S, M, R> {
         }
     }
 
-    // Refuses a message because the packets stopped.
+    // Refuses an incomplete message because no more packets arrive.
     fn refuse(&mut self, message: M, frame: u64, why: Stop) -> DialogueStage<M, R>
         ensures stopped { (talk : Talk)
             → HoldsHearing S.judge S.brings S.opens S.answers S.refuses M.judge M.brings M.holds R.may
@@ -133,7 +133,7 @@ impl<S: Side<M, R>, M: Message + Drop, R: Reply + Drop> Dialogue<S, M, R> {
         DialogueStage::Ends(self.side.refuse(MessageFault { frame, why }))
     }
 
-    // Says some of a reply.
+    // Queues the next packets of a reply.
     fn say_some<A: Allocator + Copy>(
         &self,
         mut reply: R,
@@ -157,7 +157,7 @@ impl<S: Side<M, R>, M: Message + Drop, R: Reply + Drop> Dialogue<S, M, R> {
         }
     }
 
-    // Says some of the last reply.
+    // Queues the next packets of the last reply.
     fn say_last<A: Allocator + Copy>(
         &self,
         mut reply: R,
@@ -217,7 +217,7 @@ impl<S: Side<M, R>, M: Message + Drop, R: Reply + Drop> Conversation for Dialogu
     }
 }
 
-// Returns the reason why a message is refused if the packets stop.
+// Returns the reason to refuse a message when no more packets arrive.
 fn reason_of(why: Stop) -> Why
     ensures { result ≡ reason_of why }
 {

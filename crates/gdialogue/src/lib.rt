@@ -1,31 +1,34 @@
-//! A conversation of messages: one end hears a message, says its answer, and hears the next.
+//! A conversation of messages: one end receives a message, sends its answer, and receives the next
+//! message.
 //!
-//! A [`Side`] determines the messages that it hears and their answers. A [`Dialogue`] of a side is
-//! a conversation of packets. Both ends of a protocol are sides: a server answers requests, and a
-//! client answers replies with its next request.
+//! A [`Side`] determines the messages that it accepts and its answers to them. A [`Dialogue`] of a
+//! side is a conversation of packets. Both ends of a protocol are sides: a server answers requests,
+//! and a client answers replies with its next request.
 //!
 //! # Proved
 //!
-//! - Messages and answers alternate. Each message is complete by the grammar of the side at that
-//!   time, and was answered by the side in its state then. Apart from the side's opening, nothing
-//!   more is said (`Answered` in `specs/Dialogues.antt`).
-//! - A dialogue ends with a last answer, with a reply that ends it early, or with a refused message
-//!   (`HasEnded`). A message is refused at the first packet that does not fit, with its position
-//!   and the grammar's reason, or if the packets stop.
-//! - A reply says only packets that it may say, and all of them. They need not be known beforehand
-//!   (`SaysSome` in `specs/Sides.antt`).
-//! - Each dialogue ends: a call leaves fewer packets of the message, fewer calls of the reply, or
-//!   fewer messages (`left_of`).
+//! - Messages and answers alternate. Each message is complete by the grammar of the side's
+//!   current state, and the side answers it in that state. Apart from the opening, the side sends
+//!   nothing that is not an answer (`Answered` in `specs/Dialogues.antt`).
+//! - A dialogue ends with a last answer, with a reply that ends it early, or with a refused
+//!   message (`HasEnded`). A message is refused at the first packet that its grammar rejects, with
+//!   the position of the packet and the reason. An incomplete message is also refused if no more
+//!   packets arrive.
+//! - A reply sends only packets that its contract permits, and sends them completely. The packets
+//!   need not be known beforehand (`SaysSome` in `specs/Sides.antt`).
+//! - Each dialogue ends: every call leaves fewer packets of the message, fewer calls of the
+//!   reply, or fewer messages (`left_of`).
 //!
 //! # What the contracts do not rule out
 //!
-//! - A reply that says one packet per call, or none in many calls.
-//! - Any answer: each side has its own contract for its answers.
-//! - A side that takes a long time to answer. Nothing is heard or said meanwhile.
+//! - A reply that queues one packet per call, or no packet in many calls.
+//! - Any answer, since each side has its own contract for its answers.
+//! - A side that needs much time to answer. Meanwhile the dialogue neither receives nor sends
+//!   packets.
 //!
 //! # Stands on
 //!
-//! `gtalk` for conversations, `ggrammar` for messages, `gpkt` for packets.
+//! `gtalk` for conversations, `ggrammar` for messages, and `gpkt` for packets.
 #![tactic(auto)]
 
 mod dialogue;

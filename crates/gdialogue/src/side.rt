@@ -1,4 +1,4 @@
-//! One end of a dialogue: the messages that it hears, and its answers.
+//! One end of a dialogue: the messages that it receives, and its answers.
 
 ghost use Rattle.std.specs.Prelude.{◌≡◌, ◌<◌, [], Bool, List, ℕ};
 ghost use Rattle.gpkt.specs.Packets.{Packet};
@@ -9,31 +9,32 @@ use ggrammar::{Message, MessageFault};
 use gtalk::Outgoing;
 use std::alloc::Allocator;
 
-/// The part of a reply that a call has said.
+/// The state of a reply after a call that queued packets.
 #[derive(Clone, Copy, Debug, PartialEq, Eq)]
 pub enum Said {
-    /// Some of it, and more follows.
+    /// More packets of the reply follow.
     More,
-    /// The rest of it, and the dialogue continues.
+    /// The reply is complete, and the dialogue continues.
     Whole,
-    /// The rest of it, and nothing more is heard.
+    /// The reply is complete, and the dialogue has ended.
     Last,
 }
 
-/// A reply: packets that are said one after the other.
+/// A reply: a sequence of packets to send.
 ///
-/// They need not be known beforehand. A pack that is read while it is sent may fail in the middle.
-/// The reply then ends with the packet that reports this, and so does the dialogue. `SaysExactly`
-/// is `may` for a reply whose packets are known.
+/// The packets need not be known beforehand. For example, a pack that is read while it is sent may
+/// fail in the middle. The reply then ends with the packet that reports the failure, and the
+/// dialogue ends too. `SaysExactly` is `may` for a reply whose packets are known.
 pub trait Reply {
-    // From here it may say exactly these packets, and the boolean says whether the dialogue
+    // The packets that may complete the reply from this state, and whether the dialogue then
     // continues.
     ghost may: { Self → List Packet → Bool → Type 0 };
 
-    // The maximum number of further calls that say some of it.
+    // The maximum number of further calls that return [`Said::More`].
     ghost calls: { Self → ℕ };
 
-    /// Says the next packets, as many as it likes, into an empty queue.
+    /// Adds the next packets of the reply to an empty send queue. One call may add any number of
+    /// packets that fit, or none.
     fn say<A: Allocator + Copy>(&mut self, out: &mut Outgoing<A>) -> Said
         requires empty { out.old ≡ [] }
         ensures says { SaysSome may self.old self.new out.new result }
@@ -43,24 +44,25 @@ pub trait Reply {
 /// The answer to a message.
 #[derive(Drop)]
 pub enum Answer<R> {
-    /// This reply. Then the next message is heard, unless the reply itself ends the dialogue.
+    /// The dialogue sends this reply and receives the next message, unless the reply itself ends
+    /// the dialogue.
     GoesOn(R),
-    /// This reply, and nothing after it.
+    /// The dialogue sends this reply and ends.
     Last(R),
 }
 
-/// One end of a dialogue.
+/// One end of a dialogue: the messages that it accepts, and its answers.
 pub trait Side<M: Message, R: Reply> {
     ghost use Rattle.ggrammar.specs.declared.fault.MessageFault.{MessageFault};
 
     // The grammar of the next message.
     ghost judge: { Self → Judge };
 
-    // Whether a packet of it has contents to store, which needs memory.
+    // Whether a packet of the next message has contents to store, which needs memory.
     ghost brings: { Self → List Packet → Packet → Bool };
 
-    // The packets that it may say before the first message, and whether it then continues. For an
-    // end that only answers, this is `SaysNothing`.
+    // The packets that the end may send before the first message, and whether the dialogue then
+    // continues. For an end that only answers, this is `SaysNothing`.
     ghost opens: { Self → List Packet → Bool → Type 0 };
 
     // The packets that may answer a message, whether the dialogue then continues, and the side's
@@ -70,7 +72,7 @@ pub trait Side<M: Message, R: Reply> {
     // The packets that may answer a refused message, and the side's new state.
     ghost refuses: { Self → MessageFault → List Packet → Self → Type 0 };
 
-    // The maximum number of further messages that it answers and then continues.
+    // The maximum number of further messages after whose answer the dialogue continues.
     ghost messages: { Self → ℕ };
 
     /// Returns the next message, before its first packet.
@@ -79,7 +81,7 @@ pub trait Side<M: Message, R: Reply> {
         ensures judge { M.judge result ≡ judge self.now }
         ensures brings { M.brings result ≡ brings self.now };
 
-    /// Answers a message. If the dialogue continues, fewer messages are left.
+    /// Answers a complete message. If the dialogue continues, fewer messages are left.
     fn answer(&mut self, message: M) -> Answer<R>
         ensures answers { (lines said : List Packet) (goes : Bool) → M.judge message ≡ judge self.old
             → IsWhole (judge self.old) lines → M.holds message lines → MayAnswer R.may result said goes
@@ -87,7 +89,7 @@ pub trait Side<M: Message, R: Reply> {
         ensures fewer { (reply : R) → result ≡ Answer.GoesOn reply
             → messages self.new < messages self.old };
 
-    /// Answers a refused message. Nothing is heard after that.
+    /// Returns the answer to a refused message. The dialogue ends after this answer.
     fn refuse(&mut self, fault: MessageFault) -> R
         ensures { (said : List Packet) (goes : Bool) → R.may result said goes
             → refuses self.old fault said self.new };

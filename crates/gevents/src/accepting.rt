@@ -15,16 +15,17 @@ use std::alloc::Allocator;
 use std::io::{self, ErrorKind, Write};
 use std::net::{IpAddr, SocketAddr};
 
-// The system's error numbers for too many open files, in the process or in total, and for no
-// memory, no buffer or no streams (errno(3)).
+// The error numbers of a system without resources: too many open files, in the process or in total,
+// and no memory, buffers or streams (errno(3)).
 const STARVED: [i32; 5] = [24, 23, 12, 105, 63];
 
-// The error numbers for faults of the network, and not of the listener (accept(2), "Error
-// handling"): EPROTO, ENOPROTOOPT, EHOSTDOWN, ENONET, EOPNOTSUPP and ETIMEDOUT.
+// The error numbers for faults of the network, not of the listener (accept(2), "Error handling"):
+// EPROTO, ENOPROTOOPT, EHOSTDOWN, ENONET, EOPNOTSUPP and ETIMEDOUT.
 const NETWORK: [i32; 6] = [71, 92, 112, 64, 95, 110];
 
 impl<C: Conversation + Drop, A: Allocator + Copy> EventLoop<'_, C, A> {
-    /// Starts a conversation with the peer of the last event, if that was [`Event::Connected`].
+    /// Starts a conversation with the peer of the last event, if the event was
+    /// [`Event::Connected`].
     pub fn begin(&mut self, conversation: C)
         requires { C.holds conversation no_talk }
     {
@@ -41,8 +42,8 @@ impl<C: Conversation + Drop, A: Allocator + Copy> EventLoop<'_, C, A> {
         }
     }
 
-    /// Sends bytes to the peer of the last event, if that was [`Event::Refused`], and closes it. It
-    /// sends only the bytes that the socket takes at once.
+    /// Sends bytes to the peer of the last event, if the event was [`Event::Refused`], and closes
+    /// the connection. One write sends only the bytes that the socket accepts at once.
     pub fn refuse(&mut self, bytes: &[u8]) {
         if let Some(Caller::Refused(mut stream)) = self.caller.take() {
             let _ = stream.write(bytes);
@@ -61,7 +62,7 @@ impl<C: Conversation + Drop, A: Allocator + Copy> EventLoop<'_, C, A> {
         }
     }
 
-    // Accepts a caller, or refuses it.
+    // Accepts or refuses a new peer, and returns the event that reports it.
     fn receive(&mut self, stream: TcpStream, address: SocketAddr) -> Event<C, A> {
         self.calls = Calls::Some;
         match self.refusal(address.ip()) {
@@ -78,7 +79,7 @@ impl<C: Conversation + Drop, A: Allocator + Copy> EventLoop<'_, C, A> {
         }
     }
 
-    // Returns the reason why a peer from this IP address is refused, if it is.
+    // Returns the reason to refuse a peer from this IP address, if any.
     fn refusal(&self, ip: IpAddr) -> Option<Refusal> {
         let peers = self.slots.len().saturating_sub(self.leavers as usize);
         if peers >= self.limits.at_once {
@@ -90,7 +91,7 @@ impl<C: Conversation + Drop, A: Allocator + Copy> EventLoop<'_, C, A> {
         }
     }
 
-    // Adds a peer to the served ones. It has its first turn when its socket is ready.
+    // Adds a peer to the served peers. The first turn of the peer starts when its socket is ready.
     fn admit(&mut self, peer: Peer<C, A>)
         requires { pending_of peer.connection ≡ [] }
     {
@@ -113,8 +114,8 @@ impl<C: Conversation + Drop, A: Allocator + Copy> EventLoop<'_, C, A> {
     }
 }
 
-// Whether more connections may be pending after an accept failed (accept(2)). Fails if no
-// connection can be accepted any more.
+// Returns whether more connections may be pending after an accept failed (accept(2)). Fails if no
+// further connection can be accepted.
 fn calls_after(error: io::Error) -> io::Result<Calls> {
     match error.kind() {
         ErrorKind::WouldBlock => Ok(Calls::None),
@@ -129,7 +130,7 @@ fn calls_after(error: io::Error) -> io::Result<Calls> {
     }
 }
 
-// Whether connections can be accepted again after a while.
+// Returns whether connections can be accepted again after a pause, despite this error.
 fn is_passing(error: &io::Error) -> bool {
     match error.raw_os_error() {
         Some(number) => STARVED.contains(&number) || NETWORK.contains(&number),

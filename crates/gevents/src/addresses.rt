@@ -5,22 +5,22 @@ ghost use Rattle.std.specs.Prelude.{◌<◌, IfSome, vec_len};
 use std::alloc::{AllocError, Allocator};
 use std::net::IpAddr;
 
-/// The number of peers of each IP address. A search looks at each address once, not at each peer.
+/// The number of peers of each IP address. A search visits each address once, not each peer.
 #[derive(Drop)]
 pub(crate) struct Addresses<A: Allocator + Copy> {
-    // Each address occurs once.
+    // A list in which each address occurs at most once.
     counts: Vec<(IpAddr, usize), A>,
 }
 
 impl<A: Allocator + Copy> Addresses<A> {
-    /// Returns an empty table. It does not allocate.
+    /// Returns an empty table, without allocating.
     pub(crate) fn new(alloc: A) -> Addresses<A> {
         Addresses {
             counts: Vec::new(alloc),
         }
     }
 
-    /// Returns the number of peers with this address.
+    /// Returns the number of peers with this IP address.
     pub(crate) fn count(&self, ip: IpAddr) -> usize {
         match self.position(ip) {
             Some(at) => self.counts[at].1,
@@ -28,7 +28,8 @@ impl<A: Allocator + Copy> Addresses<A> {
         }
     }
 
-    /// Counts one more peer. Fails only if out of memory, and then the peer is not counted.
+    /// Counts one more peer with this IP address. Fails only if there is not enough memory, and
+    /// then does not count the peer.
     pub(crate) fn add(&mut self, ip: IpAddr) -> Result<(), AllocError> {
         match self.position(ip) {
             Some(at) => {
@@ -43,7 +44,7 @@ impl<A: Allocator + Copy> Addresses<A> {
         }
     }
 
-    /// Counts one peer less.
+    /// Counts one peer fewer with this IP address.
     pub(crate) fn remove(&mut self, ip: IpAddr) {
         let Some(at) = self.position(ip) else {
             return;
@@ -56,7 +57,7 @@ impl<A: Allocator + Copy> Addresses<A> {
         }
     }
 
-    // Returns the position of an address, if a peer has it.
+    // Returns the position of this IP address in the table, if a peer has the address.
     fn position(&self, ip: IpAddr) -> Option<usize>
         ensures { IfSome result (λ at. at < vec_len self.now.counts) }
     {

@@ -1,4 +1,4 @@
-//! Events of a loop.
+//! Events of an event loop.
 
 ghost use Rattle.gevents.specs.Peers.{HasEnded, IsCounted};
 
@@ -7,7 +7,7 @@ use std::alloc::Allocator;
 use std::net::SocketAddr;
 use std::time::Duration;
 
-/// Why a peer is refused.
+/// The reason why a peer is refused.
 #[derive(Clone, Copy, Debug, PartialEq, Eq)]
 pub enum Refusal {
     /// The number of connections is at its limit.
@@ -16,37 +16,37 @@ pub enum Refusal {
     FullOfAddress,
 }
 
-/// How a connection ended.
+/// The kind of end of a connection.
 #[derive(Clone, Copy, Debug, PartialEq, Eq)]
 pub enum End {
-    /// The conversation is over, and all that it said was sent.
+    /// The conversation is done, and all its packets were sent.
     Over,
-    /// The conversation is over because the peer sent too late. Its last packets were sent.
+    /// The conversation is done because the peer sent its bytes too late. All packets of the
+    /// conversation were sent.
     Silent,
-    /// The peer took no byte for too long.
+    /// The peer accepted no byte for too long.
     Stalled,
-    /// The whole connection took too long.
+    /// The connection lasted too long.
     Overdue,
-    /// The socket failed while bytes were to be sent, or the system could not watch it.
+    /// The socket failed while bytes were pending, or the system could not watch the socket.
     Lost,
-    /// There was no memory for the packets to say.
+    /// There was not enough memory to serve the peer.
     Memory,
 }
 
-/// A connection that has ended. It holds for the bytes that were received and sent. The number of
-/// sent bytes is as `note_sent` says, and the connection is in the state of its `end`
-/// ([`laws`](Ended::laws)).
+/// A connection that has ended. Its state matches the bytes that were received and sent, the count
+/// of sent bytes, and the kind of end ([`laws`](Ended::laws)).
 #[derive(Drop)]
 pub struct Ended<C: Conversation, A: Allocator + Copy> {
-    /// The connection, as it was left.
+    /// The connection in its final state.
     pub connection: Connection<C, A>,
     /// The peer's address.
     pub address: SocketAddr,
-    /// How it ended.
+    /// The kind of end.
     pub end: End,
-    /// The number of bytes sent. It saturates at the maximum.
+    /// The number of bytes sent, saturated at the maximum.
     pub sent: u64,
-    /// The time since the connection was accepted.
+    /// The time from accepting the connection to its end.
     pub took: Duration,
     ghost held: { ∥ IsCounted C.holds connection sent ∥₁ },
     ghost ended: { ∥ HasEnded C.turn connection end ∥₁ },
@@ -62,14 +62,14 @@ impl<C: Conversation, A: Allocator + Copy> Ended<C, A> {
     }
 }
 
-/// An event of a loop.
+/// An event that the loop reports.
 #[derive(Drop)]
 pub enum Event<C: Conversation, A: Allocator + Copy> {
     /// A peer has connected. [`EventLoop::begin`](crate::EventLoop) starts the conversation with
-    /// it. Without one, the peer is closed at the request for the next event.
+    /// the peer. Without a conversation, the next request for an event closes the connection.
     Connected(SocketAddr),
-    /// A peer has connected and exceeds a limit. [`EventLoop::refuse`](crate::EventLoop) sends it
-    /// an error. It is closed at the request for the next event.
+    /// A peer has connected and exceeds a limit. [`EventLoop::refuse`](crate::EventLoop) sends the
+    /// peer an error. The next request for an event closes the connection.
     Refused(SocketAddr, Refusal),
     /// A connection has ended.
     Ended(Ended<C, A>),

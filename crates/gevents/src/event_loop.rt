@@ -15,52 +15,52 @@ use std::io::{self, ErrorKind};
 use std::net::{Net, SocketAddr};
 use std::time::{Clock, Duration, Instant};
 
-// The listener's token among the sockets.
+// The token that identifies the listener among the sockets.
 const LISTENER: Token = Token(usize::MAX);
 
 // The interval at which deadlines are checked while there are peers, in milliseconds.
 const TICK: u64 = 100;
 
-// The maximum number of sockets that are reported at once.
+// The maximum number of sockets that one poll reports.
 const EVENTS: usize = 256;
 
-// The maximum number of connections that are accepted before the peers have their turn.
+// The maximum number of connections to accept before each round of turns.
 const ACCEPTS: u32 = 64;
 
-/// Whether connections may be pending.
+/// Whether connections are pending at the listener.
 #[derive(Clone, Copy, PartialEq, Eq)]
 pub(crate) enum Calls {
-    /// None is pending.
+    /// No connection is pending.
     None,
-    /// Some may be pending.
+    /// Connections may be pending.
     Some,
-    /// Some may be pending, but the system accepts none for now.
+    /// Connections may be pending, but the system accepts none for now.
     Later,
 }
 
-/// An accepted peer, until the request for the next event.
+/// An accepted peer, until the next request for an event.
 #[derive(Drop)]
 pub(crate) enum Caller {
-    /// A conversation may start with it.
+    /// A peer with which a conversation may start.
     Welcome(TcpStream, SocketAddr),
-    /// It exceeds a limit.
+    /// A peer that exceeds a limit.
     Refused(TcpStream),
 }
 
-// The next part of a round.
+// The next step of a round of the loop.
 #[derive(Clone, Copy)]
 enum Part {
-    // Wait for sockets.
+    // Wait until sockets are ready.
     Polls,
     // Give the reported sockets their turn.
     Moves,
     // Accept at most this number of further connections.
     Accepts(u32),
-    // Give up the peers whose time is over, starting at this key.
+    // Time out late peers, starting at this key.
     GivesUp(usize),
 }
 
-/// Conversations with the peers of a listener, many at once.
+/// An event loop that holds conversations with many peers of a listener at once.
 ///
 /// Call [`next`](EventLoop::next) for each event.
 #[derive(Drop)]
@@ -70,20 +70,20 @@ pub struct EventLoop<'l, C: Conversation, A: Allocator + Copy> {
     pub(crate) poll: Poll,
     pub(crate) listener: TcpListener,
     events: Events<A>,
-    // The keys of the reported sockets that had no turn yet. There is room for all that are
-    // reported at once.
+    // The keys of the reported sockets that still wait for their turn. There is room for all
+    // sockets that one poll reports.
     ready: Vec<usize, A>,
     part: Part,
     pub(crate) calls: Calls,
     pub(crate) caller: Option<Caller>,
-    // A connection that ended as it started.
+    // A connection that ended when it started, which the loop has yet to report.
     pub(crate) failed: Option<Ended<C, A>>,
     pub(crate) slots: Slab<Slot<C, A>, A>,
     /// The number of served peers from each IP address.
     pub(crate) addresses: Addresses<A>,
-    /// The number of slots of leaving peers.
+    /// The number of slots of peers whose connection has ended.
     pub(crate) leavers: u32,
-    /// The number of accepted connections. It saturates at the maximum.
+    /// The number of accepted connections, saturated at the maximum.
     pub(crate) accepted: u32,
     pub(crate) now: Instant,
     // The time of the next check of the deadlines.
@@ -91,8 +91,8 @@ pub struct EventLoop<'l, C: Conversation, A: Allocator + Copy> {
 }
 
 impl<'l, C: Conversation + Drop, A: Allocator + Copy> EventLoop<'l, C, A> {
-    /// Returns a loop over a listener. Fails if the system cannot report ready sockets, if the
-    /// clock fails, or if out of memory.
+    /// Returns an event loop over a listener. Fails if the system cannot report ready sockets, if
+    /// the clock fails, or if there is not enough memory.
     pub fn new<R: Net + Clock>(
         rt: &R,
         alloc: A,
@@ -124,11 +124,11 @@ impl<'l, C: Conversation + Drop, A: Allocator + Copy> EventLoop<'l, C, A> {
         })
     }
 
-    /// Waits for the next event. Returns `None` after as many connections were accepted as
-    /// [`Limits::accepted`] says, and all have ended. Later calls then also return `None`.
+    /// Waits for the next event. Returns `None` when [`Limits::accepted`] connections were accepted
+    /// and all of them have ended. Every later call then also returns `None`.
     ///
-    /// Fails if the system does not report ready sockets, or if no connection can be accepted any
-    /// more. It may be called again after that.
+    /// Fails if the system does not report ready sockets, or if no further connection can be
+    /// accepted. The caller may call `next` again after a failure.
     pub fn next<R: Clock>(&mut self, rt: &R) -> io::Result<Option<Event<C, A>>> {
         self.caller = None;
         if let Some(ended) = self.failed.take() {
@@ -150,12 +150,12 @@ impl<'l, C: Conversation + Drop, A: Allocator + Copy> EventLoop<'l, C, A> {
         drop(self);
     }
 
-    // Whether no more connections are accepted, and all have ended.
+    // Returns whether the loop accepts no more connections, and all connections have ended.
     fn is_over(&self) -> bool {
         self.is_full() && self.slots.is_empty()
     }
 
-    /// Whether no more connections are accepted.
+    /// Returns whether the loop has accepted as many connections as its limits allow.
     pub(crate) fn is_full(&self) -> bool {
         match self.limits.accepted {
             Some(most) => self.accepted >= most,
@@ -163,7 +163,7 @@ impl<'l, C: Conversation + Drop, A: Allocator + Copy> EventLoop<'l, C, A> {
         }
     }
 
-    // Takes one step of a round.
+    // Does one step of a round, and returns the event that it causes, if any.
     fn step<R: Clock>(&mut self, rt: &R) -> io::Result<Option<Event<C, A>>> {
         match self.part {
             Part::Polls => {
@@ -183,7 +183,7 @@ impl<'l, C: Conversation + Drop, A: Allocator + Copy> EventLoop<'l, C, A> {
         }
     }
 
-    // Waits until sockets are ready, and keeps their keys.
+    // Waits until sockets are ready, and stores their keys.
     fn wait<R: Clock>(&mut self, rt: &R) -> io::Result<()> {
         let timeout = self.timeout();
         match self.poll.poll(&mut self.events, timeout) {
@@ -199,7 +199,8 @@ impl<'l, C: Conversation + Drop, A: Allocator + Copy> EventLoop<'l, C, A> {
         Ok(())
     }
 
-    // Returns the time to wait for a socket. Without peers there is no deadline.
+    // Returns the maximum time to wait for a ready socket. Returns `None` if there is no peer and
+    // no pending connection.
     fn timeout(&self) -> Option<Duration> {
         match self.calls {
             Calls::Some => Some(Duration::ZERO),
@@ -208,14 +209,14 @@ impl<'l, C: Conversation + Drop, A: Allocator + Copy> EventLoop<'l, C, A> {
         }
     }
 
-    // Reads the clock. If it fails, the time is unchanged.
+    // Reads the clock. If the clock fails, the stored time is unchanged.
     fn look<R: Clock>(&mut self, rt: &R) {
         if let Ok(now) = Instant::now(rt) {
             self.now = now;
         }
     }
 
-    // Gives a reported socket its turn.
+    // Gives one reported socket its turn.
     fn move_one(&mut self) -> Option<Event<C, A>> {
         match self.ready.pop() {
             Some(key) => self.advance(key),
@@ -226,7 +227,7 @@ impl<'l, C: Conversation + Drop, A: Allocator + Copy> EventLoop<'l, C, A> {
         }
     }
 
-    // Accepts a connection, if one is pending and another is allowed.
+    // Accepts a connection, if one is pending and the limits allow it.
     fn accept_one(&mut self, left: u32) -> io::Result<Option<Event<C, A>>> {
         if left == 0 || self.is_full() || self.calls == Calls::None {
             if self.is_full() {
@@ -243,7 +244,7 @@ impl<'l, C: Conversation + Drop, A: Allocator + Copy> EventLoop<'l, C, A> {
         Ok(accepted)
     }
 
-    // Returns the part after the accepts. Deadlines are checked at intervals.
+    // Returns the step that follows the accepts. The loop checks deadlines only at intervals.
     fn after_accepts(&mut self) -> Part {
         if self.now < self.next {
             return Part::Polls;
@@ -253,7 +254,7 @@ impl<'l, C: Conversation + Drop, A: Allocator + Copy> EventLoop<'l, C, A> {
         Part::GivesUp(0)
     }
 
-    // Gives up the peer of a key, if its time is over.
+    // Times out the peer at this key, if it is late.
     fn give_up_next(&mut self, key: usize) -> Option<Event<C, A>> {
         if key >= self.slots.capacity() {
             self.part = Part::Polls;

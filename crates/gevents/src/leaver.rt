@@ -1,4 +1,4 @@
-//! A peer whose connection has ended, until the peer closes its end.
+//! A peer whose connection has ended, until the peer closes its socket.
 
 use crate::event::End;
 use crate::moving::After;
@@ -6,7 +6,7 @@ use mio::net::TcpStream;
 use std::io::{ErrorKind, Read};
 use std::time::{Duration, Instant};
 
-// The seconds that a peer has to close its end.
+// The number of seconds after which the loop closes the socket itself.
 const SECONDS: u64 = 2;
 
 // The maximum number of bytes of one read, and of reads before another peer has its turn.
@@ -14,9 +14,9 @@ const PIECE: usize = 4_096;
 
 const READS: u32 = 64;
 
-/// A peer whose connection has ended. Further bytes from it are dropped. A socket that is closed
-/// with such bytes unread resets the connection. The peer might then lose the last bytes that were
-/// sent to it.
+/// A peer whose connection has ended. Further bytes from the peer are read and dropped. Closing a
+/// socket with unread bytes would reset the connection, and the peer might lose the last bytes sent
+/// to it.
 #[derive(Drop)]
 pub(crate) struct Leaver {
     pub(crate) stream: TcpStream,
@@ -24,7 +24,7 @@ pub(crate) struct Leaver {
 }
 
 impl Leaver {
-    /// Returns a peer to which nothing more is sent.
+    /// Returns the state of a peer whose connection ends now.
     pub(crate) fn new(stream: TcpStream, now: Instant) -> Leaver {
         Leaver {
             stream,
@@ -32,7 +32,7 @@ impl Leaver {
         }
     }
 
-    /// Gives it up, if its time is over.
+    /// Ends the wait for the peer to close its socket, if the deadline has passed.
     pub(crate) fn give_up(&self, now: Instant) -> After {
         if self.until <= now {
             After::Ends(End::Over)
@@ -41,7 +41,7 @@ impl Leaver {
         }
     }
 
-    /// Drops the received bytes.
+    /// Reads and drops the bytes that have arrived.
     pub(crate) fn advance(&mut self) -> After {
         let mut piece = [0; PIECE];
         for _ in 0..READS {

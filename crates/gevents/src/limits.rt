@@ -1,27 +1,29 @@
-//! The limits of a loop.
+//! The limits of an event loop.
 
 use std::time::Duration;
 
-/// The number of connections of a loop, and the time limits of a peer. `Duration::MAX` is no limit.
+/// The maximum number of connections of an event loop, and the time limits of each peer.
+/// `Duration::MAX` is no limit.
 #[derive(Clone, Copy, Debug, Drop)]
 pub struct Limits {
-    /// The number of connections that are accepted before the loop ends, or `None` for no end.
+    /// The number of connections to accept before the loop ends, or `None` for a loop without end.
     pub accepted: Option<u32>,
     /// The maximum number of connections at once.
     pub at_once: usize,
     /// The maximum number of connections at once from one IP address.
     pub at_once_of_address: usize,
-    /// The time for all packets before the first answer, since the accept.
+    /// The time limit, from the accept, for all packets before the first answer.
     pub first_line: Duration,
-    /// The time until the first byte of a request, since the end of the last answer.
+    /// The time limit, from the end of the last answer, for the first byte of a request.
     pub silence: Duration,
-    /// The time for the rest of a request, since its first byte.
+    /// The time limit, from the first byte of a request, for the rest of the request.
     pub request: Duration,
-    /// The maximum time for which a peer takes no byte while some are pending.
+    /// The maximum time without progress while bytes are pending for the peer.
     pub taking: Duration,
-    /// The time of the whole connection, to which `pace` adds.
+    /// The time limit of the whole connection, which `pace` extends.
     pub whole: Duration,
-    /// The number of sent bytes for which the whole connection has another second, or 0 for none.
+    /// The number of sent bytes that extend the whole time limit by one second, or 0 for no
+    /// extension.
     pub pace: u64,
 }
 

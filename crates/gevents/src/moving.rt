@@ -21,8 +21,7 @@ use std::time::Instant;
 // The maximum number of bytes of one read.
 const PIECE: usize = 4_096;
 
-// The maximum number of moves before another peer has its turn, and of times that the conversation
-// may say more until then.
+// The maximum numbers of moves, and of calls that queue packets, before another peer has its turn.
 const MOVES: u32 = 256;
 
 const SAYINGS: u32 = 16;
@@ -30,32 +29,32 @@ const SAYINGS: u32 = 16;
 /// The state of a peer after its turn.
 #[derive(Clone, Copy)]
 pub(crate) enum After {
-    /// It waits for its socket.
+    /// The peer waits until its socket is ready.
     Waits,
     /// More bytes can be moved at once.
     GoesOn,
-    /// Its connection has ended.
+    /// The connection has ended.
     Ends(End),
 }
 
 // One move of bytes.
 enum Move {
-    // It can continue.
+    // Bytes were sent, or the conversation was notified of a failed device.
     Moved,
-    // The peer said more.
+    // Bytes were received, or the end of the input.
     Heard,
-    // The conversation said more.
+    // The conversation was called to queue packets.
     Spoke,
-    // The socket can't continue now.
+    // The socket would block.
     Blocked,
     // The connection has ended.
     Ended(End),
 }
 
 impl<C: Conversation, A: Allocator + Copy> Peer<C, A> {
-    /// Moves bytes until the socket would block, or the connection has ended. An answer may take
-    /// long to compute. So the turn also ends if the peer is heard after the conversation said
-    /// something.
+    /// Moves bytes until the socket would block, or the connection has ended. The turn also ends
+    /// when bytes arrive after the conversation queued packets, since the next answer may need much
+    /// time.
     pub(crate) fn advance(&mut self, now: Instant, limits: &Limits) -> After
         ensures { EndsBy C.turn self.new.connection result }
     {
@@ -73,8 +72,8 @@ impl<C: Conversation, A: Allocator + Copy> Peer<C, A> {
         After::GoesOn
     }
 
-    /// Gives the peer up, if its time is over. It has a turn before that, since its socket may be
-    /// ready but not reported yet.
+    /// Times out the peer, if it is late. First the peer has one more turn, since its ready socket
+    /// may not have been reported yet.
     pub(crate) fn give_up(&mut self, now: Instant, limits: &Limits) -> After
         ensures { EndsBy C.turn self.new.connection result }
     {
@@ -91,8 +90,8 @@ impl<C: Conversation, A: Allocator + Copy> Peer<C, A> {
         }
     }
 
-    // Gives up a peer whose time is over. If the loop listens to it, the conversation may say its
-    // last packets.
+    // Times out a late peer. If the peer was expected to send, the conversation is notified and may
+    // queue its last packets.
     fn give_up_late(&mut self, now: Instant, limits: &Limits) -> After
         ensures { EndsBy C.turn self.new.connection result }
     {
@@ -108,7 +107,7 @@ impl<C: Conversation, A: Allocator + Copy> Peer<C, A> {
         self.advance(now, limits)
     }
 
-    /// Returns the ended connection, and the socket.
+    /// Returns the ended connection and the socket.
     pub(crate) fn end(self, end: End, now: Instant) -> (Ended<C, A>, TcpStream)
         requires { HasEnded C.turn self.connection end }
         ensures { IsEndOf self end result.0 }
@@ -132,7 +131,7 @@ impl<C: Conversation, A: Allocator + Copy> Peer<C, A> {
         (ended, stream)
     }
 
-    // Moves bytes once.
+    // Sends or receives bytes once, or calls the conversation to queue packets.
     fn step(&mut self, now: Instant, limits: &Limits) -> Move
         ensures { EndsByMove C.turn self.new.connection result }
     {
@@ -207,7 +206,7 @@ impl<C: Conversation, A: Allocator + Copy> Peer<C, A> {
         read_some(&mut self.connection, &mut self.stream)
     }
 
-    // Frees the buffer for said packets while the peer is silent.
+    // Frees the send queue while no bytes arrive.
     fn rest(&mut self) {
         self.connection.give_back();
     }
@@ -221,12 +220,12 @@ impl<C: Conversation, A: Allocator + Copy> Peer<C, A> {
     }
 }
 
-// Whether a socket that failed with this error may be tried again.
+// Returns whether a call that failed with this error may be repeated later.
 fn is_passing(kind: ErrorKind) -> bool {
     matches!(kind, ErrorKind::WouldBlock | ErrorKind::Interrupted)
 }
 
-// Returns the move that failed with this error.
+// Returns the move for a call that failed with this error.
 fn failed_move(kind: ErrorKind) -> Move
     ensures { LosesAtMost result }
 {
@@ -237,7 +236,7 @@ fn failed_move(kind: ErrorKind) -> Move
     }
 }
 
-// Returns the number of bytes that a write took.
+// Returns the number of bytes that a write accepted.
 fn written_count(written: &io::Result<usize>) -> usize
     ensures { result ≡ written_count written.now }
 {
@@ -247,8 +246,8 @@ fn written_count(written: &io::Result<usize>) -> usize
     }
 }
 
-// Writes once. The bytes that the writer took are removed from the pending ones. If it failed, all
-// remain.
+// Writes once. The bytes that the writer accepts are removed from the pending bytes. After a failed
+// write, all pending bytes remain.
 fn write_some<C: Conversation, A: Allocator + Copy, W: Write>(
     connection: &mut Connection<C, A>,
     writer: &mut W,
@@ -269,8 +268,8 @@ fn write_some<C: Conversation, A: Allocator + Copy, W: Write>(
     }
 }
 
-// Reads once, and not past the end of the current packet. It receives bytes, or the end of the
-// input.
+// Reads once, not past the end of the current packet. The connection receives the bytes, or the end
+// of the input.
 fn read_some<C: Conversation, A: Allocator + Copy, R: Read>(
     connection: &mut Connection<C, A>,
     reader: &mut R,

@@ -3,30 +3,30 @@
 use crate::limits::Limits;
 use std::time::{Duration, Instant};
 
-// The next action of a peer.
+// The next action that the loop expects of a peer.
 #[derive(Clone, Copy, PartialEq, Eq)]
 enum Due {
     // Send all packets before the first answer.
     FirstLine,
     // Send the first byte of a request.
     Request,
-    // Send the rest of it.
+    // Send the rest of a request.
     Rest,
-    // Take bytes.
+    // Accept bytes.
     Take,
 }
 
-/// The next action of a peer, and its deadline.
+/// The next action expected of a peer, and its deadline.
 #[derive(Clone, Copy)]
 pub(crate) struct Patience {
     began: Instant,
     due: Due,
-    // `None` if the deadline is outside the range of the clock.
+    // The deadline, or `None` if it is outside the range of the clock.
     until: Option<Instant>,
 }
 
 impl Patience {
-    /// Returns the state of a peer that connects now: it sends its first message next.
+    /// Returns the state of a peer that connects now. Its first message is expected next.
     pub(crate) fn new(now: Instant, limits: &Limits) -> Patience {
         Patience {
             began: now,
@@ -40,7 +40,7 @@ impl Patience {
         self.began
     }
 
-    /// Records that the loop listens to the peer now.
+    /// Records that bytes are expected from the peer from now on.
     pub(crate) fn listens(&mut self, now: Instant, limits: &Limits) {
         if self.due == Due::Take {
             self.due = Due::Request;
@@ -48,7 +48,7 @@ impl Patience {
         }
     }
 
-    /// Records that bytes arrived.
+    /// Records that bytes arrived from the peer.
     pub(crate) fn note_received(&mut self, now: Instant, limits: &Limits) {
         if self.due == Due::Request {
             self.due = Due::Rest;
@@ -56,20 +56,20 @@ impl Patience {
         }
     }
 
-    /// Records that bytes are to be sent.
+    /// Records that bytes are to be sent to the peer.
     pub(crate) fn speaks(&mut self, now: Instant, limits: &Limits) {
         if self.due != Due::Take {
             self.note_sent(now, limits);
         }
     }
 
-    /// Records that bytes were sent.
+    /// Records that bytes were sent to the peer.
     pub(crate) fn note_sent(&mut self, now: Instant, limits: &Limits) {
         self.due = Due::Take;
         self.until = after(now, limits.taking);
     }
 
-    /// Whether the time for the peer's next action is over.
+    /// Returns whether the deadline of the expected action has passed.
     pub(crate) fn is_late(&self, now: Instant) -> bool {
         match self.until {
             Some(until) => until <= now,
@@ -77,14 +77,15 @@ impl Patience {
         }
     }
 
-    /// Whether the time of the whole connection is over, after `sent` bytes were sent.
+    /// Returns whether the time limit of the whole connection has passed, given the number of sent
+    /// bytes.
     pub(crate) fn is_overdue(&self, now: Instant, limits: &Limits, sent: u64) -> bool {
         let more = Duration::from_secs(sent.checked_div(limits.pace).unwrap_or(0));
         now.duration_since(self.began) >= limits.whole.saturating_add(more)
     }
 }
 
-// Returns the moment after this time, if the clock can represent it.
+// Returns the moment after this duration, if the clock can represent it.
 fn after(now: Instant, time: Duration) -> Option<Instant> {
     now.checked_add(time)
 }

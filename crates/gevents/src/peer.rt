@@ -1,4 +1,4 @@
-//! One peer.
+//! A served peer.
 
 ghost use Rattle.gevents.specs.Peers.{IsCounted};
 
@@ -15,9 +15,9 @@ pub(crate) struct Peer<C: Conversation, A: Allocator + Copy> {
     pub(crate) address: SocketAddr,
     pub(crate) connection: Connection<C, A>,
     pub(crate) patience: Patience,
-    // The number of bytes sent. It saturates at the maximum.
+    // The number of bytes sent, saturated at the maximum.
     pub(crate) sent: u64,
-    // Whether the loop was listening to it when it gave it up.
+    // Whether the peer was timed out while it was expected to send.
     pub(crate) was_silent: bool,
     ghost held: { ∥ IsCounted C.holds connection sent ∥₁ },
 }

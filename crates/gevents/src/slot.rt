@@ -1,4 +1,4 @@
-//! The slots of the served peers.
+//! The slots of the served peers, and of the peers whose connection has ended.
 
 ghost use Rattle.slab.specs.Slab.{get};
 ghost use Rattle.gevents.specs.Turns.{EndsAt, EndsSlot, HandsOut, HandsOutAfter, ended_in};
@@ -17,13 +17,13 @@ use std::alloc::Allocator;
 use std::net::Shutdown;
 use std::time::Instant;
 
-// The maximum number of peers that have time to close their ends.
+// The maximum number of peers that the loop waits for after their connections have ended.
 const LEAVERS: u32 = 256;
 
-/// A peer with a socket.
+/// A slot: a peer with a socket.
 #[derive(Drop)]
 pub(crate) enum Slot<C: Conversation, A: Allocator + Copy> {
-    /// A peer.
+    /// A peer with a conversation.
     Talks(Peer<C, A>),
     /// A peer whose connection has ended.
     Leaves(Leaver),
@@ -37,7 +37,7 @@ impl<C: Conversation, A: Allocator + Copy> Slot<C, A> {
         }
     }
 
-    // Gives it its turn.
+    // Gives the peer its turn.
     fn advance(&mut self, now: Instant, limits: &Limits) -> After
         ensures { EndsSlot C.turn self.new result }
     {
@@ -47,7 +47,7 @@ impl<C: Conversation, A: Allocator + Copy> Slot<C, A> {
         }
     }
 
-    // Gives it up, if its time is over.
+    // Times out the peer, if it is late.
     fn give_up(&mut self, now: Instant, limits: &Limits) -> After
         ensures { EndsSlot C.turn self.new result }
     {
@@ -59,19 +59,20 @@ impl<C: Conversation, A: Allocator + Copy> Slot<C, A> {
 }
 
 impl<C: Conversation + Drop, A: Allocator + Copy> EventLoop<'_, C, A> {
-    /// Gives a socket its turn.
+    /// Gives the peer at this key its turn.
     pub(crate) fn advance(&mut self, key: usize) -> Option<Event<C, A>> {
         let after = advance_at(&mut self.slots, key, self.now, self.limits);
         self.settle(key, after)
     }
 
-    /// Gives up a slot, if its time is over.
+    /// Times out the peer at this key, if it is late.
     pub(crate) fn give_up_one(&mut self, key: usize) -> Option<Event<C, A>> {
         let after = give_up_at(&mut self.slots, key, self.now, self.limits);
         self.settle(key, after)
     }
 
-    // Ends a turn, or the connection.
+    // Does what follows from a turn: watches the socket again or removes the peer. Returns the
+    // event, if a connection has ended.
     fn settle(&mut self, key: usize, after: After) -> Option<Event<C, A>>
         requires { EndsAt C.turn (get self.old.slots key) after }
         ensures { HandsOutAfter (get self.old.slots key) after (ended_in result) }
@@ -82,7 +83,7 @@ impl<C: Conversation + Drop, A: Allocator + Copy> EventLoop<'_, C, A> {
         }
     }
 
-    // Returns the connection that ended with a turn.
+    // Returns the connection of the peer at this key, if this turn ended it.
     fn end_of_turn(&mut self, key: usize, after: After) -> Option<Ended<C, A>>
         requires { EndsAt C.turn (get self.old.slots key) after }
         ensures { HandsOutAfter (get self.old.slots key) after result }
@@ -95,7 +96,7 @@ impl<C: Conversation + Drop, A: Allocator + Copy> EventLoop<'_, C, A> {
         }
     }
 
-    /// Has a socket reported when it is ready, even if it is ready now.
+    /// Asks the system to report the socket when it is ready, even if it is ready now.
     pub(crate) fn watch(&mut self, key: usize, is_new: bool) -> bool {
         let Some(slot) = self.slots.get_mut(key) else {
             return false;
@@ -110,7 +111,8 @@ impl<C: Conversation + Drop, A: Allocator + Copy> EventLoop<'_, C, A> {
         watched.is_ok()
     }
 
-    /// Removes a peer. It has time to close its end if its conversation is over.
+    /// Removes a peer, and returns its connection. If the conversation is done, the loop waits
+    /// until the peer closes its socket.
     pub(crate) fn part_with(&mut self, key: usize, end: End) -> Option<Ended<C, A>>
         requires { EndsAt C.turn (get self.old.slots key) (After.Ends end) }
         ensures { HandsOut (get self.old.slots key) end result }
@@ -132,8 +134,8 @@ impl<C: Conversation + Drop, A: Allocator + Copy> EventLoop<'_, C, A> {
         }
     }
 
-    /// Sends nothing more to a peer, and lets it close its end. If too many peers leave, it closes
-    /// the connection at once.
+    /// Shuts down the sending side of a socket, and waits until the peer closes its socket. If too
+    /// many such peers wait already, the socket is closed at once.
     pub(crate) fn let_leave(&mut self, stream: TcpStream, is_new: bool) {
         let _ = stream.shutdown(Shutdown::Write);
         let mut leaver = Leaver::new(stream, self.now);
@@ -150,7 +152,7 @@ impl<C: Conversation + Drop, A: Allocator + Copy> EventLoop<'_, C, A> {
     }
 }
 
-// Gives the slot at a key its turn.
+// Gives the peer at this key its turn.
 fn advance_at<C: Conversation, A: Allocator + Copy>(
     slots: &mut Slab<Slot<C, A>, A>,
     key: usize,
@@ -165,7 +167,7 @@ fn advance_at<C: Conversation, A: Allocator + Copy>(
     }
 }
 
-// Gives up the slot at a key, if its time is over.
+// Times out the peer at this key, if it is late.
 fn give_up_at<C: Conversation, A: Allocator + Copy>(
     slots: &mut Slab<Slot<C, A>, A>,
     key: usize,

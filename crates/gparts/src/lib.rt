@@ -1,24 +1,24 @@
-//! Packers that return a pack in parts, so that nobody stores a whole one.
+//! Packers that return a pack in parts, so that no caller has to store a whole pack.
 //!
 //! # Proved
 //!
-//! - The parts of a [`PartPacker`] are, in order, a pack of the entries, of at most
-//!   `gname::MAX_PACK` bytes. If it fails, the fault is one of its own.
-//! - Any packer of `gobject` is one, as a [`WholePack`]. Its packs and its faults are those of that
-//!   packer.
-//! - No call panics, overflows or reads out of bounds, and each returns.
+//! - The parts of a [`PartPacker`], in order, are a pack of the entries, of at most
+//!   `gname::MAX_PACK` bytes. A packer fails only with one of its own faults.
+//! - Any packer of `gobject` becomes a [`PartPacker`] as a [`WholePack`], with the same packs and
+//!   faults.
+//! - No call panics, overflows or reads out of bounds, and each call returns.
 //!
 //! # What the contracts do not rule out
 //!
-//! A packer may take as long as it likes, more memory than it needs, and more calls than it needs,
-//! if each returns a byte. It may fail after any part, and no clause says that the parts before a
-//! fault begin a pack.
+//! A packer may be slow, use more memory than it needs, and need many calls, if each call returns
+//! at least one byte. A packer may fail after any part. The parts before a fault need not be the
+//! start of a pack.
 //!
-//! There are no tests here.
+//! This crate has no tests.
 //!
 //! # Stands on
 //!
-//! `gobject` for entries, packers and faults. The proofs use `gname`.
+//! `gobject` for entries, packers and faults, and `gname` for the proofs.
 #![tactic(auto)]
 
 mod parts;

@@ -10,25 +10,23 @@ use std::alloc::Allocator;
 
 /// A packer that writes entries as a pack, and returns it in parts.
 ///
-/// `packs` says which bytes it may return for a list, and `pack_fails` which faults. A fault may
-/// occur after some parts.
+/// `packs` gives the packs that the packer may return for a list of entries, and `pack_fails` its
+/// possible faults. A fault may occur after some parts.
 pub trait PartPacker<A: Allocator + Copy> {
-    /// A pack that is being returned.
+    /// The state of a pack that is being returned in parts.
     type Parts: Drop;
 
     ghost packs: { Self → List (Entry A) → List ℕ → Type 0 };
 
     ghost pack_fails: { Self → List (Entry A) → PackFault → Type 0 };
 
-    // From here it may return exactly these bytes, and then the pack is complete, or fails with
-    // this fault.
+    // The bytes that may still be returned, and whether they complete the pack or end with a fault.
     ghost gives: { Self → Self.Parts → List ℕ → Option PackFault → Type 0 };
 
-    // From here it returns at most this many bytes.
+    // The maximum number of bytes that may still be returned.
     ghost most: { Self → Self.Parts → ℕ };
 
     /// Starts a pack of the entries, of at most `gname::MAX_PACK` bytes, in memory of `alloc`.
-    /// After a fault there are no parts.
     fn begin(&self, alloc: A, entries: &[Entry<A>]) -> Result<Self::Parts, PackFault>
         ensures { MatchResult result
             (λ parts. Begins (packs self.now) (pack_fails self.now) entries.now
@@ -36,7 +34,7 @@ pub trait PartPacker<A: Allocator + Copy> {
             (pack_fails self.now entries.now) };
 
     /// Writes the next bytes of the pack into the front of `out`, and returns their number, or 0
-    /// after the last one. After that, or after a fault, drop the parts.
+    /// when the pack is complete. After the result 0 or a fault, the caller should drop the parts.
     fn part(&self, parts: &mut Self::Parts, out: &mut [u8]) -> Result<usize, PackFault>
         requires { 0 < length out.old }
         ensures { MatchResult result

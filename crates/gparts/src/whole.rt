@@ -1,4 +1,4 @@
-//! A packer whose pack is made at once, and returned in parts.
+//! A packer that builds the whole pack first, and returns it in parts.
 
 ghost use Rattle.std.specs.Prelude.{◌<◌, ◌≡◌, None, length};
 ghost use Rattle.gparts.specs.steps.Whole.{TakesSome};
@@ -8,7 +8,7 @@ use gobject::{Entry, PackFault, Packer};
 use std::alloc::Allocator;
 use std::marker::Model;
 
-/// A packer that makes the whole pack before it returns the first part.
+/// A packer that builds the whole pack before it returns the first part.
 #[derive(Drop)]
 pub struct WholePack<'a, K> {
     packer: &'a K,
@@ -23,7 +23,7 @@ impl<'a, K> WholePack<'a, K> {
     }
 }
 
-/// The rest of a pack that was made at once.
+/// A pack that was built completely and is returned in parts.
 #[derive(Drop)]
 pub struct WholeParts<A: Allocator + Copy> {
     pack: Vec<u8, A>,
@@ -48,7 +48,7 @@ impl<A: Allocator + Copy> WholeParts<A> {
         WholeParts { pack, given: 0 }
     }
 
-    // Copies the next bytes into the front of `out`, and returns their number.
+    // Copies the next bytes of the pack into the front of `out`, and returns their number.
     fn give(&mut self, out: &mut [u8]) -> usize
         requires { 0 < length out.old }
         ensures { TakesSome self.old self.new result out.new }

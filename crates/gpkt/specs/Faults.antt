@@ -1,4 +1,4 @@
--- The tables of faults: the number, the name and the text of each.
+-- The tables of faults: each fault with its number, name and text.
 use Rattle.std.specs.Prelude.{ℕ, codes}
 use Rattle.gpkt.specs.Packets.{Bytes}
 use Rattle.gpkt.specs.declared.device.Down.{Down}
@@ -9,11 +9,11 @@ use Rattle.gpkt.specs.declared.fault.PacketFault.TheVariants as line
 use Rattle.gpkt.specs.declared.fault.WriteFault.TheVariants as write
 use Rattle.gpkt.specs.declared.fault.BandFault.TheVariants as band
 
--- a number and a name
+-- the number and the name of a fault
 abbrev pub FaultRow : Type 0
 FaultRow = ℕ × Bytes
 
--- why a packet was not read
+-- the number and the name of each reason why a packet was not read
 abbrev pub packet_fault_row : PacketFault → FaultRow
 packet_fault_row line.BadDigits = (20, codes "BadDigits")
 packet_fault_row line.Reserved = (21, codes "Reserved")
@@ -23,18 +23,18 @@ packet_fault_row line.Io = (24, codes "Io")
 packet_fault_row line.Failed = (25, codes "Failed")
 packet_fault_row line.Memory = (28, codes "Memory")
 
--- why a packet was not written
+-- the number and the name of each reason why a packet was not written
 abbrev pub write_fault_row : WriteFault → FaultRow
 write_fault_row write.Failed = packet_fault_row line.Failed
 write_fault_row write.Payload = (26, codes "Payload")
 write_fault_row write.Io = (27, codes "Io")
 
--- why a payload is of no band
+-- the number and the name of each reason why a payload has no band
 abbrev pub band_fault_row : BandFault → FaultRow
 band_fault_row band.NoBand = (29, codes "NoBand")
 band_fault_row band.BadBand = (30, codes "BadBand")
 
--- their texts
+-- the text of each fault
 abbrev pub packet_fault_text : PacketFault → Bytes
 packet_fault_text line.BadDigits = codes "bad packet length"
 packet_fault_text line.Reserved = codes "reserved packet length"

@@ -1,4 +1,4 @@
--- The laws of packets.
+-- Laws of the encoding, reading and writing of packets.
 use Rattle.std.specs.Io.KnownBytes.{Appends}
 use Rattle.std.specs.Prelude.{◌≡◌, ◌≢◌, ℕ, ◌≤◌, ◌⊎◌, All, Bool, List, [], ◌∷◌, ◌++◌, length, Option, Some, Result, Ok}
 use Rattle.std.specs.Prelude.{Err, OnOk}
@@ -13,52 +13,52 @@ use Rattle.gpkt.specs.declared.fault.WriteFault.{WriteFault}
 use Rattle.gpkt.specs.declared.fault.PacketFault.TheVariants as packet_fault
 use Rattle.gpkt.specs.declared.fault.WriteFault.TheVariants as write_fault
 
--- at most one packet is spelt at the front of the bytes, in one way
+-- the front of the bytes encodes at most one packet, and the packet ends at only one position
 abbrev pub OneReading : Type 0
 OneReading =
     (line other : Packet) (front next rest after : Bytes) → Spells line front → Spells other next
     → front ++ rest ≡ next ++ after
     → (line ≡ other) × (front ≡ next) × (rest ≡ after)
 
--- where reading is refused, no packet is spelt at the front
+-- bytes that a reader rejects do not begin with an encoded packet
 abbrev pub RefusedIsNoPacket : Type 0
 RefusedIsNoPacket =
     (fault : PacketFault) (line : Packet) (bytes front rest : Bytes) → NoPacket fault bytes
     → front ++ rest ≡ bytes → ¬ Spells line front
 
--- and it is refused for one reason
+-- there is at most one fault for which a reader rejects the same bytes
 abbrev pub OneFault : Type 0
 OneFault = (fault other : PacketFault) (bytes : Bytes) → NoPacket fault bytes → NoPacket other bytes → fault ≡ other
 
--- no fault, or one that comes of the bytes
+-- the result is not a failure of the source, and the reader had not failed before the call
 abbrev pub IsOfBytes : Result (Option Packet) PacketFault → Type 0
 IsOfBytes result = (result ≢ Err packet_fault.Io) × (result ≢ Err packet_fault.Failed)
 
--- the bytes say what is read of them, and what is left
+-- the input bytes determine the result of a read and the bytes that remain
 abbrev pub OneOutcome : Type 0
 OneOutcome =
     (old new after : Bytes) (result other : Result (Option Packet) PacketFault) → Gives old new result
     → Gives old after other → IsOfBytes result → IsOfBytes other
     → (result ≡ other) × (new ≡ after)
 
--- a packet is spelt at the front of the bytes
+-- the bytes begin with an encoded packet
 abbrev pub SpellsAtFront : Bytes → Type 0
 SpellsAtFront bytes = (line : Packet) × (front : Bytes) × (rest : Bytes) × (bytes ≡ front ++ rest) × Spells line front
 
--- bytes are empty, or spell a packet at their front, or there is a reason why they do not
+-- bytes are empty, or begin with an encoded packet, or have a fault for which a reader rejects them
 abbrev pub EveryFront : Type 0
 EveryFront =
     (bytes : Bytes) → (bytes ≡ []) ⊎ (SpellsAtFront bytes ⊎ ((fault : PacketFault) × NoPacket fault bytes))
 
--- a spelling has at least four bytes
+-- an encoded packet has at least four bytes
 abbrev pub HasFourBytes : Type 0
 HasFourBytes = (line : Packet) (bytes : Bytes) → Spells line bytes → digit_count ≤ length bytes
 
--- a packet can carry it
+-- the payload of the packet has at most `max_payload` bytes
 abbrev pub Fits : Packet → Type 0
 Fits line = length (payload_of line) ≤ max_payload
 
--- the canonical spelling is a spelling
+-- the canonical encoding of a packet is one of its encodings
 abbrev pub CanonicalSpells : Type 0
 CanonicalSpells = (line : Packet) → Fits line → Spells line (canonical line)
 
@@ -68,7 +68,7 @@ CanonicalSpellsAll = (lines : List Packet) → All Fits lines → SpellsAll line
 abbrev pub CanonicalJoins : Type 0
 CanonicalJoins = (lines more : List Packet) → canonical_all (lines ++ more) ≡ canonical_all lines ++ canonical_all more
 
--- lists of packets are spelt one after the other
+-- the encoding of one list of packets, followed by that of another, encodes the concatenated list
 abbrev pub SpellingsJoin : Type 0
 SpellingsJoin =
     (lines more : List Packet) (front rest : Bytes) → SpellsAll lines front → SpellsAll more rest
@@ -78,39 +78,39 @@ abbrev pub SpellingsSplit : Type 0
 SpellingsSplit = (lines more : List Packet) (bytes : Bytes) → SpellsAll (lines ++ more) bytes
     → (front : Bytes) × (rest : Bytes) × (bytes ≡ front ++ rest) × SpellsAll lines front × SpellsAll more rest
 
--- the packets begin the longer list, whose other packets are spelt at the front of `rest`, before `after`
+-- the packets are a prefix of the longer list, and the front of `rest` encodes the remaining packets, up to `after`
 abbrev pub BeginsWith : List Packet → List Packet → Bytes → Bytes → Type 0
 BeginsWith lines longer rest after =
     (more : List Packet) × (bytes : Bytes) × (longer ≡ lines ++ more) × SpellsAll more bytes
     × (rest ≡ bytes ++ after)
 
--- of two lists of packets at the front of the same bytes one begins the other
+-- if two lists of packets are encoded at the front of the same bytes, one list is a prefix of the other
 abbrev pub OneBegins : Type 0
 OneBegins =
     (lines others : List Packet) (front next rest after : Bytes) → SpellsAll lines front
     → SpellsAll others next → front ++ rest ≡ next ++ after
     → BeginsWith lines others rest after ⊎ BeginsWith others lines after rest
 
--- a line feed at the end is taken off
+-- the text of a payload omits its final line feed
 abbrev pub TextOfLine : Type 0
 TextOfLine = (words : Bytes) → text (words ++ line_feed ∷ []) ≡ words
 
--- and nothing else is
+-- the text of a payload is the payload, perhaps without a final line feed
 abbrev pub TextOrLine : Type 0
 TextOrLine = (payload : Bytes) → (payload ≡ text payload) ⊎ (payload ≡ text payload ++ line_feed ∷ [])
 
--- before a packet is read no packet was read
+-- without a call, no packets are read
 abbrev pub ReadsNone : Type 0
 ReadsNone = (bytes : Option Bytes) → ReadsPackets (record { old = bytes; new = bytes }) []
 
--- a packet that is read after some packets
+-- reading a list of packets and then one packet more reads the extended list
 abbrev pub ReadsNext : Type 0
 ReadsNext =
     (old mid new : Option Bytes) (lines : List Packet) (line : Packet)
     → ReadsPackets (record { old = old; new = mid }) lines → Reads (record { old = mid; new = new }) (Ok (Some line))
     → ReadsPackets (record { old = old; new = new }) (lines ++ line ∷ [])
 
--- packets that are read one after the other are a list of packets that is read
+-- reading two lists of packets in sequence reads their concatenation
 abbrev pub ReadsJoin : Type 0
 ReadsJoin =
     (old mid new : Option Bytes) (lines more : List Packet) → ReadsPackets (record { old = old; new = mid }) lines
@@ -120,23 +120,23 @@ module _
     {W : Type 0} (contents_of passed_on_of : W → Option Bytes) (is_down : W → Bool)
     (loans_of : W → List ℕ)
   where
-    -- one call of a writer that was to write the bytes
+    -- the outcome of one call of a writer that writes these bytes
     abbrev pub Writes : Writer W → Writer W → Result Unit WriteFault → Bytes → Type 0
     Writes old new result bytes = HasWritten contents_of passed_on_of is_down loans_of old new result bytes
 
-    -- after a write that succeeded, a write is one of all the bytes
+    -- a successful write followed by another write has the outcome of a single write of all the bytes
     abbrev pub WritesJoin : Type 0
     WritesJoin =
         (old mid new : Writer W) (bytes more : Bytes) (result : Result Unit WriteFault) → Writes old mid (Ok tt) bytes
         → Writes mid new result more → result ≢ Err write_fault.Payload → Writes old new result (bytes ++ more)
 
-    -- a write that failed was one of more bytes, too
+    -- a failed write has the outcome of a failed write of more bytes
     abbrev pub FailsOfMore : Type 0
     FailsOfMore =
         (old new : Writer W) (bytes more : Bytes) (fault : WriteFault) → Writes old new (Err fault) bytes
         → fault ≢ write_fault.Payload → Writes old new (Err fault) (bytes ++ more)
 
-    -- what is written stays written when it is pushed, and a push that succeeds passes all of it on
+    -- a flush keeps the bytes written before it, and a successful flush leaves all of them flushed
     abbrev pub PushesWritten : Type 0
     PushesWritten =
         (old mid new : Writer W) (bytes : Bytes) (result : Result Unit WriteFault) → Writes old mid (Ok tt) bytes

@@ -1,4 +1,4 @@
--- What a packet reader ends as once the packet that it lent is no longer borrowed.
+-- The state of a packet reader after the borrow of the packet that it returned has ended.
 use Rattle.std.specs.Borrow.{Fml, RattleType, MutBor}
 use Rattle.std.specs.Io.BufRead.{Rests}
 use Rattle.std.specs.Prelude.{Bool, List, ℕ, Option, Result}

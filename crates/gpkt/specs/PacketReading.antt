@@ -1,4 +1,5 @@
--- What a packet reader's call gives, and what it takes from its source (gitprotocol-common(5), "pkt-line Format").
+-- The result of one call of a packet reader, and the bytes that the call consumes (gitprotocol-common(5), "pkt-line
+-- Format").
 use Rattle.std.specs.Prelude.{◌≡◌, ℕ, ◌<◌, ◌≤◌, ◌⊎◌, Bool, true, false, List, [], ◌++◌, length, take, drop, Option}
 use Rattle.std.specs.Prelude.{Some, None, option_map, Result, Ok, Err}
 use Rattle.gpkt.specs.Change.{Change, WhereKnown, change_of}
@@ -8,22 +9,22 @@ use Rattle.gpkt.specs.declared.fault.PacketFault.{PacketFault}
 use Rattle.gpkt.specs.declared.fault.PacketFault.TheVariants.{BadDigits, Reserved, TooLong, Truncated, Io, Failed, Memory}
 use Rattle.gpkt.specs.declared.packet.Packet.{Packet as LentPacket}
 
--- a reader: its source, and whether a call of it has failed
+-- a packet reader: its source, and whether one of its calls has failed
 pub record Reader (S : Type 0) : Type 0 where
   pub source : S
   pub failed : Bool
 
--- the four digits at the front announce this number
+-- the first four bytes are the hexadecimal digits of the number `announced`
 abbrev pub AnnouncesAtFront : Bytes → ℕ → Type 0
 AnnouncesAtFront bytes announced = (digit_count ≤ length bytes) × (number_of (take digit_count bytes) ≡ Some announced)
 
--- a beginning of a packet that is no whole one: not all the digits, or fewer bytes than they announce
+-- an incomplete packet: fewer bytes than four digits, or fewer than the digits announce
 abbrev pub IsPartialPacket : Bytes → Type 0
 IsPartialPacket bytes =
     (length bytes < digit_count)
     ⊎ ((announced : ℕ) × AnnouncesAtFront bytes announced × (announced ≤ max_packet) × (length bytes < announced))
 
--- no packet is spelt at the front of the bytes, which are all that is left, for this reason
+-- the fault for which these bytes, the rest of the input, do not begin with an encoded packet
 abbrev pub NoPacket : PacketFault → Bytes → Type 0
 NoPacket BadDigits bytes = (digit_count ≤ length bytes) × (number_of (take digit_count bytes) ≡ None)
 NoPacket Reserved bytes = AnnouncesAtFront bytes reserved_len
@@ -33,7 +34,7 @@ NoPacket Io bytes = ⊥
 NoPacket Failed bytes = ⊥
 NoPacket Memory bytes = ⊥
 
--- what is read where the bytes still to come are known
+-- the result of a read that turns the known input `old` into `new`
 abbrev pub Gives : Bytes → Bytes → Result (Option Packet) PacketFault → Type 0
 Gives old new (Ok (Some line)) = (front : Bytes) × (old ≡ front ++ new) × Spells line front
 Gives old new (Ok None) = (old ≡ []) × (new ≡ [])
@@ -45,30 +46,30 @@ Gives old new (Err Io) = (front : Bytes) × (old ≡ front ++ new) × IsPartialP
 Gives old new (Err Failed) = new ≡ old
 Gives old new (Err Memory) = ⊥
 
--- what is read, and what it takes from the bytes
+-- the result of a read, if the input is known
 abbrev pub Reads : Change → Result (Option Packet) PacketFault → Type 0
 Reads bytes result = WhereKnown bytes (λ old new. Gives old new result)
 
--- the bytes that are read spell these packets, one after the other, where the bytes still to come are known
+-- the consumed bytes encode these packets in sequence, if the input is known
 abbrev pub ReadsPackets : Change → List Packet → Type 0
 ReadsPackets bytes lines = WhereKnown bytes (λ old new. (front : Bytes) × (old ≡ front ++ new) × SpellsAll lines front)
 
--- a result without where the payload lies in memory
+-- the result of a read with the borrowed payload as plain bytes
 abbrev pub read_of : Result (Option LentPacket) PacketFault → Result (Option Packet) PacketFault
 read_of (Ok line) = Ok (option_map packet_of line)
 read_of (Err fault) = Err fault
 
--- the faults that a read can give, which takes no memory
+-- the faults of a read, which does not allocate
 abbrev pub IsReadFault : PacketFault → Type 0
 IsReadFault Memory = ⊥
 IsReadFault _ = Unit {0}
 
 module _ {S : Type 0} (remaining_of : S → Option Bytes) (is_down : S → Bool) (loans_of : S → List ℕ) where
-  -- the reader had not failed; whether it has failed now, and whether its source is down
+  -- the reader had not failed before, and afterwards the reader has this failed flag and the source this down flag
   abbrev pub SetsReader : Reader S → Reader S → Bool → Bool → Type 0
   SetsReader old new failed down = (old.failed ≡ false) × (new.failed ≡ failed) × (is_down new.source ≡ down)
 
-  -- what the call leaves, at any source
+  -- the failed flag of the reader and the down flag of its source after this result, for any source
   abbrev pub IsReaderAfter : Reader S → Reader S → Result (Option Packet) PacketFault → Type 0
   IsReaderAfter old new (Ok line) = SetsReader old new false false
   IsReaderAfter old new (Err BadDigits) = SetsReader old new true false
@@ -79,7 +80,7 @@ module _ {S : Type 0} (remaining_of : S → Option Bytes) (is_down : S → Bool)
   IsReaderAfter old new (Err Failed) = (old.failed ≡ true) × (new ≡ old)
   IsReaderAfter old new (Err Memory) = ⊥
 
-  -- one call of a reader
+  -- the outcome of one call of a packet reader
   pub record HasRead (old new : Reader S) (result : Result (Option Packet) PacketFault) : Type 0 where
     pub bytes : Reads (change_of remaining_of old.source new.source) result
     pub after : IsReaderAfter old new result

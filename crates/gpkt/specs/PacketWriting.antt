@@ -1,4 +1,5 @@
--- What a packet writer's call writes, and what it leaves (gitprotocol-common(5), "pkt-line Format").
+-- The bytes that one call of a packet writer writes, and the state after the call (gitprotocol-common(5), "pkt-line
+-- Format").
 use Rattle.std.specs.Io.KnownBytes.{Appends, Keeps}
 use Rattle.std.specs.Prelude.{◌≡◌, ℕ, ◌<◌, Bool, true, false, List, ◌++◌, length, Option, Result, Ok, Err}
 use Rattle.gpkt.specs.Change.{Change, change_of}
@@ -7,12 +8,12 @@ use Rattle.gpkt.specs.Packets.{Bytes}
 use Rattle.gpkt.specs.declared.fault.WriteFault.{WriteFault}
 use Rattle.gpkt.specs.declared.fault.WriteFault.TheVariants.{Failed, Payload, Io}
 
--- a writer: its sink, and whether a call of it has failed
+-- a packet writer: its sink, and whether one of its calls has failed
 pub record Writer (W : Type 0) : Type 0 where
   pub sink : W
   pub failed : Bool
 
--- known bytes grow by a beginning of the bytes, and not by all of them
+-- a proper prefix of these bytes is appended to the known bytes
 abbrev pub AppendsFront : Change → Bytes → Type 0
 AppendsFront written bytes =
     (front : Bytes) × (rest : Bytes) × (bytes ≡ front ++ rest) × (0 < length rest)
@@ -22,19 +23,19 @@ module _
     {W : Type 0} (contents_of passed_on_of : W → Option Bytes) (is_down : W → Bool)
     (loans_of : W → List ℕ)
   where
-    -- the writer had not failed; whether it has failed now, and its sink is then down
+    -- the writer had not failed before, and afterwards it has this failed flag and its sink the same down flag
     abbrev pub SetsWriter : Writer W → Writer W → Bool → Type 0
     SetsWriter old new failed = (old.failed ≡ false) × (new.failed ≡ failed) × (is_down new.sink ≡ failed)
 
-    -- what was written
+    -- the bytes written before and after the call
     abbrev pub written_by : Writer W → Writer W → Change
     written_by old new = change_of contents_of old.sink new.sink
 
-    -- what was passed on of it
+    -- the bytes flushed before and after the call
     abbrev pub passed_on_by : Writer W → Writer W → Change
     passed_on_by old new = change_of passed_on_of old.sink new.sink
 
-    -- what a call that was to write the bytes did, by its result
+    -- the state after a call that writes these bytes, for each of its results
     abbrev pub Wrote : Writer W → Writer W → Result Unit WriteFault → Bytes → Type 0
     Wrote old new (Ok done) bytes =
         SetsWriter old new false × Appends (contents_of old.sink) (contents_of new.sink) bytes
@@ -42,20 +43,20 @@ module _
     Wrote old new (Err Payload) bytes = (old.failed ≡ false) × (new ≡ old)
     Wrote old new (Err Failed) bytes = (old.failed ≡ true) × (new ≡ old)
 
-    -- one call of a writer that was to write the bytes; nothing more was passed on
+    -- the outcome of one call that writes these bytes and flushes none
     pub record HasWritten (old new : Writer W) (result : Result Unit WriteFault) (bytes : Bytes) : Type 0 where
       pub outcome : Wrote old new result bytes
       pub passed_on : Keeps (passed_on_of old.sink) (passed_on_of new.sink)
       pub loans : loans_of new.sink ≡ loans_of old.sink
 
-    -- what a call that was to pass on all that was written did, by its result
+    -- the state after a call that flushes the sink, for each of its results
     abbrev pub Pushed : Writer W → Writer W → Result Unit WriteFault → Type 0
     Pushed old new (Ok done) = SetsWriter old new false × PassesAll (contents_of new.sink) (passed_on_by old new)
     Pushed old new (Err Io) = SetsWriter old new true × KeepsPassed (passed_on_by old new)
     Pushed old new (Err Payload) = ⊥
     Pushed old new (Err Failed) = (old.failed ≡ true) × (new ≡ old)
 
-    -- one call of a writer that passed on what its sink held back
+    -- the outcome of one call that flushes the sink and writes no bytes
     pub record HasPushed (old new : Writer W) (result : Result Unit WriteFault) : Type 0 where
       pub outcome : Pushed old new result
       pub written : Keeps (contents_of old.sink) (contents_of new.sink)

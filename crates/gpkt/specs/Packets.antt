@@ -1,4 +1,4 @@
--- Packets, and how bytes spell them (gitprotocol-common(5), "pkt-line Format").
+-- Packets and their encoding as bytes (gitprotocol-common(5), "pkt-line Format").
 use Rattle.std.specs.Int.{w16, to_be_bytes}
 use Rattle.std.specs.Io.BufRead.{strip_last}
 use Rattle.std.specs.Prelude.{◌≡◌, ℕ, ◌+◌, ◌-◌, ◌*◌, ◌≤◌, List, [], ◌∷◌, ◌++◌, length, codes, Option, Some, None}
@@ -8,30 +8,30 @@ use Rattle.hex.specs.declared.error.FromHexError.{FromHexError}
 use Rattle.gpkt.specs.declared.packet.Packet.{Packet as LentPacket}
 use Rattle.gpkt.specs.declared.packet.Packet.TheVariants as lent
 
--- bytes of any kind: a payload, a text, a pack
+-- a sequence of bytes: a payload, a text or a pack
 abbrev pub Bytes : Type 0
 Bytes = List ℕ
 
--- what a packet says
+-- a packet: a payload or one of the three special packets
 pub data Packet : Type 0 where
   Data : (payload : Bytes) → Packet
   Flush : Packet
   Delim : Packet
   ResponseEnd : Packet
 
--- how many digits a packet begins with
+-- the number of digits at the start of each packet
 abbrev pub digit_count : ℕ
 digit_count = 4
 
--- the most bytes of a packet, its digits counted
+-- the maximum number of bytes of a packet, including its digits
 abbrev pub max_packet : ℕ
 max_packet = 65520
 
--- the most bytes of a payload
+-- the maximum number of bytes of a payload
 abbrev pub max_payload : ℕ
 max_payload = max_packet - digit_count
 
--- what the digits announce where they are not the length of a data packet
+-- the value of the digits of each special packet
 abbrev pub flush_len : ℕ
 flush_len = 0
 
@@ -41,29 +41,29 @@ delim_len = 1
 abbrev pub response_end_len : ℕ
 response_end_len = 2
 
--- which no packet has
+-- the reserved value of the digits, which no packet uses
 abbrev pub reserved_len : ℕ
 reserved_len = 3
 
--- how many values a byte has
+-- the number of values of a byte
 abbrev pub byte_values : ℕ
 byte_values = 256
 
--- LF
+-- the byte of a line feed
 abbrev pub line_feed : ℕ
 line_feed = 10
 
--- the number of two bytes, the high one first
+-- the number that two bytes encode, the high byte first
 abbrev pub number_in : Result Bytes FromHexError → Option ℕ
 number_in (Ok (high ∷ low ∷ [])) = Some (high * byte_values + low)
 number_in (Ok _) = None
 number_in (Err e) = None
 
--- the number that four hexadecimal digits of either case stand for
+-- the number that four hexadecimal digits of either case encode
 unfoldable pub number_of : Bytes → Option ℕ
 number_of digits = number_in (decode_of digits)
 
--- the bytes spell the packet: four digits, and what they announce
+-- the bytes encode the packet: four digits, and the payload that they announce
 abbrev pub Spells : Packet → Bytes → Type 0
 Spells (Data payload) bytes =
     (digits : Bytes) × (bytes ≡ digits ++ payload) × (number_of digits ≡ Some (length payload + digit_count))
@@ -72,42 +72,42 @@ Spells Flush bytes = number_of bytes ≡ Some flush_len
 Spells Delim bytes = number_of bytes ≡ Some delim_len
 Spells ResponseEnd bytes = number_of bytes ≡ Some response_end_len
 
--- the bytes are the spellings of the packets, one after the other
+-- the bytes encode the packets in sequence
 abbrev pub SpellsAll : List Packet → Bytes → Type 0
 SpellsAll [] bytes = bytes ≡ []
 SpellsAll (line ∷ lines) bytes =
     (front : Bytes) × (rest : Bytes) × (bytes ≡ front ++ rest) × Spells line front × SpellsAll lines rest
 
--- a number below 65,536 as four digits, with lower-case letters
+-- the four hexadecimal digits of a number below 65,536, in lower case
 unfoldable pub digits_of : ℕ → Bytes
 digits_of n = encode_lower (to_be_bytes w16 n)
 
--- the spelling with lower-case digits
+-- the encoding of a packet with lower-case digits
 abbrev pub canonical : Packet → Bytes
 canonical (Data payload) = digits_of (length payload + digit_count) ++ payload
 canonical Flush = codes "0000"
 canonical Delim = codes "0001"
 canonical ResponseEnd = codes "0002"
 
--- the canonical spellings of the packets, one after the other
+-- the canonical encodings of the packets in sequence
 abbrev pub canonical_all : List Packet → Bytes
 canonical_all [] = []
 canonical_all (line ∷ lines) = canonical line ++ canonical_all lines
 
--- a packet without where its payload lies in memory
+-- a borrowed packet as plain bytes
 abbrev pub packet_of : LentPacket → Packet
 packet_of (lent.Data payload) = Data payload.now
 packet_of lent.Flush = Flush
 packet_of lent.Delim = Delim
 packet_of lent.ResponseEnd = ResponseEnd
 
--- what the packet carries, which is nothing but for a data packet
+-- the payload of the packet, which is empty for a special packet
 abbrev pub payload_of : Packet → Bytes
 payload_of (Data payload) = payload
 payload_of Flush = []
 payload_of Delim = []
 payload_of ResponseEnd = []
 
--- the payload without one line feed at its very end, if there is one
+-- the payload without its final line feed, if it has one
 abbrev pub text : Bytes → Bytes
 text payload = strip_last line_feed payload

@@ -1,11 +1,11 @@
--- What is read from a source and written to a sink, before a call and after it.
+-- The bytes read from a source and written to a sink, before and after a call.
 use Rattle.std.specs.Io.KnownBytes.{Appends}
 use Rattle.std.specs.Prelude.{◌≡◌, Bool, true, false, ◌++◌, Option, Some, IsSome}
 use Rattle.gpkt.specs.Change.{Change, change_of}
 use Rattle.gpkt.specs.Devices.{PassesAll}
 use Rattle.gpkt.specs.Packets.{Bytes}
 
--- a source before a call and after it: the bytes still to come, where they are known, and whether it is down
+-- a source before and after a call: its unread bytes, if they are known, and whether it is down
 pub record Input : Type 0 where
   pub read : Change
   pub was_down : Bool
@@ -15,7 +15,7 @@ abbrev pub input_of : {S : Type 0} → (S → Option Bytes) → (S → Bool) →
 input_of remaining is_down old new =
     record { read = change_of remaining old new; was_down = is_down old; is_down = is_down new }
 
--- what is left of the input where so much of it is still to come
+-- the change of the source from the point where its unread bytes are `between`
 abbrev pub rest_of : Input → Option Bytes → Input
 rest_of input between = record {
   read = record { old = between; new = input.read.new };
@@ -23,8 +23,7 @@ rest_of input between = record {
   is_down = input.is_down;
 }
 
--- a sink before a call and after it: the bytes that were written, and those that were passed on, where they are
--- known, and whether it is down
+-- a sink before and after a call: its written and flushed bytes, if they are known, and whether it is down
 pub record Output : Type 0 where
   pub written : Change
   pub passed_on : Change
@@ -39,34 +38,34 @@ output_of contents passed_on is_down old new = record {
   is_down = is_down new;
 }
 
--- nothing was read
+-- nothing is read, and the source does not go down
 pub record IsUnread (input : Input) : Type 0 where
   pub read : input.read.new ≡ input.read.old
   pub down : input.is_down ≡ input.was_down
 
--- the source has not failed
+-- the source is not down after the call
 abbrev pub IsUp : Input → Type 0
 IsUp input = input.is_down ≡ false
 
--- nothing was written or passed on
+-- nothing is written or flushed, and the sink does not go down
 pub record IsUnwritten (output : Output) : Type 0 where
   pub written : output.written.new ≡ output.written.old
   pub passed_on : output.passed_on.new ≡ output.passed_on.old
   pub down : output.is_down ≡ output.was_down
 
--- these bytes were written, and all that was written is passed on
+-- the call writes these bytes, and all written bytes are flushed
 pub record Sends (output : Output) (bytes : Bytes) : Type 0 where
   pub written : Appends output.written.old output.written.new bytes
   pub passed_on : PassesAll output.written.new output.passed_on
   pub up : output.is_down ≡ false
 
--- these bytes were written, and were passed on with all that was written before them
+-- after the call, these bytes and all bytes written before them are flushed, if the written and flushed bytes are known
 abbrev pub PassesAfter : Output → Bytes → Type 0
 PassesAfter output bytes =
     (old : Bytes) → output.written.old ≡ Some old → IsSome output.passed_on.old
     → (more : Bytes) × (output.passed_on.new ≡ Some (old ++ bytes ++ more))
 
--- a beginning of these bytes was written, perhaps all of them, and the sink is down
+-- the call writes a prefix of these bytes, perhaps all of them, and the sink is down
 pub record SendsSome (output : Output) (bytes : Bytes) : Type 0 where
   pub front : Bytes
   pub rest : Bytes
@@ -74,14 +73,13 @@ pub record SendsSome (output : Output) (bytes : Bytes) : Type 0 where
   pub written : Appends output.written.old output.written.new front
   pub down : output.is_down ≡ true
 
--- these bytes were written, and where it is known what was written and what was passed on, all of it was passed on
+-- the call writes these bytes, and all written bytes are flushed if the written and flushed bytes are known
 pub record Passes (output : Output) (bytes : Bytes) : Type 0 where
   pub written : Appends output.written.old output.written.new bytes
   pub passed_on : IsSome output.written.old → PassesAll output.written.new output.passed_on
   pub up : output.is_down ≡ false
 
--- Some bytes were written and passed on; then a beginning of others was written, perhaps all of them, and the sink is
--- down.
+-- the call writes and flushes the bytes `sent`, then writes a prefix of `due`, perhaps all of it, and the sink is down
 pub record SendsAndFails (output : Output) (sent due : Bytes) : Type 0 where
   pub front : Bytes
   pub rest : Bytes

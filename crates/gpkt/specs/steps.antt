@@ -1,4 +1,4 @@
--- The steps: what only private functions and proofs speak of.
+-- Definitions for private functions and proofs.
 pub mod Devices
 pub mod Heads
 pub mod PacketReading

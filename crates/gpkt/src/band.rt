@@ -6,7 +6,7 @@ ghost use Rattle.gpkt.specs.Bands.{band_at, band_form, band_packet, band_payload
 use crate::fault::BandFault;
 use crate::packet::MAX_PAYLOAD;
 
-// The byte of each band (gitprotocol-v2(5), "fetch", "packfile").
+// The first byte of a payload on each band (gitprotocol-v2(5), "fetch", "packfile").
 const DATA: u8 = 1;
 
 const PROGRESS: u8 = 2;
@@ -16,7 +16,7 @@ const FATAL: u8 = 3;
 /// The maximum number of bytes that a packet carries on a side band.
 pub const MAX_BAND: usize = MAX_PAYLOAD - 1;
 
-/// The borrowed payload of a side-band packet without its first byte (gitprotocol-pack(5),
+/// The payload of a side-band packet, borrowed without its first byte (gitprotocol-pack(5),
 /// "Packfile Data"; gitprotocol-v2(5), "fetch", "packfile").
 #[derive(Clone, Copy, Debug, PartialEq, Eq)]
 pub enum Band<'a> {
@@ -24,12 +24,12 @@ pub enum Band<'a> {
     Data(&'a [u8]),
     /// Band 2: progress to show to the user.
     Progress(&'a [u8]),
-    /// Band 3: the reason why the sender gives up. Nothing follows.
+    /// Band 3: the reason why the sender gives up. No packet follows.
     Fatal(&'a [u8]),
 }
 
 impl<'a> Band<'a> {
-    // The byte of the band, and the bytes after it.
+    // Returns the band byte and the bytes after it.
     pub(crate) fn parts(&self) -> (u8, &'a [u8])
         ensures { result.0 ∷ result.1.now ≡ band_payload (band_packet self.now) }
     {
@@ -44,7 +44,7 @@ impl<'a> Band<'a> {
 /// Returns the band that the first byte of a payload names.
 ///
 /// Fails with [`NoBand`](BandFault::NoBand) if the payload is empty. Fails with
-/// [`BadBand`](BandFault::BadBand) if its first byte is not 1, 2 or 3.
+/// [`BadBand`](BandFault::BadBand) if the first byte of the payload is not 1, 2 or 3.
 pub fn band_of(payload: &[u8]) -> Result<Band<'_>, BandFault>
     ensures { band_read result ≡ band_form payload.now }
 {

@@ -1,4 +1,4 @@
-//! Devices that bytes are read from and written to.
+//! Sources that a reader reads from, and sinks that a writer writes to.
 
 ghost use Rattle.std.specs.Prelude.{◌≡◌, ◌≢◌, ◌⊎◌, ◌↔◌, ℕ, ◌∷◌, [], List, Bool, Option, Some, IfOk, OnErr, OnOk, IsErr, is_err, true, false};
 ghost use Rattle.std.specs.Io.{ReadsAtMost, WritesAtMost};
@@ -11,7 +11,8 @@ use std::error::Error;
 use std::marker::Model;
 use std::{fmt, io};
 
-/// A device failed. It is down from this call on, and every later call fails the same way.
+/// The failure of a device. The device is down from this call on, and every later call fails in the
+/// same way.
 #[derive(Clone, Copy, Debug, PartialEq, Eq)]
 pub struct Down;
 
@@ -25,17 +26,17 @@ impl fmt::Display for Down {
 
 impl Error for Down {}
 
-/// A device that bytes are read from.
+/// A source of bytes.
 ///
-/// No call is tried again: after any error, the source is down.
+/// After any error the source is down, and the call is not retried.
 pub trait Source {
     // The bytes still to be read, if they are known.
     ghost remaining: { Self → Option (List ℕ) };
 
-    // Whether it has failed.
+    // Whether the source has failed.
     ghost is_down: { Self → Bool };
 
-    // The names of the borrows through which it is reached, the outermost first.
+    // The names of the borrows through which the source is reached, outermost first.
     ghost loans: { Self → List ℕ };
 
     /// Reads bytes into the front of `buf` and returns their number. Returns 0 only at the end of
@@ -48,9 +49,9 @@ pub trait Source {
         ensures loans { loans self.new ≡ loans self.old };
 }
 
-/// A device that bytes are written to.
+/// A sink for bytes.
 ///
-/// No call is tried again: after any error, the sink is down.
+/// After any error the sink is down, and the call is not retried.
 pub trait Sink {
     // The bytes written so far, if they are known.
     ghost contents: { Self → Option (List ℕ) };
@@ -58,10 +59,10 @@ pub trait Sink {
     // The bytes that were flushed, if they are known.
     ghost passed_on: { Self → Option (List ℕ) };
 
-    // Whether it has failed.
+    // Whether the sink has failed.
     ghost is_down: { Self → Bool };
 
-    // The names of the borrows through which it is reached, the outermost first.
+    // The names of the borrows through which the sink is reached, outermost first.
     ghost loans: { Self → List ℕ };
 
     /// Writes bytes from the front of `buf` and returns their number. Returns 0 only if `buf` is
@@ -75,8 +76,8 @@ pub trait Sink {
         ensures stays_down { AnswersDown (is_down self.old) result }
         ensures loans { loans self.new ≡ loans self.old };
 
-    /// Flushes the bytes that are still buffered. After an error, some of them may have been
-    /// flushed.
+    /// Flushes the bytes that are still buffered. A flush that fails may have flushed some of these
+    /// bytes.
     fn flush(&mut self) -> Result<(), Down>
         ensures bytes { Keeps (contents self.old) (contents self.new) }
         ensures passed_on { OnOk result
@@ -145,7 +146,7 @@ impl Latch {
         self.down
     }
 
-    /// Records the result of the inner call: the device fails exactly when that call failed.
+    /// Records the result of the inner call. The device fails exactly when that call failed.
     pub(crate) fn note<T>(&mut self, answer: io::Result<T>) -> Result<T, Down>
         ensures failed { IsErr result ↔ IsErr answer }
         ensures value { IfOk result (λ value. answer ≡ Ok value) }
@@ -159,7 +160,7 @@ impl Latch {
     }
 
     /// Records the result of the inner write of `buf`. The device fails exactly when that write
-    /// failed, or when it took no byte of a nonempty `buf`.
+    /// failed, or when it wrote no byte of a nonempty `buf`.
     pub(crate) fn note_write(
         &mut self,
         answer: io::Result<usize>,

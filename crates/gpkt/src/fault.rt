@@ -8,22 +8,22 @@ use std::alloc::{AllocError, AllocFailed};
 use std::error::Error;
 use std::fmt;
 
-/// Why a packet was not read.
+/// The reasons why a packet was not read.
 #[derive(Clone, Copy, Debug, PartialEq, Eq)]
 pub enum PacketFault {
-    /// All four digits were read, and one is not a hexadecimal digit. Nothing after them is read.
+    /// One of the four digits is not a hexadecimal digit. No byte after the digits is read.
     BadDigits,
-    /// The digits are the reserved `0003`. Nothing after them is read.
+    /// The digits are the reserved `0003`. No byte after the digits is read.
     Reserved,
-    /// The digits announce more than 65,520 bytes. Nothing after them is read.
+    /// The digits announce more than 65,520 bytes. No byte after the digits is read.
     TooLong,
     /// The input ends inside the four digits or the payload.
     Truncated,
     /// The source failed in this call.
     Io,
-    /// An earlier call had failed. Nothing is read.
+    /// An earlier call had failed. This call reads nothing.
     Failed,
-    /// Out of memory for the buffer.
+    /// There was not enough memory for the buffer.
     Memory,
 }
 
@@ -92,13 +92,13 @@ impl<T: Drop> From<AllocFailed<T>> for PacketFault {
     }
 }
 
-/// Why a packet was not written.
+/// The reasons why a packet was not written.
 #[derive(Clone, Copy, Debug, PartialEq, Eq)]
 pub enum WriteFault {
-    /// An earlier call had failed. Nothing is written.
+    /// An earlier call had failed. This call writes nothing.
     Failed,
     /// The payload, with its line feed, has more than 65,516 bytes. Nothing is written, and the
-    /// writer can be used further.
+    /// writer stays usable.
     Payload,
     /// The sink failed in this call. Only a part of the packet was written.
     Io,
@@ -145,12 +145,12 @@ impl fmt::Display for WriteFault {
 
 impl Error for WriteFault {}
 
-/// Why a payload has no band.
+/// The reasons why a payload has no band.
 #[derive(Clone, Copy, Debug, PartialEq, Eq)]
 pub enum BandFault {
-    /// The payload is empty, so no byte names a band.
+    /// The payload is empty and has no band byte.
     NoBand,
-    /// The first byte names no band.
+    /// The first byte of the payload is not 1, 2 or 3.
     BadBand,
 }
 

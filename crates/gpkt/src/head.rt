@@ -14,7 +14,7 @@ use crate::packet::{DELIM, DIGITS, FLUSH, MAX_PACKET, Packet, RESERVED, RESPONSE
 /// The kind of packet that the four digits announce.
 #[derive(Clone, Copy)]
 pub(crate) enum Head {
-    /// A payload of this many bytes.
+    /// A data packet with a payload of this many bytes.
     Data(usize),
     Flush,
     Delim,
@@ -44,7 +44,7 @@ fn fill<S: Source>(source: &mut S, buf: &mut [u8]) -> Result<usize, Down>
     Ok(at)
 }
 
-// Returns the number that four digits spell.
+// Returns the number that four hexadecimal digits encode.
 fn number(digits: &[u8]) -> Option<u16>
     requires { length digits.now ≡ digit_count }
     ensures { result ≡ number_of digits.now }
@@ -78,7 +78,7 @@ fn classify(digits: &[u8]) -> Result<Head, PacketFault>
     }
 }
 
-// Reads the four digits. Returns `None` at the end of the input.
+// Reads the four digits of a packet. Returns `None` at the end of the input.
 fn read_head<S: Source>(source: &mut S) -> Result<Option<Head>, PacketFault>
     ensures bytes { ReadsHead (change_of S.remaining source.old source.new) result }
     ensures down { S.is_down source.new ≡ is_io result }
@@ -96,7 +96,7 @@ fn read_head<S: Source>(source: &mut S) -> Result<Option<Head>, PacketFault>
     }
 }
 
-// Reads bytes until `payload` is full.
+// Reads bytes until `payload` is full, or fails at the end of the input.
 fn read_payload<S: Source>(source: &mut S, payload: &mut [u8]) -> Result<(), PacketFault>
     requires { S.is_down source.old ≡ false }
     ensures bytes { ReadsPayload (change_of S.remaining source.old source.new)
@@ -114,7 +114,7 @@ fn read_payload<S: Source>(source: &mut S, payload: &mut [u8]) -> Result<(), Pac
     }
 }
 
-/// Reads one packet and nothing after it. The payload is at the front of `buffer`.
+/// Reads exactly one packet. The payload is at the front of `buffer`.
 pub(crate) fn read_into<S: Source>(
     source: &mut S,
     buffer: &mut [u8],

@@ -1,4 +1,5 @@
-//! Laws of packets. Each function does nothing and gives the law to its caller's proof.
+//! Laws of packets. Each function does nothing at run time and provides the law to the proof of its
+//! caller.
 
 ghost use Rattle.std.specs.Prelude.{◌≡◌};
 ghost use Rattle.gpkt.specs.Bands.{BandFits, BandIsPayload, BandIsRead, max_band};
@@ -8,45 +9,48 @@ ghost use Rattle.gpkt.specs.Packets.{max_packet, max_payload};
 use crate::device::Sink;
 use crate::{MAX_BAND, MAX_PACKET, MAX_PAYLOAD};
 
-/// The constants are the limits that the definitions use.
+/// The public constants equal the limits in the definitions.
 pub fn limits_are_the_constants()
     ensures packet { MAX_PACKET ≡ max_packet }
     ensures payload { MAX_PAYLOAD ≡ max_payload }
     ensures band { MAX_BAND ≡ max_band }
 {}
 
-/// Bytes spell at most one packet at their front, in one way.
+/// At most one packet is encoded at the front of the same bytes, and the packet ends at only one
+/// position.
 #[tactic(auto, using(crate::proofs::Readings::one_reading_lem))]
 pub fn one_reading()
     ensures { OneReading }
 {}
 
-/// Bytes that are refused spell no packet, and there is only one reason.
+/// Bytes that a reader rejects do not begin with an encoded packet, and the reader has only one
+/// reason.
 #[tactic(auto, using(crate::proofs::Readings::refused_lem, crate::proofs::Fronts::one_fault_lem))]
 pub fn refused_front()
     ensures no_packet { RefusedIsNoPacket }
     ensures one_fault { OneFault }
 {}
 
-/// Reading the same bytes has one result and leaves the same rest, unless the source fails or the
-/// reader had failed.
+/// The input bytes determine the result of a read and the bytes that remain, unless the source
+/// fails or the reader had failed.
 #[tactic(auto, using(crate::proofs::Fronts::one_outcome_lem))]
 pub fn one_outcome()
     ensures { OneOutcome }
 {}
 
-/// Bytes are empty, or they spell a packet at their front, or there is a reason why not.
+/// Bytes are empty, or begin with an encoded packet, or have a fault for which a reader rejects
+/// them.
 pub fn every_front()
     ensures { EveryFront }
 {}
 
-/// A spelling has at least four bytes.
+/// An encoded packet has at least four bytes.
 #[tactic(auto, using(crate::proofs::Readings::has_four_bytes_lem))]
 pub fn has_four_bytes()
     ensures { HasFourBytes }
 {}
 
-/// The written form is a spelling of the packet, and of the list of packets.
+/// The canonical form of a packet, or of a list of packets, is one of its encodings.
 #[tactic(auto, using(crate::proofs::Readings::canonical_spells_lem, crate::proofs::Readings::canonical_spells_all_lem, crate::proofs::Readings::canonical_joins_lem))]
 pub fn canonical_spells()
     ensures line { CanonicalSpells }
@@ -54,27 +58,30 @@ pub fn canonical_spells()
     ensures joins { CanonicalJoins }
 {}
 
-/// Two lists of packets are spelt in sequence exactly when their concatenation is spelt.
+/// Bytes encode two concatenated lists of packets exactly when they are an encoding of the first
+/// list and then one of the second.
 #[tactic(auto, using(crate::proofs::Readings::spellings_join_lem, crate::proofs::Readings::spellings_split_lem))]
 pub fn spellings_join()
     ensures join { SpellingsJoin }
     ensures split { SpellingsSplit }
 {}
 
-/// If two lists of packets are spelt at the front of the same bytes, one is a prefix of the other.
+/// If two lists of packets are encoded at the front of the same bytes, one list is a prefix of the
+/// other.
 #[tactic(auto, using(crate::proofs::Readings::one_begins_lem))]
 pub fn one_begins()
     ensures { OneBegins }
 {}
 
-/// The text of a text packet is the text that was written.
+/// Reading a text packet returns the text that was written.
 pub fn text_reads_back()
     ensures line { TextOfLine }
     ensures nothing_else { TextOrLine }
 {}
 
-/// A payload is read as a band exactly when it is that band's byte and then its bytes. A packet can
-/// carry it exactly when it is short enough.
+/// A payload decodes to a band exactly when it is the band byte and then the bytes of that band.
+/// The payload fits into a packet exactly when it has at most [`MAX_BAND`](crate::MAX_BAND) bytes
+/// after the band byte.
 #[tactic(auto, using(crate::proofs::Bands::band_is_read, crate::proofs::Bands::band_is_payload))]
 pub fn bands_are_read()
     ensures payload { BandIsRead }
@@ -82,7 +89,7 @@ pub fn bands_are_read()
     ensures fits { BandFits }
 {}
 
-/// Consecutive reads of packets are one read of all these packets.
+/// Consecutive reads of packets are one read of the list of all these packets.
 #[tactic(auto, using(crate::proofs::Joins::reads_none, crate::proofs::Joins::reads_next, crate::proofs::Joins::reads_join))]
 pub fn reads_join()
     ensures none { ReadsNone }

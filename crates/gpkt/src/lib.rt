@@ -1,59 +1,62 @@
 //! Packets of Git's protocol (gitprotocol-common(5), "pkt-line Format"), read from and written to
 //! devices, and the side bands of a payload (gitprotocol-pack(5), "Packfile Data").
 //!
-//! A packet starts with four hexadecimal digits. They announce a flush (`0000`), a delimiter
-//! (`0001`) or a response-end (`0002`). Otherwise they are the length of a data packet, with the
-//! digits counted. [`PacketReader`] reads packets from a [`Source`], [`PacketWriter`] writes them
-//! to a [`Sink`], and [`write_all`] writes any bytes. [`FromRead`] and [`ToWrite`] make devices of
-//! std's readers and writers, which they borrow, and [`memory`] has devices that need no system.
-//! [`band_of`] returns the band of a payload.
+//! A packet starts with four hexadecimal digits. The digits announce a flush (`0000`), a delimiter
+//! (`0001`) or a response-end (`0002`). Any other digits are the length of a data packet, including
+//! the digits. [`PacketReader`] reads packets from a [`Source`]. [`PacketWriter`] writes packets to
+//! a [`Sink`], and [`write_all`] writes any bytes. [`FromRead`] and [`ToWrite`] borrow std's
+//! readers and writers as devices. [`memory`] has devices in memory. [`band_of`] returns the band
+//! of a payload.
 //!
 //! # Proved
 //!
-//! - If the bytes still to be read are known, the consumed bytes spell the packet that is read.
-//!   Nothing after them is read, however the source splits its bytes. The end is reported only if
-//!   no byte is left. Each fault is reported only as documented, with the bytes it consumed
-//!   (`HasRead` in `specs/PacketReading.antt`, over `Spells` and `NoPacket`).
-//! - For any source, a reader that has failed returns `Failed` and touches nothing. It fails at
-//!   every fault. `Io` is reported exactly when the source is down after a call that read. A
-//!   payload has at most 65,516 bytes. Only the constructor reports `Memory`.
-//! - A write that succeeds appends exactly the canonical spelling, if the bytes written are known.
-//!   `Payload` is reported exactly when a packet cannot carry the payload, and changes nothing.
-//!   After `Io`, a proper prefix of the spelling was written. A writer that has failed returns
-//!   `Failed` and touches nothing (`HasWritten` in `specs/PacketWriting.antt`).
+//! - If the input is known, the consumed bytes encode the packet that is read. The reader
+//!   consumes no byte after the packet, however the source splits the input. The reader reports the
+//!   end only if no byte is left. The reader reports each fault only as documented, with the bytes
+//!   consumed (`HasRead` in `specs/PacketReading.antt`, over `Spells` and `NoPacket`).
+//! - For any source, a reader that has failed returns `Failed` and reads nothing. Every fault
+//!   makes the reader fail. A call that reads reports `Io` exactly when the source is down
+//!   afterwards. A payload has at most 65,516 bytes. Only the constructor reports `Memory`.
+//! - A successful write appends exactly the canonical encoding, if the written bytes are known. A
+//!   write reports `Payload` exactly when the payload is too long for a packet, and then changes
+//!   nothing. After `Io`, a proper prefix of the encoding was written. A writer that has failed
+//!   returns `Failed` and writes nothing (`HasWritten` in `specs/PacketWriting.antt`).
 //! - If the flushed bytes are known, writing flushes nothing, and a successful
-//!   [`push`](PacketWriter::push) flushes all that was written (`HasPushed`).
-//! - [`write_all`] writes all of the bytes, or a prefix of them if the sink goes down.
-//! - A device over std's readers and writers goes down exactly when the inner call returns an
-//!   error, or a write takes no byte of a nonempty slice. The contracts of two private functions,
-//!   which take that result, state this.
-//! - Bytes spell at most one packet at their front, in one way. If reading is refused, they spell
-//!   none, for only one reason. The written form is a spelling. If two lists of packets are at the
-//!   front of the same bytes, one is a prefix of the other. Bytes are empty, or spell a packet at
-//!   their front, or have a reason why not, and are read in one way. Consecutive reads join, and so
-//!   do writes. A payload has a band exactly when it is that band's byte and then its bytes
-//!   ([`laws`]).
+//!   [`push`](PacketWriter::push) flushes all written bytes (`HasPushed`).
+//! - [`write_all`] writes all of its bytes, or a prefix of these bytes if the sink goes down.
+//! - A device over std's readers and writers goes down exactly when the inner call fails, or a
+//!   write accepts no byte of a nonempty slice. The contracts of two private functions over the
+//!   inner result state this.
+//! - Bytes begin with at most one encoded packet, which ends at only one position. Bytes that a
+//!   reader rejects begin with no encoded packet, and the reader has only one reason. The canonical
+//!   form is an encoding. If two lists of packets are encoded at the front of the same bytes, one
+//!   list is a prefix of the other. Bytes are empty, or begin with an encoded packet, or have a
+//!   fault for which a reader rejects them. Consecutive reads are one read, and consecutive writes
+//!   are one write. A payload has a band exactly when it is the band byte and then the bytes of
+//!   that band ([`laws`]).
 //! - The number, the name and the text of each fault (`specs/Faults.antt`).
 //!
 //! # Only tested
 //!
-//! - A device over std's readers and writers makes one inner call for each of its own. Its flush is
-//!   a flush of the writer.
-//! - A call that failed is not tried again, whatever its error is. No call asks for zero bytes.
+//! - A device over std's readers and writers makes one inner call for each call of its own. A
+//!   flush of the device is a flush of the writer.
+//! - A failed call is not retried, whatever the error is. No call asks for zero bytes.
 //!
 //! # What the contracts do not rule out
 //!
 //! - A device that is always down. A source or a sink that moves one byte per call. A device over
-//!   std's writers that flushes without a call of `flush`, or twice.
-//! - A buffer that is never allocated, and a constructor that reads before it fails.
-//! - A [`memory::Limited`] that ignores its limits, and a [`memory::VecSink`] that counts no flush.
-//! - For a sink that flushes at once, the flushed bytes are unknown, since a write does not change
-//!   what is known. A flush that fails may have flushed any part of the buffered bytes.
-//! - Formatting a fault may return `fmt::Error` although the text would be right.
+//!   std's writers that flushes twice, or flushes without a call of `flush`.
+//! - A buffer that is never allocated, and a constructor that reads from the source before
+//!   failing.
+//! - A [`memory::Limited`] that ignores its limits, and a [`memory::VecSink`] that does not count
+//!   flushes.
+//! - A sink that flushes at once has unknown flushed bytes, since a write must leave the flushed
+//!   bytes unchanged. A failed flush may have flushed any part of the buffered bytes.
+//! - Formatting a fault may return `fmt::Error` although the formatted text would be right.
 //!
 //! # Stands on
 //!
-//! `hex` for the digits, std's `Read` and `Write`.
+//! `hex` for the digits, and std's `Read` and `Write`.
 #![tactic(auto)]
 
 mod band;

@@ -1,5 +1,5 @@
-//! Devices in memory, and a wrapper that limits a device. They serve tests, and callers whose bytes
-//! are in memory.
+//! Devices in memory, and a wrapper that limits a device. These devices serve tests, and callers
+//! whose bytes are in memory.
 
 ghost use Rattle.std.specs.Prelude.{◌≡◌, ◌<◌, ◌≤◌, ◌⊎◌, ◌++◌, [], false, Some, length, take, drop};
 
@@ -22,14 +22,14 @@ impl<'a> Model for SliceSource<'a> {
 }
 
 impl<'a> SliceSource<'a> {
-    /// Returns a source of these bytes.
+    /// Returns a source that reads these bytes.
     pub fn new(bytes: &'a [u8]) -> SliceSource<'a>
         ensures { result ≡ bytes.now }
     {
         SliceSource { rest: bytes }
     }
 
-    /// Returns the bytes that are left.
+    /// Returns the unread bytes.
     pub fn rest(&self) -> &'a [u8]
         ensures { result.now ≡ self.now }
     {
@@ -64,11 +64,11 @@ fn copy_front(from: &[u8], to: &mut [u8]) -> usize
     count
 }
 
-/// A sink that stores what is written to it. Fails only if out of memory.
+/// A sink that stores the written bytes. The sink fails only if there is not enough memory.
 #[derive(Drop)]
 pub struct VecSink<A: Allocator + Copy = Global> {
     written: Vec<u8, A>,
-    // The number of these bytes that were flushed.
+    // The number of written bytes that were flushed.
     passed_on: usize,
     flushes: usize,
     down: Latch,
@@ -94,7 +94,7 @@ impl<A: Allocator + Copy> Model for VecSink<A> {
 }
 
 impl<A: Allocator + Copy> VecSink<A> {
-    /// Returns an empty sink. It does not allocate yet.
+    /// Returns an empty sink, without allocating.
     pub fn new(alloc: A) -> VecSink<A>
         ensures { result ≡ record { bytes = []; passed_on = []; flushes = 0; down = false } }
     {
@@ -106,14 +106,14 @@ impl<A: Allocator + Copy> VecSink<A> {
         }
     }
 
-    /// Returns the bytes that were written.
+    /// Returns the written bytes.
     pub fn written_bytes(&self) -> &[u8]
         ensures { result.now ≡ self.now.bytes }
     {
         self.written.as_slice()
     }
 
-    /// Returns the flushed bytes: all that was written before the last flush.
+    /// Returns the flushed bytes: all bytes written before the last flush.
     pub fn passed_on(&self) -> &[u8]
         ensures { result.now ≡ self.now.passed_on }
     {
@@ -127,7 +127,7 @@ impl<A: Allocator + Copy> VecSink<A> {
         self.flushes
     }
 
-    /// Returns the bytes that were written, as a vector.
+    /// Returns the written bytes as a vector.
     pub fn into_written(self) -> Vec<u8, A>
         ensures { result.items ≡ self.bytes }
     {
@@ -172,8 +172,8 @@ impl<A: Allocator + Copy> Sink for VecSink<A> {
 
 /// A device that moves only a limited number of bytes per call, and fails at a chosen call.
 ///
-/// The limit and the failing call are only tested. A contract covers the inner device and whether
-/// this one has failed.
+/// The limit and the failing call are only tested. The contracts cover the inner device and whether
+/// the wrapper has failed.
 #[derive(Drop)]
 pub struct Limited<D> {
     device: D,
@@ -194,7 +194,7 @@ impl<D> Model for Limited<D> {
 }
 
 impl<D> Limited<D> {
-    /// Returns the device without limits.
+    /// Returns a wrapper that sets no limits.
     pub fn new(device: D) -> Limited<D>
         ensures inner { result.inner ≡ device }
         ensures down { result.down ≡ false }
@@ -207,7 +207,7 @@ impl<D> Limited<D> {
         }
     }
 
-    /// Moves at most `most` bytes per call; 0 counts as 1.
+    /// Limits each call to `most` bytes. A limit of 0 counts as 1.
     pub fn with_most(mut self, most: usize) -> Limited<D>
         ensures { result ≡ self }
     {
@@ -215,7 +215,7 @@ impl<D> Limited<D> {
         self
     }
 
-    /// Fails at the first read or write after `calls` calls. Flushes are not counted.
+    /// Makes the first read or write after `calls` calls fail. Flushes are not counted.
     pub fn failing_after(mut self, calls: usize) -> Limited<D>
         ensures { result ≡ self }
     {
@@ -237,7 +237,7 @@ impl<D> Limited<D> {
     }
 }
 
-// Counts a call, and returns whether it may proceed.
+// Counts a call, and returns whether the call may proceed.
 fn goes_on(calls_left: &mut Option<usize>) -> bool {
     match *calls_left {
         None => true,

@@ -1,34 +1,34 @@
 //! One packet.
 
-/// The number of digits of a packet.
+/// The number of digits at the start of a packet.
 pub(crate) const DIGITS: usize = 4;
 
-/// The digits of packets without a payload.
+/// The value of the digits of each special packet.
 pub(crate) const FLUSH: u16 = 0;
 
 pub(crate) const DELIM: u16 = 1;
 
 pub(crate) const RESPONSE_END: u16 = 2;
 
-/// The reserved number, which no packet has.
+/// The reserved value of the digits, which no packet uses.
 pub(crate) const RESERVED: u16 = 3;
 
-/// The maximum length of a packet in bytes, with its four digits.
+/// The maximum number of bytes of a packet, including its four digits.
 pub const MAX_PACKET: usize = 65_520;
 
-/// The maximum length of a payload in bytes.
+/// The maximum number of bytes of a payload.
 pub const MAX_PAYLOAD: usize = MAX_PACKET - DIGITS;
 
 /// A packet with a borrowed payload (gitprotocol-common(5), "pkt-line Format").
 #[derive(Clone, Copy, Debug, PartialEq, Eq)]
 pub enum Packet<'a> {
-    /// A data packet and its payload, at most [`MAX_PAYLOAD`] bytes. An empty payload, spelt
-    /// `0004`, is not a flush.
+    /// A data packet and its payload of at most [`MAX_PAYLOAD`] bytes. The data packet `0004` has
+    /// an empty payload and is not a flush packet.
     Data(&'a [u8]),
-    /// `0000`, which ends a message.
+    /// The flush packet `0000`, which ends a message.
     Flush,
-    /// `0001`, which separates the sections of a message.
+    /// The delimiter packet `0001`, which separates the sections of a message.
     Delim,
-    /// `0002`, which ends a response on a stateless connection.
+    /// The response-end packet `0002`, which ends a response on a stateless connection.
     ResponseEnd,
 }

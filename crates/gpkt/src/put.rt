@@ -1,4 +1,4 @@
-//! Writing all of some bytes.
+//! Writing bytes in full.
 
 ghost use Rattle.std.specs.Prelude.{◌≡◌, ◌+◌, ◌<◌, ◌≤◌, ◌^◌, ◌++◌, false, true, length, is_err, MatchOption, OnErr, OnOk};
 ghost use Rattle.std.specs.Io.KnownBytes.{Appends, Keeps};
@@ -9,11 +9,11 @@ ghost use Rattle.gpkt.specs.PacketWriting.{AppendsFront};
 use crate::device::{Down, Sink};
 use crate::packet::{DIGITS, MAX_PAYLOAD};
 
-/// Writes all of the bytes, in as many calls of the sink as needed. Makes no call if `bytes` is
-/// empty.
+/// Writes all of the bytes, in as many calls of the sink as needed. The sink is not called if
+/// `bytes` is empty.
 ///
-/// After an error, a prefix of the bytes was written, and the sink is down. Written bytes may still
-/// be buffered: [`Sink::flush`] flushes them. A sink that was down stays down.
+/// After an error, only a prefix of the bytes was written, and the sink is down. Written bytes may
+/// still be buffered until a [`Sink::flush`]. A sink that was down before the call stays down.
 pub fn write_all<W: Sink>(sink: &mut W, bytes: &[u8]) -> Result<(), Down>
     ensures ok { OnOk result (Appends (W.contents sink.old) (W.contents sink.new) bytes.now) }
     ensures err { OnErr result
@@ -59,7 +59,8 @@ pub(crate) fn put_packet<W: Sink>(
     write_all(sink, end)
 }
 
-/// Returns the total length of the three pieces of a payload, if a packet can carry them.
+/// Returns the total length of the three pieces of a payload, or `None` if they do not fit into a
+/// packet.
 pub(crate) fn joined_len(first: &[u8], second: &[u8], end: &[u8]) -> Option<usize>
     ensures { MatchOption result
         (max_payload < length (first.now ++ second.now ++ end.now))
@@ -70,7 +71,7 @@ pub(crate) fn joined_len(first: &[u8], second: &[u8], end: &[u8]) -> Option<usiz
     if len > MAX_PAYLOAD { None } else { Some(len) }
 }
 
-/// Returns the four digits of a number, in lower case.
+/// Returns the four hexadecimal digits of a number, in lower case.
 pub(crate) fn digits_of(announced: u16) -> [u8; DIGITS]
     ensures value { result ≡ digits_of announced }
     ensures len { length result ≡ digit_count }

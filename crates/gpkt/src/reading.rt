@@ -12,9 +12,9 @@ use crate::packet::Packet;
 use std::alloc::{Allocator, Global};
 use std::marker::Model;
 
-/// Reads packets from a source, and never reads past the end of a packet.
+/// Reads packets from a source, never past the end of a packet.
 ///
-/// A payload is borrowed from the reader's one buffer until the next call.
+/// The payload of a packet is borrowed from the reader's only buffer until the next call.
 #[derive(Drop)]
 pub struct PacketReader<S, A: Allocator + Copy = Global> {
     source: S,
@@ -37,9 +37,10 @@ impl<S: Source, A: Allocator + Copy> PacketReader<S, A> {
     ghost use Rattle.std.specs.Borrow.{sem};
     ghost use Rattle.gpkt.specs.Lending.{LendsPacket};
 
-    /// Returns a reader that has not failed. Fails only with [`PacketFault::Memory`], and then
-    /// drops the source unread. A caller that needs its borrowed source then allocates the buffer
-    /// first and calls [`with_buffer`](PacketReader::with_buffer).
+    /// Allocates a buffer and returns a reader that has not failed. Fails only with
+    /// [`PacketFault::Memory`], and then drops the source unread. A caller that must keep a
+    /// borrowed source allocates the buffer first and calls
+    /// [`with_buffer`](PacketReader::with_buffer).
     pub fn new(alloc: A, source: S) -> Result<PacketReader<S, A>, PacketFault>
     where
         S: Drop,
@@ -53,7 +54,7 @@ impl<S: Source, A: Allocator + Copy> PacketReader<S, A> {
         }
     }
 
-    /// Returns a reader over an existing buffer. It has not failed, and does not allocate.
+    /// Returns a reader with an existing buffer, without allocating. The reader has not failed.
     pub fn with_buffer(buffer: PacketBuffer<A>, source: S) -> PacketReader<S, A>
         ensures source { result.source ≡ source }
         ensures failed { result.failed ≡ false }
@@ -68,12 +69,12 @@ impl<S: Source, A: Allocator + Copy> PacketReader<S, A> {
     /// Reads the next packet: four digits, and then exactly the payload. Returns `None` if the
     /// input ends before the first digit.
     ///
-    /// Fails with [`BadDigits`](PacketFault::BadDigits) if all four digits were read and one is not
-    /// a hexadecimal digit, of either case. Fails with [`Reserved`](PacketFault::Reserved) for
-    /// `0003`, and with [`TooLong`](PacketFault::TooLong) for `fff1` to `ffff`. Fails with
+    /// Fails with [`BadDigits`](PacketFault::BadDigits) if one of the four digits is not a
+    /// hexadecimal digit of either case. Fails with [`Reserved`](PacketFault::Reserved) for `0003`,
+    /// and with [`TooLong`](PacketFault::TooLong) for `fff1` to `ffff`. Fails with
     /// [`Truncated`](PacketFault::Truncated) if the input ends inside the digits or the payload.
-    /// Fails with [`Io`](PacketFault::Io) if the source failed. After each of these the reader has
-    /// failed: every later call returns [`Failed`](PacketFault::Failed) and reads nothing.
+    /// Fails with [`Io`](PacketFault::Io) if the source fails. After any of these faults, every
+    /// later call returns [`Failed`](PacketFault::Failed) and reads nothing.
     pub fn next(&mut self) -> Result<Option<Packet<'_>>, PacketFault>
         ensures refused { IsErrOf result PacketFault.Failed ↔ (self.old.failed ≡ true) }
         ensures limit { IfOk result

@@ -1,13 +1,13 @@
-//! Devices made of std's readers and writers.
+//! Devices over std's readers and writers.
 
 ghost use Rattle.std.specs.Prelude.{◌≡◌, ◌∷◌, [], false, None};
 
 use crate::device::{Down, Latch, Sink, Source};
 use std::io::{Read, Write};
 
-/// A source that reads from one of std's readers, which it borrows.
+/// A source that borrows one of std's readers and reads from it.
 ///
-/// After any error of the reader, even an interrupted call, it is down.
+/// The source goes down after any error of the reader, even `Interrupted`.
 #[derive(Drop)]
 pub struct FromRead<'a, R> {
     reader: &'a mut R,
@@ -53,11 +53,11 @@ impl<R: Read> Source for FromRead<'_, R> {
     }
 }
 
-/// A sink that writes to one of std's writers, which it borrows. The bytes that the writer flushes
-/// are unknown.
+/// A sink that borrows one of std's writers and writes to it. The flushed bytes of the sink are
+/// unknown.
 ///
-/// After any error of the writer, even an interrupted call, it is down. It also goes down if a
-/// write takes no byte of a nonempty slice.
+/// The sink goes down after any error of the writer, even `Interrupted`. The sink also goes down if
+/// a write accepts no byte of a nonempty slice.
 #[derive(Drop)]
 pub struct ToWrite<'a, W> {
     writer: &'a mut W,

@@ -3,10 +3,10 @@
 ghost use Rattle.std.specs.Prelude.{◌≡◌};
 ghost use Rattle.gpkt.specs.Packets.{text};
 
-/// Returns the payload without one line feed at its end, if there is one (gitprotocol-common(5),
-/// "pkt-line Format").
+/// Returns the payload without its final line feed, if it has one (gitprotocol-common(5), "pkt-line
+/// Format").
 ///
-/// Only one line feed is removed: `a\n\n` gives `a\n`.
+/// Only one line feed is removed: the text of `a\n\n` is `a\n`.
 pub fn text_of(payload: &[u8]) -> &[u8]
     ensures { result.now ≡ text payload.now }
 {

@@ -13,12 +13,12 @@ use crate::packet::DIGITS;
 use crate::put::{digits_of, joined_len, put_packet};
 use std::marker::Model;
 
-/// Writes packets to a sink, with lower-case digits. It does not allocate.
+/// Writes packets with lower-case digits to a sink, without allocating.
 ///
-/// After [`Io`](WriteFault::Io), a part of the packet was written, and every later call returns
+/// After [`Io`](WriteFault::Io), only a part of the packet was written. Every later call returns
 /// [`Failed`](WriteFault::Failed) and writes nothing. [`Payload`](WriteFault::Payload) means that
-/// the payload with its line feed has more than 65,516 bytes. In that case nothing is written, and
-/// the writer can be used further.
+/// the payload with its line feed has more than 65,516 bytes. After `Payload`, nothing was written,
+/// and the writer stays usable.
 #[derive(Drop)]
 pub struct PacketWriter<W> {
     sink: W,
@@ -37,7 +37,7 @@ impl<W> Model for PacketWriter<W> {
 }
 
 impl<W: Sink> PacketWriter<W> {
-    /// Returns a writer to this sink. It has not failed.
+    /// Returns a writer to this sink. The writer has not failed.
     pub fn new(sink: W) -> PacketWriter<W>
         ensures sink { result.sink ≡ sink }
         ensures failed { result.failed ≡ false }
@@ -48,7 +48,7 @@ impl<W: Sink> PacketWriter<W> {
         }
     }
 
-    /// Writes one data packet. An empty payload is written as `0004`, which is not a flush.
+    /// Writes one data packet. An empty payload is written as `0004`, which is not a flush packet.
     pub fn put(&mut self, payload: &[u8]) -> Result<(), WriteFault>
         ensures written { HasWritten W.contents W.passed_on W.is_down W.loans self.old self.new
             result (canonical (packets.Data payload.now)) }
@@ -58,7 +58,7 @@ impl<W: Sink> PacketWriter<W> {
         self.put_parts(payload, b"", b"")
     }
 
-    /// Writes one data packet whose payload is both pieces.
+    /// Writes one data packet whose payload is the two pieces in sequence.
     pub fn put2(&mut self, first: &[u8], second: &[u8]) -> Result<(), WriteFault>
         ensures written { HasWritten W.contents W.passed_on W.is_down W.loans self.old self.new
             result (canonical (packets.Data (first.now ++ second.now))) }
@@ -68,7 +68,7 @@ impl<W: Sink> PacketWriter<W> {
         self.put_parts(first, second, b"")
     }
 
-    /// Writes one text packet: the text and a line feed.
+    /// Writes one data packet whose payload is the text and a line feed.
     pub fn text(&mut self, text: &[u8]) -> Result<(), WriteFault>
         ensures written { HasWritten W.contents W.passed_on W.is_down W.loans self.old self.new
             result (canonical (packets.Data (text.now ++ line_feed ∷ []))) }
@@ -78,7 +78,7 @@ impl<W: Sink> PacketWriter<W> {
         self.put_parts(text, b"", b"\n")
     }
 
-    /// Writes one text packet: both pieces and a line feed.
+    /// Writes one data packet whose payload is the two pieces in sequence and a line feed.
     pub fn text2(&mut self, first: &[u8], second: &[u8]) -> Result<(), WriteFault>
         ensures written { HasWritten W.contents W.passed_on W.is_down W.loans self.old self.new
             result (canonical (packets.Data (first.now ++ second.now ++ line_feed ∷ []))) }
@@ -89,8 +89,9 @@ impl<W: Sink> PacketWriter<W> {
         self.put_parts(first, second, b"\n")
     }
 
-    /// Writes one data packet: the band's byte and then its bytes, at most
-    /// [`MAX_BAND`](crate::MAX_BAND).
+    /// Writes one data packet whose payload is the band byte and then the bytes of the band. Fails
+    /// with [`Payload`](WriteFault::Payload) if the band has more than
+    /// [`MAX_BAND`](crate::MAX_BAND) bytes.
     pub fn put_band(&mut self, band: &Band<'_>) -> Result<(), WriteFault>
         ensures written { HasWritten W.contents W.passed_on W.is_down W.loans self.old self.new
             result (canonical (packets.Data (band_payload (band_packet band.now)))) }
@@ -102,7 +103,7 @@ impl<W: Sink> PacketWriter<W> {
         self.put_parts(&[first], bytes, b"")
     }
 
-    /// Writes a flush packet, `0000`, which ends a message. Never fails with
+    /// Writes the flush packet `0000`, which ends a message. Never fails with
     /// [`Payload`](WriteFault::Payload).
     pub fn flush_pkt(&mut self) -> Result<(), WriteFault>
         ensures written { HasWritten W.contents W.passed_on W.is_down W.loans self.old self.new
@@ -112,7 +113,7 @@ impl<W: Sink> PacketWriter<W> {
         self.put_pieces(b"0000", b"", b"", b"")
     }
 
-    /// Writes a delimiter packet, `0001`, which separates the sections of a message.
+    /// Writes the delimiter packet `0001`, which separates the sections of a message.
     pub fn delim(&mut self) -> Result<(), WriteFault>
         ensures written { HasWritten W.contents W.passed_on W.is_down W.loans self.old self.new
             result (canonical packets.Delim) }
@@ -121,7 +122,7 @@ impl<W: Sink> PacketWriter<W> {
         self.put_pieces(b"0001", b"", b"", b"")
     }
 
-    /// Writes a response-end packet, `0002`, which ends a response on a stateless connection.
+    /// Writes the response-end packet `0002`, which ends a response on a stateless connection.
     pub fn response_end(&mut self) -> Result<(), WriteFault>
         ensures written { HasWritten W.contents W.passed_on W.is_down W.loans self.old self.new
             result (canonical packets.ResponseEnd) }
@@ -130,8 +131,8 @@ impl<W: Sink> PacketWriter<W> {
         self.put_pieces(b"0002", b"", b"", b"")
     }
 
-    /// Flushes what was written, by one flush of the sink. After [`Io`](WriteFault::Io), bytes that
-    /// were flushed before stay flushed, and the writer has failed.
+    /// Flushes all written bytes with one flush of the sink. After [`Io`](WriteFault::Io), bytes
+    /// flushed earlier stay flushed, and the writer has failed.
     pub fn push(&mut self) -> Result<(), WriteFault>
         ensures { HasPushed W.contents W.passed_on W.is_down W.loans self.old self.new result }
     {
@@ -155,7 +156,7 @@ impl<W: Sink> PacketWriter<W> {
         sink
     }
 
-    // Writes one data packet whose payload is the three pieces.
+    // Writes one data packet whose payload is the three pieces in sequence.
     fn put_parts(&mut self, first: &[u8], second: &[u8], end: &[u8]) -> Result<(), WriteFault>
         ensures written { HasWritten W.contents W.passed_on W.is_down W.loans self.old self.new
             result (canonical (packets.Data (first.now ++ second.now ++ end.now))) }
@@ -172,7 +173,7 @@ impl<W: Sink> PacketWriter<W> {
         }
     }
 
-    // Writes the digits, which must not be empty, and the pieces after them.
+    // Writes the digits, which must not be empty, and then the three pieces.
     fn put_pieces(
         &mut self,
         digits: &[u8],

@@ -1,12 +1,12 @@
--- The packet of an error (gitprotocol-pack(5), "error-line").
+-- The error packet of a server (gitprotocol-pack(5), "error-line").
 use Rattle.std.specs.Prelude.{ℕ, List, [], ◌∷◌, ◌++◌, codes}
 use Rattle.gpkt.specs.Packets.{Bytes, Packet}
 use Rattle.ggrammar.specs.Texts.{text_packet}
 
--- the most bytes of its text
+-- the maximum number of bytes of the text in an error packet
 abbrev pub max_text : ℕ
 max_text = 512
 
--- its packet
+-- the error packet with this text, as a list of packets
 abbrev pub text_packets : Bytes → List Packet
 text_packets text = text_packet (codes "ERR " ++ text) ∷ []

@@ -1,4 +1,5 @@
--- What a server says to a request for objects, and its packs come in parts (gitprotocol-v2(5), "fetch").
+-- The packets that a server sends for a fetch request, with a pack that its packer returns in parts (gitprotocol-v2(5),
+-- "fetch").
 use Rattle.std.specs.Prelude.{◌≡◌, ◌⊎◌, Bool, false, List, [], ◌∷◌, ◌++◌}
 use Rattle.gobject.specs.Packs.{PackFails, Packs}
 use Rattle.gobject.specs.declared.fault.PackFault.{PackFault}
@@ -11,14 +12,14 @@ use Rattle.ganswer.specs.Servers.{Server}
 use Rattle.gserver.specs.Saying.{fatal_packet}
 
 module _ {A : Type 0} (server : Server A) (packs : Packs A) (fails : PackFails A) (asked : FetchAsked) where
-  -- the packets of an answer, in their one list
+  -- the packets are the canonical encoding of a reply that answers the fetch request
   pub record SaysAnswer (ends : Ends) (goes_on : Bool) (said : List Packet) (goes : Bool) : Type 0 where
     pub reply : FetchReply
     pub answers : FetchAnswer server packs asked reply
     pub all : said ≡ canonical_reply ends reply
     pub goes_so : goes ≡ goes_on
 
-  -- a pack was due, and the packer failed in its middle: the packet of band 3 with its fault is the last
+  -- the packer fails while a pack is sent, and the last packet reports the fault on side band 3
   pub record SaysFailure (said : List Packet) (goes : Bool) : Type 0 where
     pub fault : PackFault
     pub can : CanServe server asked
@@ -28,6 +29,6 @@ module _ {A : Type 0} (server : Server A) (packs : Packs A) (fails : PackFails A
     pub all : said ≡ front ++ fatal_packet fault ∷ []
     pub ended : goes ≡ false
 
-  -- one or the other
+  -- a complete reply to the fetch request, or a reply in which the packer fails
   abbrev pub SaysFetch : Ends → Bool → List Packet → Bool → Type 0
   SaysFetch ends goes_on said goes = SaysAnswer ends goes_on said goes ⊎ SaysFailure said goes

@@ -1,4 +1,4 @@
--- What a server hears: the first line of a connection, or a request.
+-- The messages that a server receives: the first line of a connection, or a request.
 use Rattle.std.specs.Prelude.{◌≡◌, Bool, List}
 use Rattle.gpkt.specs.Packets.{Packet}
 use Rattle.ggrammar.specs.Grammar.{Judge}

@@ -1,4 +1,4 @@
--- What a server may say from a place in a reply on.
+-- The packets that may complete a reply of a server from a given state.
 use Rattle.std.specs.Prelude.{ℕ}
 use Rattle.gparts.specs.Parts.{Gives}
 use Rattle.ganswer.specs.Servers.{Server}

@@ -1,4 +1,4 @@
--- What a server may say from a place in a reply on (gitprotocol-v2(5), "ls-refs" and "fetch").
+-- The packets that may complete a reply of a server from a given state (gitprotocol-v2(5), "ls-refs" and "fetch").
 use Rattle.std.specs.Prelude.{◌≡◌, ℕ, ◌+◌, ◌-◌, Bool, false, List, [], ◌∷◌, ◌++◌, length, map, drop, codes, Option, Some, None}
 use Rattle.gname.specs.Ids.{Id}
 use Rattle.gobject.specs.declared.fault.PackFault.{PackFault}
@@ -15,22 +15,23 @@ use Rattle.gserver.specs.PackSaying.{May, SaysPack}
 use Rattle.gserver.specs.declared.said.Rest.{Rest}
 use Rattle.gserver.specs.declared.said.Rest.TheVariants as rest
 
--- the packet of band 3 that reports that a packer failed
+-- the side-band 3 packet that reports the fault of a packer
 abbrev pub fatal_packet : PackFault → Packet
 fatal_packet fault = Data (band_payload (Fatal (pack_fault_text fault)))
 
--- these come first, and then this
+-- the packets `front`, and then packets that `May_rest` permits
 pub record SaysFirst (front : List Packet) (May_rest : May) (said : List Packet) (goes : Bool) : Type 0 where
   pub rest : List Packet
   pub parts : said ≡ front ++ rest
   pub then : May_rest rest goes
 
 module _ (ends : Ends) (goes_on : Bool) where
-  -- the flush, and what follows it
+  -- the flush packet, and then the response-end packet if replies end with one
   abbrev pub SaysEnd : May
   SaysEnd said goes = (said ≡ Flush ∷ ends_with ends) × (goes ≡ goes_on)
 
-  -- the packets of a pack are said, and the end of the reply; or the packer fails, which ends all
+  -- the packets of a pack and the end of the reply, or the packets before a packer's fault and the packet that reports
+  -- it
   abbrev pub EndsPack : List Packet → Option PackFault → May
   EndsPack packets None said goes = (said ≡ packets ++ Flush ∷ ends_with ends) × (goes ≡ goes_on)
   EndsPack packets (Some fault) said goes = (said ≡ packets ++ fatal_packet fault ∷ []) × (goes ≡ false)
@@ -41,25 +42,25 @@ module _ (ends : Ends) (goes_on : Bool) where
     pub pack : SaysPack gives packets end
     pub ended : EndsPack packets end said goes
 
-  -- the section of a pack
+  -- the section of a pack, with its heading
   abbrev pub SaysSection : Gives → May
   SaysSection gives = SaysFirst (text_packet (codes "packfile") ∷ []) (SaysRestOfPack gives)
 
--- the acknowledged ids, or that there is none where no pack follows
+-- the packets that acknowledge these ids, or `NAK` if there are none and no pack follows
 abbrev pub acks_or_nak : {K : Type 0} → List Id → Option K → List Packet
 acks_or_nak ids None = nak_if_none (map ack_packet ids)
 acks_or_nak ids (Some pack) = map ack_packet ids
 
--- ---- from a place on
+-- ---- from a state of a reply on
 
--- what follows the acknowledged ids
+-- the packets after the acknowledged ids
 abbrev pub SaysAfterAcks : {R P : Type 0} → (R → P → Gives) → Ends → Bool → Option (R × P) → May
 SaysAfterAcks gives ends goes_on None = SaysEnd ends goes_on
 SaysAfterAcks gives ends goes_on (Some pack) =
     SaysFirst (ready_packet ∷ Delim ∷ []) (SaysSection ends goes_on (gives pack.0 pack.1))
 
 module _ {A R P : Type 0} (gives : R → P → Gives) (ends : Ends) (goes_on : Bool) where
-  -- what is said from here on
+  -- the packets from this state of a reply to its end
   abbrev pub SaysRest : Rest A R P → May
   SaysRest rest.Nothing said goes = (said ≡ []) × (goes ≡ false)
   SaysRest (rest.Refusal text) said goes = (said ≡ text_packets text) × (goes ≡ false)
@@ -75,14 +76,14 @@ module _ {A R P : Type 0} (gives : R → P → Gives) (ends : Ends) (goes_on : B
   SaysRest rest.Flush said goes = SaysEnd ends goes_on said goes
   SaysRest rest.ResponseEnd said goes = (said ≡ ResponseEnd ∷ []) × (goes ≡ goes_on)
 
--- ---- how much is left
+-- ---- the steps left
 
 abbrev pub steps_after_acks : {R P : Type 0} → (R → P → ℕ) → Option (R × P) → ℕ
 steps_after_acks most None = 2
 steps_after_acks most (Some pack) = most pack.0 pack.1 + 5
 
 module _ {A R P : Type 0} (most : R → P → ℕ) where
-  -- a step says one packet at most
+  -- the maximum number of steps left, each of which sends at most one packet
   abbrev pub steps_of : Rest A R P → ℕ
   steps_of rest.Nothing = 0
   steps_of (rest.Refusal text) = 0

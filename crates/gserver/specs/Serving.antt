@@ -1,5 +1,5 @@
--- What a server answers to a first line and to requests (gitprotocol-v2(5), "Initial Client Request", "Command
--- Request").
+-- The answers of a server to the first line of a connection and to requests (gitprotocol-v2(5), "Initial Client
+-- Request", "Command Request").
 use Rattle.std.specs.Prelude.{◌≡◌, ◌⊎◌, ℕ, ◌+◌, ◌-◌, Bool, true, false, min, nat_lt, List, [], Option, Some, None}
 use Rattle.std.specs.Prelude.{Result, Ok, Err}
 use Rattle.gobject.specs.Packs.{PackFails, Packs}
@@ -23,33 +23,33 @@ use Rattle.gserver.specs.Fetching.{SaysFetch}
 use Rattle.gserver.specs.Listings.{SaysLsAnswer}
 use Rattle.gserver.specs.declared.side.ServerSide.{ServerSide}
 
--- the most requests of a connection after which another is heard
+-- the maximum number of requests after which a connection accepts another request
 abbrev pub max_requests : ℕ
 max_requests = 4294967295
 
--- whether the next request is heard after so many and one more
+-- whether the connection accepts another request after the current one, given the number of earlier requests
 abbrev pub goes_on_after : ℕ → Bool
 goes_on_after requests = nat_lt requests max_requests
 
--- how many more messages may be answered: the first line, and the requests
+-- the maximum number of further messages to answer: the first line, and the requests
 abbrev pub messages_of : {R : Type 0} → Option R → ℕ → ℕ
 messages_of None requests = max_requests + 1
 messages_of (Some repo) requests = max_requests - requests
 
--- the packet of an error is said, with words for which there is this reason, and nothing more is heard
+-- the server sends an error packet whose text satisfies `Why`, and ends the connection
 pub record Refuses (Why : Bytes → Type 0) (said : List Packet) (goes : Bool) : Type 0 where
   pub text : Bytes
   pub why : Why text
   pub all : said ≡ text_packets text
   pub ended : goes ≡ false
 
--- how many requests were answered with this one
+-- the number of answered requests after this one, where an empty request does not count
 abbrev pub count_request : Asked → ℕ → ℕ
 count_request Empty requests = requests
 count_request (Ls asked) requests = min (requests + 1) max_requests
 count_request (Fetches asked) requests = min (requests + 1) max_requests
 
--- the words of a host for a fault, which is kept
+-- the text is the host's text for a fault that can occur, and the server stores this fault
 module _ {H : Type 0} (says : H → ServeFault → Bytes → Type 0) (host : H) where
   pub record IsFault (Can : ServeFault → Type 0) (kept : Option ServeFault) (text : Bytes) : Type 0 where
     pub fault : ServeFault
@@ -57,17 +57,18 @@ module _ {H : Type 0} (says : H → ServeFault → Bytes → Type 0) (host : H) 
     pub keeps : kept ≡ Some fault
     pub words : says host fault text
 
-  -- out of memory for the answer
+  -- the fault is a lack of memory for the answer
   abbrev pub LacksMemory : Option ServeFault → Bytes → Type 0
   LacksMemory = IsFault (λ fault. fault ≡ serve.Memory)
 
 module _ {A R : Type 0} (server_of : R → Server A) where
-  -- the grammar of the next message: the first line, and then requests with ids of the repository's format
+  -- the grammar of the next message: the first line, or a request with ids in the object format of the repository
   abbrev pub side_judge : Option R → Judge
   side_judge None = hello.judge
   side_judge (Some repo) = request.judge (server_of repo).graph.format
 
-  -- The host finds a repository for the first line, and its advertisement is said. It is served from then on.
+  -- The host finds a repository for the first line, and the server sends the advertisement of that repository. The
+  -- connection serves the repository from then on.
   pub record Greets (Finds : Result R Bytes → Type 0) (new : Option R) (said : List Packet) (goes : Bool) : Type 0 where
     pub found : R
     pub finds : Finds (Ok found)
@@ -76,16 +77,18 @@ module _ {A R : Type 0} (server_of : R → Server A) where
     pub goes_on : goes ≡ true
 
   module _ {H : Type 0} (says : H → ServeFault → Bytes → Type 0) (host : H) where
-    -- why a first line is not answered: the host finds no repository for it, and has these words; or out of memory
+    -- the reasons to reject the first line: the host finds no repository and returns this text, or there is not enough
+    -- memory
     abbrev pub CannotGreet : (Result R Bytes → Type 0) → Option R → Option ServeFault → Bytes → Type 0
     CannotGreet Finds new kept text = (new ≡ None) × (Finds (Err text) ⊎ LacksMemory says host kept text)
 
-    -- the first line is answered
+    -- the answer to the first line is an advertisement or an error packet
     abbrev pub AnswersHello : (Result R Bytes → Type 0) → Option R → Option ServeFault → List Packet → Bool → Type 0
     AnswersHello Finds new kept said goes = Greets Finds new said goes ⊎ Refuses (CannotGreet Finds new kept) said goes
 
     module _ (packs_of : R → Packs A) (fails_of : R → PackFails A) (Opens : Result R Bytes → Type 0) (ends : Ends) where
-      -- objects are sent from the repository as the host then opens it, which is served from then on
+      -- the server answers a fetch request from the repository as the host opens it now, and serves that repository
+      -- from then on
       pub record SendsFrom (asked : FetchAsked) (goes_on : Bool) (new : Option R) (said : List Packet)
           (goes : Bool) : Type 0 where
         pub found : R
@@ -95,7 +98,7 @@ module _ {A R : Type 0} (server_of : R → Server A) where
         pub same : server_of packer ≡ server_of found
         pub sends : SaysFetch (server_of found) (packs_of packer) (fails_of packer) asked ends goes_on said goes
 
-      -- the repository that the host opens does not answer it
+      -- the repository that the host opens cannot answer the fetch request
       pub record CannotSendFrom (asked : FetchAsked) (new : Option R) (kept : Option ServeFault)
           (text : Bytes) : Type 0 where
         pub found : R
@@ -105,52 +108,52 @@ module _ {A R : Type 0} (server_of : R → Server A) where
         pub same : server_of packer ≡ server_of found
         pub fault : IsFault says host (FetchRefuses (server_of found) (fails_of packer) asked) kept text
 
-      -- why objects are not sent: the host does not open the repository and has these words; out of memory; or what it
-      -- opens does not answer
+      -- the reasons to reject a fetch request: the host cannot open the repository, there is not enough memory, or the
+      -- opened repository cannot answer
       abbrev pub CannotSend : R → FetchAsked → Option R → Option ServeFault → Bytes → Type 0
       CannotSend repo asked new kept text =
           ((new ≡ Some repo) × (Opens (Err text) ⊎ LacksMemory says host kept text))
           ⊎ CannotSendFrom asked new kept text
 
-      -- what is asked of a repository is answered
+      -- the answer of this repository to a request
       abbrev pub AnswersAsked : R → Asked → Bool → Option R → List Packet → Bool → Type 0
       AnswersAsked repo Empty goes_on new said goes = (new ≡ Some repo) × (said ≡ []) × (goes ≡ false)
       AnswersAsked repo (Ls asked) goes_on new said goes =
           (new ≡ Some repo) × SaysLsAnswer (server_of repo) asked ends goes_on said goes
       AnswersAsked repo (Fetches asked) goes_on new said goes = SendsFrom asked goes_on new said goes
 
-      -- why it is not answered
+      -- the reasons to reject a request
       abbrev pub CannotAnswer : R → Asked → Option R → Option ServeFault → Bytes → Type 0
       CannotAnswer repo Empty new kept text = ⊥
       CannotAnswer repo (Ls asked) new kept text = (new ≡ Some repo) × LacksMemory says host kept text
       CannotAnswer repo (Fetches asked) new kept text = CannotSend repo asked new kept text
 
--- what stays of a side: its host, and how its replies end
+-- the host, and the packets that end each reply, stay the same
 pub record Stays {A H R : Type 0} (old new : ServerSide A H R) : Type 0 where
   pub host : new.host ≡ old.host
   pub ends : new.ends ≡ old.ends
 
--- a side that has heard nothing
+-- a side that has received no message
 pub record IsFresh {A H R : Type 0} (side : ServerSide A H R) : Type 0 where
   pub repo : side.repo ≡ None
   pub requests : side.requests ≡ 0
   pub fault : side.fault ≡ None
 
--- before the first line nothing is said
+-- a side that has received no message sends no packet
 abbrev pub OpensFresh : {A H R : Type 0} → ServerSide A H R → List Packet → Bool → Type 0
 OpensFresh side said goes = IsFresh side × SaysNothing said goes
 
 module _ {A H R : Type 0} (server_of : R → Server A) (packs_of : R → Packs A) (fails_of : R → PackFails A)
     (finds : H → Hello → Result R Bytes → Type 0) (opens : H → R → Result R Bytes → Type 0)
     (says : H → ServeFault → Bytes → Type 0) where
-  -- the packets of a first line are answered by what the host finds for it
+  -- the packets are a first line, and the answer fits the repository that the host finds for this line
   pub record AnswersFirst (old new : ServerSide A H R) (lines said : List Packet) (goes : Bool) : Type 0 where
     pub asked : Hello
     pub says_so : hello.Says lines asked
     pub answers : AnswersHello server_of says old.host.now (finds old.host.now asked) new.repo new.fault said goes
     pub requests : new.requests ≡ old.requests
 
-  -- the packets of a request are answered; or the packet of an error is said
+  -- the packets are a request, and the answer fits the request or is an error packet
   pub record AnswersRequest (repo : R) (old new : ServerSide A H R) (lines said : List Packet)
       (goes : Bool) : Type 0 where
     pub asked : Asked
@@ -161,7 +164,7 @@ module _ {A H R : Type 0} (server_of : R → Server A) (packs_of : R → Packs A
         repo asked new.repo new.fault) said goes
     pub requests : new.requests ≡ count_request asked old.requests
 
-  -- the packets of a message are answered
+  -- the packets are a message, and the answer fits this message
   abbrev pub AnswersBy : Option R → ServerSide A H R → ServerSide A H R → List Packet → List Packet → Bool → Type 0
   AnswersBy None old new lines said goes = AnswersFirst old new lines said goes
   AnswersBy (Some repo) old new lines said goes = AnswersRequest repo old new lines said goes
@@ -171,7 +174,7 @@ module _ {A H R : Type 0} (server_of : R → Server A) (packs_of : R → Packs A
     pub answers : AnswersBy old.repo old new lines said goes
     pub quiet : (new.fault ≡ old.fault) ⊎ (goes ≡ false)
 
--- a message is refused by its grammar: the host's words for that are said, and the fault is kept
+-- the grammar rejects a message: the server sends the host's text for this fault, and stores the fault
 pub record RefusesMessage {A H R : Type 0} (says : H → ServeFault → Bytes → Type 0) (old : ServerSide A H R)
     (fault : MessageFault) (said : List Packet) (new : ServerSide A H R) : Type 0 where
   pub stays : Stays old new
@@ -181,7 +184,7 @@ pub record RefusesMessage {A H R : Type 0} (says : H → ServeFault → Bytes �
   pub words : IsFault says old.host.now (λ it. it ≡ serve.Request fault) new.fault text
   pub all : said ≡ text_packets text
 
--- which packets of the next message bring something to keep
+-- whether a packet of the next message has contents to store
 abbrev pub side_brings : {R : Type 0} → Option R → List Packet → Packet → Bool
 side_brings None = hello.brings
 side_brings (Some repo) = request.brings

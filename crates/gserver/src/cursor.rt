@@ -1,4 +1,4 @@
-//! Packets that are sent step by step.
+//! Replies that are sent in steps of at most one packet.
 
 ghost use Rattle.std.specs.Prelude.{◌≡◌, ◌<◌, ◌≤◌, ◌+◌, [], Bool, List, length, ℕ};
 ghost use Rattle.gpkt.specs.Packets.{Packet, max_packet};
@@ -13,22 +13,22 @@ use std::alloc::Allocator;
 // The maximum number of steps in one call.
 const MOST_STEPS: usize = 1024;
 
-/// Packets that are sent step by step.
+/// A reply that is sent in steps of at most one packet.
 pub(crate) trait Cursor {
-    // The packets that it may still send, and whether the dialogue then goes on.
+    // The packets that may complete the reply, and whether the dialogue then continues.
     ghost may: { Self → List Packet → Bool → Type 0 };
 
-    // The most steps that are left.
+    // The maximum number of steps left.
     ghost steps: { Self → ℕ };
 
-    /// Sends at most one packet: the next.
+    /// Queues the next packet of the reply, or no packet.
     fn step<B: Allocator + Copy>(&mut self, out: &mut Outgoing<B>) -> Said
         requires { length out.old + max_packet ≤ queue_room }
         ensures { Advances (may self.old) (may self.new) (steps self.old) (steps self.new) out.old
             out.new result };
 }
 
-/// Sends packets while there is room for one of any size, in at most 1,024 steps.
+/// Queues packets while there is room for a packet of the maximum size, in at most 1,024 steps.
 pub(crate) fn say_some<C: Cursor, B: Allocator + Copy>(
     cursor: &mut C,
     out: &mut Outgoing<B>,

@@ -6,10 +6,10 @@ ghost use Rattle.gserver.specs.ErrTexts.{max_text};
 use arrayvec::ArrayVec;
 use std::marker::Model;
 
-// The maximum length in bytes of a text.
+// The maximum number of bytes of an error text.
 const MAX_TEXT: usize = 512;
 
-/// The text of an error, at most 512 bytes.
+/// The text of an error packet, of at most 512 bytes.
 #[derive(Drop)]
 pub struct ErrText {
     text: ArrayVec<u8, MAX_TEXT>,
@@ -36,7 +36,7 @@ impl ErrText {
         }
     }
 
-    /// Appends bytes, as many as there is room for.
+    /// Appends as many of these bytes as fit.
     pub fn add(&mut self, words: &[u8])
         ensures { self.new ≡ take max_text (self.old ++ words.now) }
     {

@@ -1,4 +1,4 @@
-//! The reply to a request for objects (gitprotocol-v2(5), "fetch"), whose pack arrives in parts.
+//! The reply to a fetch request (gitprotocol-v2(5), "fetch"), whose pack arrives in parts.
 
 ghost use Rattle.std.specs.Prelude.{Bool, List, MatchResult};
 ghost use Rattle.gpkt.specs.Packets.{Packet};
@@ -14,11 +14,11 @@ use gparts::PartPacker;
 use grequest::FetchRequest;
 use std::alloc::Allocator;
 
-/// Returns the reply of a server to a request for objects. The packer begins a pack before anything
+/// Returns the reply of a server to a fetch request. The packer starts the pack before any packet
 /// is sent.
 ///
-/// Fails as `ganswer::Server::answer_fetch` does. With `goes_on` the next request is heard after
-/// the reply.
+/// Fails as `ganswer::Server::answer_fetch` does. If `goes_on` is true, the connection accepts
+/// another request after the reply.
 pub fn speak_fetch<A: Allocator + Copy, R: PartPacker<A> + Drop>(
     server: &Server<A>,
     packer: R,

@@ -1,4 +1,4 @@
-//! The pieces of a pack, as its packer returns it in parts.
+//! The packets of a pack that its packer returns in parts.
 
 ghost use Rattle.std.specs.Prelude.{◌≡◌, ◌<◌, ◌≤◌, ◌+◌, List, [], ℕ, length, MatchResult, Some};
 ghost use Rattle.gpkt.specs.Packets.{max_packet};
@@ -11,18 +11,18 @@ use gpkt::MAX_BAND;
 use gtalk::Outgoing;
 use std::alloc::Allocator;
 
-/// The part of a pack that was sent.
+/// The result of queuing one piece of a pack.
 pub(crate) enum Piece {
-    /// A piece, after which more may follow.
+    /// A piece was queued, and more may follow.
     More,
-    /// The last piece, or none if none was left.
+    /// The last piece was queued, or no piece was left.
     Whole,
-    /// Nothing, because the packer failed.
+    /// The packer failed, and nothing was queued.
     Failed(PackFault),
 }
 
-/// Sends the next piece of a pack (gitprotocol-pack(5), "Packfile Data"), of the largest size
-/// unless it is the last.
+/// Queues the next piece of a pack (gitprotocol-pack(5), "Packfile Data"). Each piece except the
+/// last has the maximum size.
 pub(crate) fn say_piece<A: Allocator + Copy, B: Allocator + Copy, K: PartPacker<A>>(
     packer: &K,
     parts: &mut K::Parts,
@@ -47,8 +47,8 @@ pub(crate) fn say_piece<A: Allocator + Copy, B: Allocator + Copy, K: PartPacker<
     }
 }
 
-// Fills a buffer with the next bytes of a pack, and returns their length. It is less than the room
-// only if no more are left.
+// Fills a buffer with the next bytes of a pack, and returns their number. The number is less than
+// the size of the buffer only if the pack has ended.
 fn fill<A: Allocator + Copy, K: PartPacker<A>>(
     packer: &K,
     parts: &mut K::Parts,
@@ -71,7 +71,7 @@ fn fill<A: Allocator + Copy, K: PartPacker<A>>(
     Ok(count)
 }
 
-// Puts the next part of a pack into a buffer, after the bytes already there.
+// Writes the next part of a pack into a buffer, after the bytes that are already in it.
 fn put_part<A: Allocator + Copy, K: PartPacker<A>>(
     packer: &K,
     parts: &mut K::Parts,

@@ -1,4 +1,5 @@
-//! The advertisement of a server, packet by packet (gitprotocol-v2(5), "Capability Advertisement").
+//! The advertisement of a server, sent packet by packet (gitprotocol-v2(5), "Capability
+//! Advertisement").
 
 ghost use Rattle.std.specs.Prelude.{◌≡◌, ◌≤◌, IfSome, length};
 ghost use Rattle.ggrammar.specs.Capabilities.{capability_text, max_capability};
@@ -14,15 +15,16 @@ use ghello::Advert;
 use gtalk::Outgoing;
 use std::alloc::Allocator;
 
-// The maximum length in bytes of a capability's text.
+// The maximum number of bytes of a capability's text.
 const MAX_TEXT: usize = 2 * MAX_CAPABILITY + 1;
 
 /// The next packet of an advertisement.
 #[derive(Clone, Copy)]
 pub(crate) enum NextPart {
-    /// The version of the protocol.
+    /// The packet with the version of the protocol.
     Version,
-    /// The capability at this index, or the flush packet after the last one.
+    /// The packet of the capability at this position, or the flush packet after the last
+    /// capability.
     Capability(usize),
 }
 
@@ -34,7 +36,7 @@ pub struct Greeting<A: Allocator + Copy> {
 }
 
 impl<A: Allocator + Copy> Greeting<A> {
-    /// Returns all of an advertisement.
+    /// Returns the complete advertisement, of which no packet is sent yet.
     pub fn new(advert: Advert<A>) -> Greeting<A>
         ensures advert { result.advert ≡ advert }
         ensures next { result.next ≡ NextPart.Version }
@@ -74,7 +76,7 @@ impl<A: Allocator + Copy> Cursor for Greeting<A> {
     }
 }
 
-// Returns the text of a capability.
+// Returns the text of a capability, as its packet contains it.
 fn text_of(capability: Capability<'_>) -> ArrayVec<u8, MAX_TEXT>
     requires key { length capability.key.now ≤ max_capability }
     requires value { IfSome capability.value (λ value. length value.now ≤ max_capability) }

@@ -1,4 +1,4 @@
-//! The hosts whose repositories are served.
+//! The host, which owns the repositories that a server serves.
 
 ghost use Rattle.std.specs.Prelude.{◌≡◌, IfOk};
 
@@ -7,51 +7,53 @@ use ganswer::{ServeFault, Server};
 use ghello::Hello;
 use std::alloc::{AllocError, Allocator};
 
-/// A repository as a connection serves it. It is a handle, of which there may be several.
+/// A handle of a repository that a connection serves. One repository may have several handles.
 pub trait ServedRepository<A: Allocator + Copy> {
     ghost use Rattle.ganswer.specs.Servers.{Server};
 
-    // The server: its history, refs and HEAD.
+    // The history, refs and HEAD of the repository.
     ghost server: { Self → Server A };
 
-    /// Returns its history, refs and HEAD.
+    /// Returns the history, refs and HEAD of the repository.
     fn server(&self) -> &Server<A>
         ensures { result.now ≡ server self.now };
 
-    /// Returns another handle of it. Fails only if out of memory.
+    /// Returns another handle of the repository. Fails only if there is not enough memory.
     fn handle(&self) -> Result<Self, AllocError>
         ensures { IfOk result (λ other. server other ≡ server self.now) };
 }
 
-/// The owner of the repositories, for all connections of a server.
+/// The owner of the repositories, shared by all connections of a server.
 ///
-/// `finds`, `opens` and `says` limit its results. A host without them may return anything.
+/// `finds`, `opens` and `says` limit the results of the three methods. A host that does not define
+/// them may return anything.
 pub trait Host<A: Allocator + Copy, R> {
     ghost use Rattle.std.specs.Prelude.{Result, ⊤};
     ghost use Rattle.gpkt.specs.Packets.{Bytes};
     ghost use Rattle.ghello.specs.Hello.{Hello};
     ghost use Rattle.ganswer.specs.declared.fault.ServeFault.{ServeFault};
 
-    // For this first line it may find this repository, or return this text.
+    // The repositories that the host may find for this first line, and the texts of its errors.
     ghost finds: { Self → Hello → Result R Bytes → Type 0 } = { λ _ _ _. ⊤ };
 
-    // For this repository it may open that one, or return this text.
+    // The repositories that the host may return when it opens this one, and the texts of its
+    // errors.
     ghost opens: { Self → R → Result R Bytes → Type 0 } = { λ _ _ _. ⊤ };
 
-    // For this fault it may return this text.
+    // The texts that the host may return for this fault.
     ghost says: { Self → ServeFault → Bytes → Type 0 } = { λ _ _ _. ⊤ };
 
-    /// Returns the repository that a first line asks for. Fails with a text for the client if there
-    /// is none.
+    /// Returns the repository that the first line asks for. Fails with a text for the client if the
+    /// host has no such repository.
     fn find(&self, hello: &Hello<A>) -> Result<R, ErrText>
         ensures { finds self.now hello.now result };
 
     /// Returns the same repository, ready to pack its objects. Fails with a text for the client if
-    /// it cannot be read.
+    /// the repository cannot be read.
     fn open(&self, repo: &R) -> Result<R, ErrText>
         ensures { opens self.now repo.now result };
 
-    /// Returns the text for a client whose message has this fault.
+    /// Returns the text to send to the client after this fault.
     fn words(&self, fault: &ServeFault) -> ErrText
         ensures { says self.now fault.now result };
 }

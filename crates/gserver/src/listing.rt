@@ -1,4 +1,4 @@
-//! The reply to a request for refs, line by line (gitprotocol-v2(5), "ls-refs").
+//! The reply to an ls-refs request, sent line by line (gitprotocol-v2(5), "ls-refs").
 
 ghost use Rattle.std.specs.Prelude.{◌≡◌, ◌≤◌, ◌+◌, length};
 ghost use Rattle.gpkt.specs.Packets.{max_packet};
@@ -15,32 +15,33 @@ use grequest::LsRefsRequest;
 use gtalk::Outgoing;
 use std::alloc::Allocator;
 
-/// The next line of a reply.
+/// The next packet of the reply.
 #[derive(Clone, Copy)]
 pub(crate) enum NextLine {
-    /// The target of an unborn HEAD.
+    /// The line with the target of an unborn HEAD.
     Unborn,
     /// The line of HEAD.
     Head,
-    /// The line of the ref at this index, or the flush packet after the last one.
+    /// The line of the ref at this position, or the flush packet after the last ref.
     Ref(usize),
-    /// The packet that ends the response.
+    /// The response-end packet, on a stateless connection.
     ResponseEnd,
 }
 
-/// The refs that a request asks for, sent line by line. The server lends the names.
+/// The reply to an ls-refs request, sent line by line. The names of refs are borrowed from the
+/// server, not copied.
 #[derive(Drop)]
 pub struct Listing<A: Allocator + Copy, R> {
     pub(crate) repo: R,
     pub(crate) asked: LsRefsRequest<A>,
     pub(crate) ends: Ends,
-    // Whether the next request is heard after the reply.
+    // Whether the connection accepts another request after the reply.
     pub(crate) goes_on: bool,
     pub(crate) next: NextLine,
 }
 
 impl<A: Allocator + Copy, R> Listing<A, R> {
-    /// Returns all of the reply to a request.
+    /// Returns the complete reply to a request, of which no packet is sent yet.
     pub fn new(repo: R, asked: LsRefsRequest<A>, ends: Ends, goes_on: bool) -> Listing<A, R>
         ensures repo { result.repo ≡ repo }
         ensures asked { result.asked ≡ asked }
@@ -85,7 +86,7 @@ impl<A: Allocator + Copy, R: ServedRepository<A>> Cursor for Listing<A, R> {
 }
 
 impl<A: Allocator + Copy, R: ServedRepository<A>> Listing<A, R> {
-    // Sends the line of the ref at an index, or the flush packet after the last.
+    // Queues the line of the ref at this position, or the flush packet after the last ref.
     fn step_ref<B: Allocator + Copy>(&mut self, at: usize, out: &mut Outgoing<B>) -> Said
         requires room { length out.old + max_packet ≤ queue_room }
         requires next { self.old.next ≡ NextLine.Ref at }
@@ -115,7 +116,7 @@ impl<A: Allocator + Copy, R: ServedRepository<A>> Listing<A, R> {
     }
 }
 
-// Returns how a reply ends.
+// Returns the result at the end of a reply, depending on whether the dialogue continues.
 fn said_at_end(goes_on: bool) -> Said
     ensures { result ≡ said_at_end goes_on }
 {

@@ -1,5 +1,5 @@
-//! The refs that a request asks for, line by line (gitprotocol-v2(5), "ls-refs"). The server lends
-//! the names.
+//! The lines of the requested refs (gitprotocol-v2(5), "ls-refs"). The names of refs are borrowed
+//! from the server, not copied.
 
 ghost use Rattle.std.specs.Prelude.{◌≡◌, ◌≤◌, ◌+◌, ◌++◌, length, map};
 ghost use Rattle.std.specs.Option.{option_copied};
@@ -16,7 +16,7 @@ use grequest::LsRefsRequest;
 use gtalk::Outgoing;
 use std::alloc::Allocator;
 
-/// Sends the target of an unborn HEAD, if the request asks for it and HEAD is unborn.
+/// Queues the line with the target of HEAD, if HEAD is unborn and the request asks for it.
 pub(crate) fn say_unborn<A: Allocator + Copy, B: Allocator + Copy>(
     server: &Server<A>,
     asked: &LsRefsRequest<A>,
@@ -36,7 +36,7 @@ pub(crate) fn say_unborn<A: Allocator + Copy, B: Allocator + Copy>(
     }
 }
 
-/// Sends the line of HEAD, if HEAD has an id and the request asks for it.
+/// Queues the line of HEAD, if HEAD has an id and the request asks for HEAD.
 pub(crate) fn say_head<A: Allocator + Copy, B: Allocator + Copy>(
     server: &Server<A>,
     asked: &LsRefsRequest<A>,
@@ -55,8 +55,8 @@ pub(crate) fn say_head<A: Allocator + Copy, B: Allocator + Copy>(
     }
 }
 
-/// Sends the line of the ref at an index, if the request asks for it. Returns whether there is a
-/// ref.
+/// Queues the line of the ref at this position, if the request asks for this ref. Returns whether
+/// the server has a ref at this position.
 pub(crate) fn say_ref<A: Allocator + Copy, B: Allocator + Copy>(
     server: &Server<A>,
     asked: &LsRefsRequest<A>,
@@ -77,7 +77,7 @@ pub(crate) fn say_ref<A: Allocator + Copy, B: Allocator + Copy>(
     }
 }
 
-// Sends a line, if there is one.
+// Queues a line, if there is one.
 fn say_line<A: Allocator + Copy, B: Allocator + Copy>(
     line: Option<&LentLine<'_, A>>,
     out: &mut Outgoing<B>,

@@ -12,14 +12,14 @@ use gparts::PartPacker;
 use gtalk::Outgoing;
 use std::alloc::Allocator;
 
-/// The reply of a server to a message, packet by packet. Packs are never whole in memory.
+/// The reply of a server to a message, sent packet by packet. A pack is never whole in memory.
 #[derive(Drop)]
 pub enum ServerReply<A: Allocator + Copy, R, P> {
-    /// Its advertisement.
+    /// The advertisement of a repository.
     Greeting(Greeting<A>),
-    /// Its refs.
+    /// The reply to an ls-refs request.
     Listing(Listing<A, R>),
-    /// A reply to a request for objects, an error packet, or nothing.
+    /// The reply to a fetch request, an error packet, or no packet.
     Speech(Speech<A, R, P>),
 }
 

@@ -1,4 +1,4 @@
-//! The reply of a server, packet by packet.
+//! The reply to a fetch request, sent packet by packet.
 
 ghost use Rattle.std.specs.Prelude.{◌≡◌, ◌≤◌, ◌+◌, Bool, length};
 ghost use Rattle.gpkt.specs.Packets.{max_packet};
@@ -17,37 +17,37 @@ use gparts::PartPacker;
 use gtalk::Outgoing;
 use std::alloc::Allocator;
 
-/// The next packets of a reply.
+/// The next packet of a reply, and the data for the packets after it.
 #[derive(Drop)]
 pub(crate) enum Rest<A: Allocator + Copy, R, P> {
     Nothing,
     /// An error packet.
     Refusal(ErrText),
     AckHeading(Acks<A>, Option<(R, P)>),
-    /// The acknowledged id at this index, or what follows them.
+    /// The acknowledgment of the id at this position, or the packet after the last acknowledgment.
     Ack(Acks<A>, usize, Option<(R, P)>),
     Nak,
-    /// The delimiter packet before the section of a pack.
+    /// The delimiter packet before the section of the pack.
     Delim(R, P),
     PackHeading(R, P),
-    /// The next piece of a pack, or its end.
+    /// The next piece of a pack, or the end of the pack.
     Pack(R, P),
     Flush,
     ResponseEnd,
 }
 
-/// The part that follows after a step.
+/// The result of one step of a reply.
 #[derive(Drop)]
 pub(crate) enum Stepped<A: Allocator + Copy, R, P> {
-    /// More of the reply.
+    /// More packets of the reply follow.
     More(Rest<A, R, P>),
-    /// The next request is heard.
+    /// The reply is complete, and the dialogue continues.
     Whole,
-    /// Nothing.
+    /// The reply is complete, and the dialogue has ended.
     Last,
 }
 
-/// Sends at most one packet: the next.
+/// Queues the next packet of the reply, or no packet.
 pub(crate) fn step<A: Allocator + Copy, B: Allocator + Copy, R: PartPacker<A> + Drop>(
     rest: Rest<A, R, R::Parts>,
     ends: Ends,
@@ -89,7 +89,7 @@ pub(crate) fn step<A: Allocator + Copy, B: Allocator + Copy, R: PartPacker<A> + 
     }
 }
 
-// Returns the rest after the heading of the acknowledgments.
+// Returns the state of the reply after the heading of the acknowledgments.
 fn after_heading<A: Allocator + Copy, R: Drop, P: Drop>(
     acks: Acks<A>,
     pack: Option<(R, P)>,
@@ -103,7 +103,8 @@ fn after_heading<A: Allocator + Copy, R: Drop, P: Drop>(
     }
 }
 
-// Sends the acknowledged id at an index, if there is one, or reports that enough is common.
+// Queues the acknowledgment of the id at this position. After the last id, queues `ready` if a pack
+// follows.
 fn say_ack<A: Allocator + Copy, B: Allocator + Copy, R: PartPacker<A> + Drop>(
     acks: Acks<A>,
     at: usize,
@@ -129,7 +130,7 @@ fn say_ack<A: Allocator + Copy, B: Allocator + Copy, R: PartPacker<A> + Drop>(
     }
 }
 
-// Sends the next piece of a pack. If the packer failed, its fault is sent as the last packet.
+// Queues the next piece of a pack. If the packer fails, the last packet reports the fault.
 fn say_pack<A: Allocator + Copy, B: Allocator + Copy, R: PartPacker<A> + Drop>(
     packer: R,
     mut parts: R::Parts,
@@ -149,7 +150,7 @@ fn say_pack<A: Allocator + Copy, B: Allocator + Copy, R: PartPacker<A> + Drop>(
     }
 }
 
-// Sends the flush packet that ends a reply.
+// Queues the flush packet that ends a reply.
 fn say_flush<A: Allocator + Copy, B: Allocator + Copy, R: PartPacker<A> + Drop>(
     ends: Ends,
     goes_on: bool,
@@ -165,7 +166,7 @@ fn say_flush<A: Allocator + Copy, B: Allocator + Copy, R: PartPacker<A> + Drop>(
     }
 }
 
-// Returns how a reply ends.
+// Returns the result at the end of a reply, depending on whether the dialogue continues.
 fn end_of<A: Allocator + Copy, R, P>(goes_on: bool) -> Stepped<A, R, P>
     ensures { result ≡ end_of goes_on }
 {
@@ -176,7 +177,7 @@ fn end_of<A: Allocator + Copy, R, P>(goes_on: bool) -> Stepped<A, R, P>
     }
 }
 
-// Returns the text for a client about a failed packer.
+// Returns the text that reports a packer's fault to the client.
 fn words_of(fault: PackFault) -> &'static str
     ensures words { result.now ≡ pack_fault_text fault }
     ensures few { length result.now ≤ max_words }

@@ -28,27 +28,26 @@ use gparts::PartPacker;
 use grequest::{FetchRequest, LsRefsRequest, Request, RequestReader};
 use std::alloc::Allocator;
 
-/// The maximum number of requests of a connection after which another is heard.
+/// The maximum number of requests after which a connection accepts another request.
 pub const MAX_REQUESTS: u32 = u32::MAX;
 
-/// The server's end of a connection. It hears a first line, which names a repository, and then one
-/// request after the other.
+/// The server's end of a connection. The server receives a first line, which names a repository,
+/// and then one request after another.
 ///
-/// A message that is refused, or that it cannot answer, gets an error packet. Nothing more is heard
-/// then.
+/// A message that is refused or cannot be answered gets an error packet. The connection then ends.
 #[derive(Drop)]
 pub struct ServerSide<'h, A: Allocator + Copy, H, R> {
     host: &'h H,
     alloc: A,
     ends: Ends,
-    // `None` before the first line.
+    // The served repository, or `None` before the first line.
     repo: Option<R>,
     requests: u32,
     fault: Option<ServeFault>,
 }
 
 impl<'h, A: Allocator + Copy, H, R> ServerSide<'h, A, H, R> {
-    /// Returns a side that has heard nothing.
+    /// Returns a side that has received no message.
     pub fn new(host: &'h H, alloc: A, ends: Ends) -> ServerSide<'h, A, H, R>
         ensures fresh { IsFresh result }
         ensures host { result.host.now ≡ host.now }
@@ -71,15 +70,15 @@ impl<'h, A: Allocator + Copy, H, R> ServerSide<'h, A, H, R> {
         self.repo.as_ref()
     }
 
-    /// Returns how many requests were answered, or are being answered. It stays at [`MAX_REQUESTS`]
-    /// if there is one more.
+    /// Returns the number of requests that were answered or are being answered. The number never
+    /// exceeds [`MAX_REQUESTS`], even after one more request.
     pub fn requests(&self) -> u32
         ensures { result ≡ self.now.requests }
     {
         self.requests
     }
 
-    /// Returns the fault for which this side refused a message, if there was one.
+    /// Returns the fault for which this side refused a message, or `None`.
     pub fn fault(&self) -> Option<&ServeFault>
         ensures { option_copied result ≡ self.now.fault }
     {
@@ -93,7 +92,7 @@ where
     H: Host<A, R>,
     R: ServedRepository<A> + PartPacker<A> + Drop,
 {
-    // Returns the text for a message that does not belong here.
+    // Returns the text for a message of the wrong kind at this stage of the connection.
     fn unexpected_message(&mut self) -> ErrText
         ensures repo { self.new.repo ≡ self.old.repo }
         ensures requests { self.new.requests ≡ self.old.requests }
@@ -103,7 +102,7 @@ where
         words::<A, H, R>(self.host, &mut self.fault, ServeFault::Request(fault))
     }
 
-    // Finds the repository that the first line asks for.
+    // Replies to the first line with the advertisement of the repository that the host finds.
     fn greet(&mut self, hello: &Hello<A>) -> Result<ServerReply<A, R, R::Parts>, ErrText>
         requires { self.old.repo ≡ None }
         ensures greets { MatchResult result (λ reply. (said : List Packet) (goes : Bool)
@@ -126,7 +125,7 @@ where
         }
     }
 
-    // Replies to the first line.
+    // Answers the first line of a connection.
     fn answer_hello(&mut self, hello: Option<Hello<A>>) -> Answer<ServerReply<A, R, R::Parts>>
         ensures answers { (asked : first_line.Hello) → hello ≡ Some asked → self.old.repo ≡ None
             → (said : List Packet) (goes : Bool) → MayAnswer (may_of R.server R.gives) result said goes
@@ -150,7 +149,7 @@ where
         answer_of::<A, R>(greeted, true)
     }
 
-    // Replies to a request.
+    // Answers a request.
     fn answer_request(&mut self, request: Request<A>) -> Answer<ServerReply<A, R, R::Parts>>
         ensures answers { (repo : R) → self.old.repo ≡ Some repo → (said : List Packet) (goes : Bool)
             → MayAnswer (may_of R.server R.gives) result said goes
@@ -183,7 +182,7 @@ where
         }
     }
 
-    // Replies to a request for refs.
+    // Returns the reply to an ls-refs request.
     fn list(
         &mut self,
         asked: LsRefsRequest<A>,
@@ -213,7 +212,7 @@ where
         }
     }
 
-    // Replies to a request for objects, from the repository as it is now.
+    // Returns the reply to a fetch request, from the repository as the host opens it now.
     fn send(
         &mut self,
         asked: &FetchRequest<A>,
@@ -248,7 +247,7 @@ where
     }
 }
 
-// Returns the host's text for a fault, and keeps the fault.
+// Returns the host's text for a fault, and stores the fault.
 fn words<A: Allocator + Copy, H: Host<A, R>, R>(
     host: &H,
     kept: &mut Option<ServeFault>,
@@ -262,7 +261,7 @@ fn words<A: Allocator + Copy, H: Host<A, R>, R>(
     words
 }
 
-// Counts a request, and returns whether there may be more after it.
+// Counts a request, and returns whether the connection accepts another request.
 fn count(requests: &mut u32) -> bool
     ensures goes { result ≡ goes_on_after requests.old }
     ensures counts { requests.new ≡ min (requests.old + 1) max_requests }
@@ -272,7 +271,7 @@ fn count(requests: &mut u32) -> bool
     goes_on
 }
 
-// Returns an error packet, as the last reply.
+// Returns an error packet as the last answer.
 fn refusal_of<A: Allocator + Copy, R: ServedRepository<A> + PartPacker<A>>(
     text: ErrText,
 ) -> Answer<ServerReply<A, R, R::Parts>>
@@ -281,7 +280,7 @@ fn refusal_of<A: Allocator + Copy, R: ServedRepository<A> + PartPacker<A>>(
     Answer::Last(ServerReply::Speech(Speech::refusal_of(text)))
 }
 
-// Returns the reply and whether the dialogue goes on, or an error packet.
+// Returns an answer with this reply, or with an error packet.
 fn answer_of<A: Allocator + Copy, R: ServedRepository<A> + PartPacker<A>>(
     answered: Result<ServerReply<A, R, R::Parts>, ErrText>,
     goes_on: bool,

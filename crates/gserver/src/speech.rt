@@ -1,4 +1,4 @@
-//! The reply to a request for objects, and an error packet.
+//! The reply to a fetch request, or an error packet.
 
 ghost use Rattle.std.specs.Prelude.{◌≡◌};
 
@@ -12,19 +12,19 @@ use gtalk::Outgoing;
 use std::alloc::Allocator;
 use std::mem;
 
-/// The reply to a request for objects, an error packet, or nothing.
+/// The reply to a fetch request, an error packet, or no packet.
 ///
 /// The pack arrives from its packer one piece at a time, and is never whole in memory.
 #[derive(Drop)]
 pub struct Speech<A: Allocator + Copy, R, P> {
     pub(crate) rest: Rest<A, R, P>,
     pub(crate) ends: Ends,
-    // Whether the next request is heard after a reply.
+    // Whether the connection accepts another request after the reply.
     pub(crate) goes_on: bool,
 }
 
 impl<A: Allocator + Copy, R, P> Speech<A, R, P> {
-    /// Returns an error packet, after which nothing more is heard.
+    /// Returns a reply of one error packet, which ends the connection.
     pub fn refusal_of(text: ErrText) -> Speech<A, R, P>
         ensures { result.rest ≡ Rest.Refusal text }
     {
@@ -35,7 +35,7 @@ impl<A: Allocator + Copy, R, P> Speech<A, R, P> {
         }
     }
 
-    /// Returns no packets, after which nothing more is heard.
+    /// Returns a reply without packets, which ends the connection.
     pub fn silent() -> Speech<A, R, P>
         ensures { result.rest ≡ Rest.Nothing }
     {

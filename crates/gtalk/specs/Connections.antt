@@ -1,4 +1,4 @@
--- A connection: the bytes that came and went, and the packets that were heard and said.
+-- A connection: the bytes received and sent, and the packets received and queued.
 use Rattle.std.specs.Prelude.{◌≡◌, ℕ, ◌+◌, ◌⊎◌, ◌++◌, List, [], length, drop, Bool}
 use Rattle.std.specs.Prelude.{true, false, Option, Some, None, IsSome, Result, Ok, Err}
 use Rattle.std.specs.Io.KnownBytes.{Appends, Consumes}
@@ -14,19 +14,19 @@ use Rattle.gtalk.specs.declared.conversation.Turn.TheVariants.{Listens, Speaks, 
 use Rattle.gtalk.specs.declared.fault.TalkFault.{TalkFault}
 use Rattle.gtalk.specs.declared.fault.TalkFault.TheVariants.{Io, Memory}
 
--- the bytes that came are the packets that were heard, and these bytes after them
+-- the received bytes encode the received packets, and the bytes `partial` follow
 pub record Spelt (heard : List Packet) (partial received : Bytes) : Type 0 where
   pub front : Bytes
   pub parts : received ≡ front ++ partial
   pub spells : SpellsAll heard front
 
--- the bytes of a queue, which is made when something is said for the first time
+-- the bytes of the send queue, which is allocated when a packet is first queued
 abbrev pub bytes_in : Option Bytes → Bytes
 bytes_in None = []
 bytes_in (Some bytes) = bytes
 
--- Where nothing was said before, all that had been passed on is passed on, and perhaps more. Where something was said,
--- all that was written till then is passed on, and perhaps more.
+-- if no packets were queued, the flushed bytes stay flushed; otherwise, all bytes written before the last turn are
+-- flushed
 abbrev pub HasPassed : Bytes → Option Bytes → Change → Change → Type 0
 HasPassed said between written passed_on =
     ((said ≡ []) × KeepsPassed passed_on)
@@ -34,35 +34,35 @@ HasPassed said between written passed_on =
     → (bytes : Bytes) × (more : Bytes) × (between ≡ Some bytes) × (passed_on.new ≡ Some (bytes ++ more)))
 
 module _ {C A : Type 0} where
-  -- what a clause reads of a connection
+  -- the conversation of the connection
   abbrev pub conversation_of : Connection C A → C
   conversation_of connection = connection.conversation
 
   abbrev pub has_stopped : Connection C A → Option Stop
   has_stopped connection = connection.stopped
 
-  -- the bytes that are kept of the packet that is coming
+  -- the stored bytes of the incomplete packet
   abbrev pub partial_of : Connection C A → Bytes
   partial_of connection = connection.incoming
 
-  -- the bytes that are still to be sent
+  -- the queued bytes that are not sent yet
   abbrev pub pending_of : Connection C A → Bytes
   pending_of connection = drop connection.sent (bytes_in connection.outgoing)
 
-  -- nothing more is heard or said: the conversation is done, or it listens and no packet comes any more
+  -- the conversation is done, or it listens although no more packets arrive
   abbrev pub IsDone : (C → Turn) → Connection C A → Type 0
   IsDone turn connection =
       (turn connection.conversation ≡ Done)
       ⊎ ((turn connection.conversation ≡ Listens) × ((why : Stop) × (connection.stopped ≡ Some why)))
 
-  -- whose turn it is on a connection
+  -- the end whose turn it is on a connection
   abbrev pub IsTurn : (C → Turn) → Connection C A → Turn → Type 0
   IsTurn turn connection Listens = (turn connection.conversation ≡ Listens) × (connection.stopped ≡ None)
   IsTurn turn connection Speaks = turn connection.conversation ≡ Speaks
   IsTurn turn connection Done = IsDone turn connection
 
-  -- These bytes came and these were sent: they are those of a talk that the conversation holds. What it said and what
-  -- is not sent yet waits.
+  -- The received and sent bytes match a history that the conversation accepts. The queued packets are encoded as the
+  -- sent bytes and then the pending bytes.
   pub record Holds (holds : C → Talk → Type 0) (connection : Connection C A) (received sent : Bytes) : Type 0 where
     pub talk : Talk
     pub held : holds connection.conversation talk
@@ -73,39 +73,39 @@ module _ {C A : Type 0} where
     pub kept : IsKept connection.stopped partial connection.incoming
     pub said : canonical_all talk.said ≡ sent ++ drop connection.sent (bytes_in connection.outgoing)
 
-  -- some bytes came and some were sent of which this holds
+  -- there are received and sent bytes that match the state of the connection
   abbrev pub IsHeld : (C → Talk → Type 0) → Connection C A → Type 0
   IsHeld holds connection = (received : Bytes) × (sent : Bytes) × Holds holds connection received sent
 
-  -- from one state to the other these bytes were received, and these were sent
+  -- between the two states, these bytes are received and these bytes are sent
   abbrev pub Moves : (C → Talk → Type 0) → Connection C A → Connection C A → Bytes → Bytes → Type 0
   Moves holds old new more said =
       (received sent : Bytes) → Holds holds old received sent → Holds holds new (received ++ more) (sent ++ said)
 
-  -- the conversation is nearer to its end, as far as it held what came and went
+  -- if the old state matches its received and sent bytes, the conversation is nearer to its end
   abbrev pub Advances : (C → Talk → Type 0) → (C → Turn) → (C → Left) → Connection C A → Connection C A → Type 0
   Advances holds turn left old new =
       IsHeld holds old → IsNearer turn left old.conversation new.conversation
 
-  -- so many bytes more are kept of a packet, or the conversation is nearer to its end
+  -- `count` more bytes of a packet are stored, or the conversation is nearer to its end
   abbrev pub Grows : (C → Talk → Type 0) → (C → Turn) → (C → Left) → Connection C A → Connection C A → ℕ → Type 0
   Grows holds turn left old new count =
       ((new.conversation ≡ old.conversation) × (length new.incoming ≡ length old.incoming + count))
       ⊎ Advances holds turn left old new
 
-  -- what was read was received
+  -- the connection receives all bytes that were read
   pub record HearsRead (holds : C → Talk → Type 0) (old new : Connection C A) (read : Change) : Type 0 where
     pub more : Bytes
     pub received : Consumes read.old read.new more
     pub moves : Moves holds old new more []
 
-  -- what was sent was written
+  -- all bytes that the connection sends were written
   pub record SendsSaid (holds : C → Talk → Type 0) (old new : Connection C A) (written : Change) : Type 0 where
     pub said : Bytes
     pub sent : Appends written.old written.new said
     pub moves : Moves holds old new [] said
 
-  -- what was read was received, and what was sent was written
+  -- the connection receives all bytes that were read, and all bytes that it sends were written
   pub record Drives (holds : C → Talk → Type 0) (old new : Connection C A) (read written : Change) : Type 0 where
     pub more : Bytes
     pub said : Bytes
@@ -113,8 +113,8 @@ module _ {C A : Type 0} where
     pub sent : Appends written.old written.new said
     pub moves : Moves holds old new more said
 
-  -- It broke off. Until its last turn began, this was heard and said, and all that was said was sent and passed on.
-  -- Since then some was said, and this was written of it.
+  -- The connection is aborted. At `mid`, the start of its last turn, all queued bytes were sent and flushed. After
+  -- that, a prefix of the bytes queued in the last turn was written.
   pub record BreaksOff (holds : C → Talk → Type 0) (turn : C → Turn) (old new : Connection C A)
       (read written passed_on : Change) : Type 0 where
     pub mid : Connection C A
@@ -125,7 +125,7 @@ module _ {C A : Type 0} where
     pub last : SendsSaid holds mid new (record { old = between; new = written.new })
     pub passed : HasPassed before.said between written passed_on
 
--- whether the sink is down after a conversation was driven, and before it
+-- whether the sink is down after `drive` returned this result, given whether the sink was down before
 abbrev pub LeavesSink : Result Unit TalkFault → Bool → Bool → Type 0
 LeavesSink (Ok done) was_down is_down = is_down ≡ false
 LeavesSink (Err Io) was_down is_down = is_down ≡ true

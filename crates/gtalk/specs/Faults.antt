@@ -1,4 +1,4 @@
--- The texts of faults.
+-- The texts of the faults of a conversation.
 use Rattle.std.specs.Prelude.{codes}
 use Rattle.gpkt.specs.Packets.{Bytes}
 use Rattle.gtalk.specs.declared.fault.TalkFault.{TalkFault}

@@ -1,48 +1,48 @@
--- What one end of a conversation has heard and said, and how much of it is left.
+-- The history of one end of a conversation, and a bound on its remaining turns and steps.
 use Rattle.std.specs.Prelude.{◌≡◌, ◌≢◌, ℕ, ◌*◌, ◌<◌, ◌≤◌, ◌⊎◌, List, [], ◌∷◌, ◌++◌, Option, Some, None}
 use Rattle.gpkt.specs.Packets.{Bytes, Packet, canonical_all, max_packet}
 use Rattle.gtalk.specs.declared.conversation.Stop.{Stop}
 use Rattle.gtalk.specs.declared.conversation.Turn.{Turn}
 
--- the packets that were heard, why no more come where none do, and the packets that were said
+-- the history of a conversation: the packets received, the reason why no more arrive, and the packets queued to send
 pub record Talk : Type 0 where
   pub heard : List Packet
   pub stopped : Option Stop
   pub said : List Packet
 
--- nothing was heard or said
+-- the history in which no packet was received or queued
 abbrev pub no_talk : Talk
 no_talk = record { heard = []; stopped = None; said = [] }
 
--- a packet more was heard
+-- the history with one more packet received
 abbrev pub talk_after : Talk → Packet → Talk
 talk_after talk packet = record { heard = talk.heard ++ packet ∷ []; stopped = talk.stopped; said = talk.said }
 
--- it was heard that no packet comes any more
+-- the history in which no more packets arrive, for this reason
 abbrev pub stop_talk : Talk → Stop → Talk
 stop_talk talk why = record { heard = talk.heard; stopped = Some why; said = talk.said }
 
--- some packets more were said
+-- the history with more packets queued
 abbrev pub talk_with_reply : Talk → List Packet → Talk
 talk_with_reply talk more = record { heard = talk.heard; stopped = talk.stopped; said = talk.said ++ more }
 
--- some packets more were said, as these bytes
+-- these bytes encode packets that the conversation may queue next
 pub record Says (Holds : Talk → Type 0) (talk : Talk) (bytes : Bytes) : Type 0 where
   pub more : List Packet
   pub spelt : bytes ≡ canonical_all more
   pub held : Holds (talk_with_reply talk more)
 
--- how many bytes may wait to be sent: two packets
+-- the maximum number of bytes that wait to be sent: two packets
 abbrev pub queue_room : ℕ
 queue_room = 2 * max_packet
 
--- How much is left of a conversation, at most: how often its turn changes, and how many steps its present turn has. A
--- packet that is heard is a step, and so is one call that says packets.
+-- The maximum number of remaining changes of turn, and of remaining steps of the current turn. Each received packet is
+-- a step, and so is each call that queues packets.
 pub record Left : Type 0 where
   pub turns : ℕ
   pub steps : ℕ
 
--- it comes nearer to its end: by a step of its turn, or by a turn
+-- the conversation is nearer to its end: fewer steps remain in its turn, or fewer turns remain
 abbrev pub IsNearer : {C : Type 0} → (C → Turn) → (C → Left) → C → C → Type 0
 IsNearer turn left old new =
     ((turn new ≡ turn old) × ((left new).turns ≤ (left old).turns) × ((left new).steps < (left old).steps))

@@ -9,22 +9,22 @@ use std::alloc::{Allocator, Global};
 
 /// A conversation, the bytes of an incomplete packet, and the bytes that are still to be sent.
 ///
-/// While it listens, pass received bytes to [`receive`](Connection::receive), at most
+/// While the conversation listens, pass received bytes to [`receive`](Connection::receive), at most
 /// [`receive_limit`](Connection::receive_limit) of them. While it speaks, call
-/// [`speak`](Connection::speak). Send its [`output`](Connection::output), and report the number of
-/// bytes to [`note_sent`](Connection::note_sent).
+/// [`speak`](Connection::speak). Send the bytes of [`output`](Connection::output), and report their
+/// number to [`note_sent`](Connection::note_sent).
 ///
-/// It allocates for received bytes only after the first byte, and for said packets only when it
-/// first speaks.
+/// The buffer for received bytes is allocated with the first received byte, and the send queue when
+/// the conversation first speaks.
 #[derive(Drop)]
 pub struct Connection<C, A: Allocator + Copy = Global> {
     pub(crate) conversation: C,
     pub(crate) alloc: A,
     pub(crate) stopped: Option<Stop>,
     pub(crate) incoming: Incoming<A>,
-    // `None` until it first speaks.
+    // The send queue, or `None` until the conversation first speaks.
     pub(crate) outgoing: Option<Outgoing<A>>,
-    // The number of outgoing bytes that were sent.
+    // The number of bytes of the send queue that were sent.
     pub(crate) sent: usize,
     ghost part: { ∥ IsPartial stopped incoming ∥₁ },
 }

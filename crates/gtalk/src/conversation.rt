@@ -1,4 +1,4 @@
-//! One end of a protocol of packets.
+//! One end of a packet protocol.
 
 ghost use Rattle.std.specs.Prelude.{◌≡◌, []};
 ghost use Rattle.gpkt.specs.Packets.{packet_of};
@@ -11,60 +11,62 @@ use std::alloc::Allocator;
 /// The end whose turn it is.
 #[derive(Clone, Copy, Debug, PartialEq, Eq)]
 pub enum Turn {
-    /// The peer's turn: the conversation hears a packet, or that there are no more.
+    /// The peer's turn: the conversation receives a packet, or the news that no more packets
+    /// arrive.
     Listens,
-    /// Its own turn: it says packets before it hears anything more.
+    /// This end's turn: the conversation queues packets to send, and receives nothing.
     Speaks,
-    /// Nobody's turn: nothing more is heard or said.
+    /// Nobody's turn: no more packets are received or queued.
     Done,
 }
 
-/// Why there are no more packets.
+/// The reason why no more packets arrive.
 #[derive(Clone, Copy, Debug, PartialEq, Eq)]
 pub enum Stop {
     /// The input ended between two packets.
     Ended,
-    /// The received bytes are not a packet, the input ended within one, or there was no memory for
-    /// them.
+    /// The received bytes are not a packet, the input ended within a packet, or there was no memory
+    /// for the bytes.
     Refused(PacketFault),
     /// The device failed.
     Failed,
 }
 
-/// One end of a conversation: a value that hears packets and says packets.
+/// One end of a conversation: a value that receives packets and queues packets to send.
 ///
-/// It knows no device. Its history is not stored: `holds` describes the packets heard and said so
-/// far. `left` counts down, so that each conversation ends.
+/// A conversation does no I/O and does not store its history. `holds` describes the packets
+/// received and queued so far. `left` counts down, so that each conversation ends.
 pub trait Conversation {
     ghost use Rattle.gtalk.specs.declared.conversation.Turn.{Turn};
 
     // The end whose turn it is.
     ghost turn: { Self → Turn };
 
-    // These packets were heard and said so far.
+    // The histories of received and queued packets that lead to this state.
     ghost holds: { Self → Talk → Type 0 };
 
-    // The maximum amount that is left.
+    // A bound on the remaining turns and steps.
     ghost left: { Self → Left };
 
-    /// Returns whose turn it is.
+    /// Returns the end whose turn it is.
     fn turn(&self) -> Turn
         ensures { result ≡ turn self.now };
 
-    /// Hears the next packet.
+    /// Receives the next packet.
     fn hear(&mut self, line: Packet<'_>)
         requires { turn self.old ≡ Turn.Listens }
         ensures heard { (talk : Talk) → holds self.old talk
             → holds self.new (talk_after talk (packet_of line.entry)) }
         ensures nearer { (talk : Talk) → holds self.old talk → IsNearer turn left self.old self.new };
 
-    /// Hears that there are no more packets.
+    /// Receives the reason why no more packets arrive.
     fn stop(&mut self, why: Stop)
         requires { turn self.old ≡ Turn.Listens }
         ensures stopped { (talk : Talk) → holds self.old talk → holds self.new (stop_talk talk why) }
         ensures nearer { (talk : Talk) → holds self.old talk → IsNearer turn left self.old self.new };
 
-    /// Says the next packets into an empty queue: as many as it likes, or none for now.
+    /// Adds the next packets to an empty send queue. One call may add any number of packets that
+    /// fit, or none.
     fn say<A: Allocator + Copy>(&mut self, out: &mut Outgoing<A>)
         requires turn { turn self.old ≡ Turn.Speaks }
         requires empty { out.old ≡ [] }

@@ -1,4 +1,4 @@
-//! A connection between two devices that block.
+//! Driving a connection between two devices that block.
 
 ghost use Rattle.std.specs.Prelude.{◌≡◌, ◌<◌, ◌≤◌, [], Ok, is_err, None, IfOk, IsSome, OnErr, OnOk, length, take};
 ghost use Rattle.std.specs.Io.KnownBytes.{Consumes, IsAtEnd, Keeps};
@@ -18,11 +18,11 @@ use std::alloc::Allocator;
 // The maximum number of bytes of one read.
 const PIECE: usize = 4_096;
 
-/// Drives a conversation to its end. All said packets are flushed before anything more is read, and
-/// the conversation hears all that is read.
+/// Drives a conversation to its end. Queued packets are flushed before the next read, and the
+/// conversation receives all bytes that were read.
 ///
-/// Fails if the sink fails, or if there is no memory for the packets to say. The conversation hears
-/// that the source ends or fails.
+/// Fails if the sink fails, or if there is no memory for the packets to send. If the source ends or
+/// fails, the conversation is notified.
 pub fn drive<C: Conversation, A: Allocator + Copy, S: Source, W: Sink>(
     connection: &mut Connection<C, A>,
     source: &mut S,
@@ -61,7 +61,7 @@ pub fn drive<C: Conversation, A: Allocator + Copy, S: Source, W: Sink>(
     }
 }
 
-// Says all packets of this turn, sends them, and flushes the sink.
+// Sends all packets of this turn, and flushes the sink.
 fn speak<C: Conversation, A: Allocator + Copy, W: Sink>(
     connection: &mut Connection<C, A>,
     sink: &mut W,
@@ -93,7 +93,7 @@ fn speak<C: Conversation, A: Allocator + Copy, W: Sink>(
     }
 }
 
-// Says some packets, and sends them.
+// Calls the conversation once to queue packets, and sends them.
 fn say_some<C: Conversation, A: Allocator + Copy, W: Sink>(
     connection: &mut Connection<C, A>,
     sink: &mut W,
@@ -140,7 +140,7 @@ fn send<C: Conversation, A: Allocator + Copy, W: Sink>(
     Ok(())
 }
 
-// Sends some of the pending bytes.
+// Sends a prefix of the pending bytes, by one write.
 fn send_some<C: Conversation, A: Allocator + Copy, W: Sink>(
     connection: &mut Connection<C, A>,
     sink: &mut W,
@@ -165,7 +165,7 @@ fn send_some<C: Conversation, A: Allocator + Copy, W: Sink>(
     }
 }
 
-// Flushes all that was sent.
+// Flushes all bytes that were sent.
 fn pass_on<W: Sink>(sink: &mut W) -> Result<(), TalkFault>
     ensures bytes { Keeps (W.contents sink.old) (W.contents sink.new) }
     ensures passed_on { OnOk result
@@ -181,7 +181,7 @@ fn pass_on<W: Sink>(sink: &mut W) -> Result<(), TalkFault>
     }
 }
 
-// Listens until the conversation speaks, or nothing more is heard.
+// Receives packets until the conversation speaks, or until no more packets arrive.
 fn listen<C: Conversation, A: Allocator + Copy, S: Source>(
     connection: &mut Connection<C, A>,
     source: &mut S,

@@ -14,14 +14,14 @@ use gpkt::PacketFault;
 use std::alloc::Allocator;
 
 impl<C, A: Allocator + Copy> Connection<C, A> {
-    /// Returns the conversation.
+    /// Returns the conversation of this connection.
     pub fn conversation(&self) -> &C
         ensures { result.now ≡ conversation_of self.now }
     {
         &self.conversation
     }
 
-    /// Returns the conversation, as the calls left it. Pending bytes are dropped.
+    /// Returns the conversation in its current state, and drops pending bytes.
     pub fn into_conversation(self) -> C
     where
         C: Drop,
@@ -31,7 +31,7 @@ impl<C, A: Allocator + Copy> Connection<C, A> {
         conversation
     }
 
-    /// Returns the bytes to send next.
+    /// Returns the pending bytes: the bytes to send next.
     pub fn output(&self) -> &[u8]
         ensures { result.now ≡ pending_of self.now }
     {
@@ -41,7 +41,7 @@ impl<C, A: Allocator + Copy> Connection<C, A> {
 }
 
 impl<C: Conversation, A: Allocator + Copy> Connection<C, A> {
-    /// Returns a connection on which nothing was received or sent. It does not allocate.
+    /// Returns a connection on which no byte was received or sent, without allocating.
     pub fn new(conversation: C, alloc: A) -> Connection<C, A>
         ensures holds { C.holds conversation no_talk → Holds C.holds result [] [] }
         ensures conversation { conversation_of result ≡ conversation }
@@ -58,8 +58,8 @@ impl<C: Conversation, A: Allocator + Copy> Connection<C, A> {
         }
     }
 
-    /// Returns whose turn it is. It is also nobody's if the conversation listens and there are no
-    /// more packets.
+    /// Returns the end whose turn it is. Returns [`Turn::Done`] also if the conversation listens
+    /// and no more packets arrive.
     pub fn turn(&self) -> Turn
         ensures { IsTurn C.turn self.now result }
     {
@@ -69,8 +69,8 @@ impl<C: Conversation, A: Allocator + Copy> Connection<C, A> {
         }
     }
 
-    /// Returns the maximum number of bytes to receive before a packet is heard. It is 0 only after
-    /// the packets stopped.
+    /// Returns the maximum number of bytes to receive in the next call. The limit is 0 only if no
+    /// more packets arrive.
     pub fn receive_limit(&self) -> usize
         ensures lacks { Lacks (partial_of self.now) result }
         ensures some { has_stopped self.now ≡ None → 0 < result }
@@ -80,8 +80,9 @@ impl<C: Conversation, A: Allocator + Copy> Connection<C, A> {
 
     /// Receives bytes, at most [`receive_limit`](Connection::receive_limit) of them.
     ///
-    /// The conversation hears the packet that they complete. If they are not a packet, or if out of
-    /// memory for them, it hears that there are no more packets.
+    /// When the bytes complete a packet, the conversation receives the packet. If the bytes are not
+    /// a packet, or there is no memory for them, the conversation is notified that no more packets
+    /// arrive.
     pub fn receive(&mut self, bytes: &[u8])
         requires turn { C.turn (conversation_of self.old) ≡ Turn.Listens }
         requires goes_on { has_stopped self.old ≡ None }
@@ -111,7 +112,7 @@ impl<C: Conversation, A: Allocator + Copy> Connection<C, A> {
         }
     }
 
-    /// Receives the end of the input.
+    /// Notifies the conversation that the input has ended.
     pub fn receive_end(&mut self)
         requires turn { C.turn (conversation_of self.old) ≡ Turn.Listens }
         requires goes_on { has_stopped self.old ≡ None }
@@ -125,7 +126,7 @@ impl<C: Conversation, A: Allocator + Copy> Connection<C, A> {
         self.conversation.stop(why);
     }
 
-    /// Receives a failure of the device.
+    /// Notifies the conversation that the device has failed.
     pub fn receive_failure(&mut self)
         requires turn { C.turn (conversation_of self.old) ≡ Turn.Listens }
         requires goes_on { has_stopped self.old ≡ None }
@@ -138,11 +139,11 @@ impl<C: Conversation, A: Allocator + Copy> Connection<C, A> {
         self.conversation.stop(Stop::Failed);
     }
 
-    /// Says the next packets, after all earlier ones were sent.
+    /// Queues the next packets of the conversation. All packets queued before must be sent already.
     ///
-    /// Fails only with [`TalkFault::Memory`], and only in a call that allocates the buffer: the
-    /// first, and the next after [`give_back`](Connection::give_back). Then nothing is said, and
-    /// the connection is unchanged.
+    /// Fails only with [`TalkFault::Memory`], and only in a call that allocates the send queue: the
+    /// first call, or the next after [`give_back`](Connection::give_back). After a failure the
+    /// connection is unchanged.
     pub fn speak(&mut self) -> Result<(), TalkFault>
         requires turn { C.turn (conversation_of self.old) ≡ Turn.Speaks }
         requires all_sent { pending_of self.old ≡ [] }
@@ -167,8 +168,8 @@ impl<C: Conversation, A: Allocator + Copy> Connection<C, A> {
         Ok(())
     }
 
-    /// Frees the buffer for said packets, if all of them were sent. It is allocated again when more
-    /// is said.
+    /// Frees the send queue if all of its bytes were sent. The queue is allocated again when more
+    /// packets are queued.
     pub fn give_back(&mut self)
         ensures moves { Moves C.holds self.old self.new [] [] }
         ensures pending { pending_of self.new ≡ pending_of self.old }
@@ -196,7 +197,7 @@ impl<C: Conversation, A: Allocator + Copy> Connection<C, A> {
     }
 }
 
-// Returns the bytes of a queue, if there is one.
+// Returns the bytes of a send queue, or none if the queue is not allocated.
 fn bytes_of<A: Allocator + Copy>(outgoing: &Option<Outgoing<A>>) -> &[u8]
     ensures bytes { result.now ≡ bytes_in outgoing.now }
     ensures few { length result.now ≤ queue_room }

@@ -1,4 +1,4 @@
-//! Why a conversation was aborted.
+//! The reasons why a conversation was aborted.
 
 ghost use Rattle.std.specs.Prelude.{◌≡◌, Some};
 ghost use Rattle.gtalk.specs.Faults.{talk_fault_text};
@@ -6,12 +6,13 @@ ghost use Rattle.gtalk.specs.Faults.{talk_fault_text};
 use std::error::Error;
 use std::fmt;
 
-/// Why a conversation was aborted.
+/// The reason why a conversation was aborted.
 #[derive(Clone, Copy, Debug, PartialEq, Eq)]
 pub enum TalkFault {
-    /// The sink failed. A prefix of the said packets was written.
+    /// The sink failed. Only a prefix of the queued packets was written.
     Io,
-    /// Out of memory for the packets to say. None was said, and the conversation is unchanged.
+    /// There was not enough memory for the packets to send. None of them was queued, and the
+    /// conversation is unchanged.
     Memory,
 }
 

@@ -10,7 +10,7 @@ use gpkt::{MAX_PACKET, Packet, PacketFault};
 use std::alloc::{AllocError, Allocator, Global};
 use std::marker::Model;
 
-// The number of digits of a packet.
+// The number of digits at the start of a packet.
 const DIGITS: usize = 4;
 
 /// The received bytes of one packet.
@@ -31,7 +31,7 @@ impl<A: Allocator + Copy> Model for Incoming<A> {
 }
 
 impl<A: Allocator + Copy> Incoming<A> {
-    /// Returns an empty buffer. It does not allocate.
+    /// Returns an empty buffer, without allocating.
     pub(crate) fn new(alloc: A) -> Incoming<A>
         ensures { result ≡ [] }
     {
@@ -40,8 +40,8 @@ impl<A: Allocator + Copy> Incoming<A> {
         }
     }
 
-    /// Returns the number of missing bytes: up to the end of the digits, or of the packet if these
-    /// are complete.
+    /// Returns the number of missing bytes, up to the end of the digits or, after the digits, up to
+    /// the end of the packet.
     pub(crate) fn lacks(&self) -> usize
         ensures lacks { Lacks self.now result }
         ensures some { IsPartialPacket self.now → 0 < result }
@@ -49,8 +49,8 @@ impl<A: Allocator + Copy> Incoming<A> {
         lacks_after(self.as_bytes())
     }
 
-    /// Appends these bytes, at most as many as are missing. If out of memory, the buffer is
-    /// unchanged.
+    /// Appends received bytes, at most as many as are missing. If the allocation fails, the buffer
+    /// is unchanged.
     #[tactic(auto, using(crate::proofs::Partials::within_after))]
     pub(crate) fn take_bytes(&mut self, bytes: &[u8]) -> Result<(), AllocError>
         requires { Lacks self.old (length bytes.now) }
@@ -68,8 +68,8 @@ impl<A: Allocator + Copy> Incoming<A> {
         packet_within(self.as_bytes())
     }
 
-    /// Returns the reason why there are no more packets if the input ends after these bytes. They
-    /// are empty or a part of a packet.
+    /// Returns the reason to report if the input ends after these bytes. The bytes must be empty or
+    /// an incomplete packet.
     pub(crate) fn end(&self) -> Stop
         ensures stopped { IsPartialPacket self.now → IsStopped (Some result) self.now }
         ensures end { IsByEnd (Some result) }
@@ -81,7 +81,7 @@ impl<A: Allocator + Copy> Incoming<A> {
         }
     }
 
-    /// Starts the next packet.
+    /// Clears the buffer for the next packet.
     pub(crate) fn clear(&mut self)
         ensures { self.new ≡ [] }
     {
@@ -96,7 +96,8 @@ impl<A: Allocator + Copy> Incoming<A> {
     }
 }
 
-// Returns the number of missing bytes after these: up to the end of the digits, or of the packet.
+// Returns the number of bytes missing after these, up to the end of the digits or, after the
+// digits, up to the end of the packet.
 #[tactic(auto, using(crate::proofs::Partials::lacks_digits, crate::proofs::Partials::lacks_none, crate::proofs::Partials::partial_none))]
 fn lacks_after(bytes: &[u8]) -> usize
     requires { IsWithinPacket bytes.now }
@@ -112,7 +113,7 @@ fn lacks_after(bytes: &[u8]) -> usize
     }
 }
 
-// Returns the number of missing bytes of a packet that announces `announced` bytes.
+// Returns the number of bytes missing from a packet that announces `announced` bytes.
 #[tactic(auto, using(crate::proofs::Partials::lacks_payload, crate::proofs::Partials::lacks_none, crate::proofs::Partials::partial_long, crate::proofs::Partials::partial_more))]
 fn lacks_of(bytes: &[u8], announced: usize) -> usize
     requires within { IsWithinPacket bytes.now }
@@ -127,7 +128,7 @@ fn lacks_of(bytes: &[u8], announced: usize) -> usize
     }
 }
 
-// Returns the number that four digits spell.
+// Returns the number that four hexadecimal digits encode.
 fn number(digits: &[u8]) -> Option<u16>
     requires { length digits.now ≡ digit_count }
     ensures { result ≡ number_of digits.now }
@@ -139,7 +140,7 @@ fn number(digits: &[u8]) -> Option<u16>
     }
 }
 
-// Returns the packet that these bytes spell, if they are all of it.
+// Returns the packet that these bytes encode, or `None` if the packet is incomplete.
 fn packet_within(bytes: &[u8]) -> Result<Option<Packet<'_>>, PacketFault>
     requires { IsWithinPacket bytes.now }
     ensures found { IsFound bytes.now (read_of result) }
@@ -158,7 +159,7 @@ fn packet_within(bytes: &[u8]) -> Result<Option<Packet<'_>>, PacketFault>
     }
 }
 
-// Returns the data packet that announces `announced` bytes, if all of them are there.
+// Returns the data packet that announces `announced` bytes, or `None` if the packet is incomplete.
 #[tactic(auto, using(crate::proofs::Partials::whole_data))]
 fn data_in(bytes: &[u8], announced: usize) -> Result<Option<Packet<'_>>, PacketFault>
     requires within { IsWithinPacket bytes.now }

@@ -1,39 +1,42 @@
-//! A conversation of packets as a value: it hears packets and says packets, and knows no device.
+//! A conversation of packets as a value that receives packets and queues packets to send, without
+//! I/O.
 //!
-//! A [`Conversation`] is one end of a protocol. A [`Connection`] is a conversation over bytes,
-//! which arrive in pieces of any size, and are sent as far as the caller can send them. [`drive`]
-//! moves these bytes between two devices that block. An event loop does the same for many
+//! A [`Conversation`] is one end of a protocol. A [`Connection`] is a conversation over bytes. The
+//! bytes arrive in pieces of any size, and the caller sends as many pending bytes as it can.
+//! [`drive`] moves the bytes between two devices that block. An event loop does the same for many
 //! connections, each when its socket is ready.
 //!
 //! # Proved
 //!
-//! - The received bytes are the packets that the conversation heard, and a part of the next. The
-//!   sent bytes and the pending ones are the packets that it said, in their canonical spelling
-//!   (`Holds` in `specs/Connections.antt`). Each call of a connection says how this changes
-//!   (`Moves`).
-//! - While more is heard, at least one byte is wanted, and no call takes more than are wanted. So
-//!   nothing after the last packet is read.
-//! - A conversation hears why there are no more packets ([`Stop`]). `Failed` is reported only if
-//!   the source is down, `Ended` and `Truncated` only if it is at its end (`LeavesSource`). Refused
-//!   bytes are not a packet.
-//! - [`drive`] returns, if its devices do. It receives all that it reads, and writes all that it
-//!   sends, in order. It succeeds only if the conversation is done, or if the packets stopped. Then
-//!   all said packets are sent and flushed.
-//! - [`drive`] fails with `Io` only if the sink is down, and otherwise only if out of memory. Then
-//!   all packets of earlier turns were flushed, and a prefix of the last turn was written
-//!   (`BreaksOff`).
-//! - [`Outgoing`] adds each packet in its canonical spelling.
+//! - The received bytes encode the packets that the conversation received, and then a part of the
+//!   next packet. The sent bytes and then the pending bytes are the canonical encoding of the
+//!   packets that the conversation queued (`Holds` in `specs/Connections.antt`). The contract of
+//!   each call states the change of these bytes (`Moves`).
+//! - While more packets may arrive, the connection asks for at least one byte, and no call
+//!   accepts more bytes than the connection asks for. Therefore no byte after the last packet is
+//!   read.
+//! - A conversation receives the reason why no more packets arrive ([`Stop`]). `Failed` is
+//!   reported only if the source is down, `Ended` and `Truncated` only if the source is at its end
+//!   (`LeavesSource`). Refused bytes are not a packet.
+//! - [`drive`] returns if its devices do. The connection receives all bytes that are read, and
+//!   writes all bytes that it sends, in order. [`drive`] succeeds only if the conversation is done,
+//!   or if no more packets arrive. After success all queued packets are sent and flushed.
+//! - [`drive`] fails with `Io` only if the sink is down, and otherwise only if there is not
+//!   enough memory. After a failure all packets of earlier turns were flushed, and a prefix of the
+//!   last turn was written (`BreaksOff`).
+//! - [`Outgoing`] appends each packet in its canonical encoding.
 //!
 //! # What the contracts do not rule out
 //!
-//! - A read or a write of one byte each time.
-//! - Out of memory at any time: for received bytes, and for packets to say.
+//! - Reads and writes of one byte each.
+//! - Failed allocations at any time, for received bytes and for packets to send.
 //! - Memory that is allocated too early, or kept too long.
-//! - An event loop that drops a connection or its bytes. Its own contract has to exclude that.
+//! - An event loop that drops a connection or its bytes. The contract of the event loop has to
+//!   exclude this.
 //!
 //! # Stands on
 //!
-//! `gpkt` for packets and devices, `hex` for the digits.
+//! `gpkt` for packets and devices, and `hex` for the digits.
 #![tactic(auto)]
 
 mod connection;

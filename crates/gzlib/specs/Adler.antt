@@ -2,23 +2,23 @@
 use Rattle.std.specs.Prelude.{◌≡◌, ℕ, ◌+◌, ◌*◌, ◌%◌, List, [], ◌∷◌, sum}
 use Rattle.gzlib.specs.declared.adler.Adler32.{Adler32}
 
--- the sum of the values that a first sum has after each byte, where it begins with this value
+-- the sum of the values of the first sum after each byte, starting from this first sum
 abbrev pub sum_of_sums : ℕ → List ℕ → ℕ
 sum_of_sums first [] = 0
 sum_of_sums first (byte ∷ bytes) = (first + byte) + sum_of_sums (first + byte) bytes
 
--- the first sum: one and the sum of the bytes
+-- the first sum: 1 plus the sum of all bytes
 abbrev pub low_sum : List ℕ → ℕ
 low_sum bytes = (1 + sum bytes) % 65521
 
--- the second sum: that of the first one's values
+-- the second sum: the sum of the values of the first sum after each byte
 abbrev pub high_sum : List ℕ → ℕ
 high_sum bytes = sum_of_sums 1 bytes % 65521
 
--- the checksum: the second sum in the high half, the first in the low half
+-- the checksum: the second sum in the high half, and the first sum in the low half
 abbrev pub adler32 : List ℕ → ℕ
 adler32 bytes = high_sum bytes * 65536 + low_sum bytes
 
--- the value has the checksum of these bytes
+-- the state holds both sums of these bytes
 abbrev pub HasAdlerOf : Adler32 → List ℕ → Type 0
 HasAdlerOf adler bytes = (adler.low ≡ low_sum bytes) × (adler.high ≡ high_sum bytes)

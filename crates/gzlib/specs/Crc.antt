@@ -1,14 +1,14 @@
--- CRC-32 (RFC 1952, section 8): a register of 32 bits, from which the lowest bit goes first.
+-- CRC-32 (RFC 1952, section 8): a register of 32 bits, shifted towards its lowest bit.
 use Rattle.std.specs.Prelude.{◌≡◌, ℕ, zero, suc, ◌/◌, ◌%◌, ◌==◌, List, [], ◌∷◌, bit_xor}
 use Rattle.std.specs.Prelude.{if◌then◌else◌}
 use Rattle.std.specs.Int.{w32, bit_not}
 use Rattle.gzlib.specs.declared.crc.Crc32.{Crc32}
 
--- One bit goes out at the low end. A bit of one adds the polynomial.
+-- the register after a shift by one bit, combined with the polynomial if the bit shifted out is 1
 abbrev pub shift_out : ℕ → ℕ
 shift_out register = if register % 2 == 1 then bit_xor (register / 2) 0xEDB8_8320 else register / 2
 
--- so many bits go out
+-- the register after a shift by this number of bits
 abbrev pub shift_bits : ℕ → ℕ → ℕ
 shift_bits zero register = register
 shift_bits (suc bits) register = shift_bits bits (shift_out register)
@@ -22,10 +22,10 @@ abbrev pub register_after : ℕ → List ℕ → ℕ
 register_after register [] = register
 register_after register (byte ∷ bytes) = register_after (next_register register byte) bytes
 
--- the checksum: the register begins with ones, and its complement is the result
+-- the checksum: the complement of the register, which starts with all bits 1
 abbrev pub crc32 : List ℕ → ℕ
 crc32 bytes = bit_not w32 (register_after 0xFFFF_FFFF bytes)
 
--- the value has the checksum of these bytes
+-- the state holds the register after these bytes
 abbrev pub HasCrcOf : Crc32 → List ℕ → Type 0
 HasCrcOf crc bytes = crc.register ≡ register_after 0xFFFF_FFFF bytes

@@ -1,2 +1,2 @@
--- The steps: what only private functions and proofs speak of.
+-- Definitions for private functions and proofs.
 pub mod CrcTables

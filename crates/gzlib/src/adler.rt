@@ -6,10 +6,11 @@ ghost use Rattle.gzlib.specs.Adler.{adler32, HasAdlerOf};
 // The largest prime below 65,536.
 const BASE: u64 = 65_521;
 
-// The number of bytes between two reductions.
+// The number of bytes to add before the sums are reduced modulo the prime.
 const PART: usize = 5_552;
 
-/// The Adler-32 of bytes in pieces: `new`, an `update` for each piece, and `sum`.
+/// The running Adler-32 of bytes that arrive in pieces: call `new`, `update` for each piece, and
+/// `sum`.
 #[derive(Clone, Copy, Debug)]
 pub struct Adler32 {
     low: u32,
@@ -17,14 +18,14 @@ pub struct Adler32 {
 }
 
 impl Adler32 {
-    /// Returns the checksum of the empty sequence.
+    /// Returns the state before any byte.
     pub fn new() -> Adler32
         ensures { HasAdlerOf result [] }
     {
         Adler32 { low: 1, high: 0 }
     }
 
-    /// Adds these bytes.
+    /// Adds these bytes to the checksum.
     pub fn update(&mut self, bytes: &[u8])
         ensures { (m : List ℕ) → HasAdlerOf self.old m → HasAdlerOf self.new (m ++ bytes.now) }
     {
@@ -50,7 +51,7 @@ impl Adler32 {
         self.high = (high % BASE) as u32;
     }
 
-    /// Returns the Adler-32 of all added bytes.
+    /// Returns the Adler-32 of all bytes added so far.
     pub fn sum(&self) -> u32
         ensures { (m : List ℕ) → HasAdlerOf self.now m → result ≡ adler32 m }
     {
@@ -58,7 +59,7 @@ impl Adler32 {
     }
 }
 
-/// Returns the Adler-32 of the bytes.
+/// Returns the Adler-32 of these bytes.
 pub fn adler32_of(bytes: &[u8]) -> u32
     ensures { result ≡ adler32 bytes.now }
 {

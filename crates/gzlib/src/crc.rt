@@ -5,21 +5,22 @@ ghost use Rattle.gzlib.specs.Crc.{crc32, next_register, register_after, HasCrcOf
 
 use crate::crc_tables::{after_1, after_2, after_3, after_4, after_5, after_6, after_7, after_8};
 
-/// The CRC-32 of bytes in pieces: `new`, an `update` for each piece, and `sum`.
+/// The running CRC-32 of bytes that arrive in pieces: call `new`, `update` for each piece, and
+/// `sum`.
 #[derive(Clone, Copy, Debug)]
 pub struct Crc32 {
     register: u32,
 }
 
 impl Crc32 {
-    /// Returns the checksum of the empty sequence.
+    /// Returns the state before any byte.
     pub fn new() -> Crc32
         ensures { HasCrcOf result [] }
     {
         Crc32 { register: u32::MAX }
     }
 
-    /// Adds these bytes.
+    /// Adds these bytes to the checksum.
     pub fn update(&mut self, bytes: &[u8])
         ensures { (m : List ℕ) → HasCrcOf self.old m → HasCrcOf self.new (m ++ bytes.now) }
     {
@@ -32,7 +33,7 @@ impl Crc32 {
         self.register = next_few(register, rest);
     }
 
-    /// Returns the CRC-32 of all added bytes.
+    /// Returns the CRC-32 of all bytes added so far.
     pub fn sum(&self) -> u32
         ensures { (m : List ℕ) → HasCrcOf self.now m → result ≡ crc32 m }
     {
@@ -40,8 +41,8 @@ impl Crc32 {
     }
 }
 
-// Returns the register after eight more bytes. The first four are combined with those of the
-// register.
+// Returns the register after eight more bytes. The first four bytes are combined with the bytes of
+// the register.
 fn next_eight(register: u32, bytes: &[u8; 8]) -> u32
     ensures { result ≡ register_after register bytes.now }
 {
@@ -52,7 +53,7 @@ fn next_eight(register: u32, bytes: &[u8; 8]) -> u32
     first ^ after_4(bytes[4]) ^ after_3(bytes[5]) ^ after_2(bytes[6]) ^ after_1(bytes[7])
 }
 
-// Returns the register after more bytes, processed one by one.
+// Returns the register after these bytes, which are processed one by one.
 fn next_few(register: u32, bytes: &[u8]) -> u32
     ensures { result ≡ register_after register bytes.now }
 {
@@ -76,7 +77,7 @@ fn low_byte(register: u32) -> u8
     (register & 0xff) as u8
 }
 
-/// Returns the CRC-32 of the bytes.
+/// Returns the CRC-32 of these bytes.
 pub fn crc32_of(bytes: &[u8]) -> u32
     ensures { result ≡ crc32 bytes.now }
 {

@@ -1,4 +1,4 @@
-//! Tables of the effect of a CRC-32 register byte after more bytes.
+//! Tables of the CRC-32 register that starts with one byte alone, after 1 to 8 zero bytes.
 //!
 //! Each table has 256 rows, one for each value of the byte.
 

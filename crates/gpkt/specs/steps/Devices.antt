@@ -1,20 +1,20 @@
--- The steps of the devices' models: each by its parts, which the checker of clauses asks for.
+-- The encodings of device models as pairs, for the generated contracts.
 use Rattle.std.specs.Coded.{Coded, code_by, coded×, coded_bool, coded_list, coded_ℕ}
 use Rattle.std.specs.Prelude.{ℕ, Bool, refl}
 use Rattle.gpkt.specs.Devices.{Device, Written}
 use Rattle.gpkt.specs.Packets.{Bytes}
 
--- a device is its two parts, which the checker of clauses asks for
+-- the encoding of a device as a pair of its two fields
 abbrev pub device_code : {X : Type 0} → Coded X → Coded (Device X)
 device_code {X} code =
     code_by (X × Bool) (coded× code coded_bool) (λ d. (d.inner, d.down))
     (λ p. record { inner = p.0; down = p.1 }) (λ _. refl)
 
--- bytes are a list of numbers
+-- the encoding of bytes as a list of numbers
 abbrev pub bytes_code : Coded Bytes
 bytes_code = coded_list coded_ℕ
 
--- a sink in memory is its four parts
+-- the encoding of a sink in memory by its four fields
 abbrev pub written_code : Coded Written
 written_code =
     code_by (Bytes × (Bytes × (ℕ × Bool))) (coded× bytes_code (coded× bytes_code (coded× coded_ℕ coded_bool)))

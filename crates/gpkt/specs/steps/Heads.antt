@@ -1,4 +1,4 @@
--- The steps of reading one packet: its head, which is the four digits, and its payload.
+-- The reading of one packet: the four digits, which form its head, and the payload.
 use Rattle.std.specs.Prelude.{◌≡◌, ℕ, ◌+◌, ◌<◌, ◌≤◌, Bool, true, false, [], length, take}
 use Rattle.std.specs.Prelude.{Option, Some, None, option_map, Result, Ok, Err}
 use Rattle.std.specs.Io.KnownBytes.{Consumes, IsAtEnd}
@@ -10,26 +10,26 @@ use Rattle.gpkt.specs.Change.{Change}
 use Rattle.gpkt.specs.Packets.{Packet, Data, Flush, Delim, ResponseEnd, digit_count, max_packet, max_payload, number_of}
 use Rattle.gpkt.specs.Packets.{Bytes, flush_len, delim_len, response_end_len, reserved_len}
 
--- the number that announces the head
+-- the number that the digits of this head encode
 abbrev pub announced_of : Head → ℕ
 announced_of (head.Data len) = len + digit_count
 announced_of head.Flush = flush_len
 announced_of head.Delim = delim_len
 announced_of head.ResponseEnd = response_end_len
 
--- how many bytes follow the digits
+-- the number of payload bytes after the digits
 abbrev pub payload_len : Head → ℕ
 payload_len (head.Data len) = len
 payload_len _ = 0
 
--- the packet whose payload stands at the front of the buffer
+-- the packet whose payload is at the front of the buffer
 abbrev pub packet_in : Bytes → Head → Packet
 packet_in buffer (head.Data len) = Data (take len buffer)
 packet_in buffer head.Flush = Flush
 packet_in buffer head.Delim = Delim
 packet_in buffer head.ResponseEnd = ResponseEnd
 
--- the result of a read whose payload stands at the front of the buffer
+-- the result of a read whose payload is at the front of the buffer
 abbrev pub read_in : Bytes → Result (Option Head) PacketFault → Result (Option Packet) PacketFault
 read_in buffer (Ok found) = Ok (option_map (packet_in buffer) found)
 read_in buffer (Err fault) = Err fault
@@ -38,7 +38,7 @@ read_in buffer (Err fault) = Err fault
 abbrev pub Announces : Bytes → Head → Type 0
 Announces digits found = (number_of digits ≡ Some (announced_of found)) × (payload_len found ≤ max_payload)
 
--- what four digits announce, or why they announce nothing
+-- the head that four digits announce, or the fault if they announce none
 abbrev pub Classifies : Bytes → Result Head PacketFault → Type 0
 Classifies digits (Ok found) = Announces digits found
 Classifies digits (Err BadDigits) = number_of digits ≡ None
@@ -46,16 +46,16 @@ Classifies digits (Err Reserved) = number_of digits ≡ Some reserved_len
 Classifies digits (Err TooLong) = (announced : ℕ) × (number_of digits ≡ Some announced) × (max_packet < announced)
 Classifies digits (Err _) = ⊥
 
--- known bytes lose fewer than `limit` bytes
+-- fewer than `limit` bytes are consumed, if the input is known
 abbrev pub ConsumesBelow : Change → ℕ → Type 0
 ConsumesBelow bytes limit = (taken : Bytes) × Consumes bytes.old bytes.new taken × (length taken < limit)
 
--- known bytes lose fewer than `limit` bytes and are then at their end
+-- fewer than `limit` bytes are consumed, and the input ends after them, if it is known
 abbrev pub EndsBelow : Change → ℕ → Type 0
 EndsBelow bytes limit =
     (taken : Bytes) × Consumes bytes.old bytes.new taken × (length taken < limit) × IsAtEnd bytes.new
 
--- known bytes lose the digits, which are classified so
+-- the call consumes four digits, which announce this head or have this fault
 abbrev pub ConsumesDigits : Change → Result Head PacketFault → Type 0
 ConsumesDigits bytes result =
     (digits : Bytes) × Consumes bytes.old bytes.new digits × (length digits ≡ digit_count) × Classifies digits result
@@ -66,7 +66,7 @@ EndsInDigits bytes =
     (taken : Bytes) × Consumes bytes.old bytes.new taken × (0 < length taken) × (length taken < digit_count)
     × IsAtEnd bytes.new
 
--- the digits are read
+-- the outcome of reading the four digits, for each result
 abbrev pub ReadsHead : Change → Result (Option Head) PacketFault → Type 0
 ReadsHead bytes (Ok (Some found)) = ConsumesDigits bytes (Ok found)
 ReadsHead bytes (Ok None) = Consumes bytes.old bytes.new [] × IsAtEnd bytes.new
@@ -74,20 +74,20 @@ ReadsHead bytes (Err Truncated) = EndsInDigits bytes
 ReadsHead bytes (Err Io) = ConsumesBelow bytes digit_count
 ReadsHead bytes (Err fault) = ConsumesDigits bytes (Err fault)
 
--- the payload is read
+-- the outcome of reading the payload, for each result
 abbrev pub ReadsPayload : Change → Result Unit PacketFault → Bytes → Type 0
 ReadsPayload bytes (Ok done) payload = Consumes bytes.old bytes.new payload
 ReadsPayload bytes (Err Truncated) payload = EndsBelow bytes (length payload)
 ReadsPayload bytes (Err Io) payload = ConsumesBelow bytes (length payload)
 ReadsPayload bytes (Err _) payload = ⊥
 
--- the source failed
+-- whether the result is a failure of the source
 abbrev pub is_io : {A : Type 0} → Result A PacketFault → Bool
 is_io (Ok value) = false
 is_io (Err Io) = true
 is_io (Err _) = false
 
--- the faults that come of reading a packet's bytes
+-- the faults that can arise when the bytes of a packet are read
 abbrev pub IsNewFault : PacketFault → Type 0
 IsNewFault Failed = ⊥
 IsNewFault Memory = ⊥

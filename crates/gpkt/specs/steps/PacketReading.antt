@@ -1,9 +1,9 @@
--- The steps of a packet reader's model.
+-- The encoding of a packet reader's model.
 use Rattle.std.specs.Coded.{Coded, code_by, coded×, coded_bool}
 use Rattle.std.specs.Prelude.{Bool, refl}
 use Rattle.gpkt.specs.PacketReading.{Reader}
 
--- a reader is its two parts, which the checker of clauses asks for
+-- the encoding of a packet reader as a pair of its two fields
 abbrev pub reader_code : {S : Type 0} → Coded S → Coded (Reader S)
 reader_code {S} code =
     code_by (S × Bool) (coded× code coded_bool) (λ r. (r.source, r.failed))

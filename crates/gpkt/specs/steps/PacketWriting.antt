@@ -1,9 +1,9 @@
--- The steps of a packet writer's model.
+-- The encoding of a packet writer's model.
 use Rattle.std.specs.Coded.{Coded, code_by, coded×, coded_bool}
 use Rattle.std.specs.Prelude.{Bool, refl}
 use Rattle.gpkt.specs.PacketWriting.{Writer}
 
--- a writer is its two parts, which the checker of clauses asks for
+-- the encoding of a packet writer as a pair of its two fields
 abbrev pub writer_code : {W : Type 0} → Coded W → Coded (Writer W)
 writer_code {W} code =
     code_by (W × Bool) (coded× code coded_bool) (λ w. (w.sink, w.failed))

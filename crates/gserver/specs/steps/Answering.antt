@@ -1,4 +1,4 @@
--- The steps of answering a message.
+-- The answer to a message, as a reply or an error packet.
 use Rattle.std.specs.Prelude.{◌≡◌, ◌≢◌, Bool, true, false, List, Result, Ok, Err}
 use Rattle.gparts.specs.Parts.{Gives}
 use Rattle.gpkt.specs.Packets.{Bytes, Packet}
@@ -11,13 +11,13 @@ use Rattle.gserver.specs.ErrTexts.{text_packets}
 use Rattle.gserver.specs.declared.reply.ServerReply.{ServerReply}
 
 module _ {A R P : Type 0} (server_of : R → Server A) (gives : R → P → Gives) where
-  -- an answer is the packet of an error with these words, and the last
+  -- the answer is an error packet with this text, after which the connection ends
   pub record IsRefusal (text : Bytes) (result : Answer (ServerReply A R P)) : Type 0 where
     pub refuses : (said : List Packet) (goes : Bool) → MayAnswer (may_of server_of gives) result said goes
         → (said ≡ text_packets text) × (goes ≡ false)
     pub last : (reply : ServerReply A R P) → result ≢ answer.GoesOn reply
 
-  -- a reply is the answer, after which the dialogue goes on or not; or there is none, and a refusal is
+  -- the answer is this reply, after which the dialogue may continue, or an error packet with this text
   abbrev pub AnswersOf : Result (ServerReply A R P) Bytes → Bool → Answer (ServerReply A R P) → Type 0
   AnswersOf (Ok reply) true result = result ≡ answer.GoesOn reply
   AnswersOf (Ok reply) false result = result ≡ answer.Last reply

@@ -1,4 +1,4 @@
--- The steps of filling a packet with the next bytes of a pack.
+-- The filling of a packet with the next bytes of a pack.
 use Rattle.std.specs.Prelude.{◌≡◌, ◌<◌, ◌≤◌, ◌+◌, ℕ, List, [], ◌∷◌, ◌++◌, length, take, Option, Some, None}
 use Rattle.gobject.specs.declared.fault.PackFault.{PackFault}
 use Rattle.gparts.specs.Parts.{Gives}
@@ -8,7 +8,7 @@ use Rattle.gserver.specs.PackSaying.{SaysPack}
 use Rattle.gserver.specs.declared.filling.Piece.{Piece}
 use Rattle.gserver.specs.declared.filling.Piece.TheVariants as piece
 
--- some bytes more of a pack stand in a buffer, after so many others
+-- `count` more bytes of a pack are in the buffer, after the first `from` bytes
 pub record PutsPart (old : Gives) (most_old : ℕ) (new : Gives) (most_new : ℕ) (from count : ℕ)
     (before out : List ℕ) : Type 0 where
   pub part : List ℕ
@@ -19,19 +19,19 @@ pub record PutsPart (old : Gives) (most_old : ℕ) (new : Gives) (most_new : ℕ
   pub few : 0 < count → count + most_new ≤ most_old
   pub whole : count ≡ 0 → old [] None
 
--- so many bytes at the front of a buffer are the next ones of a pack
+-- `count` bytes at the front of the buffer are the next bytes of the pack
 pub record IsFilled (old : Gives) (most_old : ℕ) (new : Gives) (most_new : ℕ) (count : ℕ) (out : List ℕ) : Type 0 where
   pub fits : count ≤ length out
   pub more : (rest : List ℕ) (end : Option PackFault) → new rest end → old (take count out ++ rest) end
   pub few : count + most_new ≤ most_old
 
--- a buffer is filled, or the pack ended before that
+-- the next bytes of the pack fill the buffer, or the pack ends before the buffer is full
 pub record Fills (old : Gives) (most_old : ℕ) (new : Gives) (most_new : ℕ) (count : ℕ) (out : List ℕ) : Type 0 where
   pub fits : count ≤ length out
   pub full : count ≡ length out → IsFilled old most_old new most_new count out
   pub whole : count < length out → old (take count out) None
 
--- the next piece of a pack is said; or the last, if one is left; or the packer failed
+-- the next piece of a pack is queued, or the last piece if one is left, or the packer fails
 abbrev pub SaysPiece : Gives → ℕ → Gives → ℕ → Bytes → Bytes → Piece → Type 0
 SaysPiece old most_old new most_new before out piece.More =
     (bytes : Bytes) × (out ≡ before ++ canonical_all (data_packet bytes ∷ [])) × (most_new < most_old)

@@ -1,4 +1,4 @@
--- The steps of saying the refs that a request asks for (gitprotocol-v2(5), "ls-refs").
+-- The lines of the requested refs (gitprotocol-v2(5), "ls-refs").
 use Rattle.std.specs.Prelude.{◌≡◌, ◌<◌, ◌≤◌, ◌+◌, Bool, true, false, ℕ, List, [], ◌∷◌, ◌++◌, length, map, drop}
 use Rattle.gname.specs.Ids.{Id}
 use Rattle.gname.specs.Names.{Name}
@@ -10,14 +10,14 @@ use Rattle.glsreply.specs.RefTexts.{RefLine}
 use Rattle.ganswer.specs.LsAnswers.{ShowsLines}
 use Rattle.ganswer.specs.Servers.{Server}
 
--- the lines of some refs are put behind the bytes, of those that are asked for
+-- the lines of these refs, as far as they are requested, are appended to the bytes
 pub record SaysLines {A : Type 0} (server : Server A) (asked : LsRefsAsked) (refs : RefList)
     (before out : Bytes) : Type 0 where
   pub lines : List RefLine
   pub shows : ShowsLines server asked refs lines
   pub spelt : out ≡ before ++ canonical_all (map ref_packet lines)
 
--- the line of the ref at a position, where there is one
+-- the line of the ref at this position is appended, or no ref is at this position
 abbrev pub SaysRefAt : {A : Type 0} → Server A → LsRefsAsked → ℕ → Bytes → Bytes → Bool → Type 0
 SaysRefAt server asked at before out true =
     (at < length server.refs) × ((ref : Name × Id) × (drop at server.refs ≡ ref ∷ drop (at + 1) server.refs)

@@ -1,4 +1,4 @@
--- The steps of saying a reply.
+-- The steps in which a server sends a reply.
 use Rattle.std.specs.Prelude.{◌≡◌, ℕ, ◌+◌, ◌<◌, ◌≤◌, Bool, true, false, List, [], ◌++◌, length, map, Option, None}
 use Rattle.gname.specs.Ids.{Id}
 use Rattle.gfetchreply.specs.FetchReplies.{ack_packet}
@@ -15,20 +15,20 @@ use Rattle.gserver.specs.declared.said.Rest.{Rest}
 use Rattle.gserver.specs.declared.said.Stepped.{Stepped}
 use Rattle.gserver.specs.declared.said.Stepped.TheVariants as stepped
 
--- some packets are put behind the bytes, and the rest is said from another place on, which is nearer to the end
+-- some packets are appended to the bytes, and the rest of the reply has fewer steps left
 pub record PutsSome (old new : May) (steps_old steps_new : ℕ) (before out : Bytes) : Type 0 where
   pub said : List Packet
   pub spelt : out ≡ before ++ canonical_all said
   pub goes_on : (rest : List Packet) (goes : Bool) → new rest goes → old (said ++ rest) goes
   pub nearer : steps_new < steps_old
 
--- the last packets are put behind the bytes
+-- the last packets of the reply are appended to the bytes
 pub record PutsLast (old : May) (goes : Bool) (before out : Bytes) : Type 0 where
   pub said : List Packet
   pub spelt : out ≡ before ++ canonical_all said
   pub all : old said goes
 
--- a step from this place on
+-- one step from this state of a reply
 module _ {A R P : Type 0} (gives : R → P → Gives) (most : R → P → ℕ) (ends : Ends) (goes_on : Bool) where
   abbrev pub StepsFrom : Rest A R P → Bytes → Bytes → Stepped A R P → Type 0
   StepsFrom from before out (stepped.More rest) =
@@ -37,25 +37,25 @@ module _ {A R P : Type 0} (gives : R → P → Gives) (most : R → P → ℕ) (
   StepsFrom from before out stepped.Whole = PutsLast (SaysRest gives ends goes_on from) true before out
   StepsFrom from before out stepped.Last = PutsLast (SaysRest gives ends goes_on from) false before out
 
--- how a reply ends
+-- the result at the end of a reply, depending on whether the dialogue continues
 abbrev pub end_of : {A R P : Type 0} → Bool → Stepped A R P
 end_of true = stepped.Whole
 end_of false = stepped.Last
 
--- the most bytes of the words for a packer's fault
+-- the maximum number of bytes of the text for a packer's fault
 abbrev pub max_words : ℕ
 max_words = 64
 
--- what follows the heading of the acknowledgments
+-- the state of the reply after the heading of the acknowledgments
 abbrev pub FollowsHeading : {A R P : Type 0} → List Id → Option (R × P) → Rest A R P → Type 0
 FollowsHeading ids pack rest.Nak = (ids ≡ []) × (pack ≡ None)
 FollowsHeading ids pack (rest.Ack acks at other) =
     (acks.ids ≡ ids) × (at ≡ 0) × (other ≡ pack) × (acks_or_nak ids pack ≡ map ack_packet ids)
 FollowsHeading ids pack _ = ⊥
 
--- ---- many steps
+-- ---- several steps
 
--- so many packets at least were said, one after the other, and there is room for another
+-- at least `count` steps of the reply are done, and the queue has room for another packet
 pub record HasSaid (first now : May) (steps_first steps_now count : ℕ) (out : Bytes) : Type 0 where
   pub said : List Packet
   pub spelt : out ≡ canonical_all said
@@ -63,7 +63,7 @@ pub record HasSaid (first now : May) (steps_first steps_now count : ℕ) (out : 
   pub nearer : count + steps_now ≤ steps_first
   pub room : length out + max_packet ≤ queue_room
 
--- one step of what is said, by its answer
+-- one step of a reply, for each result
 abbrev pub Advances : May → May → ℕ → ℕ → Bytes → Bytes → Said → Type 0
 Advances old new steps_old steps_new before out said.More = PutsSome old new steps_old steps_new before out
 Advances old new steps_old steps_new before out said.Whole = PutsLast old true before out
