@@ -1,4 +1,4 @@
-//! An error packet (gitprotocol-pack(5), "error-line"), written and flushed.
+//! Writing and flushing an error packet (gitprotocol-pack(5), "error-line").
 
 ghost use Rattle.std.specs.Prelude.{◌≡◌, ◌≤◌, false, length};
 ghost use Rattle.gpkt.specs.Sending.{output_of};

@@ -1,5 +1,5 @@
-//! Writing and flushing a reply, the advertisement, and the error packet. After each call the
-//! writer has not failed, or its sink is down.
+//! Writing and flushing a reply, the advertisement, and the error packet. A writer fails in these
+//! calls only if its sink fails.
 
 ghost use Rattle.std.specs.Prelude.{◌≡◌, false, OnOk};
 ghost use Rattle.gpkt.specs.Sending.{output_of};
@@ -78,7 +78,7 @@ pub(crate) fn send_advert<W: Sink, A: Allocator + Copy>(
     writer.push()
 }
 
-/// Writes the error packet, and flushes it.
+/// Writes the error packet of a refusal, and flushes it.
 pub(crate) fn send_refusal<W: Sink>(
     fault: &ServeFault,
     writer: &mut PacketWriter<W>,
