@@ -38,8 +38,7 @@ Answers server packs (LsAsked asked) (Ls reply) = LsAnswer server asked reply
 Answers server packs (Fetches asked) (Fetch reply) = FetchAnswer server packs asked reply
 Answers server packs asked reply = ⊥
 
--- the possible faults of fetch: no wants, the first want that is not held, a fault of the packer for the objects to
--- send, or out of memory
+-- the possible faults of fetch: no wants, the first want that is not held, a fault of the packer, or out of memory
 abbrev pub FetchRefuses : {A : Type 0} → Server A → PackFails A → FetchAsked → ServeFault → Type 0
 FetchRefuses server fails asked serve.NoWants = asked.wants ≡ []
 FetchRefuses server fails asked (serve.NotOurs id) = IsFirstAbsent server.graph.entries asked.wants id

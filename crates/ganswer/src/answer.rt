@@ -47,8 +47,8 @@ impl<A: Allocator + Copy> Server<A> {
     /// objects to send.
     ///
     /// The packer is asked once if the answer has a pack or the fault is the packer's. Otherwise
-    /// the packer is not asked. So its fault is always reported, and `Memory` is reported only if
-    /// the packer was not asked.
+    /// the packer is not asked. So a fault of the packer is always reported, and `Memory` is
+    /// reported only if the packer was not asked.
     pub fn answer<K: Packer<A>>(
         &self,
         request: &Request<A>,

@@ -71,8 +71,8 @@ impl<A: Allocator + Copy> Server<A> {
     /// Returns the answer to a request for objects before the objects are packed, so that the
     /// caller can pack them itself.
     ///
-    /// Fails with `NoWants` if the request has no wants, with `NotOurs` for the first want that is
-    /// not held, or with `Memory` if memory runs out.
+    /// Fails with `NoWants` if the request has no wants. Fails with `NotOurs` for the first want
+    /// that is not held. Otherwise fails only with `Memory`.
     pub fn begin_fetch(&self, asked: &FetchRequest<A>) -> Result<BegunFetch<A>, ServeFault>
         ensures { MatchResult result (BeginsFetch self.now asked.now.asked)
             (FetchDeclines self.now asked.now.asked) }

@@ -10,8 +10,8 @@ use ggraph::{Faithful, Packer};
 use gname::laws::head_is_a_name;
 use std::alloc::Allocator;
 
-/// A server can send its advertisement. A client of the same object format accepts it, and may ask
-/// for an unborn HEAD (gitprotocol-v2(5), "Capability Advertisement").
+/// A server can send its advertisement. A client of the same object format accepts the
+/// advertisement, and may ask for an unborn HEAD (gitprotocol-v2(5), "Capability Advertisement").
 pub fn adverts_welcome()
     ensures { AdvertsWelcome }
 {}
@@ -24,8 +24,9 @@ pub fn ls_requests_have_one_answer<A: Allocator + Copy>()
     peels_to_one::<A>();
 }
 
-/// An answer to a request for refs is a well-formed message. Its ids have the server's format, its
-/// ref names are valid, and it has at most as many lines as a reply may have.
+/// An answer to a request for refs is a well-formed message. The ids of the answer have the
+/// server's format, the ref names are valid, and the number of lines is within the limit of a
+/// reply.
 pub fn ls_answers_fit<A: Allocator + Copy>()
     ensures { LsAnswersFit A }
 {
@@ -56,8 +57,8 @@ pub fn acks_are_common<A: Allocator + Copy, K: Packer<A>>()
 
 /// A pack that is sent consists of entries of the server's graph. Consider a client whose graph
 /// agrees with the server's and where the haves of the request are connected. After the client
-/// inserts the entries, the wants are connected there, and the client holds every object that they
-/// reach at the server.
+/// inserts the entries, the wants are connected at the client. The client then holds every object
+/// that the wants reach at the server.
 pub fn packs_are_enough<A: Allocator + Copy, K: Packer<A>>()
     ensures { (packer : K) → PacksAreEnough A (K.packs packer) }
 {
@@ -66,8 +67,8 @@ pub fn packs_are_enough<A: Allocator + Copy, K: Packer<A>>()
     sending_is_enough::<A>();
 }
 
-/// If the server holds the wants of a request, the request fails only if the packer fails for some
-/// entries of the graph, or if memory runs out.
+/// If the server holds the wants of a request, the request fails only if the packer fails for
+/// entries of the graph or memory runs out.
 pub fn held_wants_are_served<A: Allocator + Copy, K: Packer<A>>()
     ensures { (packer : K) → ServesWhatIsHeld A (K.pack_fails packer) }
 {

@@ -134,7 +134,7 @@ impl<A: Allocator + Copy> Server<A> {
         })
     }
 
-    /// Returns the id that HEAD points at, if there is one.
+    /// Returns the id that HEAD points at, directly or through a ref, if there is one.
     pub fn head_id(&self) -> Option<Oid>
         ensures { result ≡ head_id self.now.head self.now.refs }
     {

@@ -38,7 +38,7 @@ impl<'a, K> Model for OnePack<'a, K> {
 }
 
 impl<'a, K> OnePack<'a, K> {
-    /// Makes a `OnePack` of a packer that was not asked yet.
+    /// Wraps a packer that was not asked yet.
     pub fn new(packer: &'a K) -> OnePack<'a, K>
         ensures packer { result.packer ≡ packer.now }
         ensures unasked { result.answered ≡ packing.Unasked }

@@ -21,7 +21,7 @@ use std::alloc::{Allocator, Global};
 use std::marker::Model;
 
 /// A served repository: a graph, refs and HEAD (gitglossary(7), "ref", "HEAD"). The graph is
-/// closed. It holds the id of each ref and of a detached HEAD. HEAD may be unborn.
+/// closed, and holds the id of each ref and of a detached HEAD. HEAD may be unborn.
 #[derive(Drop)]
 pub struct Server<A: Allocator + Copy = Global> {
     graph: Graph<A>,
@@ -118,7 +118,7 @@ impl<A: Allocator + Copy> Server<A> {
         &self.refs
     }
 
-    /// A law: the properties of each server.
+    /// A law: the invariant of a server.
     pub fn laws(&self)
         ensures { IsServer self.now }
     {

@@ -23,8 +23,8 @@ HasShortEndings reading = (front : List Packet) → IsOpen (judge reading) front
 
 -- ---- replies that are read with other parameters: for another request, or with another limit
 
--- If packets are a reply under one reading, and these and more packets are a reply under another, then there are no
--- more packets, and both replies are the same. Both readings have the same format and end.
+-- Two readings have the same format and end. If packets are a reply under one reading, and begin a reply under the
+-- other, both replies are the same, with the same packets.
 abbrev pub OneInWhateverReading : Type 0
 OneInWhateverReading =
     (reading other : Reading) (packets back : List Packet) (one also : FetchReply) → other.format ≡ reading.format
@@ -55,8 +55,8 @@ module _ {S : Type 0} (taken : S → Bytes → Type 0) where
     pub left : new ≡ rest
     pub pack : (before : Bytes) → taken old before → taken sink (before ++ pack_of reply)
 
-  -- A reply is read if the bytes begin with packets that encode it. Faults of memory, of a device, and of a reader that
-  -- failed before are excepted.
+  -- A reply is read if the bytes begin with packets that encode it. The law excepts out of memory, a failed device, and
+  -- a reader that failed before.
   abbrev pub ReadsIntoWhereSaid : Bool → Reading → Type 0
   ReadsIntoWhereSaid refuses reading =
       (bytes new rest : Bytes) (old sink : S) (result : Result FetchHead MessageFault) (reply : FetchReply)

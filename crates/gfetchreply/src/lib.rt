@@ -5,17 +5,18 @@
 //! # Proved
 //!
 //! - [`read_fetch_reply_into_in`] reads a reply exactly to its end, however its bytes are split
-//!   into pieces. It returns the head of the reply, whose ids have the requested format. The sink
-//!   has accepted the reply's pack after its previous bytes, and no more bytes than the limit.
-//!   Otherwise the reply is rejected at the first packet that does not fit, for the grammar's
-//!   reason (`judge` in `specs/FetchReplies.antt`). The sink has then accepted exactly the data of
-//!   the packets before, also within the limit. With any result, the sink is still the same one, as
-//!   its [`PackSink`] defines. A sink gets no empty piece.
+//!   into pieces. The call returns the head of the reply, whose ids have the requested format. The
+//!   sink has accepted the reply's pack after its previous bytes. The pack does not exceed the
+//!   limit. Otherwise the reply is rejected at the first packet that does not fit, for the
+//!   grammar's reason (`judge` in `specs/FetchReplies.antt`). The sink has then accepted exactly
+//!   the data of the packets before the rejected packet, which does not exceed the limit. With any
+//!   result, the sink is still the same sink, as its [`PackSink`] defines. A sink gets no empty
+//!   piece.
 //! - Out of memory never replaces another fault, and is reported only at a packet that the grammar
 //!   accepts. The packet then has an acknowledged id, or a piece of the pack if the sink's type may
-//!   refuse a piece. A [`PackSink`] states whether it may refuse pieces, and a vector may.
-//!   [`read_fetch_reply_into`] does the same for SHA-1. [`read_fetch_reply_in`] and
-//!   [`read_fetch_reply`] store the pack in memory.
+//!   refuse a piece. A [`PackSink`] states whether it may refuse pieces, and a vector may refuse
+//!   them. The same holds of [`read_fetch_reply_into`], which is for SHA-1 ids. The functions
+//!   [`read_fetch_reply_in`] and [`read_fetch_reply`] store the pack in memory.
 //! - [`Acks`] has at most 4,096 ids of one format. [`PackBytes`] has at most `gname::MAX_PACK`
 //!   bytes, and a [`PackLimit`] is at most that. A call that builds one of them reports an id of
 //!   another format first, and then an exceeded limit. A call that fails changes nothing. A reply

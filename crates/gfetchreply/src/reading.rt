@@ -40,8 +40,8 @@ pub struct FetchReading {
 }
 
 // The sink that a reading borrows, its previous state and bytes, and how the reply is read. A call
-// at `Brand` chooses these members in its `Invariants.antt`. They belong to a type, since `Message`
-// is only about a reader and its packets.
+// at `Brand` chooses these members in its `Invariants.antt`. The members belong to a type, since
+// `Message` only describes a reader and its packets.
 trait Lent<T> {
     ghost use Rattle.gfetchreply.specs.FetchReplies.{Reading};
 
@@ -246,15 +246,15 @@ pub fn read_fetch_reply_into<S: Source, T: PackSink, A: Allocator + Copy, B: All
 /// stored in memory of `alloc`.
 ///
 /// A fault has the reason, and the position of the first packet that does not fit. A fault of the
-/// packet reader ([`Why::Line`]) takes precedence, then the end of the input ([`Why::Ended`]).
-/// Next is an error that the peer reports ([`Why::RemoteErr`]), and then a fault of the grammar. A
-/// 4,097th id, and the packet with which the pack would exceed its limit, are rejected with
-/// [`Why::Limit`] if they are well-formed. [`Why::Memory`] is reported only at an acknowledged id
-/// and, if the sink may refuse a piece, at a packet with data of the pack.
+/// packet reader ([`Why::Line`]) takes precedence, then the end of the input ([`Why::Ended`]). Next
+/// is an error that the peer reports ([`Why::RemoteErr`]), and then a fault of the grammar. A
+/// well-formed 4,097th id is rejected with [`Why::Limit`]. So is a packet with which the pack would
+/// exceed its limit. The fault [`Why::Memory`] is reported only at an acknowledged id or, if the
+/// sink may refuse a piece, at data of the pack.
 ///
-/// If the reply is rejected, the sink has accepted the data of the packets before, and no more than
-/// the limit. The reader has failed exactly if it rejected the packet itself. With any result, the
-/// sink is still the same one.
+/// If the reply is rejected, the sink has accepted the data of the packets before the rejected
+/// packet, within the limit. The reader has failed exactly if it rejected the packet itself. With
+/// any result, the sink is still the same sink.
 pub fn read_fetch_reply_into_in<S: Source, T: PackSink, A: Allocator + Copy, B: Allocator + Copy>(
     reader: &mut PacketReader<S, A>,
     reading: FetchReading,

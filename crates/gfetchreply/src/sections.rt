@@ -247,7 +247,7 @@ impl<A: Allocator + Copy> Sections<A> {
     }
 }
 
-// Returns whether the reply goes on after its flush.
+// Returns the state of a reply after its flush: complete, or open if a response-end must follow.
 fn after_flush(ends: Ends) -> Step
     ensures { verdict_of result ≡ at_flush ends }
 {

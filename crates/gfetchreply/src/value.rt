@@ -21,8 +21,8 @@ use std::marker::Model;
 /// The maximum number of ids that a reply acknowledges.
 pub const MAX_ACKS: usize = 4_096;
 
-/// The ids that a server acknowledges: the haves of a request that it holds. There are at most
-/// 4,096, of one format, in order.
+/// The ids that a server acknowledges: the haves of a request that it holds. A list has at most
+/// 4,096 ids of one format, in order.
 #[derive(Debug, Drop)]
 pub struct Acks<A: Allocator + Copy> {
     format: Format,

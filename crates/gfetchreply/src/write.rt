@@ -19,9 +19,9 @@ use gpkt::{Band, MAX_BAND, PacketWriter, Sink, WriteFault};
 use std::alloc::Allocator;
 use std::slice::Chunks;
 
-/// Writes a reply in its one list of packets (gitprotocol-v2(5), "fetch"). The pack is written in
-/// pieces of the maximum size, without progress. The call does not copy the ids or the pack, and
-/// allocates nothing.
+/// Writes a reply as its canonical list of packets (gitprotocol-v2(5), "fetch"). The pack is
+/// written in pieces of the maximum size, without progress. The call neither copies the ids or the
+/// pack nor allocates.
 ///
 /// Fails with `Io` if the sink fails, after writing a prefix of the reply. Fails with `Failed` if
 /// the writer failed before the call. A reply meets the conditions of

@@ -39,7 +39,7 @@ pub record IsUnfinished (judge : Judge) (front : List Packet) : Type 0 where
   pub begins : Begins judge front
   pub unfinished : (whole back : List Packet) → front ≡ whole ++ back → IsWhole judge whole → ⊥
 
--- this is the first packet with which the packets are not the beginning of any message
+-- with this packet, and not before, the packets stop being the beginning of a message
 pub record IsFirstMisfit (judge : Judge) (front : List Packet) (packet : Packet) : Type 0 where
   pub before : IsUnfinished judge front
   pub misfit : Begins judge (front ++ packet ∷ []) → ⊥

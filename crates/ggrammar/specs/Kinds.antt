@@ -1,5 +1,4 @@
--- The laws of a kind of message: of its judge, of the meaning of complete lists of packets, and of the values that can
--- be written and their packets.
+-- The laws of a kind of message: of its judge, of the meaning of complete lists of packets, and of writing.
 use Rattle.std.specs.Prelude.{◌≡◌, ◌↔◌, All, Bool, List, ◌++◌, Option, Some, None, Result, Ok, Err, IfErr}
 use Rattle.gpkt.specs.Packets.{Bytes, Packet, canonical_all}
 use Rattle.gpkt.specs.Change.{Change}
@@ -51,8 +50,8 @@ module _ {M : Type 0} where
   abbrev pub SaysAtFront : Meaning M → Bytes → Bytes → M → Type 0
   SaysAtFront Says bytes rest message = (lines : List Packet) × IsFront lines bytes rest × Says lines message
 
-  -- A message is read exactly if the bytes begin with packets that mean it. Nothing after these packets is read. Faults
-  -- of memory, of a device, and of a reader that failed before are excepted.
+  -- A message is read exactly if the bytes begin with packets that mean it. Nothing after these packets is read. The
+  -- law excepts out of memory, a failed device, and a reader that failed before.
   abbrev pub ReadsExactly : Judge → (List Packet → Packet → Bool) → Meaning M → Type 0
   ReadsExactly judge brings Says =
       (bytes new rest : Bytes) (result : Result M MessageFault) (message : M)

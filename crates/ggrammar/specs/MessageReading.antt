@@ -23,8 +23,8 @@ IsAccepted Open = Unit {0}
 IsAccepted Whole = Unit {0}
 IsAccepted (Refused why) = ⊥
 
--- The possible reasons to reject a packet: the reason of the judge; or out of memory, if the judge accepts the packet
--- and the packet has contents to store.
+-- A reason to reject a packet: the reason of the judge, or out of memory for the contents of a packet that the judge
+-- accepts.
 abbrev pub IsReason : Verdict → Bool → Why → Type 0
 IsReason verdict brings (Line fault) = ⊥
 IsReason verdict brings Ended = ⊥

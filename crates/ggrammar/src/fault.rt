@@ -15,7 +15,7 @@ use std::marker::Model;
 /// The maximum number of bytes that are kept of a peer's error.
 pub const MAX_PEER_TEXT: usize = 256;
 
-/// The text of a peer's error: its first 256 bytes.
+/// The text of an error that a peer reports, of which the first 256 bytes are kept.
 #[derive(Drop)]
 pub struct PeerText {
     text: ArrayVec<u8, MAX_PEER_TEXT>,
@@ -137,8 +137,8 @@ impl Why {
         self.fault_row().name
     }
 
-    /// Returns the text for the peer, such as `bad line` in `ERR upload-pack: bad line`. The fault
-    /// also displays this text.
+    /// Returns the text for the peer, such as `bad line` in `ERR upload-pack: bad line`. The
+    /// `Display` output of a fault contains this text.
     pub fn phrase(&self) -> &'static str
         ensures { result.now ≡ (why_row self.now).phrase }
     {

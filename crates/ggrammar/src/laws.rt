@@ -33,10 +33,10 @@ pub fn grammars_are_exact()
 {}
 
 /// A complete message at the front of some bytes is read, and the bytes after it are left. If
-/// reading is refused for a reason in the bytes, there is no message at their front, and the fault
-/// and the remaining bytes are unique. After the end of the input there is no message either. If
-/// each open list of packets can be completed, all bytes begin with a message or are refused. No
-/// encoding of a message is a prefix of another.
+/// reading is refused for a reason in the bytes, they begin with no message, and the fault and the
+/// remaining bytes are unique. After the end of the input there is no message. If each open list of
+/// packets can be completed, all bytes begin with a message or are refused. No encoding of a
+/// message is a prefix of another.
 pub fn messages_are_read()
     ensures { (judge : Judge) → LawsOfBytes judge }
 {

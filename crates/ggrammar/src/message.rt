@@ -45,7 +45,7 @@ pub trait Message {
 
     /// Laws of the message, for generic callers. The call has no effect. A message that stops after
     /// some packets is left in the state for these packets. Each open list of packets can be
-    /// completed. The number of packets of an open message does not overflow.
+    /// completed to a message. The number of packets of an open message does not overflow.
     fn laws()
         ensures left { (message : Self) (front : List Packet) → holds message front
             → left message front }

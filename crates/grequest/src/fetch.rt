@@ -108,8 +108,8 @@ impl<A: Allocator + Copy> FetchRequest<A> {
         self.agent.as_ref().map(|value| value.as_slice())
     }
 
-    /// Returns the wants, the ids that the client asks for, in their order. There are at most
-    /// 1,024.
+    /// Returns the wants, the ids that the client asks for, in their order. A request has at most
+    /// 1,024 wants.
     pub fn wants(&self) -> &[Oid]
         ensures wants { result.now ≡ self.now.asked.wants }
         ensures well_formed { IsFetchAsked self.now.format self.now.asked }
@@ -117,7 +117,8 @@ impl<A: Allocator + Copy> FetchRequest<A> {
         self.wants.as_slice()
     }
 
-    /// Returns the haves, the ids that the client offers, in their order. There are at most 4,096.
+    /// Returns the haves, the ids that the client offers, in their order. A request has at most
+    /// 4,096 haves.
     pub fn haves(&self) -> &[Oid]
         ensures haves { result.now ≡ self.now.asked.haves }
         ensures well_formed { IsFetchAsked self.now.format self.now.asked }
@@ -217,8 +218,8 @@ impl<A: Allocator + Copy> FetchRequest<A> {
 
     /// Appends a want.
     ///
-    /// Fails with `BadText` if the id has another format than the request, with `Limit` if there
-    /// are already 1,024 wants, and with `Memory` if out of memory. The fault is at packet 0, and
+    /// Fails with `BadText` if the id has another format than the request. Otherwise fails with
+    /// `Limit` if there are already 1,024 wants, or with `Memory`. The fault is at packet 0, and
     /// the request is unchanged.
     pub fn push_want(&mut self, id: Oid) -> Result<(), MessageFault>
         ensures { Builds (has_format self.old.format id)
@@ -235,8 +236,8 @@ impl<A: Allocator + Copy> FetchRequest<A> {
 
     /// Appends a have.
     ///
-    /// Fails with `BadText` if the id has another format than the request, with `Limit` if there
-    /// are already 4,096 haves, and with `Memory` if out of memory. The fault is at packet 0, and
+    /// Fails with `BadText` if the id has another format than the request. Otherwise fails with
+    /// `Limit` if there are already 4,096 haves, or with `Memory`. The fault is at packet 0, and
     /// the request is unchanged.
     pub fn push_have(&mut self, id: Oid) -> Result<(), MessageFault>
         ensures { Builds (has_format self.old.format id)

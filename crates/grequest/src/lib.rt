@@ -11,21 +11,21 @@
 //!   have.
 //! - In a repository of SHA-256 ids, a request must name the object format, and its ids have this
 //!   format.
-//! - [`LsRefsRequest`] and [`FetchRequest`] keep their forms and limits. A call that would break a
-//!   form fails with `BadText`. Otherwise a call that would exceed a limit fails with `Limit`, and
-//!   a call without memory fails with `Memory`. Each fault is at packet 0, and the request is
-//!   unchanged.
+//! - The values of [`LsRefsRequest`] and [`FetchRequest`] are always well-formed and within their
+//!   limits. A call with an ill-formed value fails with `BadText`. Otherwise a call that would
+//!   exceed a limit fails with `Limit`, and a call that runs out of memory fails with `Memory`.
+//!   Each fault is at packet 0, and the request is unchanged.
 //! - [`FetchRequest::is_direct`] returns whether the reply starts with the pack: the request has
 //!   `done` or no haves.
 //! - A copy of a request has the same contents, and its ids have the same format. `asks_as` holds
 //!   exactly if two requests have the same contents.
-//! - [`write_request`] writes the one list of packets of a request (`specs/RequestWriting.antt`),
-//!   or a prefix of it if the sink fails. For a request with ids, the caller passes the format of
-//!   these ids, and the request then reads back.
+//! - [`write_request`] writes the canonical list of packets of a request
+//!   (`specs/RequestWriting.antt`), or a prefix of it if the sink fails. For a request with ids,
+//!   the caller passes the format of these ids, and the request then reads back.
 //! - By [`laws`], the requests that are read are those of Git's manual (`specs/Manual.antt`), and a
 //!   request has one meaning. No request is a prefix of another, as packets or as bytes. Each
 //!   prefix can be completed, and a rejected packet is the first that does not fit. The packets
-//!   written for a request have its meaning, and each payload fits a packet. A request is read
+//!   written for a request mean this request, and each payload fits a packet. A request is read
 //!   exactly if the bytes begin with one, and `None` is returned exactly if there are no bytes. All
 //!   bytes begin with a request or are rejected for a reason in the bytes. A written request reads
 //!   back, whatever bytes follow. The constants equal the limits of the definitions.
@@ -37,9 +37,9 @@
 //! # What the contracts do not rule out
 //!
 //! A call that stores or copies a value may always report out of memory. It may take any amount of
-//! time, and more memory than it needs. Even a new request may allocate. If a sink fails, a shorter
-//! prefix may have been written. If the bytes of a source are unknown, the contracts do not state
-//! the packets read. They still state whether a device has failed.
+//! time, and more memory than it needs. Even making a new request may allocate. If a sink fails, a
+//! shorter prefix may have been written. If the bytes of a source are unknown, the contracts do not
+//! state the packets read. They still state whether a device has failed.
 //!
 //! # Stands on
 //!

@@ -165,8 +165,8 @@ impl<A: Allocator + Copy> LsRefsRequest<A> {
 
     /// Appends a prefix, so that the request also asks for the names that begin with it.
     ///
-    /// Fails with `BadText` if the text is not a prefix of names, with `Limit` if there are already
-    /// 64 prefixes, and with `Memory` if out of memory. The fault is at packet 0, and the request
+    /// Fails with `BadText` if the text is not a prefix of names. Otherwise fails with `Limit` if
+    /// there are already 64 prefixes, or with `Memory`. The fault is at packet 0, and the request
     /// is unchanged.
     pub fn push_prefix(&mut self, prefix: &[u8]) -> Result<(), MessageFault>
         ensures { Builds (is_none (prefix_fault prefix.now))

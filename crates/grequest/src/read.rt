@@ -36,11 +36,11 @@ pub fn read_request<S: Source, A: Allocator + Copy, B: Allocator + Copy>(
 ///
 /// A fault has the reason, and the position of the first packet that does not fit, counted from
 /// zero. A fault of the packet reader ([`Why::Line`]) takes precedence. Next is the end of the
-/// input after the first packet ([`Why::Ended`]), and then a fault of the grammar. [`Why::Memory`]
-/// is reported only at an agent, a prefix, a want or a have. All packets that were read, even a
-/// rejected packet, are consumed from the source. The packet reader has then failed exactly if it
-/// rejected the packet itself. If the reader had failed before the call, the call fails at once, at
-/// packet 0.
+/// input after the first packet ([`Why::Ended`]), and then a fault of the grammar. The fault
+/// [`Why::Memory`] is reported only at an agent, a prefix, a want or a have. All packets that were
+/// read, even a rejected packet, are consumed from the source. The packet reader has then failed
+/// exactly if it rejected the packet itself. If the reader had failed before the call, the call
+/// fails at once, at packet 0.
 pub fn read_request_in<S: Source, A: Allocator + Copy, B: Allocator + Copy>(
     reader: &mut PacketReader<S, A>,
     format: Format,

@@ -25,7 +25,7 @@ use gname::{Format, MAX_ID_TEXT, Oid, Prefix};
 use gpkt::{PacketWriter, Sink, WriteFault};
 use std::alloc::Allocator;
 
-/// Writes exactly a request, in its one order of packets (gitprotocol-v2(5), "Command Request").
+/// Writes a request as its canonical list of packets (gitprotocol-v2(5), "Command Request").
 /// `format` is the format of the repository's objects. For a request with ids, the caller passes
 /// the format of these ids.
 ///

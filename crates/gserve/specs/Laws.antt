@@ -10,8 +10,8 @@ use Rattle.gserve.specs.Talks.{Talks, EndsByOwnFault}
 use Rattle.gserve.specs.declared.connection.End.{End}
 use Rattle.gserve.specs.declared.connection.End.TheVariants as end
 
--- a connection is a conversation over its input bytes, all of whose output is flushed, if the bytes are known and
--- neither the source nor the sink fails
+-- if its input is known and neither device fails, a connection is a conversation over these bytes, with all output
+-- flushed
 abbrev pub ServingIsTalking : (A : Type 0) → Packs A → PackFails A → Type 0
 ServingIsTalking A packs fails =
     (server : Server A) (ends : Ends) (input : Input) (output : Output) (requests : ℕ) (ended : End) (bytes : Bytes)

@@ -6,20 +6,21 @@
 //!
 //! - [`serve`] holds a conversation (`specs/Conversations.antt`). The bytes determine the requests,
 //!   in whatever pieces they arrive. Nothing after the last packet of a request is read. Each
-//!   request gets the reply of `ganswer`, with any packer. A request for refs always gets a reply,
-//!   since this reply takes no memory. The server writes the advertisement and the replies in their
-//!   one encoding, and flushes all of them. [`Served::requests`](Served) counts the replies.
+//!   request gets the reply that `ganswer` returns, with any packer. A request for refs always gets
+//!   a reply, since this reply takes no memory. The server writes the advertisement and the replies
+//!   in their canonical encoding, and flushes all of them. The field [`Served::requests`](Served)
+//!   counts the replies.
 //! - The advertisement and each reply are flushed before anything more is read. If the sink fails
 //!   at a reply, even while flushing it, nothing after the request of that reply was read. If the
 //!   sink fails at the advertisement, nothing at all was read.
 //! - A connection ends with the client's lone flush packet, if the input ends before a request,
-//!   after [`MAX_REQUESTS`] requests, or if the sink fails. It also ends at the first request that
-//!   is refused. The error packet for this request is written last, and is flushed. The fault is
-//!   that of the request's grammar, of the server's answer, or of the source.
+//!   after [`MAX_REQUESTS`] requests, or if the sink fails. A connection also ends at the first
+//!   request that is refused. The error packet for this request is written last, and is flushed.
+//!   The fault is that of the request's grammar, of the server's answer, or of the source.
 //! - If the packer fails, its own fault is reported, and never out of memory instead
-//!   (`specs/Packings.antt`). [`serve`], [`serve_one`] and [`serve_git`] take the packer with a
-//!   record of its results ([`OnePack`]). Any other fault is reported only if the last request did
-//!   not ask the packer.
+//!   (`specs/Packings.antt`). The functions [`serve`], [`serve_one`] and [`serve_git`] take the
+//!   packer with a record of its results ([`OnePack`]). Any other fault is reported only if the
+//!   last request did not ask the packer.
 //! - If memory runs out for the buffer or for the advertisement, an error packet replaces the
 //!   advertisement, and nothing is read.
 //! - If the sink fails, a prefix of the next message was written: the advertisement, a reply, or
@@ -30,12 +31,12 @@
 //! - [`serve_git`] reads the first line of a `git://` connection, and nothing after it before the
 //!   advertisement is flushed (`specs/GitConnections.antt`). If the line asks for the served path,
 //!   byte for byte, the rest is a conversation as for [`serve`]. If the line asks for another path
-//!   or is refused, an error packet replaces the advertisement and is flushed. Nothing more is
-//!   read. If the sink fails, a prefix of that packet was written. [`GitEnd`] tells these cases
-//!   apart.
+//!   or is refused, an error packet replaces the advertisement and is flushed. Nothing after the
+//!   first line is read. If the sink fails, a prefix of the error packet was written. The type
+//!   [`GitEnd`] distinguishes these cases.
 //! - If memory runs out before the first line, nothing is read. The error packet is still written,
-//!   as it takes no memory. [`hear`] reads a first line alone.
-//! - [`write_reply`] writes a reply in its one list of packets, or a prefix of it if the sink
+//!   as it takes no memory. The function [`hear`] reads a first line alone.
+//! - [`write_reply`] writes a reply as its canonical list of packets, or a prefix of it if the sink
 //!   fails.
 //! - [`err_text`] writes the text of a fault, at most 128 bytes, and nothing after it.
 //! - [`laws`]: a connection is a conversation over the bytes alone (`specs/Talks.antt`), if the
@@ -47,7 +48,7 @@
 //!
 //! # Only tested
 //!
-//! The `conformance` cases test that calls use the memory that is available.
+//! The `conformance` cases test that calls succeed if enough memory is available.
 //!
 //! # What the contracts do not rule out
 //!
@@ -56,12 +57,12 @@
 //!   failed.
 //! - If the sink fails, a shorter prefix may have been written, and more than the counted replies
 //!   may have been flushed.
-//! - A call may report out of memory without need: in place of the advertisement, or in place of
-//!   the reply to a fetch whose wants are all held, if the packer was not asked. It may also do so
-//!   at a packet of a first line or a request whose contents are kept. At the start, faults 64 and
-//!   28 may replace each other, since both mean that nothing was read.
-//! - A call may take any amount of time, flush more often, and write a part of a packet, such as
-//!   the digits of an id, in several calls.
+//! - A call may report out of memory without need in place of the advertisement. If the packer was
+//!   not asked, a call may report it in place of a reply to a fetch whose wants are all held. A
+//!   call may also report it at a packet whose contents are kept. At the start, faults 64 and 28
+//!   may replace each other, since both mean that nothing was read.
+//! - A call may take any amount of time, flush more often, and write one packet in several calls of
+//!   the sink.
 //!
 //! # Stands on
 //!

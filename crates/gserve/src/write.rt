@@ -10,8 +10,8 @@ use glsreply::write_ls_reply;
 use gpkt::{PacketWriter, Sink, WriteFault};
 use std::alloc::Allocator;
 
-/// Writes a reply in its one list of packets, without flushing it. Allocates nothing. The reply to
-/// a lone flush packet has no packets.
+/// Writes a reply as its canonical list of packets, without flushing the writer. Allocates nothing.
+/// The reply to a lone flush packet has no packets.
 ///
 /// Fails with `Io` if the sink fails, after writing a prefix of the reply. Fails with `Failed` if
 /// the writer failed before the call. Never fails with `Payload`.

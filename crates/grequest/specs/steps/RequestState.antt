@@ -1,5 +1,5 @@
--- The steps of reading a request: the changes of the state with each accepted packet, the sections of a request, the
--- parts that are kept, and the results.
+-- The steps of reading a request: the state after each accepted packet, the sections, the parts that are kept, and the
+-- results.
 use Rattle.std.specs.Prelude.{◌+◌, true, [], ◌∷◌, ◌++◌, Some, ◌≡◌, ℕ, Bool, false, List}
 use Rattle.std.specs.Option.{option_to_list}
 use Rattle.gpkt.specs.Packets.{Bytes, Packet, Data, Delim, text}
@@ -95,7 +95,7 @@ pub record RequestSoFar : Type 0 where
   pub format : Format
   pub state : State
 
--- the state is that after these packets
+-- the state of reading is the one after these packets
 abbrev pub HoldsPackets : RequestSoFar → List Packet → Type 0
 HoldsPackets reading lines = reading.state ≡ state_of reading.format lines
 
