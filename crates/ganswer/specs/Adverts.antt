@@ -1,4 +1,4 @@
--- What a server advertises (gitprotocol-v2(5), "Capability Advertisement").
+-- The capabilities that a server advertises (gitprotocol-v2(5), "Capability Advertisement").
 use Rattle.std.specs.Prelude.{List, [], ◌∷◌, codes, Some, None}
 use Rattle.gname.specs.Formats.{format_name}
 use Rattle.gname.specs.declared.formats.Format.{Format}
@@ -11,7 +11,7 @@ key name = record { key = name; value = None }
 abbrev pub key_with : Bytes → Bytes → Capability
 key_with name value = record { key = name; value = Some value }
 
--- its name; that it lists refs, and an unborn HEAD, and sends packs; and the format of its ids
+-- the agent's name, ls-refs with `unborn`, fetch, and the object format
 abbrev pub advertisement : Format → List Capability
 advertisement format =
     key_with (codes "agent") (codes "gitv2/1")

@@ -1,4 +1,4 @@
--- What a server answers to a request (gitprotocol-v2(5), "Command Request").
+-- The answers of a server to requests (gitprotocol-v2(5), "Command Request").
 use Rattle.std.specs.Prelude.{◌≡◌, ⊤, []}
 use Rattle.gname.specs.declared.formats.Format.{Format}
 use Rattle.gobject.specs.Packs.{PackFails, Packs}
@@ -15,7 +15,7 @@ use Rattle.ganswer.specs.declared.answer.Reply as value
 use Rattle.ganswer.specs.declared.answer.Reply.TheVariants as values
 use Rattle.ganswer.specs.declared.fault.ServeFault.TheVariants as serve
 
--- what a reply says
+-- the content of a reply
 pub data Reply : Type 0 where
   Nothing : Reply
   Ls : (reply : LsReply) → Reply
@@ -26,20 +26,19 @@ reply_of values.Nothing = Nothing
 reply_of (values.Ls reply) = Ls reply
 reply_of (values.Fetch reply) = Fetch (reply_in reply)
 
--- the acknowledged ids have the format, which is said also where there are none
+-- if the reply acknowledges ids, they have this object format
 abbrev pub HasFormat : {A : Type 0} → Format → value.Reply A → Type 0
 HasFormat format (values.Fetch reply) = IsReplyOf format reply
 HasFormat format _ = ⊤
 
--- the reply answers the request
+-- the server may answer the request with this reply
 abbrev pub Answers : {A : Type 0} → Server A → Packs A → Asked → Reply → Type 0
 Answers server packs Empty Nothing = ⊤
 Answers server packs (LsAsked asked) (Ls reply) = LsAnswer server asked reply
 Answers server packs (Fetches asked) (Fetch reply) = FetchAnswer server packs asked reply
 Answers server packs asked reply = ⊥
 
--- Why fetch is not answered: nothing is wanted; else the first want that is not held; else, where a pack is due, what
--- the packer may refuse of the objects to send; or out of memory.
+-- the possible faults of fetch: no wants, the first want that is not held, a fault of the packer, or out of memory
 abbrev pub FetchRefuses : {A : Type 0} → Server A → PackFails A → FetchAsked → ServeFault → Type 0
 FetchRefuses server fails asked serve.NoWants = asked.wants ≡ []
 FetchRefuses server fails asked (serve.NotOurs id) = IsFirstAbsent server.graph.entries asked.wants id
@@ -48,7 +47,7 @@ FetchRefuses server fails asked (serve.Pack cause) =
 FetchRefuses server fails asked serve.Memory = CanServe server asked
 FetchRefuses server fails asked _ = ⊥
 
--- why a request is not answered; the empty one always is
+-- the possible faults of a request, none for the empty request
 abbrev pub Refuses : {A : Type 0} → Server A → PackFails A → Asked → ServeFault → Type 0
 Refuses server fails Empty cause = ⊥
 Refuses server fails (LsAsked asked) cause = cause ≡ serve.Memory

@@ -1,4 +1,4 @@
--- What is answered to fetch before the objects to send are packed (gitprotocol-v2(5), "fetch").
+-- The answer to fetch before the objects to send are packed (gitprotocol-v2(5), "fetch").
 use Rattle.std.specs.Prelude.{◌≡◌, true, false, []}
 use Rattle.gdag.specs.Graphs.{IsFirstAbsent}
 use Rattle.grequest.specs.Asked.{FetchAsked, is_direct}
@@ -10,11 +10,11 @@ use Rattle.ganswer.specs.declared.fault.ServeFault.TheVariants as serve
 use Rattle.ganswer.specs.declared.fetch.BegunFetch.{BegunFetch}
 use Rattle.ganswer.specs.declared.fetch.BegunFetch.TheVariants as begun
 
--- the common ids, to be acknowledged
+-- the common ids, which the reply acknowledges
 abbrev pub acks_for : {A : Type 0} → Server A → FetchAsked → Acks
 acks_for server asked = record { format = server.graph.format; ids = commons_of server asked }
 
--- the ids that are acknowledged, and the objects that are sent
+-- the parts of the answer: the common ids that it acknowledges, and the objects to send
 abbrev pub BeginsWith : {A : Type 0} → Server A → FetchAsked → BegunFetch A → Type 0
 BeginsWith server asked (begun.Pack list) = (is_direct asked ≡ true) × IsSent server asked list.items
 BeginsWith server asked (begun.Ready commons list) =
@@ -23,12 +23,12 @@ BeginsWith server asked (begun.Ready commons list) =
 BeginsWith server asked (begun.Acks commons) =
     (is_direct asked ≡ false) × (commons ≡ acks_for server asked) × ¬ (IsReadyFor server asked)
 
--- a request that can be served is begun so
+-- the server can serve the request, and this is its answer before the objects are packed
 pub record BeginsFetch {A : Type 0} (server : Server A) (asked : FetchAsked) (fetch : BegunFetch A) : Type 0 where
   pub can : CanServe server asked
   pub begins : BeginsWith server asked fetch
 
--- Why fetch is not begun: nothing is wanted; otherwise the first want that is not held; or out of memory.
+-- the possible faults of fetch before packing: no wants, the first want that is not held, or out of memory
 abbrev pub FetchDeclines : {A : Type 0} → Server A → FetchAsked → ServeFault → Type 0
 FetchDeclines server asked serve.NoWants = asked.wants ≡ []
 FetchDeclines server asked (serve.NotOurs id) = IsFirstAbsent server.graph.entries asked.wants id

@@ -1,5 +1,5 @@
--- Changes of a server: an object is added, a ref is set (git-update-ref(1)), HEAD is set (git-symbolic-ref(1)). After a
--- refusal the server is as it was.
+-- Changes to a server: adding an object, setting a ref (git-update-ref(1)), and setting HEAD (git-symbolic-ref(1)). A
+-- rejected change leaves the server as it was.
 use Rattle.std.specs.Prelude.{◌≡◌, None, Result, Ok, Err}
 use Rattle.gname.specs.Ids.{Id}
 use Rattle.gname.specs.Names.{Name}
@@ -17,14 +17,14 @@ use Rattle.ganswer.specs.declared.fault.BuildFault.TheVariants as build
 
 -- ---- an object
 
--- why an object is not added: a parent is missing, the first that is; else what a graph refuses of it
+-- the reasons to reject a new object: its first missing parent, or a fault of the graph
 abbrev pub IsNotAdded : {A : Type 0} → Server A → Entry A → BuildFault A → Type 0
 IsNotAdded server entry (build.MissingParent id) = IsFirstAbsent server.graph.entries entry.node.parents id
 IsNotAdded server entry (build.Graph cause) =
     HoldsParents server.graph.entries entry × IsCause server.graph.format server.graph.entries entry cause
 IsNotAdded server entry _ = ⊥
 
--- only the graph changes: the object is held with its node, or comes at the end
+-- only the graph changes: it already held the object with the same node, or the object was appended
 pub record AddsObject {A : Type 0} (old : Server A) (entry : Entry A) (new : Server A) : Type 0 where
   pub parents : HoldsParents old.graph.entries entry
   pub format : new.graph.format ≡ old.graph.format
@@ -38,18 +38,18 @@ Adds old entry new (Err fault) = (new ≡ old) × IsNotAdded old entry fault
 
 -- ---- a ref
 
--- why refs do not take a name: it can't be set, or it is new and they are out of memory
+-- the reasons to reject a ref name: it can't be set, or it is new and memory runs out
 abbrev pub IsNotTaken : RefList → Name → RefsFault → Type 0
 IsNotTaken list name refs.Refs = CannotSet list name
 IsNotTaken list name refs.Memory = (ref_at list name ≡ None) × ¬ (CannotSet list name)
 
--- why a ref is not set: the id is not held; else what the refs refuse
+-- the reasons to reject a ref update: the server does not hold the id, or the refs reject the name
 abbrev pub IsNotSet : {A : Type 0} → Server A → Name → Id → BuildFault A → Type 0
 IsNotSet server name id (build.RefMissing missing) = (missing ≡ name) × (node_at server.graph.entries id ≡ None)
 IsNotSet server name id (build.Refs cause) = Holds server.graph.entries id × IsNotTaken server.refs name cause
 IsNotSet server name id _ = ⊥
 
--- only the refs change: the name stands at the id
+-- only the refs change: the name now points at the id
 pub record SetsOneRef {A : Type 0} (old : Server A) (name : Name) (id : Id) (new : Server A) : Type 0 where
   pub held : Holds old.graph.entries id
   pub graph : new.graph ≡ old.graph
@@ -62,7 +62,7 @@ Sets old name id new (Err fault) = (new ≡ old) × IsNotSet old name id fault
 
 -- ---- HEAD
 
--- HEAD stands as it is handed in, or it is refused where that is at an id which is not held
+-- HEAD is replaced, or the server rejects a detached HEAD whose id it does not hold
 abbrev pub SetsHead : {A : Type 0} → Server A → Head A → Server A → Result (Unit {0}) (BuildFault A) → Type 0
 SetsHead old head new (Ok _) = HoldsHead old.graph.entries head × (new ≡ record old { head = head })
 SetsHead old head new (Err build.HeadMissing) = (new ≡ old) × ¬ (HoldsHead old.graph.entries head)

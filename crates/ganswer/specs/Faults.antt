@@ -1,4 +1,4 @@
--- The tables of faults: the number, the name and the text of each, and the words for a client.
+-- The tables of faults: the number, name and text of each fault, and its text for the client.
 use Rattle.std.specs.Prelude.{Bool, true, false, codes}
 use Rattle.gname.specs.Faults.{FaultRow, missing_parent, out_of_memory, out_of_memory_text}
 use Rattle.gpkt.specs.Faults.{packet_fault_row, packet_fault_text}
@@ -16,11 +16,11 @@ use Rattle.ganswer.specs.declared.fault.ServeFault.{ServeFault}
 use Rattle.ganswer.specs.declared.fault.BuildFault.TheVariants as build
 use Rattle.ganswer.specs.declared.fault.ServeFault.TheVariants as serve
 
--- a ref, or HEAD, stands at an id that is not held
+-- the number and name of the fault that a ref or a detached HEAD points at a missing object
 abbrev pub ref_missing : FaultRow
 ref_missing = (71, codes "RefMissing")
 
--- why a server was not made, or not changed
+-- the number and name of a fault in making or changing a server
 abbrev pub build_fault_row : {A : Type 0} → BuildFault A → FaultRow
 build_fault_row (build.Graph fault) = graph_fault_row fault
 build_fault_row (build.Refs fault) = refs_fault_row fault
@@ -30,7 +30,7 @@ build_fault_row build.HeadMissing = ref_missing
 build_fault_row (build.MissingParent id) = missing_parent
 build_fault_row build.Memory = out_of_memory
 
--- why a request was not answered
+-- the number, name and client text of a fault in answering a request
 abbrev pub serve_fault_row : ServeFault → WhyRow
 serve_fault_row (serve.Reader fault) = row_of (packet_fault_row fault) (line_phrase fault)
 serve_fault_row (serve.Request fault) = why_row fault.why
@@ -41,13 +41,13 @@ serve_fault_row serve.Memory = row_of out_of_memory out_of_memory_text
 
 -- ---- out of memory
 
--- a request was not read: out of memory for its packet or for what it brings
+-- memory ran out while the request was read
 abbrev pub why_lacks_memory : Why → Bool
 why_lacks_memory (why.Line line.Memory) = true
 why_lacks_memory why.Memory = true
 why_lacks_memory _ = false
 
--- out of memory: for a reader, for a request, for a pack, or for an answer
+-- memory ran out for a reader, a request, a pack, or an answer
 abbrev pub lacks_memory : ServeFault → Bool
 lacks_memory (serve.Reader line.Memory) = true
 lacks_memory (serve.Reader _) = false

@@ -1,5 +1,5 @@
--- What fetch answers (gitprotocol-v2(5), "fetch"). A request with `done`, or without haves, is answered with a pack at
--- once. Any other is answered with the common ids, and where each want reaches one of these, with a pack, too.
+-- The answers to fetch (gitprotocol-v2(5), "fetch"). A request with `done`, or without haves, gets a pack at once. Any
+-- other request gets the common ids, and also a pack if each want reaches a common id.
 use Rattle.std.specs.Prelude.{◌≡◌, ◌≢◌, ◌⊎◌, true, false, List, [], All, if◌then◌else◌}
 use Rattle.std.specs.Map.{values_of}
 use Rattle.gname.specs.Ids.{Id}
@@ -15,43 +15,43 @@ use Rattle.grequest.specs.declared.flag.FetchFlag.TheVariants.{IncludeTag}
 use Rattle.gfetchreply.specs.FetchReplies.{FetchReply, Acks, Ready, Pack}
 use Rattle.ganswer.specs.Servers.{Server}
 
--- something is wanted, and all of it is held
+-- the request has wants, and the server holds all of them
 pub record CanServe {A : Type 0} (server : Server A) (asked : FetchAsked) : Type 0 where
   pub some : asked.wants ≢ []
   pub held : All (Holds server.graph.entries) asked.wants
 
--- the common ids
+-- the common ids: the haves of the request that the server holds
 abbrev pub commons_of : {A : Type 0} → Server A → FetchAsked → List Id
 commons_of server asked = common_of server.graph.entries asked.haves
 
--- each want reaches one of them
+-- each want reaches a common id
 abbrev pub IsReadyFor : {A : Type 0} → Server A → FetchAsked → Type 0
 IsReadyFor server asked = IsReady server.graph.entries asked.wants (commons_of server asked)
 
--- the ids from which tags are sent: those of the refs with `include-tag`, and else none
+-- the ids whose tags are sent: with `include-tag` those of the refs, otherwise none
 abbrev pub tag_tips : {A : Type 0} → Server A → FetchAsked → List Id
 tag_tips server asked = if fetch_has asked IncludeTag then values_of server.refs else []
 
--- the objects to send: what the wants reach and the common ids do not, and tags
+-- the objects to send: those that the wants reach and the common ids do not, and requested tags
 abbrev pub IsSent : {A : Type 0} → Server A → FetchAsked → List (Entry A) → Type 0
 IsSent server asked list =
     IsListToSend server.graph.entries asked.wants (commons_of server asked) (tag_tips server asked) list
 
--- the packer may answer these bytes for them
+-- the packer may return this pack for the objects to send
 pub record SendsPack {A : Type 0} (server : Server A) (packs : Packs A) (asked : FetchAsked)
     (pack : Bytes) : Type 0 where
   pub list : List (Entry A)
   pub sent : IsSent server asked list
   pub packed : MayPack packs list pack
 
--- and for them it may fail so
+-- the packer may fail with this fault for the objects to send
 pub record FailsToPack {A : Type 0} (server : Server A) (fails : PackFails A) (asked : FetchAsked)
     (fault : PackFault) : Type 0 where
   pub list : List (Entry A)
   pub sent : IsSent server asked list
   pub failed : fails list fault
 
--- which reply a request gets that can be served
+-- the reply fits the request: a pack at once, common ids and a pack, or common ids alone
 abbrev pub RepliesWith : {A : Type 0} → Server A → Packs A → FetchAsked → FetchReply → Type 0
 RepliesWith server packs asked (Pack pack) = (is_direct asked ≡ true) × SendsPack server packs asked pack
 RepliesWith server packs asked (Ready commons pack) =
@@ -60,12 +60,12 @@ RepliesWith server packs asked (Ready commons pack) =
 RepliesWith server packs asked (Acks commons) =
     (is_direct asked ≡ false) × (commons ≡ commons_of server asked) × ¬ (IsReadyFor server asked)
 
--- the reply to a request for fetch
+-- the server holds all wants, and may answer the request for fetch with this reply
 pub record FetchAnswer {A : Type 0} (server : Server A) (packs : Packs A) (asked : FetchAsked)
     (reply : FetchReply) : Type 0 where
   pub can : CanServe server asked
   pub replies : RepliesWith server packs asked reply
 
--- a pack is due: at once, or where enough is common
+-- the reply contains a pack: the request has `done` or no haves, or each want reaches a common id
 abbrev pub IsPackDue : {A : Type 0} → Server A → FetchAsked → Type 0
 IsPackDue server asked = (is_direct asked ≡ true) ⊎ IsReadyFor server asked

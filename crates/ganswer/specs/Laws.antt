@@ -1,4 +1,4 @@
--- What follows from the definitions of answers and of changes.
+-- The laws of answers and of changes, which follow from their definitions.
 use Rattle.std.specs.Prelude.{◌≡◌, ◌⊎◌, ◌≤◌, true, List, length, codes, All, Contains, None, Result, bytes_eq}
 use Rattle.std.specs.List.{IsDistinct}
 use Rattle.gname.specs.declared.formats.Format.{Format}
@@ -34,14 +34,14 @@ use Rattle.ganswer.specs.declared.fault.ServeFault.TheVariants as serve
 
 -- ---- what is advertised
 
--- The capabilities can be sent, a client of this format goes on, and it may ask for an unborn HEAD
--- (gitprotocol-v2(5), "ls-refs").
+-- a client of this object format can read the capabilities, accepts them, and may ask for an unborn HEAD
+-- (gitprotocol-v2(5), "ls-refs")
 pub record Welcomes (format : Format) (capabilities : List Capability) : Type 0 where
   pub form : AreCapabilities capabilities
   pub goes_on : check_fault format capabilities ≡ None
   pub unborn : has_feature (codes "ls-refs") (codes "unborn") capabilities ≡ true
 
--- a server welcomes each client of its own object format
+-- each client of the server's object format accepts its advertisement
 abbrev pub AdvertsWelcome : Type 0
 AdvertsWelcome = (format : Format) → Welcomes format (advertisement format)
 
@@ -51,19 +51,19 @@ AdvertsWelcome = (format : Format) → Welcomes format (advertisement format)
 abbrev pub LsRequestsHaveAnswers : Type 0 → Type 0
 LsRequestsHaveAnswers A = (server : Server A) (asked : LsRefsAsked) → (reply : LsReply) × LsAnswer server asked reply
 
--- and one alone
+-- a request for refs has at most one answer
 abbrev pub LsAnswersAreOne : Type 0 → Type 0
 LsAnswersAreOne A =
     (server : Server A) (asked : LsRefsAsked) (a b : LsReply)
     → LsAnswer server asked a → LsAnswer server asked b → a ≡ b
 
--- an answer has the form of its message: it can be written, and read where ids are of the server's format
+-- each answer to a request for refs is a well-formed reply in the server's object format
 abbrev pub LsAnswersFit : Type 0 → Type 0
 LsAnswersFit A =
     (server : Server A) (asked : LsRefsAsked) (reply : LsReply)
     → IsServer server → LsAnswer server asked reply → IsLsReplyIn server.graph.format reply
 
--- each of its lines stands at an id that the server holds
+-- the server holds the id of each line of an answer to ls-refs
 abbrev pub LsAnswersAreHeld : Type 0 → Type 0
 LsAnswersAreHeld A =
     (server : Server A) (asked : LsRefsAsked) (reply : LsReply)
@@ -71,7 +71,7 @@ LsAnswersAreHeld A =
 
 -- ---- objects
 
--- a reply to fetch by one who knows the request, where the pack is within the limit
+-- the client that sent a fetch request can read the answer, if the pack is within its limit
 abbrev pub FetchAnswersFit : (A : Type 0) → Packs A → Type 0
 FetchAnswersFit A packs =
     (server : Server A) (asked : FetchAsked) (reply : FetchReply) (reading : Reading)
@@ -79,21 +79,21 @@ FetchAnswersFit A packs =
     → reading.format ≡ server.graph.format → reading.direct ≡ is_direct asked
     → length (pack_of reply) ≤ reading.limit → IsReplyIn reading reply
 
--- these ids are common: the client has offered each, and the server holds it; none comes twice
+-- the ids are common: the client offered each as a have, the server holds each, and no id occurs twice
 pub record AreCommon {A : Type 0} (server : Server A) (asked : FetchAsked) (ids : List Id) : Type 0 where
   pub once : IsDistinct bytes_eq ids
   pub offered : All (Contains asked.haves) ids
   pub held : All (Holds server.graph.entries) ids
 
--- the acknowledged ids are such
+-- all ids that an answer to fetch acknowledges are common
 abbrev pub AcksAreCommon : (A : Type 0) → Packs A → Type 0
 AcksAreCommon A packs =
     (server : Server A) (asked : FetchAsked) (reply : FetchReply)
     → FetchAnswer server packs asked reply → AreCommon server asked (acknowledged_by reply)
 
--- The pack is one of some entries of the server, which may be a graph's. Once they come in at a client whose graph
--- agrees with the server's and at which each have is connected, each want is, and it holds all that a want reaches at
--- the server.
+-- The pack contains entries of the server's graph. Consider a client whose graph agrees with the server's and where
+-- each have is connected. After the client inserts the entries, each want is connected, and the client holds every
+-- object that a want reaches at the server.
 pub record IsEnough {A : Type 0} (server : Server A) (packs : Packs A) (asked : FetchAsked)
     (pack : Bytes) : Type 0 where
   pub list : List (Entry A)
@@ -105,13 +105,13 @@ pub record IsEnough {A : Type 0} (server : Server A) (packs : Packs A) (asked : 
       All (IsConnected client) asked.haves → Inserts format client list new →
       HasAll server.graph.entries asked.wants new
 
--- each pack that is sent is enough
+-- each pack that a server sends is enough for the client
 abbrev pub PacksAreEnough : (A : Type 0) → Packs A → Type 0
 PacksAreEnough A packs =
     (server : Server A) (asked : FetchAsked) (pack : Bytes)
     → IsServer server → CanServe server asked → SendsPack server packs asked pack → IsEnough server packs asked pack
 
--- a request that can be served is refused only where the packer fails for entries as a graph has them, or out of memory
+-- a request whose wants are held fails only if the packer fails for entries of a graph, or if memory runs out
 abbrev pub ServesWhatIsHeld : (A : Type 0) → PackFails A → Type 0
 ServesWhatIsHeld A fails =
     (server : Server A) (asked : FetchAsked) (cause : ServeFault)
@@ -121,7 +121,7 @@ ServesWhatIsHeld A fails =
 
 -- ---- all requests
 
--- a server has one answer at most to each request
+-- a server has at most one answer to each request
 abbrev pub AnswersAreOne : (A : Type 0) → Packs A → Type 0
 AnswersAreOne A packs =
     (server : Server A) (asked : Asked) (one other : Reply)
@@ -129,7 +129,7 @@ AnswersAreOne A packs =
 
 -- ---- changes
 
--- objects only come to a server, and only where one is added; their ids stay of one format
+-- a server only gains objects, only by adding an object, and its object format never changes
 pub record ServersGrow (A : Type 0) : Type 0 where
   pub adding : (old new : Server A) (entry : Entry A) (result : Result (Unit {0}) (BuildFault A)) →
       Adds old entry new result → (new.graph.format ≡ old.graph.format) × Grows old.graph.entries new.graph.entries

@@ -1,5 +1,5 @@
--- What ls-refs answers (gitprotocol-v2(5), "ls-refs"): HEAD first, then the refs in the byte order of their names, of
--- these those that are asked for, each with the attributes that are asked for.
+-- The answer to ls-refs (gitprotocol-v2(5), "ls-refs"): HEAD first, then the refs in the byte order of their names. It
+-- lists only the requested refs, each with the requested attributes.
 use Rattle.std.specs.Prelude.{◌≡◌, Bool, true, false, ◌&&◌, List, [], ◌∷◌, ◌++◌, All, filter, map, nat_eq}
 use Rattle.std.specs.Prelude.{if◌then◌else◌, is_none, MatchOption, Option, Some, None, ℕ, slice_get, bytes_eq}
 use Rattle.std.specs.List.{list_any, starts_with}
@@ -19,7 +19,7 @@ use Rattle.ganswer.specs.Servers.{Server}
 
 -- ---- which refs are shown
 
--- the id at which HEAD stands: its own, or that of the ref that it points at
+-- the id that HEAD points at, directly or through a ref
 abbrev pub head_id : {A : Type 0} → Head A → RefList → Option Id
 head_id heads.None refs = None
 head_id (heads.Id id) refs = Some id
@@ -29,11 +29,11 @@ abbrev pub head_ref : Option Id → RefList
 head_ref None = []
 head_ref (Some id) = (head_name, id) ∷ []
 
--- HEAD, where it stands at an id, and the refs
+-- HEAD, if it has an id, followed by the refs
 abbrev pub all_refs : {A : Type 0} → Server A → RefList
 all_refs server = head_ref (head_id server.head server.refs) ++ server.refs
 
--- a name is asked for where it begins with one of the prefixes; without a prefix each name is
+-- the request asks for the name: a prefix matches it, or there are no prefixes
 abbrev pub is_asked : List Bytes → Name → Bool
 is_asked [] name = true
 is_asked (prefix ∷ prefixes) name = list_any (starts_with nat_eq name) (prefix ∷ prefixes)
@@ -49,26 +49,26 @@ target_of heads.None = None
 target_of (heads.Id id) = None
 target_of (heads.Symref target) = Some target
 
--- the target, where targets are asked for and the line is that of HEAD
+-- the name that HEAD points at, if the request asks for targets and the line is that of HEAD
 abbrev pub symref_of : {A : Type 0} → Head A → LsRefsAsked → Name → Option Name
 symref_of head asked name = if ls_has asked Symrefs && bytes_eq name head_name then target_of head else None
 
--- the id is that of a tag, and a chain of tags leads from it to the commit
+-- the id is that of a tag, and a chain of tags leads from this tag to the commit
 pub record TagPeelsTo {A : Type 0} (g : List (Entry A)) (id commit : Id) : Type 0 where
   pub named : Id
   pub tag : IsTagOf g id named
   pub peels : PeelsTo g id commit
 
--- the commit to which a tag leads, and nothing for other objects and for a tag that leads to no commit
+-- the commit that a tag peels to, or none if the object is no tag or the tag peels to no commit
 abbrev pub IsPeeled : {A : Type 0} → List (Entry A) → Id → Option Id → Type 0
 IsPeeled g id peeled = MatchOption peeled ((commit : Id) → ¬ (TagPeelsTo g id commit)) (TagPeelsTo g id)
 
--- where it is asked for
+-- the commit that a tag peels to, if the request asks for it
 abbrev pub IsPeeledIf : {A : Type 0} → Bool → List (Entry A) → Id → Option Id → Type 0
 IsPeeledIf false g id peeled = peeled ≡ None
 IsPeeledIf true g id peeled = IsPeeled g id peeled
 
--- the attributes of a line are those that are asked for
+-- a line has exactly the requested attributes
 pub record HasAttributes {A : Type 0} (server : Server A) (asked : LsRefsAsked) (line : RefLine) : Type 0 where
   pub symref : line.symref ≡ symref_of server.head asked line.name
   pub peeled : IsPeeledIf (ls_has asked Peel) server.graph.entries line.id line.peeled
@@ -78,7 +78,7 @@ pub record HasAttributes {A : Type 0} (server : Server A) (asked : LsRefsAsked) 
 abbrev pub name_and_id : RefLine → Name × Id
 name_and_id line = (line.name, line.id)
 
--- there is a line for each of the refs that is shown, in order
+-- the lines are those of the requested refs, in order, with the requested attributes
 pub record ShowsLines {A : Type 0} (server : Server A) (asked : LsRefsAsked) (refs : RefList)
     (lines : List RefLine) : Type 0 where
   pub shown : map name_and_id lines ≡ filter (is_shown asked.prefixes) refs
@@ -92,21 +92,21 @@ missing_target heads.None refs = None
 missing_target (heads.Id id) refs = None
 missing_target (heads.Symref target) refs = if is_none (ref_at refs target) then Some target else None
 
--- that name, where it is asked for and HEAD is
+-- the name that an unborn HEAD points at, if the request asks for HEAD and for unborn HEADs
 abbrev pub unborn_of : {A : Type 0} → Server A → LsRefsAsked → Option Name
 unborn_of server asked =
     if ls_has asked Unborn && is_asked asked.prefixes head_name then missing_target server.head server.refs else None
 
 -- ---- the answer
 
--- HEAD and the refs are shown, and the target of an unborn HEAD
+-- the reply lists the requested refs, HEAD first, and the name that an unborn HEAD points at
 pub record LsAnswer {A : Type 0} (server : Server A) (asked : LsRefsAsked) (reply : LsReply) : Type 0 where
   pub lines : ShowsLines server asked (all_refs server) reply.lines
   pub unborn : reply.unborn ≡ unborn_of server asked
 
--- ---- what a server knows of the refs before it is asked
+-- ---- peeled ids that were looked up before the request
 
--- what the ids of the refs peel to where they are those of tags: what stands at a position is of the ref there
+-- each entry of the list is the peeled id of the ref at the same position
 abbrev pub KnowsPeels : {A : Type 0} → List (Entry A) → RefList → List (Option Id) → Type 0
 KnowsPeels g refs peels =
     (k : ℕ) (ref : Name × Id) (peeled : Option Id)

@@ -1,4 +1,4 @@
--- A packer that is asked for one pack at most. What it answered shows in the answer to a request.
+-- A packer that is asked for at most one pack. The answer to a request determines the packer's result.
 use Rattle.std.specs.Prelude.{Bool, true, false}
 use Rattle.gfetchreply.specs.FetchReplies.{FetchReply, Acks, Ready, Pack}
 use Rattle.ganswer.specs.Answers.{Reply, Fetch}
@@ -11,24 +11,24 @@ pub record OnePack (K : Type 0) : Type 0 where
   pub packer : K
   pub answered : Packing
 
--- it failed; then it is asked no more
+-- the packer failed, so it is not asked again
 abbrev pub has_failed : Packing → Bool
 has_failed packing.Unasked = false
 has_failed packing.Packed = false
 has_failed (packing.Failed fault) = true
 
--- it packed where a reply to fetch has a pack, and was not asked where it has none
+-- the packer's result for a reply to fetch: a pack if the reply contains one, otherwise not asked
 abbrev pub packing_of_fetch : FetchReply → Packing
 packing_of_fetch (Acks commons) = packing.Unasked
 packing_of_fetch (Ready commons pack) = packing.Packed
 packing_of_fetch (Pack pack) = packing.Packed
 
--- it is asked for fetch alone
+-- the packer's result for any reply: only a reply to fetch can contain a pack
 abbrev pub packing_of_reply : Reply → Packing
 packing_of_reply (Fetch reply) = packing_of_fetch reply
 packing_of_reply _ = packing.Unasked
 
--- a fault of its own is reported as it is, and any other where it was not asked
+-- the packer's result for a fault: its own fault, or not asked for any other fault
 abbrev pub packing_of_fault : ServeFault → Packing
 packing_of_fault (serve.Reader fault) = packing.Unasked
 packing_of_fault (serve.Request fault) = packing.Unasked

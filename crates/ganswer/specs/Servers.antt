@@ -1,5 +1,5 @@
--- What a server has: a graph, refs and HEAD (gitglossary(7), "ref", "HEAD"), none of which leads to an id that is not
--- held.
+-- The contents of a server: a graph, refs and HEAD (gitglossary(7), "ref", "HEAD"). The graph holds the id of each
+-- parent, of each ref and of a detached HEAD.
 use Rattle.std.specs.Prelude.{◌≡◌, ⊤, List, ◌∷◌, ◌++◌, All, None, Result, Ok, Err, flat_map}
 use Rattle.std.specs.Map.{values_of}
 use Rattle.gname.specs.Ids.{Id}
@@ -24,18 +24,17 @@ pub record Server (A : Type 0) : Type 0 where
 abbrev pub server_of : {A : Type 0} → History A → RefList → Head A → Server A
 server_of graph refs head = record { graph = graph; refs = refs; head = head }
 
--- the id at which each ref stands is held
+-- the graph holds the id of each ref
 abbrev pub HoldsRefs : {A : Type 0} → List (Entry A) → RefList → Type 0
 HoldsRefs g refs = All (Holds g) (values_of refs)
 
--- so is the one at which HEAD stands by its id ("detached HEAD"); a ref that HEAD points at need not be there
--- ("unborn")
+-- the graph holds the id of a detached HEAD; a HEAD that points at a ref may be unborn
 abbrev pub HoldsHead : {A : Type 0} → List (Entry A) → Head A → Type 0
 HoldsHead g heads.None = ⊤
 HoldsHead g (heads.Id id) = Holds g id
 HoldsHead g (heads.Symref target) = ⊤
 
--- nothing is missing
+-- a valid server: the graph is closed, and it holds the id of each ref and of a detached HEAD
 pub record IsServer {A : Type 0} (server : Server A) : Type 0 where
   pub graph : IsGraph server.graph
   pub refs : IsRefs server.refs
@@ -50,7 +49,7 @@ pub record IsServer {A : Type 0} (server : Server A) : Type 0 where
 abbrev pub parents_in : {A : Type 0} → List (Entry A) → List Id
 parents_in g = flat_map (λ entry. entry.node.parents) g
 
--- of the refs, this is the first that stands at an id which is not held
+-- this name is that of the first ref whose id the graph does not hold
 pub record IsFirstDangling {A : Type 0} (g : List (Entry A)) (refs : RefList) (name : Name) : Type 0 where
   pub front : RefList
   pub id : Id
@@ -59,8 +58,8 @@ pub record IsFirstDangling {A : Type 0} (g : List (Entry A)) (refs : RefList) (n
   pub held : HoldsRefs g front
   pub absent : node_at g id ≡ None
 
--- Why there is no such server: a missing parent comes first, then a ref, then HEAD; of several the first. Where nothing
--- is missing it may be out of memory for the name HEAD.
+-- The possible faults of making a server: the first missing parent, otherwise the first ref whose id is missing,
+-- otherwise HEAD. If nothing is missing, memory may run out for the name HEAD.
 abbrev pub IsUnserved : {A : Type 0} → Server A → BuildFault A → Type 0
 IsUnserved server (build.NotClosed id) = IsFirstAbsent server.graph.entries (parents_in server.graph.entries) id
 IsUnserved server (build.RefMissing name) =
@@ -71,7 +70,7 @@ IsUnserved server build.HeadMissing =
 IsUnserved server build.Memory = IsServer server
 IsUnserved server _ = ⊥
 
--- what making a server of some parts answers: one of exactly these, or why there is none
+-- the result of making a server: exactly the given parts, or a fault
 abbrev pub Makes : {A : Type 0} → Server A → Result (Server A) (BuildFault A) → Type 0
 Makes parts (Ok server) = (server ≡ parts) × IsServer server
 Makes parts (Err fault) = IsUnserved parts fault

@@ -1,2 +1,2 @@
--- The steps: what only private functions and proofs speak of.
+-- Definitions that only private functions and proofs use.
 pub mod Answers

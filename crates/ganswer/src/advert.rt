@@ -34,7 +34,7 @@ impl<A: Allocator + Copy> Server<A> {
     }
 }
 
-// Appends a well-formed capability, for which there is room.
+// Appends a well-formed capability to an advertisement that has room for it.
 fn add<A: Allocator + Copy>(
     advert: &mut Advert<A>,
     key: &[u8],

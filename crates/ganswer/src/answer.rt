@@ -18,34 +18,37 @@ use std::alloc::Allocator;
 /// The answer of a server.
 #[derive(Drop)]
 pub enum Reply<A: Allocator + Copy> {
-    /// For the empty request, a lone flush packet that ends the conversation: nothing.
+    /// The answer to the empty request, a lone flush packet: nothing is sent.
     Nothing,
-    /// For ls-refs: refs.
+    /// The answer to ls-refs: refs.
     Ls(LsReply<A>),
-    /// For fetch: common ids, a pack, or both.
+    /// The answer to fetch: common ids, a pack, or both.
     Fetch(FetchReply<A>),
 }
 
 impl<A: Allocator + Copy> Server<A> {
     /// Returns the answer to a request (gitprotocol-v2(5), "ls-refs" and "fetch").
     ///
-    /// Refs: HEAD first, then the names in byte order. They begin with one of the prefixes, or are
-    /// all names if there is no prefix. With `symrefs`, a HEAD that points at a ref has its target.
-    /// With `peel`, the id of a tag has the commit that it peels to. With `unborn`, the answer has
-    /// the name that an unborn HEAD points at, if the request asks for HEAD.
+    /// The answer to ls-refs lists HEAD first, then the refs in the byte order of their names. It
+    /// lists the names that begin with a requested prefix, or all names if there is no prefix. With
+    /// `symrefs`, a HEAD that points at a ref is listed with its target. With `peel`, a tag is
+    /// listed with the commit that it peels to. With `unborn`, the answer has the name that an
+    /// unborn HEAD points at, if the request asks for HEAD.
     ///
-    /// Objects: the common ids are the distinct haves that are held, in the order of their first
-    /// occurrence. With `done`, or without haves, the answer is the pack of the objects that a want
-    /// reaches and no common id does. Otherwise, if each want reaches a common id, it is the common
-    /// ids and that pack. Otherwise it is the common ids alone. With `include-tag` the pack also
-    /// has the tags that lead from the ids of refs to its commits.
+    /// For fetch, the common ids are the distinct haves that the server holds, in the order of
+    /// their first occurrence. With `done`, or without haves, the answer is a pack of the objects
+    /// that a want reaches and no common id reaches. Otherwise, if each want reaches a common id,
+    /// the answer is the common ids and this pack. Otherwise the answer is the common ids alone.
+    /// With `include-tag`, the pack also has the tags that lead from the ids of refs to its
+    /// commits.
     ///
     /// Fails with `NoWants` if a fetch wants nothing, or with `NotOurs` for the first want that is
     /// not held. Otherwise fails with `Pack` and the packer's fault if the packer fails for the
     /// objects to send.
     ///
-    /// The packer is asked once if a pack is sent or its own fault is reported, and otherwise not
-    /// at all. So its fault is always reported, and `Memory` only if it was not asked.
+    /// The packer is asked once if the answer has a pack or the fault is the packer's. Otherwise
+    /// the packer is not asked. So a fault of the packer is always reported, and `Memory` is
+    /// reported only if the packer was not asked.
     pub fn answer<K: Packer<A>>(
         &self,
         request: &Request<A>,

@@ -1,4 +1,4 @@
-//! Reasons why a server was not made or not changed, and a request not answered.
+//! The faults of making and changing a server, and of answering requests.
 
 ghost use Rattle.std.specs.Prelude.{◌≡◌, Some};
 ghost use Rattle.gpkt.specs.Faults.{packet_fault_row};
@@ -16,22 +16,22 @@ use std::alloc::{AllocError, AllocFailed, Allocator, Global};
 use std::error::Error;
 use std::fmt;
 
-/// The reason a server was not made, or not changed.
+/// The reason that a server could not be made or changed.
 #[derive(Debug, Drop)]
 pub enum BuildFault<A: Allocator + Copy = Global> {
-    /// 60 to 64, 75: the graph refuses the object.
+    /// Faults 60 to 64 and 75: the graph rejects the object.
     Graph(GraphFault),
-    /// 69, 64: the refs refuse the name.
+    /// Faults 69 and 64: the refs reject the name.
     Refs(RefsFault),
-    /// 70: a parent of an object is not held.
+    /// Fault 70: a parent of an object is not held.
     NotClosed { id: Oid },
-    /// 71: the id of a ref is not held.
+    /// Fault 71: the id of a ref is not held.
     RefMissing { name: RefName<A> },
-    /// 71: the id of a detached HEAD is not held.
+    /// Fault 71: the id of a detached HEAD is not held.
     HeadMissing,
-    /// 72: a parent of the object to add is not held.
+    /// Fault 72: a parent of the object to add is not held.
     MissingParent { id: Oid },
-    /// 64: out of memory for a name.
+    /// Fault 64: out of memory for a name.
     Memory,
 }
 
@@ -101,24 +101,24 @@ impl<A: Allocator + Copy, T: Drop> From<AllocFailed<T>> for BuildFault<A> {
     }
 }
 
-/// The reason a request was not answered.
+/// The reason that a request was not answered.
 #[derive(Debug, Drop)]
 pub enum ServeFault {
-    /// 28: out of memory for the reader of requests.
+    /// Fault 28: out of memory for the reader of requests.
     Reader(PacketFault),
-    /// 20 to 54: the request was refused while it was read.
+    /// Faults 20 to 54: the request could not be read.
     Request(MessageFault),
-    /// 73: a fetch without a want.
+    /// Fault 73: a fetch has no wants.
     NoWants,
-    /// 74: the first want that is not held.
+    /// Fault 74: this is the first want that the server does not hold.
     NotOurs { id: Oid },
-    /// 65: the packer refuses the objects to send.
+    /// Fault 65: the packer fails for the objects to send.
     Pack(PackFault),
-    /// 64: out of memory for the answer.
+    /// Fault 64: out of memory for the answer.
     Memory,
 }
 
-// The number and the name of a fault, and the text for a client.
+// The number, the name and the client text of a fault.
 #[derive(Clone, Copy)]
 struct ServeRow {
     code: u32,
@@ -132,7 +132,7 @@ fn serve_row(code: u32, name: &'static str, phrase: &'static str) -> ServeRow
     ServeRow { code, name, phrase }
 }
 
-// Returns the row for a packet that can't be read.
+// Returns the number, the name and the text of a packet that can't be read.
 fn line_row(fault: PacketFault) -> ServeRow
     ensures { row_view result ≡ row_of (packet_fault_row fault) (line_phrase fault) }
 {
@@ -155,15 +155,16 @@ impl ServeFault {
         self.fault_row().name
     }
 
-    /// Returns the text for a client, as in `ERR upload-pack: no wants`. If a want is not held, the
-    /// digits of its id follow the text.
+    /// Returns the text for the client, such as `no wants` in `ERR upload-pack: no wants`. In a
+    /// message for `NotOurs`, the id of the want follows the text.
     pub fn phrase(&self) -> &'static str
         ensures { result.now ≡ (serve_fault_row self.now).phrase }
     {
         self.fault_row().phrase
     }
 
-    /// Whether it means out of memory: 28, 53, 64, or 65 if the packer was out of memory.
+    /// Returns whether memory ran out: fault 28, 53 or 64, or fault 65 if the packer ran out of
+    /// memory.
     pub fn is_memory(&self) -> bool
         ensures { result ≡ lacks_memory self.now }
     {
@@ -208,7 +209,7 @@ impl fmt::Display for ServeFault {
 
 impl Error for ServeFault {}
 
-// Whether a request was not read because memory ran out.
+// Returns whether memory ran out while a request was read.
 fn why_is_memory(why: &Why) -> bool
     ensures { result ≡ why_lacks_memory why.now }
 {

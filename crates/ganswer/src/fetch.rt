@@ -24,20 +24,21 @@ use std::alloc::Allocator;
 /// The answer to a request for objects, before the objects to send are packed.
 #[derive(Drop)]
 pub enum BegunFetch<A: Allocator + Copy> {
-    /// These ids are common, and they are not enough: no pack follows.
+    /// The common ids. Some want reaches none of them, so no pack follows.
     Acks(Acks<A>),
-    /// These ids are common, and they are enough: these objects follow.
+    /// The common ids and the objects to send. Each want reaches a common id.
     Ready(Acks<A>, Vec<Entry<A>, A>),
-    /// These objects follow, and nothing is acknowledged.
+    /// The objects to send. The reply acknowledges no ids.
     Pack(Vec<Entry<A>, A>),
 }
 
 impl<A: Allocator + Copy> Server<A> {
     /// Returns the answer to a request for objects (gitprotocol-v2(5), "fetch"), as
-    /// [`Server::answer`] does. The packer is asked once if a pack is sent or its own fault is
-    /// reported, and otherwise not at all.
+    /// [`Server::answer`] does. The packer is asked once if the answer has a pack or the fault is
+    /// the packer's. Otherwise the packer is not asked.
     ///
-    /// So its fault is always reported, and `Memory` only if it was not asked.
+    /// So the packer's fault is always reported, and `Memory` is reported only if the packer was
+    /// not asked.
     pub fn answer_fetch<K: Packer<A>>(
         &self,
         asked: &FetchRequest<A>,
@@ -67,11 +68,11 @@ impl<A: Allocator + Copy> Server<A> {
         }
     }
 
-    /// Returns the answer to a request for objects before the objects to send are packed, for a
-    /// caller that packs them itself.
+    /// Returns the answer to a request for objects before the objects are packed, so that the
+    /// caller can pack them itself.
     ///
-    /// Fails with `NoWants` if nothing is wanted, with `NotOurs` at the first want that is not
-    /// held, and with `Memory` if there is not enough memory for a walk or the list.
+    /// Fails with `NoWants` if the request has no wants. Fails with `NotOurs` for the first want
+    /// that is not held. Otherwise fails only with `Memory`.
     pub fn begin_fetch(&self, asked: &FetchRequest<A>) -> Result<BegunFetch<A>, ServeFault>
         ensures { MatchResult result (BeginsFetch self.now asked.now.asked)
             (FetchDeclines self.now asked.now.asked) }
@@ -89,7 +90,7 @@ impl<A: Allocator + Copy> Server<A> {
         Ok(BegunFetch::Ready(commons, list))
     }
 
-    // Whether something is wanted, and all of it is held.
+    // Checks that the request has wants, and that the server holds all of them.
     fn check_wants(&self, wants: &[Oid]) -> Result<(), ServeFault>
         ensures { ChecksWants self.now wants.now result }
     {
@@ -125,7 +126,7 @@ impl<A: Allocator + Copy> Server<A> {
         common_ids(self.graph(), asked.haves()).map_err(no_memory)
     }
 
-    // Whether each want reaches one of the common ids.
+    // Returns whether each want reaches one of the common ids.
     fn is_ready(&self, asked: &FetchRequest<A>, commons: &[Oid]) -> Result<bool, ServeFault>
         requires { commons.now ≡ commons_of self.now asked.now.asked }
         ensures ready { IfOk result (λ ready. IsTrue ready ↔ IsReadyFor self.now asked.now.asked) }
@@ -174,7 +175,7 @@ impl<A: Allocator + Copy> Server<A> {
     }
 }
 
-// Converts the fault of a walk, which fails only if out of memory.
+// Converts the fault of a graph walk, which is always out of memory.
 fn no_memory(fault: GraphFault) -> ServeFault
     requires { fault ≡ OutOfMemory }
     ensures { result ≡ Memory }

@@ -1,4 +1,4 @@
-//! The laws of answers and of changes: functions without effect, which exist for their contracts.
+//! Laws of answers and of changes: functions without effect whose contracts state the laws.
 
 ghost use Rattle.ganswer.specs.Laws.{AcksAreCommon, AdvertsWelcome, AnswersAreOne, FetchAnswersFit, LsAnswersAreHeld, LsAnswersAreOne, LsAnswersFit, LsRequestsHaveAnswers, PacksAreEnough, ServersGrow, ServesWhatIsHeld};
 
@@ -10,13 +10,13 @@ use ggraph::{Faithful, Packer};
 use gname::laws::head_is_a_name;
 use std::alloc::Allocator;
 
-/// A server's advertisement can be sent. A client of the same object format goes on with it, and
-/// may ask for an unborn HEAD (gitprotocol-v2(5), "Capability Advertisement").
+/// A server can send its advertisement. A client of the same object format accepts the
+/// advertisement, and may ask for an unborn HEAD (gitprotocol-v2(5), "Capability Advertisement").
 pub fn adverts_welcome()
     ensures { AdvertsWelcome }
 {}
 
-/// A server has one answer to each request for refs.
+/// A server has exactly one answer to each request for refs.
 pub fn ls_requests_have_one_answer<A: Allocator + Copy>()
     ensures exists { LsRequestsHaveAnswers A }
     ensures one { LsAnswersAreOne A }
@@ -24,8 +24,9 @@ pub fn ls_requests_have_one_answer<A: Allocator + Copy>()
     peels_to_one::<A>();
 }
 
-/// An answer to a request for refs has the form of its message. Its ids have the server's format,
-/// its names keep their rules, and it has at most as many lines as a reply may have.
+/// An answer to a request for refs is a well-formed message. The ids of the answer have the
+/// server's format, the ref names are valid, and the number of lines is within the limit of a
+/// reply.
 pub fn ls_answers_fit<A: Allocator + Copy>()
     ensures { LsAnswersFit A }
 {
@@ -39,16 +40,15 @@ pub fn ls_answers_are_held<A: Allocator + Copy>()
     ensures { LsAnswersAreHeld A }
 {}
 
-/// An answer to a request for objects has the form of its message. A client reads it with the
-/// format of the server's ids, and as direct exactly when its request was, if the pack is within
-/// the client's limit.
+/// An answer to a request for objects is a well-formed message. The client that sent the request
+/// can read it with the server's object format, if the pack is within the client's limit.
 pub fn fetch_answers_fit<A: Allocator + Copy, K: Packer<A>>()
     ensures { (packer : K) → FetchAnswersFit A (K.packs packer) }
 {
     positions_are_nodes::<A>();
 }
 
-/// The ids that an answer acknowledges are haves of the request that the server holds, each once.
+/// An answer acknowledges only haves of the request that the server holds, and each at most once.
 pub fn acks_are_common<A: Allocator + Copy, K: Packer<A>>()
     ensures { (packer : K) → AcksAreCommon A (K.packs packer) }
 {
@@ -56,9 +56,9 @@ pub fn acks_are_common<A: Allocator + Copy, K: Packer<A>>()
 }
 
 /// A pack that is sent consists of entries of the server's graph. Consider a client whose graph
-/// agrees with the server's and at which the haves of its request are connected. After the client
-/// inserts the entries, the wants are connected there, and it holds all that they reach at the
-/// server.
+/// agrees with the server's and where the haves of the request are connected. After the client
+/// inserts the entries, the wants are connected at the client. The client then holds every object
+/// that the wants reach at the server.
 pub fn packs_are_enough<A: Allocator + Copy, K: Packer<A>>()
     ensures { (packer : K) → PacksAreEnough A (K.packs packer) }
 {
@@ -67,16 +67,16 @@ pub fn packs_are_enough<A: Allocator + Copy, K: Packer<A>>()
     sending_is_enough::<A>();
 }
 
-/// If the server holds the wants of a request, it refuses only if the packer fails for some entries
-/// of the graph, or if out of memory.
+/// If the server holds the wants of a request, the request fails only if the packer fails for
+/// entries of the graph or memory runs out.
 pub fn held_wants_are_served<A: Allocator + Copy, K: Packer<A>>()
     ensures { (packer : K) → ServesWhatIsHeld A (K.pack_fails packer) }
 {
     sent_are_entries::<A>();
 }
 
-/// A server with a faithful packer has at most one answer to each request. There is one list of
-/// objects to send, and one pack of this list.
+/// A server with a faithful packer has at most one answer to each request. The request determines
+/// the objects to send, and a faithful packer makes one pack of each list of objects.
 pub fn answers_are_one<A: Allocator + Copy, K: Faithful<A>>(packer: &K)
     ensures { AnswersAreOne A (K.packs packer.now) }
 {

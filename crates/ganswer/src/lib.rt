@@ -1,60 +1,59 @@
-//! The repository of a server of Git's protocol version 2, its advertisement, and its answers to
-//! requests for refs and for objects (gitprotocol-v2(5), "ls-refs" and "fetch").
+//! A server of Git's protocol version 2: its repository, its advertisement, and its answers to
+//! ls-refs and fetch (gitprotocol-v2(5), "ls-refs" and "fetch").
 //!
 //! # Proved
 //!
-//! - A [`Server`] has exactly the graph, the refs and the HEAD that it was given. Its type states
-//!   that the graph is closed, and that the id of each ref and of a detached HEAD is held.
-//!   [`Server::new`] refuses other parts for the first that is missing, in a fixed order.
-//! - [`Server::add`], [`Server::set_ref`] and [`Server::set_head`] each change one thing and leave
-//!   the rest, or fail for their first cause and change nothing.
-//! - [`Server::answer`] returns an answer to the request (`specs/Answers.antt`), for any packer.
-//!   For ls-refs the answer is the requested refs with the requested attributes: HEAD first, then
-//!   the names in byte order. For fetch it is the common ids, the pack of the objects to send, or
-//!   both. It refuses a fetch exactly when nothing is wanted, a want is not held, the packer may
-//!   refuse the objects to send, or it is out of memory. It reports the first want that is not
-//!   held. The ids of an answer have the format of the graph. An answer is never refused for its
-//!   length.
-//! - [`Server::answer`] takes one result of the packer if a pack is sent, or if the packer's fault
-//!   is reported, which is that result. Otherwise it takes none. So out of memory never hides such
-//!   a fault (`specs/OnePack.antt`). A packer that has failed is not asked again ([`OnePack`]).
-//! - [`Server::answer_fetch`] does the same for a request for objects alone.
+//! - A [`Server`] has exactly the graph, the refs and the HEAD that it was made of. Its type states
+//!   that the graph is closed, and that the id of each ref and of a detached HEAD is held. If an
+//!   object is missing, [`Server::new`] reports the first missing object, in a fixed order.
+//! - [`Server::add`], [`Server::set_ref`] and [`Server::set_head`] each change only one object, one
+//!   ref or HEAD. If a change fails, the call reports the first reason and changes nothing.
+//! - [`Server::answer`] returns an answer that `specs/Answers.antt` allows for the request, with
+//!   any packer. For ls-refs the answer is the requested refs with the requested attributes: HEAD
+//!   first, then the names in byte order. For fetch the answer is the common ids, the pack of the
+//!   objects to send, or both. A fetch is refused exactly if it wants nothing, a want is not held,
+//!   the packer fails, or memory runs out. The fault names the first want that is not held. The ids
+//!   of an answer have the format of the graph. An answer is never refused for its length.
+//! - [`Server::answer`] uses one result of the packer if the answer has a pack or the fault is the
+//!   packer's. Otherwise it uses no result. So out of memory never hides a fault of the packer
+//!   (`specs/OnePack.antt`). A packer that has failed is not asked again ([`OnePack`]).
+//! - [`Server::answer_fetch`] has the same contract for requests for objects alone.
 //! - [`Server::begin_fetch`] returns the same answer before the objects are packed
 //!   (`specs/BegunFetches.antt`), so that the caller can pack them in parts.
 //! - [`Server::write_ls_answer`] writes the answer to ls-refs, or a prefix of it if the sink fails.
-//! - [`Server::advert`] fails only if out of memory. Otherwise it advertises `agent=gitv2/1`,
-//!   `ls-refs=unborn`, `fetch`, and the format of the graph's ids.
-//! - [`laws`]: each client can read the advertisement, and one of the same object format goes on
-//!   with it. A server has one answer to each request for refs, and it holds the ids of the lines.
-//!   If its packer is faithful, it has one answer to each request of any kind, since there is one
-//!   list to send and one pack of it. Acknowledged ids are haves of the request that the server
-//!   holds. If the haves are connected at a client, the wants are connected there once the pack is
-//!   inserted. Wants that are held are refused only for the packer, or if out of memory. Answers
-//!   have the forms of their messages, so a client of the same object format can read what is
-//!   written. A server only gains objects, and their ids keep one format.
-//! - Each fault has its number, its name, its text, and a text for the client.
-//!   [`ServeFault::is_memory`] says which of them mean out of memory.
-//! - No call panics, overflows or reads out of bounds, and each returns.
+//! - [`Server::advert`] fails only if out of memory. Otherwise the advertisement has
+//!   `agent=gitv2/1`, `ls-refs=unborn`, `fetch`, and the format of the graph's ids.
+//! - [`laws`]: each client can read the advertisement, and a client of the same object format
+//!   accepts it. A server has exactly one answer to each request for refs, and holds the id of each
+//!   line. With a faithful packer, a server has at most one answer to each request of any kind.
+//!   Acknowledged ids are haves of the request that the server holds. If the haves are connected at
+//!   a client, the wants are connected there once the pack is inserted. A request whose wants are
+//!   held fails only if the packer fails or memory runs out. Answers are well-formed messages, so a
+//!   client of the same object format can read them. A server only gains objects, and its object
+//!   format never changes.
+//! - Each fault has a number, a name and a text. A fault of a request also has a text for the
+//!   client. [`ServeFault::is_memory`] returns whether memory ran out.
+//! - Every call returns, without a panic, an overflow or a read out of bounds.
 //!
 //! # Only tested
 //!
-//! The cases of `conformance` test that available memory is used, and that `write_ls_answer` takes
-//! none.
+//! The `conformance` cases test that calls succeed if enough memory is available, and that
+//! `write_ls_answer` allocates nothing.
 //!
 //! # What the contracts do not rule out
 //!
-//! It may report out of memory. `answer` may do so for a request for refs, and for a fetch whose
-//! wants are all held, but not once it has asked the packer. `advert` may do so at any time, `new`
-//! if nothing is missing, `add` for a new object, and `set_ref` for a new name. A call may take as
-//! long as it likes, and more memory than it needs. `OnePack` may call its packer more than once
-//! for the one result that it takes. Formatting a fault may return an error (`fmt::Error`) although
-//! the text would be right.
+//! Any call that allocates may report out of memory. `answer` may report it for ls-refs, and for a
+//! fetch whose wants are all held, but not after asking the packer. `advert` may report it at any
+//! time, `new` if nothing is missing, `add` for a new object, and `set_ref` for a new name. A call
+//! may take any amount of time, and more memory than it needs. `OnePack` may call its packer
+//! several times and use one of the results. Formatting a fault may return an error (`fmt::Error`)
+//! although the text is right.
 //!
 //! # Stands on
 //!
-//! `ggraph` for graphs, refs, walks and packers, which it offers from `gobject`, `gdag`, `grefs`
-//! and `gwalk`. `grequest`, `glsreply`, `gfetchreply` and `ghello` for the messages, `ggrammar` and
-//! `gpkt` for what these share, `gname` for ids and names.
+//! `ggraph` for graphs, refs, walks and packers, which it re-exports from `gobject`, `gdag`,
+//! `grefs` and `gwalk`. `grequest`, `glsreply`, `gfetchreply` and `ghello` for the messages,
+//! `ggrammar` and `gpkt` for the code that these share, `gname` for ids and names.
 #![tactic(auto)]
 
 mod advert;

@@ -34,7 +34,7 @@ impl<A: Allocator + Copy> Server<A> {
         Ok(reply)
     }
 
-    // Returns a reply without lines, with the target of an unborn HEAD.
+    // Returns a reply with the name that an unborn HEAD points at, and without lines.
     fn begin_ls(&self, asked: &LsRefsRequest<A>) -> Result<LsReply<A>, ServeFault>
         ensures reply { IfOk result (λ reply. reply
             ≡ record { unborn = unborn_of self.now asked.now; lines = [] }) }
@@ -80,7 +80,8 @@ impl<A: Allocator + Copy> Server<A> {
         Ok(())
     }
 
-    // Appends the line of a ref, if the request asks for it. The peeled id may be known.
+    // Appends the line of a ref, if the request asks for the ref. `known` is the peeled id of the
+    // ref, if it was looked up before.
     fn add_ref_line(
         &self,
         asked: &LsRefsRequest<A>,
@@ -110,8 +111,8 @@ impl<A: Allocator + Copy> Server<A> {
         }
     }
 
-    /// Returns the line of a ref, with the attributes that a request asks for, or `None` if the
-    /// request does not ask for the ref. `known` is the id that the ref peels to, if it is known.
+    /// Returns the line of a ref with the requested attributes, or `None` if the request does not
+    /// ask for the ref. `known` is the peeled id of the ref, if it was looked up before.
     pub fn line<'a>(
         &'a self,
         asked: &LsRefsRequest<A>,
@@ -133,7 +134,7 @@ impl<A: Allocator + Copy> Server<A> {
         })
     }
 
-    /// Returns the id that HEAD points at, if there is one.
+    /// Returns the id that HEAD points at, directly or through a ref, if there is one.
     pub fn head_id(&self) -> Option<Oid>
         ensures { result ≡ head_id self.now.head self.now.refs }
     {
@@ -189,7 +190,7 @@ impl<A: Allocator + Copy> Server<A> {
     }
 }
 
-// Returns the line with owned names.
+// Copies a line with borrowed names into a line with owned names.
 fn own_line<A: Allocator + Copy>(line: LentLine<'_, A>) -> Result<RefLine<A>, AllocError>
     ensures { IfOk result (λ own. own ≡ lent_view line.entry) }
 {
@@ -205,7 +206,7 @@ fn own_line<A: Allocator + Copy>(line: LentLine<'_, A>) -> Result<RefLine<A>, Al
     })
 }
 
-// Whether the name begins with one of the prefixes, or there are no prefixes.
+// Returns whether the name begins with one of the prefixes, or there are no prefixes.
 fn is_asked<A: Allocator + Copy>(prefixes: &[Prefix<A>], name: &RefName<A>) -> bool
     ensures { result ≡ is_asked prefixes.now name.now }
 {
@@ -218,7 +219,7 @@ fn begins_with_any<A: Allocator + Copy>(prefixes: &[Prefix<A>], name: &RefName<A
     prefixes.iter().any(|prefix| name.starts_with(prefix))
 }
 
-// Converts the fault of a line that fits its reply: out of memory.
+// Converts the fault of adding a line that fits the reply, which is always out of memory.
 fn no_memory(fault: MessageFault) -> ServeFault
     requires { fault.why ≡ why.Memory }
     ensures { result ≡ Memory }

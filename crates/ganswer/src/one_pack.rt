@@ -13,16 +13,16 @@ use std::marker::Model;
 /// The result of a packer.
 #[derive(Clone, Copy, Debug, PartialEq, Eq, Drop)]
 pub enum Packing {
-    /// It was not asked.
+    /// The packer was not asked.
     Unasked,
-    /// A pack.
+    /// The packer returned a pack.
     Packed,
-    /// A fault, and no pack.
+    /// The packer failed with this fault.
     Failed(PackFault),
 }
 
-/// A packer that is asked for at most one pack for each answer, and its result. Once it has failed
-/// it is not asked again, so its fault stays known.
+/// A packer that is asked for at most one pack for each answer, and its result. A packer that has
+/// failed is not asked again, so its fault is not lost.
 #[derive(Drop)]
 pub struct OnePack<'a, K> {
     packer: &'a K,
@@ -38,7 +38,7 @@ impl<'a, K> Model for OnePack<'a, K> {
 }
 
 impl<'a, K> OnePack<'a, K> {
-    /// Makes a `OnePack` of a packer that was not asked yet.
+    /// Wraps a packer that was not asked yet.
     pub fn new(packer: &'a K) -> OnePack<'a, K>
         ensures packer { result.packer ≡ packer.now }
         ensures unasked { result.answered ≡ packing.Unasked }
@@ -49,14 +49,14 @@ impl<'a, K> OnePack<'a, K> {
         }
     }
 
-    /// Returns its last result.
+    /// Returns the last result of the packer.
     pub fn last_packing(&self) -> Packing
         ensures { result ≡ self.now.answered }
     {
         self.answered
     }
 
-    /// Prepares it for another answer. It must not have failed.
+    /// Prepares the packer for another answer. The packer must not have failed.
     pub fn renew(&mut self)
         requires { has_failed self.old.answered ≡ false }
         ensures unasked { self.new.answered ≡ packing.Unasked }
@@ -65,7 +65,7 @@ impl<'a, K> OnePack<'a, K> {
         self.answered = Packing::Unasked;
     }
 
-    // Asks for the pack of the entries.
+    // Asks the packer for a pack of the entries, and records its result.
     pub(crate) fn pack<A: Allocator + Copy>(
         &mut self,
         alloc: A,

@@ -9,7 +9,7 @@ use ggraph::{Graph, Kind};
 use gname::Oid;
 use std::alloc::Allocator;
 
-// Returns an empty list, with room for `count` ids, or without room if out of memory.
+// Returns an empty list with room for `count` ids, or without room if memory runs out.
 pub(crate) fn no_peels<A: Allocator + Copy>(alloc: A, count: usize) -> Vec<Option<Oid>, A>
     ensures { result.items ≡ [] }
 {
@@ -19,8 +19,8 @@ pub(crate) fn no_peels<A: Allocator + Copy>(alloc: A, count: usize) -> Vec<Optio
     }
 }
 
-// Appends the entry of an index, if the list has all entries before it and has room. Allocates
-// nothing.
+// Appends the peeled id for an index, if the list has exactly the ids before this index and has
+// room. Allocates nothing.
 pub(crate) fn keep_peeled<A: Allocator + Copy>(
     peels: &mut Vec<Option<Oid>, A>,
     place: usize,
@@ -34,7 +34,8 @@ pub(crate) fn keep_peeled<A: Allocator + Copy>(
     }
 }
 
-// Returns the commit that the tag peels to, if it is requested. It may be known.
+// Returns the commit that a tag peels to, if the request asks for it. `known` is the peeled id, if
+// it was looked up before.
 pub(crate) fn peeled_if<A: Allocator + Copy>(
     is_asked: bool,
     graph: &Graph<A>,
@@ -60,7 +61,8 @@ fn peel_tag<A: Allocator + Copy>(graph: &Graph<A>, id: &Oid) -> Option<Oid>
     look_up(graph, id)?
 }
 
-// Returns the same if the object is held.
+// Returns the commit that a tag peels to, or `Some(None)` for other objects. Returns `None` if the
+// object is not held.
 pub(crate) fn look_up<A: Allocator + Copy>(graph: &Graph<A>, id: &Oid) -> Option<Option<Oid>>
     ensures { MatchOption result (node_at graph.now.entries id.now ≡ None)
         (λ peeled. Holds graph.now.entries id.now × IsPeeled graph.now.entries id.now peeled) }

@@ -21,16 +21,16 @@ use std::alloc::{Allocator, Global};
 use std::marker::Model;
 
 /// A served repository: a graph, refs and HEAD (gitglossary(7), "ref", "HEAD"). The graph is
-/// closed. It holds the id of each ref and of a detached HEAD. HEAD may be unborn.
+/// closed, and holds the id of each ref and of a detached HEAD. HEAD may be unborn.
 #[derive(Drop)]
 pub struct Server<A: Allocator + Copy = Global> {
     graph: Graph<A>,
     refs: Refs<A>,
     head: Head<A>,
-    // The name HEAD, which the server lends to answers.
+    // The name HEAD, which answers borrow.
     name_of_head: RefName<A>,
-    // The peeled ids of the refs that point at tags, in the order of the refs, so that a request
-    // for them looks up no object. It is empty if there was no memory for it, or if a ref was set.
+    // The peeled ids of the refs, in the order of the refs, so that requests need no look-up. The
+    // list is empty if memory ran out, or after a ref was set.
     peels: Vec<Option<Oid>, A>,
 }
 
@@ -48,13 +48,14 @@ impl<A: Allocator + Copy> Model for Server<A> {
 }
 
 impl<A: Allocator + Copy> Server<A> {
-    /// Makes a server of these parts.
+    /// Makes a server of a graph, refs and HEAD.
     ///
-    /// Fails with `NotClosed` at the first parent that is not held, in the order of the objects and
-    /// of their parents. Otherwise fails with `RefMissing` at the first ref by name whose id is not
-    /// held. Otherwise fails with `HeadMissing` if HEAD is detached at an id that is not held.
-    /// These faults take no memory. Fails with `Memory` if nothing is missing, but there is no
-    /// memory for the name HEAD. The parts are lost on each fault.
+    /// Fails with `NotClosed` for the first parent that is not held, in the order of the objects
+    /// and of their parents. Otherwise fails with `RefMissing` for the first ref by name whose id
+    /// is not held. Otherwise fails with `HeadMissing` if HEAD is detached at an id that is not
+    /// held. These three faults are reported even if memory has run out. Fails with `Memory` if
+    /// nothing is missing, but there is no memory for the name HEAD. A failed call drops the graph,
+    /// the refs and HEAD.
     pub fn new(graph: Graph<A>, refs: Refs<A>, head: Head<A>) -> Result<Server<A>, BuildFault<A>>
         ensures { Makes (server_of graph refs head) result }
     {
@@ -71,7 +72,8 @@ impl<A: Allocator + Copy> Server<A> {
         }
     }
 
-    // Makes a server of parts of which at most HEAD is missing.
+    // Makes a server of a closed graph that holds the id of each ref. The id of HEAD may be
+    // missing.
     fn with_refs(
         graph: Graph<A>,
         refs: Refs<A>,
@@ -100,7 +102,7 @@ impl<A: Allocator + Copy> Server<A> {
         })
     }
 
-    /// Returns the objects, in store order.
+    /// Returns the graph of objects.
     pub fn graph(&self) -> &Graph<A>
         ensures graph { result.now ≡ self.now.graph }
         ensures server { IsServer self.now }
@@ -108,7 +110,7 @@ impl<A: Allocator + Copy> Server<A> {
         &self.graph
     }
 
-    /// Returns the refs, by name.
+    /// Returns the refs, in the byte order of their names.
     pub fn refs(&self) -> &Refs<A>
         ensures refs { result.now ≡ self.now.refs }
         ensures server { IsServer self.now }
@@ -116,7 +118,7 @@ impl<A: Allocator + Copy> Server<A> {
         &self.refs
     }
 
-    /// A law: the properties of each server.
+    /// A law: the invariant of a server.
     pub fn laws(&self)
         ensures { IsServer self.now }
     {
@@ -131,10 +133,11 @@ impl<A: Allocator + Copy> Server<A> {
         &self.head
     }
 
-    /// Appends an object to the store order. Changes nothing if it is held with the same node.
+    /// Appends an object to the graph. Changes nothing if the graph already holds it with the same
+    /// node.
     ///
-    /// Fails with `MissingParent` at the first of its parents that is not held, and otherwise with
-    /// `Graph` as `Graph::insert` does. Nothing changes then.
+    /// Fails with `MissingParent` for the first of its parents that is not held, and otherwise with
+    /// `Graph` as `Graph::insert` does. A failed call changes nothing.
     pub fn add(&mut self, entry: Entry<A>) -> Result<(), BuildFault<A>>
         ensures adds { Adds self.old entry self.new result }
         ensures format { self.new.graph.format ≡ self.old.graph.format }
@@ -152,10 +155,10 @@ impl<A: Allocator + Copy> Server<A> {
         }
     }
 
-    /// Sets a ref to an id; the ref may be new (git-update-ref(1)).
+    /// Creates or updates a ref (git-update-ref(1)).
     ///
     /// Fails with `RefMissing` if the id is not held, and otherwise with `Refs` as `Refs::set`
-    /// does. Nothing changes then.
+    /// does. A failed call changes nothing.
     pub fn set_ref(&mut self, name: RefName<A>, id: Oid) -> Result<(), BuildFault<A>>
         ensures sets { Sets self.old name id self.new result }
         ensures server { IsServer self.new }
@@ -174,8 +177,8 @@ impl<A: Allocator + Copy> Server<A> {
 
     /// Sets HEAD (git-symbolic-ref(1)). Allocates nothing.
     ///
-    /// Fails with `HeadMissing` if HEAD is to be detached at an id that is not held. Nothing
-    /// changes then.
+    /// Fails with `HeadMissing` if the new HEAD is detached at an id that is not held. A failed
+    /// call changes nothing.
     pub fn set_head(&mut self, head: Head<A>) -> Result<(), BuildFault<A>>
         ensures sets { SetsHead self.old head self.new result }
         ensures server { IsServer self.new }
@@ -196,8 +199,8 @@ impl<A: Allocator + Copy> Server<A> {
         &self.name_of_head
     }
 
-    /// Returns the id that the ref at an index peels to, if it is known: `Some(None)` if the ref
-    /// does not point at a tag.
+    /// Returns the id that the ref at an index peels to, or `Some(None)` if the ref does not point
+    /// at a tag. Returns `None` if the id was not looked up before.
     pub fn peeled_at(&self, place: usize) -> Option<Option<Oid>>
         ensures { (ref : Name × Id) → slice_get self.now.refs place ≡ Some ref
             → IfSome result (IsPeeled self.now.graph.entries ref.1) }
@@ -206,7 +209,7 @@ impl<A: Allocator + Copy> Server<A> {
     }
 }
 
-// Returns the first parent that is missing.
+// Returns the first parent that the graph does not hold.
 fn missing_parent<A: Allocator + Copy>(graph: &Graph<A>) -> Option<Oid>
     ensures { MatchOption result (IsClosed graph.now.entries)
         (IsFirstAbsent graph.now.entries (parents_in graph.now.entries)) }
@@ -219,7 +222,7 @@ fn missing_parent<A: Allocator + Copy>(graph: &Graph<A>) -> Option<Oid>
     first_missing_parent(graph)
 }
 
-// Returns the same, by look-ups.
+// Returns the first parent that the graph does not hold, by looking up each parent.
 fn first_missing_parent<A: Allocator + Copy>(graph: &Graph<A>) -> Option<Oid>
     ensures { MatchOption result (IsClosed graph.now.entries)
         (IsFirstAbsent graph.now.entries (parents_in graph.now.entries)) }
@@ -234,8 +237,8 @@ fn first_missing_parent<A: Allocator + Copy>(graph: &Graph<A>) -> Option<Oid>
     None
 }
 
-// Returns the peeled ids of the refs if there is memory for them. Fails with the first ref whose id
-// is not held.
+// Returns the peeled ids of the refs, or fewer if memory runs out. Fails with the index of the
+// first ref whose id is not held.
 fn check_refs<A: Allocator + Copy>(
     graph: &Graph<A>,
     refs: &[(RefName<A>, Oid)],
@@ -254,7 +257,7 @@ fn check_refs<A: Allocator + Copy>(
     Ok(peels)
 }
 
-// Whether the id of a detached HEAD is held.
+// Returns whether the graph holds the id of a detached HEAD. Returns true if HEAD is not detached.
 fn holds_head<A: Allocator + Copy>(graph: &Graph<A>, head: &Head<A>) -> bool
     ensures { IsTrue result ↔ HoldsHead graph.now.entries head.now }
 {

@@ -1,4 +1,4 @@
-//! Writing an answer to ls-refs line by line, with names that the server lends.
+//! Writing an answer to ls-refs line by line, with names borrowed from the server.
 
 ghost use Rattle.std.specs.Prelude.{◌∷◌, ◌++◌, [], List, map};
 ghost use Rattle.std.specs.Option.{option_copied};
@@ -21,10 +21,11 @@ use std::alloc::Allocator;
 
 impl<A: Allocator + Copy> Server<A> {
     /// Writes the answer to a request for refs (gitprotocol-v2(5), "ls-refs"), as
-    /// [`Server::answer`] returns it. The server lends the names, so this allocates nothing.
+    /// [`Server::answer`] returns it. The names are borrowed from the server, so the call allocates
+    /// nothing.
     ///
-    /// Fails with `Io` if the sink fails, after a prefix of the answer was written. Fails with
-    /// `Failed` if the writer had failed before.
+    /// Fails with `Io` if the sink fails, after writing a prefix of the answer. Fails with `Failed`
+    /// if the writer failed before the call.
     pub fn write_ls_answer<W: Sink>(
         &self,
         asked: &LsRefsRequest<A>,

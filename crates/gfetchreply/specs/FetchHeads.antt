@@ -1,4 +1,4 @@
--- The reply to fetch (gitprotocol-v2(5), "fetch") without its pack, which goes to a sink piece by piece.
+-- The reply to fetch (gitprotocol-v2(5), "fetch") without its pack, which goes to a sink in pieces.
 use Rattle.std.specs.Prelude.{Bool, true, false, List, []}
 use Rattle.gname.specs.Ids.{Id}
 use Rattle.gpkt.specs.Packets.{Bytes}
@@ -15,19 +15,19 @@ head_of (reply.Acks ids) = Acks ids
 head_of (reply.Ready ids pack) = Ready ids
 head_of (reply.Pack pack) = Pack
 
--- the pack, which is empty where none comes
+-- the pack of a reply, which is empty if the reply has none
 abbrev pub pack_of : FetchReply → Bytes
 pack_of (reply.Acks ids) = []
 pack_of (reply.Ready ids pack) = pack
 pack_of (reply.Pack pack) = pack
 
--- the ids that are acknowledged
+-- the ids that a reply acknowledges
 abbrev pub acknowledged_by : FetchReply → List Id
 acknowledged_by (reply.Acks ids) = ids
 acknowledged_by (reply.Ready ids pack) = ids
 acknowledged_by (reply.Pack pack) = []
 
--- whether the pack comes alone
+-- the reply consists of the pack alone
 abbrev pub is_alone : FetchReply → Bool
 is_alone (reply.Acks ids) = false
 is_alone (reply.Ready ids pack) = false

@@ -1,4 +1,4 @@
--- What a server may send as the reply to fetch, in the words of gitprotocol-v2(5): sections one after the other.
+-- The replies to fetch that a server may send, as gitprotocol-v2(5) states them: a sequence of sections.
 use Rattle.std.specs.Prelude.{◌≡◌, ℕ, ◌≤◌, ◌⊎◌, true, false, List, [], ◌∷◌, ◌++◌, length, map, codes, All, Result, Ok}
 use Rattle.std.specs.Option.{IsSome}
 use Rattle.gname.specs.Ids.{Id}
@@ -10,17 +10,17 @@ use Rattle.ggrammar.specs.Endings.{ends_with}
 use Rattle.gfetchreply.specs.FetchReplies.{Reading, FetchReply, Acks, Ready, Pack, reply_form, ack_id, acks_of, data_of}
 use Rattle.gfetchreply.specs.FetchReplies.{max_acks, max_packets}
 
--- `ACK ` and an id
+-- the text of an acknowledgment: `ACK ` and an id
 abbrev pub IsAck : Format → Bytes → Type 0
 IsAck format line = IsSome (ack_id format (reply_form line))
 
--- some bytes of the pack, or of progress
+-- the side-band packet carries data of the pack, or progress
 abbrev pub IsDataOrProgress : Result BandPacket BandFault → Type 0
 IsDataOrProgress (Ok (BandData bytes)) = Unit {0}
 IsDataOrProgress (Ok (Progress bytes)) = Unit {0}
 IsDataOrProgress _ = ⊥
 
--- `acknowledgments`, and the acknowledged ids
+-- the section of acknowledgments: the heading `acknowledgments` and the acknowledged ids
 pub record IsAckSection (format : Format) (packets : List Packet) (ids : List Id) : Type 0 where
   pub heading : Bytes
   pub acks : List Bytes
@@ -30,7 +30,7 @@ pub record IsAckSection (format : Format) (packets : List Packet) (ids : List Id
   pub few : length acks ≤ max_acks
   pub are : ids ≡ acks_of format (map text acks)
 
--- `packfile`, side-band packets and a flush
+-- the section of the pack: the heading `packfile`, side-band packets and a flush
 pub record IsPackSection (limit : ℕ) (packets : List Packet) (pack : Bytes) : Type 0 where
   pub heading : Bytes
   pub payloads : List Bytes
@@ -41,7 +41,7 @@ pub record IsPackSection (limit : ℕ) (packets : List Packet) (pack : Bytes) : 
   pub short : length pack ≤ limit
   pub is_data : pack ≡ data_of payloads
 
--- nothing is common
+-- a reply without common ids
 pub record IsNakReply (format : Format) (packets : List Packet) : Type 0 where
   pub section : List Packet
   pub nak : Bytes
@@ -49,13 +49,13 @@ pub record IsNakReply (format : Format) (packets : List Packet) : Type 0 where
   pub is_nak : text nak ≡ codes "NAK"
   pub parts : packets ≡ section ++ Data nak ∷ Flush ∷ []
 
--- some ids are common, and it is not enough
+-- a reply with common ids which some want does not reach, so that no pack follows
 pub record IsAckReply (format : Format) (packets : List Packet) (ids : List Id) : Type 0 where
   pub section : List Packet
   pub acks : IsAckSection format section ids
   pub parts : packets ≡ section ++ Flush ∷ []
 
--- enough is common, and the pack follows
+-- a reply with common ids, `ready` and the pack
 pub record IsReadyReply (format : Format) (limit : ℕ) (packets : List Packet) (ids : List Id)
     (pack : Bytes) : Type 0 where
   pub section : List Packet
@@ -74,7 +74,7 @@ IsBody reading packets (Ready ids pack) =
     (reading.direct ≡ false) × IsReadyReply reading.format reading.limit packets ids pack
 IsBody reading packets (Pack pack) = (reading.direct ≡ true) × IsPackSection reading.limit packets pack
 
--- the packets are a reply, and say this
+-- the packets encode this reply
 pub record IsFetchReply (reading : Reading) (packets : List Packet) (reply : FetchReply) : Type 0 where
   pub body : List Packet
   pub is_body : IsBody reading body reply

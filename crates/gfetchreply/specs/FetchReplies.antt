@@ -4,9 +4,9 @@
 --   acknowledgments = "acknowledgments" (nak | *ack) (ready)
 --   packfile = "packfile" *(sideband packet)
 --
--- A reply is `direct` where the request had `done` or no have: then it is the pack's section alone. Otherwise the
--- acknowledgments come first, and the pack follows exactly where they are ready. Where the peer ends each reply
--- so, a response-end follows the flush.
+-- A reply is `direct` if the request had `done` or no haves. A direct reply is the pack's section alone. Any other
+-- reply begins with the acknowledgments, and the pack follows exactly if they end with `ready`. If the peer ends each
+-- reply with a response-end, this packet follows the flush.
 use Rattle.std.specs.Prelude.{◌≡◌, ℕ, zero, suc, ◌+◌, Bool, true, false, ◌&&◌, List, [], ◌∷◌, ◌++◌, length, map, take, drop}
 use Rattle.std.specs.Prelude.{if◌then◌else◌, codes, nat_le, nat_lt, Option, Some, None, is_some, Result, Ok, Err}
 use Rattle.std.specs.List.{filter_map, flat_map, list_any}
@@ -26,20 +26,21 @@ use Rattle.ggrammar.specs.Ids.{id_of_text}
 use Rattle.ggrammar.specs.PeerErrors.{after_word, judge_unless_error}
 use Rattle.ggrammar.specs.declared.fault.Why.TheVariants as why
 
--- what the reply says
+-- the contents of a reply
 pub data FetchReply : Type 0 where
   Acks : (ids : List Id) → FetchReply
   Ready : (ids : List Id) (pack : Bytes) → FetchReply
   Pack : (pack : Bytes) → FetchReply
 
--- how a reply is read: whether the pack comes at once, the most bytes of a pack, how a reply ends, and the format
+-- the parameters of reading a reply: the id format, whether the pack comes first, the pack's size limit, and the last
+-- packet
 pub record Reading : Type 0 where
   pub format : Format
   pub direct : Bool
   pub limit : ℕ
   pub ends : Ends
 
--- the most ids that are acknowledged
+-- the most ids that a reply acknowledges
 abbrev pub max_acks : ℕ
 max_acks = 4096
 
@@ -54,7 +55,7 @@ abbrev pub ack_or_other : Option Bytes → ReplyForm
 ack_or_other None = OtherForm
 ack_or_other (Some id) = Ack id
 
--- `ACK ` has that form whatever follows
+-- the kind of a text; a text with `ACK ` is an acknowledgment, whatever follows
 unfoldable pub reply_form : Bytes → ReplyForm
 reply_form line =
     if bytes_eq line (codes "acknowledgments") then Acknowledgments
@@ -63,29 +64,29 @@ reply_form line =
     else if bytes_eq line (codes "packfile") then Packfile
     else ack_or_other (after_word (codes "ACK ") line)
 
--- ---- where a packet stands
+-- ---- the position of a packet in a reply
 
 pub data Point : Type 0 where
-  -- the acknowledgments' heading is due
+  -- the heading of the acknowledgments is expected
   Start : Point
-  -- after it, and after acknowledged ids
+  -- after the heading of the acknowledgments, and after acknowledged ids
   Acking : Point
-  -- after NAK: nothing was common
+  -- after NAK, which means that no id is common
   AfterNak : Point
-  -- after `ready`: the delimiter is due
+  -- after `ready`, where the delimiter is expected
   AfterReady : Point
-  -- the pack's heading is due
+  -- the heading of the pack is expected
   BeforePack : Point
-  -- its bytes
+  -- within the bytes of the pack
   InPack : Point
-  -- a response-end is due
+  -- a response-end is expected
   Over : Point
 
 abbrev pub first_place : Bool → Point
 first_place true = BeforePack
 first_place false = Start
 
--- a text of the acknowledgments leads on
+-- the position after a text
 abbrev pub after_text : Point → ReplyForm → Point
 after_text Start Acknowledgments = Acking
 after_text Acking Nak = AfterNak
@@ -108,9 +109,9 @@ next_place place ResponseEnd = place
 abbrev pub place_of : Bool → List Packet → Point
 place_of direct packets = place_after next_place (first_place direct) packets
 
--- ---- what the packets so far say
+-- ---- the contents of the packets so far
 
--- acknowledged ids, bytes of the pack and its packets, by where a packet stands
+-- the acknowledged ids, the pack's bytes and the pack's packets, depending on the position
 abbrev pub ack_id : Format → ReplyForm → Option Id
 ack_id format (Ack id) = id_of_text format id
 ack_id format _ = None
@@ -138,7 +139,7 @@ abbrev pub data_in : Result BandPacket BandFault → Bytes
 data_in (Ok (BandData bytes)) = bytes
 data_in _ = []
 
--- the data of band 1, in order
+-- the pack's data, which is on band 1
 abbrev pub data_of : List Bytes → Bytes
 data_of payloads = flat_map (λ payload. data_in (band_form payload)) payloads
 
@@ -160,7 +161,7 @@ reply_of reading packets = reply_by reading (ack_texts reading.direct packets) (
 
 -- ---- the table
 
--- what the packets so far count for
+-- the state of reading after some packets
 pub record State : Type 0 where
   pub place : Point
   pub ack_count : ℕ
@@ -191,7 +192,7 @@ judge_acking format state Acknowledgments = Refused why.WrongSection
 judge_acking format state Packfile = Refused why.WrongSection
 judge_acking format state OtherForm = Refused why.BadText
 
--- after NAK and after `ready` no text is due
+-- the verdict on a text after NAK or `ready`, where no text is allowed
 abbrev pub judge_late : ReplyForm → Verdict
 judge_late OtherForm = Refused why.BadText
 judge_late _ = Refused why.WrongSection
@@ -246,10 +247,10 @@ judge_at reading state packet = judge_there reading state.place state packet
 abbrev pub judge : Reading → List Packet → Packet → Verdict
 judge reading packets packet = judge_at reading (state_of reading packets) packet
 
--- ---- what takes memory
+-- ---- the packets that need memory
 
--- An acknowledged id is kept, for which it may be out of memory. Some data of the pack goes to the sink, which may
--- refuse it, if it is a sink that may refuse pieces. Nothing else is kept.
+-- The packet needs memory: an acknowledged id is stored, or data of the pack goes to a sink that may refuse pieces.
+-- Nothing else is stored.
 abbrev pub form_brings : ReplyForm → Bool
 form_brings (Ack id) = true
 form_brings _ = false
@@ -263,21 +264,21 @@ payload_brings refuses Acking payload = form_brings (reply_form (text payload))
 payload_brings refuses InPack payload = band_brings refuses (band_form payload)
 payload_brings refuses _ payload = false
 
--- by whether the sink may refuse a piece
+-- the packet needs memory, if the sink may or may not refuse pieces
 abbrev pub brings_into : Bool → Reading → List Packet → Packet → Bool
 brings_into refuses reading packets (Data payload) = payload_brings refuses (place_of reading.direct packets) payload
 brings_into refuses reading packets _ = false
 
--- where the pack is kept in memory
+-- the packet needs memory, if the pack is stored in memory
 abbrev pub brings : Reading → List Packet → Packet → Bool
 brings = brings_into true
 
--- the packets are a reply, and say this
+-- the packets encode this reply
 pub record Says (reading : Reading) (packets : List Packet) (reply : FetchReply) : Type 0 where
   pub whole : IsWhole (judge reading) packets
   pub says : reply ≡ reply_of reading packets
 
--- ---- what is written
+-- ---- the packets that are written
 
 abbrev pub ack_packet : Id → Packet
 ack_packet id = text_packet (codes "ACK " ++ id_text id)
@@ -286,21 +287,21 @@ abbrev pub nak_if_none : List Packet → List Packet
 nak_if_none [] = text_packet (codes "NAK") ∷ []
 nak_if_none (first ∷ acks) = first ∷ acks
 
--- the pack in pieces of the largest size, the last one shorter or equal: so many at most
+-- the pack in at most this many pieces of the largest size; only the last piece may be shorter
 abbrev pub pieces_within : ℕ → Bytes → List Bytes
 pieces_within zero pack = []
 pieces_within (suc most) [] = []
 pieces_within (suc most) (byte ∷ rest) =
     take max_band (byte ∷ rest) ∷ pieces_within most (drop max_band (byte ∷ rest))
 
--- all of them, which are no more than the bytes; none of an empty pack
+-- the pack in pieces, each of the largest size except the last
 unfoldable pub pieces : Bytes → List Bytes
 pieces pack = pieces_within (length pack) pack
 
 abbrev pub data_packet : Bytes → Packet
 data_packet bytes = Data (band_payload (BandData bytes))
 
--- `packfile`, the pack on band 1, and a flush
+-- the packets of the pack: the heading `packfile`, the pack on band 1, and a flush
 abbrev pub pack_section : Bytes → List Packet
 pack_section pack = text_packet (codes "packfile") ∷ (map data_packet (pieces pack) ++ Flush ∷ [])
 
@@ -316,10 +317,10 @@ body_packets (Acks ids) = heading_packet ∷ (nak_if_none (map ack_packet ids) +
 body_packets (Ready ids pack) = heading_packet ∷ (map ack_packet ids ++ ready_packet ∷ Delim ∷ pack_section pack)
 body_packets (Pack pack) = pack_section pack
 
--- the packets that are written of a reply
+-- the packets that are written for a reply
 unfoldable pub canonical_reply : Ends → FetchReply → List Packet
 canonical_reply ends reply = body_packets reply ++ ends_with ends
 
--- those packets are written of that reply
+-- these are the packets that are written for this reply
 abbrev pub IsCanonical : Ends → List Packet → FetchReply → Type 0
 IsCanonical ends packets reply = packets ≡ canonical_reply ends reply

@@ -1,4 +1,4 @@
--- The values of replies to fetch (gitprotocol-v2(5), "fetch"), and how they are built.
+-- The values of replies to fetch (gitprotocol-v2(5), "fetch"), and how to build them.
 use Rattle.std.specs.Prelude.{◌≡◌, ℕ, ◌≤◌, ◌<◌, List, [], ◌∷◌, ◌++◌, length, nat_le, if◌then◌else◌}
 use Rattle.std.specs.Prelude.{Option, Some, None, Result, Ok, Err}
 use Rattle.std.specs.List.{list_all}
@@ -11,11 +11,11 @@ use Rattle.ggrammar.specs.declared.fault.Why.TheVariants as why
 use Rattle.ggrammar.specs.declared.fault.MessageFault.{MessageFault}
 use Rattle.gfetchreply.specs.FetchReplies.{max_acks}
 
--- the limit of a pack where none is asked for
+-- the default limit of a pack, in bytes
 abbrev pub default_limit : ℕ
 default_limit = 16777216
 
--- acknowledged ids of a format
+-- acknowledged ids, which have this format
 pub record Acks : Type 0 where
   pub format : Format
   pub ids : List Id
@@ -23,19 +23,19 @@ pub record Acks : Type 0 where
 abbrev pub with_id : Acks → Id → Acks
 with_id acks id = record acks { ids = acks.ids ++ id ∷ [] }
 
--- why ids are not acknowledged together: one has another format; else they are too many
+-- the reason that a list of ids can't be acknowledged: an id has another format, or there are too many ids
 abbrev pub acks_fault : Format → List Id → Option Why
 acks_fault format ids =
     if list_all (has_format format) ids then if nat_le (length ids) max_acks then None else Some why.Limit
     else Some why.BadText
 
--- ids are acknowledged together; or not, for that reason
+-- the result of making acknowledgments of these ids: all of the ids, or the fault
 abbrev pub MakesAcks : Format → List Id → Result Acks MessageFault → Type 0
 MakesAcks format ids (Ok acks) =
     (acks_fault format ids ≡ None) × (acks ≡ record { format = format; ids = ids })
 MakesAcks format ids (Err fault) = (fault.frame ≡ 0) × (acks_fault format ids ≡ Some fault.why)
 
--- some bytes are a pack where they are not too many
+-- the result of making a pack of these bytes, which must not exceed the limit
 abbrev pub MakesPack : Bytes → Result Bytes MessageFault → Type 0
 MakesPack bytes (Ok pack) = (length bytes ≤ max_pack) × (pack ≡ bytes)
 MakesPack bytes (Err fault) =

@@ -1,4 +1,4 @@
--- Values and parameters without where their bytes lie in memory.
+-- Values and parameters, wherever their bytes lie in memory.
 use Rattle.std.specs.Prelude.{◌≡◌, ℕ, Bool, Result, Ok, Err}
 use Rattle.gname.specs.declared.formats.Format.{Format}
 use Rattle.gname.specs.declared.formats.Format.TheVariants.{Sha1}
@@ -13,7 +13,7 @@ use Rattle.gfetchreply.specs.declared.value.FetchHead.{FetchHead}
 use Rattle.gfetchreply.specs.declared.value.FetchHead.TheVariants as value_head
 use Rattle.gfetchreply.specs.declared.reading.FetchReading.{FetchReading}
 
--- what a reply says
+-- the contents of a reply
 abbrev pub reply_in : {A : Type 0} → FetchReply A → reply.FetchReply
 reply_in (value.Acks acks) = reply.Acks acks.ids
 reply_in (value.Ready acks pack) = reply.Ready acks.ids pack
@@ -24,7 +24,7 @@ head_in (value_head.Acks acks) = head.Acks acks.ids
 head_in (value_head.Ready acks) = head.Ready acks.ids
 head_in value_head.Pack = head.Pack
 
--- the acknowledged ids have the format, which is said also where there are none
+-- if the head acknowledges ids, they have this format
 abbrev pub IsHeadOf : {A : Type 0} → Format → FetchHead A → Type 0
 IsHeadOf format (value_head.Acks acks) = acks.format ≡ format
 IsHeadOf format (value_head.Ready acks) = acks.format ≡ format
@@ -51,6 +51,6 @@ abbrev pub reply_result : {A : Type 0} → Result (FetchReply A) MessageFault �
 reply_result (Ok found) = Ok (reply_in found)
 reply_result (Err fault) = Err fault
 
--- the plain reading: in SHA-1
+-- the parameters of reading a reply with SHA-1 ids
 abbrev pub sha1_reading : Bool → ℕ → Ends → Reading
 sha1_reading direct limit ends = record { format = Sha1; direct = direct; limit = limit; ends = ends }

@@ -1,4 +1,4 @@
--- The steps: what only private functions and proofs speak of.
+-- Definitions that only private functions and proofs use.
 pub mod FetchHeads
 pub mod ReplyState
 pub mod Values

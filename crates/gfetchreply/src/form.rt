@@ -14,7 +14,7 @@ pub(crate) enum ReplyForm<'a> {
     Nak,
     Readiness,
     Packfile,
-    /// `ACK ` and the text after it, of any form.
+    /// `ACK ` and the text after it, whatever its form.
     Ack(&'a [u8]),
     Other,
 }

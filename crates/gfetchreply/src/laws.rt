@@ -1,5 +1,5 @@
-//! The laws of replies to fetch. Each function does nothing, and its contract is the law. A caller
-//! may rely on the law after the call.
+//! Laws of replies to fetch: functions without effect whose contracts state the laws. A caller may
+//! rely on a law after calling its function.
 
 ghost use Rattle.std.specs.Prelude.{◌≡◌, ◌≤◌};
 ghost use Rattle.gname.specs.Limits.{max_pack};
@@ -18,7 +18,8 @@ use ggrammar::laws::{grammars_are_exact, kinds_are_read, messages_are_read};
 use gname::laws::{ids_have_one_format, ids_have_texts};
 use gpkt::laws::text_reads_back;
 
-// Replies as a kind of message: whether the sink may refuse a piece, and how they are read.
+// Replies as a kind of message, with the parameters of reading them and whether the sink may refuse
+// a piece.
 struct Replies;
 
 impl MessageKind for Replies {
@@ -41,24 +42,25 @@ impl MessageKind for Replies {
     ghost is_canonical = { λ given. IsCanonical given.1.ends };
 }
 
-/// The constant is the limit that the definitions use.
+/// The constant of this crate equals the limit in its definitions.
 pub fn limits_are_the_constants()
     ensures acks { MAX_ACKS ≡ max_acks }
 {}
 
-/// The lists of packets that are read as a reply are those of the manual's grammar, and they say
-/// the same (gitprotocol-v2(5), "fetch").
+/// The lists of packets that are read as a reply are those of Git's manual, and mean the same
+/// (gitprotocol-v2(5), "fetch").
 pub fn manual()
     ensures { (reading : Reading) → AsInManual (Says reading) (IsFetchReply reading) }
 {}
 
-/// Packets say at most one reply, and exactly the complete replies say one.
+/// A list of packets encodes at most one reply, and encodes one exactly if it is complete.
 pub fn one_meaning()
     ensures meaning { (reading : Reading) → OneMeaning (Says reading) }
     ensures whole { (reading : Reading) → SaysWhole (judge reading) (Says reading) }
 {}
 
-/// No reply is a prefix of another, as packets or as bytes, so its end is known without the rest.
+/// No reply is a prefix of another, as packets or as bytes. So the end of a reply is known without
+/// the bytes after it.
 pub fn prefix_free()
     ensures packets { (reading : Reading) → IsPrefixFree (judge reading) }
     ensures spellings { (reading : Reading) → SpellingsPrefixFree (judge reading) }
@@ -67,7 +69,7 @@ pub fn prefix_free()
     messages_are_read();
 }
 
-/// An open reply has an ending of at most four packets, and a refused packet is the first that does
+/// At most four packets complete an unfinished reply, and a rejected packet is the first that does
 /// not fit.
 pub fn endings()
     ensures endings { (reading : Reading) → HasEndings (judge reading) }
@@ -77,8 +79,8 @@ pub fn endings()
     grammars_are_exact();
 }
 
-/// A packet is refused only for a reason in the packet. All bytes begin with a reply, or are
-/// refused for a reason in the bytes.
+/// A packet is rejected only for a reason in the packet. All bytes begin with a reply, or are
+/// rejected for a reason in the bytes.
 pub fn every_input()
     ensures packets { (reading : Reading) → RefusesPackets (judge reading) }
     ensures bytes { (reading : Reading) → BeginsOrIsRefused (judge reading) (brings reading) }
@@ -87,8 +89,8 @@ pub fn every_input()
     messages_are_read();
 }
 
-/// A reply is written as packets that say it, and each payload fits a packet. The limit for reading
-/// it is one that a [`PackLimit`](crate::PackLimit) can have.
+/// The packets written for a reply encode it, and each payload fits a packet. The limit for reading
+/// the reply must be one that a [`PackLimit`](crate::PackLimit) can have.
 pub fn canonical_says()
     ensures { (reading : Reading) → reading.limit ≤ max_pack
         → CanonicalSays (Says reading) (IsReplyIn reading) (IsCanonical reading.ends) }
@@ -98,8 +100,8 @@ pub fn canonical_says()
     text_reads_back();
 }
 
-/// [`crate::read_fetch_reply_in`] reads a reply exactly when a prefix of the bytes spells packets
-/// that say it.
+/// [`crate::read_fetch_reply_in`] reads a reply exactly if the bytes begin with packets that encode
+/// it.
 pub fn reads_exactly()
     ensures { (reading : Reading) → ReadsExactly (judge reading) (brings reading) (Says reading) }
 {
@@ -107,8 +109,8 @@ pub fn reads_exactly()
     kinds_are_read::<Replies>();
 }
 
-/// A written reply reads back, whatever follows, within any limit that a
-/// [`PackLimit`](crate::PackLimit) can have and its pack does not exceed.
+/// A written reply reads back, whatever bytes follow, with any [`PackLimit`](crate::PackLimit) that
+/// its pack does not exceed.
 pub fn reads_back()
     ensures { (reading : Reading) → reading.limit ≤ max_pack
         → ReadsBack (judge reading) (brings reading) (Says reading) (IsReplyIn reading)
@@ -119,8 +121,8 @@ pub fn reads_back()
     kinds_are_read::<Replies>();
 }
 
-/// [`crate::read_fetch_reply_into_in`] reads a reply into a sink exactly when a prefix of the bytes
-/// spells packets that say it.
+/// [`crate::read_fetch_reply_into_in`] reads a reply into a sink exactly if the bytes begin with
+/// packets that encode it.
 pub fn reads_into_exactly<T: PackSink>()
     ensures said { (reading : Reading) → ReadsIntoWhereSaid T.taken T.refuses reading }
     ensures only { (reading : Reading) → ReadsIntoOnlySaid T.taken reading }
@@ -129,7 +131,7 @@ pub fn reads_into_exactly<T: PackSink>()
     kinds_are_read::<Replies>();
 }
 
-/// A written reply reads back into a sink, whatever follows.
+/// A written reply reads back into a sink, whatever bytes follow.
 pub fn reads_back_into<T: PackSink>()
     ensures { (reading : Reading) → reading.limit ≤ max_pack
         → ReadsBackInto T.taken T.refuses reading }
@@ -139,9 +141,10 @@ pub fn reads_back_into<T: PackSink>()
     kinds_are_read::<Replies>();
 }
 
-/// A reply may be delivered for another request, or read within another limit. However some packets
-/// are read, at most one prefix of them is a reply, and it says the same. A reply is read within
-/// each limit that its pack does not exceed. Within another limit it is refused only for the limit.
+/// A reply may be read as the answer to another request, or with another limit. With any such
+/// parameters, at most one prefix of the packets is a reply, and it is the same reply. A reply is
+/// accepted with each limit that its pack does not exceed. With a smaller limit it is refused only
+/// for the limit.
 pub fn other_readings()
     ensures whatever_reading { OneInWhateverReading }
     ensures any_limit { IsInAnyLimit }

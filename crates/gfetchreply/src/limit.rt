@@ -1,4 +1,4 @@
-//! The maximum length of a pack that is read.
+//! The maximum length of a pack to read.
 
 ghost use Rattle.std.specs.Prelude.{◌≡◌, ◌≤◌, nat_le, if◌then◌else◌, Some, None};
 ghost use Rattle.gname.specs.Limits.{max_pack};
@@ -7,10 +7,10 @@ ghost use Rattle.gfetchreply.specs.Values.{default_limit};
 use gname::MAX_PACK;
 use std::marker::Model;
 
-// The default limit.
+// The default limit in bytes.
 const DEFAULT_LIMIT: usize = 16_777_216;
 
-/// The maximum length of a pack that is read in bytes, at most [`MAX_PACK`].
+/// The maximum length of a pack to read, in bytes, at most [`MAX_PACK`].
 #[derive(Clone, Copy, Debug, PartialEq, Eq, Drop)]
 pub struct PackLimit {
     bytes: usize,
@@ -43,7 +43,7 @@ impl PackLimit {
         }
     }
 
-    /// Returns the number of bytes, at most [`MAX_PACK`].
+    /// Returns the limit in bytes, at most [`MAX_PACK`].
     pub fn bytes(self) -> usize
         ensures bytes { result ≡ self }
         ensures within { result ≤ max_pack }
@@ -51,7 +51,7 @@ impl PackLimit {
         self.bytes
     }
 
-    /// A law: the properties of each limit.
+    /// A law: the invariant of a limit.
     pub fn laws(self)
         ensures { self ≤ max_pack }
     {
@@ -59,7 +59,7 @@ impl PackLimit {
     }
 }
 
-/// 16,777,216 bytes.
+/// The default limit is 16,777,216 bytes.
 impl Default for PackLimit {
     ghost is_default = { λ limit. limit ≡ default_limit };
 

@@ -26,7 +26,7 @@ use gpkt::{Band, Packet, PacketReader, Source, band_of, text_of};
 use std::alloc::Allocator;
 use std::marker::{Brand, PhantomData};
 
-/// How a reply to fetch is read.
+/// The parameters of reading a reply to fetch.
 #[derive(Clone, Copy, Debug, PartialEq, Eq)]
 pub struct FetchReading {
     /// The format of the ids.
@@ -40,8 +40,8 @@ pub struct FetchReading {
 }
 
 // The sink that a reading borrows, its previous state and bytes, and how the reply is read. A call
-// at `Brand` picks these members in its `Invariants.antt`. They belong to a type, since `Message`
-// is only about a reader and its packets.
+// at `Brand` chooses these members in its `Invariants.antt`. The members belong to a type, since
+// `Message` only describes a reader and its packets.
 trait Lent<T> {
     ghost use Rattle.gfetchreply.specs.FetchReplies.{Reading};
 
@@ -54,7 +54,7 @@ trait Lent<T> {
     ghost starts: { T → Type 0 };
 }
 
-// Values that no call uses.
+// Placeholder values that no call uses.
 impl<T> Lent<T> for Brand {
     ghost use Rattle.gfetchreply.specs.steps.Views.{no_reading};
 
@@ -67,7 +67,7 @@ impl<T> Lent<T> for Brand {
     ghost starts = { λ _. ⊥ };
 }
 
-// A reply that is being read: the contents of its packets, and the sink that has their data.
+// A reply that is being read: the contents of its packets, and the sink that accepts their data.
 #[derive(Drop)]
 struct ReplyReader<'s, T, A: Allocator + Copy, L> {
     reading: FetchReading,
@@ -77,7 +77,7 @@ struct ReplyReader<'s, T, A: Allocator + Copy, L> {
 }
 
 impl<'s, T: PackSink, A: Allocator + Copy, L: Lent<T>> ReplyReader<'s, T, A, L> {
-    // Returns a reply without packets.
+    // Returns the state before the first packet of a reply.
     fn new(alloc: A, reading: FetchReading, sink: &'s mut T) -> ReplyReader<'s, T, A, L>
         ensures in_place { result.sink.ghost_name ≡ sink.entry.ghost_name }
         ensures sink { result.sink.now ≡ sink.old }
@@ -215,7 +215,7 @@ impl<T: PackSink, A: Allocator + Copy, L: Lent<T>> Message for ReplyReader<'_, T
 }
 
 /// Reads the reply to fetch of a repository with SHA-1 ids, as [`read_fetch_reply_into_in`] does.
-/// The arguments say whether the pack is first, its maximum length, and how the reply ends.
+/// The arguments are whether the pack comes first, its maximum length, and how the reply ends.
 pub fn read_fetch_reply_into<S: Source, T: PackSink, A: Allocator + Copy, B: Allocator + Copy>(
     reader: &mut PacketReader<S, A>,
     direct: bool,
@@ -245,16 +245,16 @@ pub fn read_fetch_reply_into<S: Source, T: PackSink, A: Allocator + Copy, B: All
 /// goes to the sink in pieces, from the reader's buffer. A sink gets no empty piece. The ids are
 /// stored in memory of `alloc`.
 ///
-/// The fault has the reason, and the position of the first packet that does not fit. A fault of the
-/// packet reader ([`Why::Packet`]) takes precedence, then the end of the input ([`Why::Ended`]).
-/// Next is an error that the peer reports ([`Why::RemoteErr`]), and then a refusal by the grammar.
-/// A 4,097th id, and the packet with which the pack would exceed its limit, are refused with
-/// [`Why::Limit`] if their form is right. [`Why::Memory`] is reported only at an acknowledged id
-/// and, if the sink may refuse a piece, at a packet with some of the pack.
+/// A fault has the reason, and the position of the first packet that does not fit. A fault of the
+/// packet reader ([`Why::Line`]) takes precedence, then the end of the input ([`Why::Ended`]). Next
+/// is an error that the peer reports ([`Why::RemoteErr`]), and then a fault of the grammar. A
+/// well-formed 4,097th id is rejected with [`Why::Limit`]. So is a packet with which the pack would
+/// exceed its limit. The fault [`Why::Memory`] is reported only at an acknowledged id or, if the
+/// sink may refuse a piece, at data of the pack.
 ///
-/// After a refusal the sink has taken the data of the packets before, and no more than the limit.
-/// The reader has failed exactly if it refused the packet itself. With any result, the sink is
-/// still the same one.
+/// If the reply is rejected, the sink has accepted the data of the packets before the rejected
+/// packet, within the limit. The reader has failed exactly if it rejected the packet itself. With
+/// any result, the sink is still the same sink.
 pub fn read_fetch_reply_into_in<S: Source, T: PackSink, A: Allocator + Copy, B: Allocator + Copy>(
     reader: &mut PacketReader<S, A>,
     reading: FetchReading,
@@ -286,7 +286,7 @@ pub fn read_fetch_reply_into_in<S: Source, T: PackSink, A: Allocator + Copy, B: 
     }
 }
 
-/// Reads the reply to fetch of a repository with SHA-1 ids with its pack in memory, as
+/// Reads the reply to fetch of a repository with SHA-1 ids, and stores its pack in memory, as
 /// [`read_fetch_reply_in`] does.
 pub fn read_fetch_reply<S: Source, A: Allocator + Copy, B: Allocator + Copy>(
     reader: &mut PacketReader<S, A>,
@@ -312,8 +312,9 @@ pub fn read_fetch_reply<S: Source, A: Allocator + Copy, B: Allocator + Copy>(
     read_fetch_reply_in(reader, reading, alloc)
 }
 
-/// Reads one reply to fetch with its pack in memory, as [`read_fetch_reply_into_in`] does. The ids
-/// and the pack are stored in memory of `alloc`. After a refusal nothing is stored.
+/// Reads one reply to fetch as [`read_fetch_reply_into_in`] does, and stores its pack in memory.
+/// The ids and the pack are stored in memory of `alloc`. If the reply is rejected, nothing is
+/// stored.
 pub fn read_fetch_reply_in<S: Source, A: Allocator + Copy, B: Allocator + Copy>(
     reader: &mut PacketReader<S, A>,
     reading: FetchReading,
@@ -336,7 +337,7 @@ pub fn read_fetch_reply_in<S: Source, A: Allocator + Copy, B: Allocator + Copy>(
     }
 }
 
-// Reads a reply to its end into a named sink, with its previous state and bytes.
+// Reads a reply to its end into the sink of `reply`.
 fn read_to_end<S: Source, T: PackSink, A: Allocator + Copy, B: Allocator + Copy, L: Lent<T>>(
     reader: &mut PacketReader<S, A>,
     reply: &mut ReplyReader<'_, T, B, L>,

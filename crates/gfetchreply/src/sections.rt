@@ -27,15 +27,15 @@ const MAX_PACKETS: u32 = 4_294_967_295;
 pub(crate) enum Point {
     /// The heading of the acknowledgments is expected.
     Start,
-    /// After it, and after acknowledged ids.
+    /// After the heading of the acknowledgments, and after acknowledged ids.
     Acking,
     /// After `NAK`.
     AfterNak,
-    /// After `ready`: the delimiter is expected.
+    /// After `ready`, where the delimiter is expected.
     AfterReady,
     /// The heading of the pack is expected.
     BeforePack,
-    /// In the bytes of the pack.
+    /// Within the bytes of the pack.
     InPack,
     /// A response-end is expected.
     Over,
@@ -53,7 +53,7 @@ pub(crate) struct Sections<A: Allocator + Copy> {
 }
 
 impl<A: Allocator + Copy> Sections<A> {
-    /// Returns a reply without packets.
+    /// Returns the contents of a reply before its first packet.
     pub(crate) fn new(alloc: A, format: Format, direct: bool) -> Sections<A>
         ensures { kept_in result ≡ first_kept format direct }
     {
@@ -70,7 +70,7 @@ impl<A: Allocator + Copy> Sections<A> {
         }
     }
 
-    /// Takes the heading of the acknowledgments, and refuses any other text.
+    /// Accepts the heading of the acknowledgments, and rejects any other text.
     pub(crate) fn take_start(&mut self, form: ReplyForm<'_>) -> Result<Step, Why>
         ensures { TakesAs (judge_start (form_in form.entry)) false
             (kept_in self.new ≡ with_text Start (kept_in self.old) (form_in form.entry)) result }
@@ -85,7 +85,7 @@ impl<A: Allocator + Copy> Sections<A> {
         }
     }
 
-    /// Takes a text of the acknowledgments.
+    /// Accepts a text of the acknowledgments.
     pub(crate) fn take_acking(&mut self, form: ReplyForm<'_>) -> Result<Step, Why>
         ensures { TakesAs (judge_acking self.old.acks.format (state_in self.old)
             (form_in form.entry)) (form_brings (form_in form.entry))
@@ -132,7 +132,7 @@ impl<A: Allocator + Copy> Sections<A> {
         }
     }
 
-    /// Takes the heading of the pack, and refuses any other text.
+    /// Accepts the heading of the pack, and rejects any other text.
     pub(crate) fn take_before_pack(&mut self, form: ReplyForm<'_>) -> Result<Step, Why>
         ensures { TakesAs (judge_before_pack (form_in form.entry)) false
             (kept_in self.new ≡ with_text BeforePack (kept_in self.old) (form_in form.entry))
@@ -148,8 +148,8 @@ impl<A: Allocator + Copy> Sections<A> {
         }
     }
 
-    /// Returns the length of the pack with `more` bytes, or `None` if there is no room for them in
-    /// one more packet.
+    /// Returns the length of the pack with `more` bytes, or `None` if these bytes or one more
+    /// packet would exceed a limit.
     pub(crate) fn with_room(&self, limit: PackLimit, more: usize) -> Option<usize>
         ensures { result ≡ (if nat_lt self.now.band_count max_packets && nat_le
             (self.now.byte_count + more) limit then Some (self.now.byte_count + more) else None) }
@@ -160,7 +160,7 @@ impl<A: Allocator + Copy> Sections<A> {
         }
     }
 
-    /// Counts a packet of the pack's section. The pack then has `bytes` bytes.
+    /// Counts a packet of the pack's section, after which the pack has `bytes` bytes.
     pub(crate) fn count(&mut self, bytes: usize)
         requires { self.old.band_count < max_packets }
         ensures { kept_in self.new
@@ -174,7 +174,7 @@ impl<A: Allocator + Copy> Sections<A> {
         self.byte_count = bytes;
     }
 
-    /// Counts a packet of progress.
+    /// Accepts a packet of progress, and counts it.
     pub(crate) fn take_progress(&mut self) -> Result<Step, Why>
         ensures { TakesAs (if_room (nat_lt self.old.band_count max_packets)) false
             (kept_in self.new ≡ with_band (kept_in self.old) 0) result }
@@ -186,7 +186,7 @@ impl<A: Allocator + Copy> Sections<A> {
         Ok(Step::Open)
     }
 
-    /// Takes a flush.
+    /// Accepts a flush, if one is expected.
     pub(crate) fn take_flush(&mut self, ends: Ends) -> Result<Step, Why>
         ensures { (reading : Reading) → reading.ends ≡ ends
             → TakesAs (judge_there reading (place_in self.old.place) (state_in self.old) Flush)
@@ -202,7 +202,7 @@ impl<A: Allocator + Copy> Sections<A> {
         }
     }
 
-    /// Takes a delimiter.
+    /// Accepts a delimiter, if one is expected.
     pub(crate) fn take_delim(&mut self) -> Result<Step, Why>
         ensures { (reading : Reading)
             → TakesAs (judge_there reading (place_in self.old.place) (state_in self.old) Delim)
@@ -218,7 +218,7 @@ impl<A: Allocator + Copy> Sections<A> {
         }
     }
 
-    /// Takes a response-end.
+    /// Accepts a response-end, if one is expected.
     pub(crate) fn take_response_end(&self) -> Result<Step, Why>
         ensures { (reading : Reading)
             → TakesAs (judge_there reading (place_in self.now.place) (state_in self.now)
@@ -247,7 +247,7 @@ impl<A: Allocator + Copy> Sections<A> {
     }
 }
 
-// Returns the state of a reply after its flush.
+// Returns the state of a reply after its flush: complete, or open if a response-end must follow.
 fn after_flush(ends: Ends) -> Step
     ensures { verdict_of result ≡ at_flush ends }
 {
@@ -257,7 +257,7 @@ fn after_flush(ends: Ends) -> Step
     }
 }
 
-/// Returns the reason why a text is refused after `NAK` or `ready`, where no text is allowed.
+/// Returns the reason to reject a text after `NAK` or `ready`, where no text is allowed.
 pub(crate) fn late(form: ReplyForm<'_>) -> Why
     ensures { judge_late (form_in form.entry) ≡ Refused result }
 {

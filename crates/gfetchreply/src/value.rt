@@ -21,8 +21,8 @@ use std::marker::Model;
 /// The maximum number of ids that a reply acknowledges.
 pub const MAX_ACKS: usize = 4_096;
 
-/// The ids that a server acknowledges: the haves of a request that it has. They are at most 4,096,
-/// of one format, in order.
+/// The ids that a server acknowledges: the haves of a request that it holds. A list has at most
+/// 4,096 ids of one format, in order.
 #[derive(Debug, Drop)]
 pub struct Acks<A: Allocator + Copy> {
     format: Format,
@@ -41,7 +41,7 @@ impl<A: Allocator + Copy> Model for Acks<A> {
 }
 
 impl<A: Allocator + Copy> Acks<A> {
-    /// Returns an empty list of ids. It does not allocate.
+    /// Returns an empty list of ids. Allocates nothing.
     pub fn new(alloc: A, format: Format) -> Acks<A>
         ensures { result ≡ record { format = format; ids = [] } }
     {
@@ -51,10 +51,10 @@ impl<A: Allocator + Copy> Acks<A> {
         }
     }
 
-    /// Returns these ids, without a copy. It does not allocate.
+    /// Returns acknowledgments of these ids, without copying them. Allocates nothing.
     ///
-    /// Fails at packet 0 with [`Why::BadText`] if one of them has another format. Otherwise fails
-    /// with [`Why::Limit`] if there are more than 4,096. After a failure the ids are dropped.
+    /// Fails at packet 0 with [`Why::BadText`] if an id has another format. Otherwise fails with
+    /// [`Why::Limit`] if there are more than 4,096 ids. A failed call drops the ids.
     pub fn from_ids(format: Format, ids: Vec<Oid, A>) -> Result<Acks<A>, MessageFault>
         ensures { MakesAcks format ids.items result }
     {
@@ -75,7 +75,7 @@ impl<A: Allocator + Copy> Acks<A> {
         self.format
     }
 
-    /// Returns the ids, at most 4,096.
+    /// Returns the ids, of which there are at most 4,096.
     pub fn ids(&self) -> &[Oid]
         ensures ids { result.now ≡ self.now.ids }
         ensures well_formed { AreAcks self.now.format result.now }
@@ -86,8 +86,8 @@ impl<A: Allocator + Copy> Acks<A> {
     /// Appends an id.
     ///
     /// Fails at packet 0 with [`Why::BadText`] if the id has another format. Otherwise fails with
-    /// [`Why::Limit`] if there are 4,096 ids, or with [`Why::Memory`]. After a failure nothing has
-    /// changed.
+    /// [`Why::Limit`] if there are already 4,096 ids, or with [`Why::Memory`] if out of memory. A
+    /// failed call changes nothing.
     pub fn push(&mut self, id: Oid) -> Result<(), MessageFault>
         ensures { Builds (has_format self.old.format id) (nat_lt (length self.old.ids) max_acks)
             self.old self.new (with_id self.old id) result }
@@ -101,7 +101,7 @@ impl<A: Allocator + Copy> Acks<A> {
         }
     }
 
-    // Appends an id of the format.
+    // Appends an id that has the format of the list.
     pub(crate) fn add(&mut self, id: Oid) -> Result<(), Why>
         requires { IsIdOf self.old.format id }
         ensures { AddsId self.old self.new id result }
@@ -116,7 +116,7 @@ impl<A: Allocator + Copy> Acks<A> {
     }
 }
 
-// Whether an id has the format.
+// Returns whether an id has the format.
 fn is_of(format: Format, id: &Oid) -> bool
     ensures same { result ≡ has_format format id.now }
     ensures of_format { IsTrue result → IsIdOf format id.now }
@@ -124,7 +124,7 @@ fn is_of(format: Format, id: &Oid) -> bool
     id.as_bytes().len() == format.id_length()
 }
 
-// Whether each id has the format.
+// Returns whether each id has the format.
 fn are_of(format: Format, ids: &[Oid]) -> bool
     ensures same { result ≡ list_all (has_format format) ids.now }
     ensures of_format { IsTrue result → All (IsIdOf format) ids.now }
@@ -155,7 +155,7 @@ impl<A: Allocator + Copy> Model for PackBytes<A> {
 }
 
 impl<A: Allocator + Copy> PackBytes<A> {
-    /// Returns a pack of these bytes. It does not allocate.
+    /// Returns a pack of these bytes. Allocates nothing.
     ///
     /// Fails at packet 0 with [`Why::Limit`] if there are more than [`MAX_PACK`] bytes.
     pub fn new(bytes: Vec<u8, A>) -> Result<PackBytes<A>, MessageFault>
@@ -168,7 +168,7 @@ impl<A: Allocator + Copy> PackBytes<A> {
         }
     }
 
-    /// Returns the bytes.
+    /// Returns the bytes of the pack.
     pub fn as_bytes(&self) -> &[u8]
         ensures bytes { result.now ≡ self.now }
         ensures short { length result.now ≤ max_pack }
@@ -176,7 +176,7 @@ impl<A: Allocator + Copy> PackBytes<A> {
         self.bytes.as_slice()
     }
 
-    /// Returns the bytes, as a vector.
+    /// Returns the bytes of the pack, as a vector.
     pub fn into_vec(self) -> Vec<u8, A>
         ensures bytes { result.items ≡ self }
         ensures short { length result.items ≤ max_pack }
@@ -189,16 +189,16 @@ impl<A: Allocator + Copy> PackBytes<A> {
 /// The reply to fetch (gitprotocol-v2(5), "fetch").
 #[derive(Debug, Drop)]
 pub enum FetchReply<A: Allocator + Copy> {
-    /// These ids are common, but not enough.
+    /// The common ids. Some want reaches none of them, so no pack follows.
     Acks(Acks<A>),
-    /// These ids are common, which is enough, and this is the pack.
+    /// The common ids, and the pack. Each want reaches a common id.
     Ready(Acks<A>, PackBytes<A>),
     /// Only the pack, for a request with `done` or without haves.
     Pack(PackBytes<A>),
 }
 
 impl<A: Allocator + Copy> FetchReply<A> {
-    // Returns the reply of a head and the bytes of its pack.
+    // Returns the reply with this head and this pack.
     pub(crate) fn with_pack(head: FetchHead<A>, pack: Vec<u8, A>) -> FetchReply<A>
         requires { length pack.items ≤ max_pack }
         ensures reply { reply_in result ≡ reply_with (head_in head) pack.items }
@@ -215,10 +215,10 @@ impl<A: Allocator + Copy> FetchReply<A> {
 /// The reply to fetch without its pack.
 #[derive(Debug, Drop)]
 pub enum FetchHead<A: Allocator + Copy> {
-    /// These ids are common, but not enough. There is no pack.
+    /// The common ids. Some want reaches none of them, so no pack follows.
     Acks(Acks<A>),
-    /// These ids are common, which is enough for the pack.
+    /// The common ids. Each want reaches a common id, so a pack follows.
     Ready(Acks<A>),
-    /// Only the pack.
+    /// No ids. The reply is only a pack.
     Pack,
 }

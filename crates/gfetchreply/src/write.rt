@@ -19,14 +19,14 @@ use gpkt::{Band, MAX_BAND, PacketWriter, Sink, WriteFault};
 use std::alloc::Allocator;
 use std::slice::Chunks;
 
-/// Writes a reply in its one list of packets (gitprotocol-v2(5), "fetch"). The pack is in pieces of
-/// the maximum size, and there is no progress. The ids and the pack are not copied, and it does not
-/// allocate.
+/// Writes a reply as its canonical list of packets (gitprotocol-v2(5), "fetch"). The pack is
+/// written in pieces of the maximum size, without progress. The call neither copies the ids or the
+/// pack nor allocates.
 ///
-/// Fails with `Io` if the sink fails, and a prefix of the reply was then written. Fails with
-/// `Failed` if the writer had failed before. A reply meets the conditions of
+/// Fails with `Io` if the sink fails, after writing a prefix of the reply. Fails with `Failed` if
+/// the writer failed before the call. A reply meets the conditions of
 /// [`reads_back`](crate::laws::reads_back). So a written reply reads back, for a request of its
-/// kind and within a limit that its pack does not exceed.
+/// kind and with a limit that its pack does not exceed.
 #[tactic(auto, unfolding(crate::specs::FetchReplies::canonical_reply))]
 pub fn write_fetch_reply<A: Allocator + Copy, W: Sink>(
     reply: &FetchReply<A>,
@@ -47,7 +47,7 @@ pub fn write_fetch_reply<A: Allocator + Copy, W: Sink>(
     }
 }
 
-// Writes acknowledged ids, or that there is none, and the end of the reply.
+// Writes the acknowledged ids, or `NAK` if there are none, and the end of the reply.
 fn write_acks<W: Sink>(
     ids: &[Oid],
     ends: Ends,
@@ -64,7 +64,7 @@ fn write_acks<W: Sink>(
     write_end(ends, writer)
 }
 
-// Writes acknowledged ids, which are enough, and the pack.
+// Writes the acknowledged ids, `ready`, the pack, and the end of the reply.
 fn write_ready<W: Sink>(
     ids: &[Oid],
     pack: &[u8],
@@ -113,7 +113,7 @@ fn write_pieces<W: Sink>(pack: &[u8], writer: &mut PacketWriter<W>) -> Result<()
     Ok(())
 }
 
-// Returns the pack in pieces of the maximum size.
+// Splits the pack into pieces of the maximum size.
 fn in_pieces(pack: &[u8]) -> Chunks<'_, u8>
     ensures size { chunks_size result ≡ max_band }
     ensures rest { chunks_rest result ≡ pack.now }
@@ -160,7 +160,7 @@ fn write_id<W: Sink>(id: &Oid, writer: &mut PacketWriter<W>) -> Result<(), Write
     writer.text2(b"ACK ", &digits[..count])
 }
 
-// Writes the flush, and the packet after it, if any.
+// Writes the flush at the end of a reply, and the response-end if the peer expects one.
 fn write_end<W: Sink>(ends: Ends, writer: &mut PacketWriter<W>) -> Result<(), WriteFault>
     ensures { WritesPackets W.contents W.passed_on W.is_down W.loans writer.old writer.new result
         (Flush ∷ ends_with ends) }

@@ -4,7 +4,7 @@
 --   key = 1*(ALPHA | DIGIT | "-_")
 --   value = 1*(ALPHA | DIGIT | " -_.,?\/{}[]()<>!@#$%^&*+=:;")
 --
--- Keys and values have at most 1,000 bytes here, and a value any printable byte.
+-- Here, keys and values have at most 1,000 bytes, and a value may have any printable byte.
 use Rattle.std.specs.Prelude.{◌≡◌, ◌↔◌, ℕ, ◌+◌, Bool, ◌&&◌, ◌||◌, [], ◌++◌, length, drop, take, codes}
 use Rattle.std.specs.Prelude.{if◌then◌else◌, nat_eq, nat_le, Option, Some, None, position, IfSome, IsTrue}
 use Rattle.std.specs.List.{list_all}
@@ -18,21 +18,21 @@ max_capability = 1000
 abbrev pub has_length : Bytes → Bool
 has_length bytes = nat_le 1 (length bytes) && nat_le (length bytes) max_capability
 
--- a letter, a digit, `-` or `_`
+-- the byte may be in a key: a letter, a digit, `-` or `_`
 abbrev pub is_key_byte : ℕ → Bool
 is_key_byte byte = is_ascii_alphanumeric byte || nat_eq byte 45 || nat_eq byte 95
 
 unfoldable pub is_key : Bytes → Bool
 is_key key = has_length key && list_all is_key_byte key
 
--- from space to `~`
+-- the byte is printable ASCII, from space to `~`
 abbrev pub is_printable : ℕ → Bool
 is_printable byte = nat_le 32 byte && nat_le byte 126
 
 unfoldable pub is_value : Bytes → Bool
 is_value value = has_length value && list_all is_printable value
 
--- a value without a space
+-- the byte is printable ASCII, and not a space
 abbrev pub is_graphic : ℕ → Bool
 is_graphic byte = nat_le 33 byte && nat_le byte 126
 
@@ -57,13 +57,13 @@ abbrev pub capability_split : Bytes → Option ℕ → Option Capability
 capability_split text None = key_alone text
 capability_split text (Some at) = key_and_value (take at text) (drop (at + 1) text)
 
--- the capability that a text is: a key, or a key, the first `=` and a value
+-- the capability that a text encodes: a key, or a key, the first `=` and a value
 unfoldable pub capability_of : Bytes → Option Capability
 capability_of text = capability_split text (position is_equals_sign text)
 
--- ---- in the manual's words
+-- ---- capabilities as gitprotocol-v2(5) states them
 
--- a capability that can be written
+-- a capability with a well-formed key and a well-formed value
 pub record IsWellFormed (capability : Capability) : Type 0 where
   pub key : IsTrue (is_key capability.key)
   pub value : IfSome capability.value (λ value. IsTrue (is_value value))
@@ -76,7 +76,7 @@ value_text (Some value) = codes "=" ++ value
 abbrev pub capability_text : Capability → Bytes
 capability_text capability = capability.key ++ value_text capability.value
 
--- a text is a capability exactly where it is that capability's text
+-- a text is read as a capability exactly if it is the text of this capability, which is well-formed
 abbrev pub CapabilityIsItsText : Type 0
 CapabilityIsItsText = (text : Bytes) (capability : Capability) → (capability_of text ≡ Some capability)
     ↔ ((text ≡ capability_text capability) × IsWellFormed capability)

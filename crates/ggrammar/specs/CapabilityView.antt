@@ -1,4 +1,4 @@
--- A capability without where its bytes lie in memory.
+-- The contents of a capability, wherever its bytes lie in memory.
 use Rattle.std.specs.Option.{option_copied}
 use Rattle.ggrammar.specs.Capabilities.{Capability}
 use Rattle.ggrammar.specs.declared.capability.Capability as lent

@@ -1,4 +1,4 @@
--- How a reply ends (gitprotocol-v2(5), "Packet-Line Framing"): with its flush, or with a response-end after it.
+-- The end of a reply (gitprotocol-v2(5), "Packet-Line Framing"): its flush, or a response-end after the flush.
 use Rattle.std.specs.Prelude.{List, [], ◌∷◌}
 use Rattle.gpkt.specs.Packets.{Packet, Data, Flush, Delim, ResponseEnd}
 use Rattle.ggrammar.specs.Grammar.{Verdict, Open, Whole, Refused}
@@ -7,17 +7,17 @@ use Rattle.ggrammar.specs.declared.ends.Ends.{Ends}
 use Rattle.ggrammar.specs.declared.ends.Ends.TheVariants.{Plain, Response}
 use Rattle.ggrammar.specs.declared.fault.Why.TheVariants.{UnexpectedFrame}
 
--- what follows the flush
+-- the packets after the flush
 abbrev pub ends_with : Ends → List Packet
 ends_with Plain = []
 ends_with Response = ResponseEnd ∷ []
 
--- the flush ends the reply, or a response-end is due
+-- the verdict on the flush: it ends the reply, unless a response-end must follow
 abbrev pub at_flush : Ends → Verdict
 at_flush Plain = Whole
 at_flush Response = Open
 
--- after the flush a response-end alone is due, or the peer's error
+-- the verdict on a packet after the flush: only a response-end, or the peer's error, is allowed
 abbrev pub after_flush : Packet → Verdict
 after_flush (Data payload) = judge_unless_error (λ bytes. Refused UnexpectedFrame) payload
 after_flush Flush = Refused UnexpectedFrame

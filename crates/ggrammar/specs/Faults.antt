@@ -1,5 +1,5 @@
--- The table of faults of messages: the number and the name of each, and what is reported to the peer; and what is kept
--- of a peer's text.
+-- The table of faults of messages: the number and the name of each fault, and its text for the peer. Also the part of a
+-- peer's error text that is kept.
 use Rattle.std.specs.Prelude.{ℕ, ◌++◌, codes, take}
 use Rattle.std.specs.Fmt.{decimal}
 use Rattle.gname.specs.Faults.{out_of_memory_text}
@@ -15,11 +15,11 @@ use Rattle.ggrammar.specs.declared.fault.Why.TheVariants as why
 abbrev pub max_peer_text : ℕ
 max_peer_text = 256
 
--- the first 256 bytes of what the peer says, one line feed at its end left out before
+-- the first 256 bytes of a peer's error text, without a line feed at its end
 abbrev pub kept_text : Bytes → Bytes
 kept_text said = take max_peer_text (text said)
 
--- a fault's number and name, and what is reported of it to the peer
+-- the number and the name of a fault, and its text for the peer
 pub record WhyRow : Type 0 where
   pub code : ℕ
   pub name : Bytes
@@ -28,7 +28,7 @@ pub record WhyRow : Type 0 where
 abbrev pub row_of : FaultRow → Bytes → WhyRow
 row_of row phrase = record { code = row.0; name = row.1; phrase = phrase }
 
--- why no packet is read, in a peer's words
+-- the text for the peer of a fault of the packet reader
 abbrev pub line_phrase : PacketFault → Bytes
 line_phrase line.BadDigits = codes "bad packet line"
 line_phrase line.Reserved = codes "bad packet line"
@@ -38,7 +38,7 @@ line_phrase line.Io = codes "read failed"
 line_phrase line.Failed = codes "read failed"
 line_phrase line.Memory = out_of_memory_text
 
--- why a message is refused
+-- the row of each reason to reject a message
 abbrev pub why_row : Why → WhyRow
 why_row (why.Line fault) = row_of (packet_fault_row fault) (line_phrase fault)
 why_row (why.Band fault) = row_of (band_fault_row fault) (codes "refused")
@@ -57,6 +57,6 @@ why_row why.Format = row_of (52, codes "Format") (codes "object format mismatch"
 why_row why.Memory = row_of (53, codes "Memory") out_of_memory_text
 why_row why.Ended = row_of (54, codes "Ended") (codes "unexpected end")
 
--- the text of a fault of a message: the position of its packet, and why
+-- the text of a fault of a message: the position of its packet, and the reason
 abbrev pub message_fault_text : MessageFault → Bytes
 message_fault_text fault = codes "packet " ++ decimal fault.frame ++ codes ": " ++ (why_row fault.why).phrase

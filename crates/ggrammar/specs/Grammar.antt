@@ -1,6 +1,6 @@
--- What a list of packets is to a message's grammar. A judge says what the packets are with a packet more: a
--- beginning of the message that goes on, a complete message, or none, and why. (The section on each message in
--- gitprotocol-v2(5) says what may be sent; the judge adds the reasons.)
+-- The grammar of a message, as a judge of its packets. For some packets and the next one, a judge says that the message
+-- goes on, is complete, or is rejected with a reason. (gitprotocol-v2(5) states for each message which packets may be
+-- sent. The judge adds the reasons.)
 use Rattle.std.specs.Prelude.{◌≡◌, Bool, List, [], ◌∷◌, ◌++◌, if◌then◌else◌}
 use Rattle.gpkt.specs.Packets.{Packet}
 use Rattle.ggrammar.specs.declared.fault.Why.{Why}
@@ -10,19 +10,19 @@ pub data Verdict : Type 0 where
   Open Whole : Verdict
   Refused : (why : Why) → Verdict
 
--- one more is taken where there is room for it
+-- the verdict on a packet that is accepted if there is room for it
 abbrev pub if_room : Bool → Verdict
 if_room has_room = if has_room then Open else Refused Limit
 
 abbrev pub Judge : Type 0
 Judge = List Packet → Packet → Verdict
 
--- the message goes on with each packet after those before it
+-- the judge lets the message go on after each of these packets
 pub record IsOpen (judge : Judge) (lines : List Packet) : Type 0 where
   pub each : (front : List Packet) (packet : Packet) (back : List Packet) → lines ≡ front ++ packet ∷ back
       → judge front packet ≡ Open
 
--- open, and one packet more that ends the message
+-- the packets are a complete message: its last packet ends the message, and no packet before does
 pub record IsWhole (judge : Judge) (lines : List Packet) : Type 0 where
   pub front : List Packet
   pub last : Packet
@@ -30,53 +30,53 @@ pub record IsWhole (judge : Judge) (lines : List Packet) : Type 0 where
   pub goes : IsOpen judge front
   pub ends : judge front last ≡ Whole
 
--- some packets can follow that make a complete message
+-- the packets are the beginning of a complete message
 abbrev pub Begins : Judge → List Packet → Type 0
 Begins judge lines = (more : List Packet) × IsWhole judge (lines ++ more)
 
--- the packets begin a message, and no beginning of theirs is a complete one
+-- the packets begin a message, and no prefix of them is a complete message
 pub record IsUnfinished (judge : Judge) (front : List Packet) : Type 0 where
   pub begins : Begins judge front
   pub unfinished : (whole back : List Packet) → front ≡ whole ++ back → IsWhole judge whole → ⊥
 
--- with this packet the packets begin no message any more, and it is the first such packet
+-- with this packet, and not before, the packets stop being the beginning of a message
 pub record IsFirstMisfit (judge : Judge) (front : List Packet) (packet : Packet) : Type 0 where
   pub before : IsUnfinished judge front
   pub misfit : Begins judge (front ++ packet ∷ []) → ⊥
 
--- each open list has an ending
+-- each list of packets after which the message goes on can be completed
 abbrev pub HasEndings : Judge → Type 0
 HasEndings judge = (front : List Packet) → IsOpen judge front → Begins judge front
 
--- ---- laws of every judge whose open lists have endings
+-- ---- laws of judges whose open lists can be completed
 
--- an open list is the beginning of a message, and holds none
+-- an open list is the beginning of a message, and no prefix of it is a complete message
 abbrev pub OpenIsUnfinished : Judge → Type 0
 OpenIsUnfinished judge = (front : List Packet) → IsOpen judge front → IsUnfinished judge front
 
--- a refused packet is the first that does not fit
+-- a rejected packet is the first that does not fit
 abbrev pub RefusesFirstMisfits : Judge → Type 0
 RefusesFirstMisfits judge = (front : List Packet) (packet : Packet) (why : Why) → IsOpen judge front
     → judge front packet ≡ Refused why → IsFirstMisfit judge front packet
 
--- no message begins another
+-- no message is a proper prefix of another
 abbrev pub IsPrefixFree : Judge → Type 0
 IsPrefixFree judge = (lines back : List Packet) → IsWhole judge lines → IsWhole judge (lines ++ back) → back ≡ []
 
--- before the first packet nothing is refused, and nothing has ended
+-- the empty list of packets is open
 abbrev pub NothingIsOpen : Judge → Type 0
 NothingIsOpen judge = IsOpen judge []
 
--- open packets go on being open with a packet with which the message goes on
+-- an open list stays open with a packet after which the message goes on
 abbrev pub OpenGoesOn : Judge → Type 0
 OpenGoesOn judge = (front : List Packet) (packet : Packet) → IsOpen judge front → judge front packet ≡ Open
     → IsOpen judge (front ++ packet ∷ [])
 
--- the packets before others that are open are open
+-- each prefix of an open list is open
 abbrev pub FrontIsOpen : Judge → Type 0
 FrontIsOpen judge = (lines more : List Packet) → IsOpen judge (lines ++ more) → IsOpen judge lines
 
--- what holds of every judge
+-- the laws of every judge
 pub record LawsOf (judge : Judge) : Type 0 where
   pub nothing : NothingIsOpen judge
   pub goes_on : OpenGoesOn judge

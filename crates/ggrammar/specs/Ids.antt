@@ -11,10 +11,10 @@ abbrev pub ok_of : Result Id FromHexError → Option Id
 ok_of (Ok id) = Some id
 ok_of (Err fault) = None
 
--- the id of a format that a text spells, in either case of digits
+-- the id of a format that a text encodes, with digits in either case
 unfoldable pub id_of_text : Format → Bytes → Option Id
 id_of_text format text = if length text == id_text_length format then ok_of (decode_of text) else None
 
--- a text is an id exactly where it spells that id
+-- a text is read as an id exactly if it consists of the digits of this id
 abbrev pub IdIsSpelt : Type 0
 IdIsSpelt = (format : Format) (text : Bytes) (id : Id) → (id_of_text format text ≡ Some id) ↔ IsIdTextOf format text id

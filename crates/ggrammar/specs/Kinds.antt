@@ -1,5 +1,4 @@
--- The laws of a kind of message: of its judge, of what complete lists of packets say, of which values can be written,
--- and as which packets.
+-- The laws of a kind of message: of its judge, of the meaning of complete lists of packets, and of writing.
 use Rattle.std.specs.Prelude.{◌≡◌, ◌↔◌, All, Bool, List, ◌++◌, Option, Some, None, Result, Ok, Err, IfErr}
 use Rattle.gpkt.specs.Packets.{Bytes, Packet, canonical_all}
 use Rattle.gpkt.specs.Change.{Change}
@@ -10,56 +9,56 @@ use Rattle.ggrammar.specs.MessageReading.{ReadsWhole, ReadsRefused}
 use Rattle.ggrammar.specs.MessageBytes.{known_bytes, IsFront, IsOfBytes}
 use Rattle.ggrammar.specs.declared.fault.MessageFault.{MessageFault}
 
--- what packets say of a message, or which packets are written of it
+-- a relation between packets and a message: the packets mean it, or are written for it
 abbrev pub Meaning : Type 0 → Type 1
 Meaning M = List Packet → M → Type 0
 
 module _ {M : Type 0} where
-  -- packets say at most one message
+  -- a list of packets means at most one message
   abbrev pub OneMeaning : Meaning M → Type 0
   OneMeaning Says = (lines : List Packet) (one other : M) → Says lines one → Says lines other → one ≡ other
 
-  -- what says a message is complete, and what is complete says one
+  -- a list of packets means a message exactly if it is complete
   abbrev pub SaysWhole : Judge → Meaning M → Type 0
   SaysWhole judge Says = (lines : List Packet) → IsWhole judge lines ↔ ((message : M) × Says lines message)
 
-  -- the table's complete lists are those of the manual's words, with the same message
+  -- the packets that mean a message are those that Git's manual allows for this message
   abbrev pub AsInManual : Meaning M → Meaning M → Type 0
   AsInManual Says IsMessage = (lines : List Packet) (message : M) → Says lines message ↔ IsMessage lines message
 
-  -- the packets that are written of a value say it, and none is too long
+  -- the packets that are written for a value mean this value, and no packet is too long
   abbrev pub CanonicalSays : Meaning M → (M → Type 0) → Meaning M → Type 0
   CanonicalSays Says IsValue IsCanonical = (lines : List Packet) (message : M) → IsValue message
       → IsCanonical lines message → Says lines message × All Fits lines
 
-  -- ---- what reading a message answers
+  -- ---- the result of reading a message
 
-  -- packets are read that say the complete message
+  -- the packets of a complete message are read, and they mean this message
   pub record ReadsMessage (judge : Judge) (Says : Meaning M) (change : Change) (message : M) : Type 0 where
     pub lines : List Packet
     pub read : ReadsWhole judge change lines
     pub says : Says lines message
 
-  -- or it is refused after some packets
+  -- a message is read, or rejected after some packets
   abbrev pub ReadsOrRefuses : Judge → (List Packet → Packet → Bool) → Meaning M → Change → Result M MessageFault
       → Type 0
   ReadsOrRefuses judge brings Says change (Ok message) = ReadsMessage judge Says change message
   ReadsOrRefuses judge brings Says change (Err fault) =
       (front : List Packet) × ReadsRefused judge brings front change fault
 
-  -- a front of the bytes, which is all but the rest, spells packets that say the message
+  -- the bytes before the rest encode packets that mean the message
   abbrev pub SaysAtFront : Meaning M → Bytes → Bytes → M → Type 0
   SaysAtFront Says bytes rest message = (lines : List Packet) × IsFront lines bytes rest × Says lines message
 
-  -- A message is read exactly where a front of the bytes spells packets that say it: that front is taken, and
-  -- nothing after it. Out of memory, a device that fails and a reader that had failed are apart.
+  -- A message is read exactly if the bytes begin with packets that mean it. Nothing after these packets is read. The
+  -- law excepts out of memory, a failed device, and a reader that failed before.
   abbrev pub ReadsExactly : Judge → (List Packet → Packet → Bool) → Meaning M → Type 0
   ReadsExactly judge brings Says =
       (bytes new rest : Bytes) (result : Result M MessageFault) (message : M)
       → ReadsOrRefuses judge brings Says (known_bytes bytes new) result → IfErr result (λ fault. IsOfBytes fault.why)
       → ((result ≡ Ok message) × (new ≡ rest)) ↔ SaysAtFront Says bytes rest message
 
-  -- what is written of a value reads back, whatever follows
+  -- a written value reads back, whatever bytes follow
   abbrev pub ReadsBack : Judge → (List Packet → Packet → Bool) → Meaning M → (M → Type 0) → Meaning M → Type 0
   ReadsBack judge brings Says IsValue IsCanonical =
       (lines : List Packet) (rest new : Bytes) (result : Result M MessageFault) (message : M) → IsValue message
@@ -69,7 +68,7 @@ module _ {M : Type 0} where
 
   -- ---- a message that may be missing
 
-  -- the input has ended before it; or it is read or refused
+  -- the input ends before the message, or the message is read or rejected
   abbrev pub ReadsIfAny : Judge → (List Packet → Packet → Bool) → Meaning M → Change
       → Result (Option M) MessageFault → Type 0
   ReadsIfAny judge brings Says change (Ok (Some message)) = ReadsMessage judge Says change message
@@ -77,14 +76,14 @@ module _ {M : Type 0} where
   ReadsIfAny judge brings Says change (Err fault) =
       (front : List Packet) × ReadsRefused judge brings front change fault
 
-  -- it is read exactly where a front of the bytes spells packets that say it
+  -- a message is read exactly if the bytes begin with packets that mean it
   abbrev pub ReadsExactlyIfAny : Judge → (List Packet → Packet → Bool) → Meaning M → Type 0
   ReadsExactlyIfAny judge brings Says =
       (bytes new rest : Bytes) (result : Result (Option M) MessageFault) (message : M)
       → ReadsIfAny judge brings Says (known_bytes bytes new) result → IfErr result (λ fault. IsOfBytes fault.why)
       → ((result ≡ Ok (Some message)) × (new ≡ rest)) ↔ SaysAtFront Says bytes rest message
 
-  -- what is written of a value reads back, whatever follows
+  -- a written value reads back, whatever bytes follow
   abbrev pub ReadsBackIfAny : Judge → (List Packet → Packet → Bool) → Meaning M → (M → Type 0) → Meaning M → Type 0
   ReadsBackIfAny judge brings Says IsValue IsCanonical =
       (lines : List Packet) (rest new : Bytes) (result : Result (Option M) MessageFault) (message : M)

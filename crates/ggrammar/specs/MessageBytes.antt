@@ -1,4 +1,4 @@
--- Messages at the front of some bytes: what reading them comes to, whatever the kind of message.
+-- Messages at the front of some bytes: the result of reading them, for every kind of message.
 use Rattle.std.specs.Prelude.{◌≡◌, ◌⊎◌, Bool, List, [], ◌++◌, Some, None, Ok}
 use Rattle.gpkt.specs.Packets.{Bytes, Packet, SpellsAll}
 use Rattle.gpkt.specs.Change.{Change}
@@ -10,46 +10,46 @@ use Rattle.ggrammar.specs.declared.fault.Why.{Why}
 use Rattle.ggrammar.specs.declared.fault.Why.TheVariants.{Line, Memory, Ended}
 use Rattle.ggrammar.specs.declared.fault.MessageFault.{MessageFault}
 
--- bytes that are known before and after
+-- the bytes of a source before and after a call, both known
 abbrev pub known_bytes : Bytes → Bytes → Change
 known_bytes old new = record { old = Some old; new = Some new }
 
--- these packets are spelt at the front of the bytes, before the rest
+-- the bytes before the rest encode these packets
 pub record IsFront (lines : List Packet) (bytes rest : Bytes) : Type 0 where
   pub front : Bytes
   pub parts : bytes ≡ front ++ rest
   pub spelt : SpellsAll lines front
 
--- the reason is in the bytes: no memory was refused, no device failed, and no reader had failed before
+-- the reason is in the bytes: no memory ran out, no device failed, and no reader had failed before
 abbrev pub IsOfBytes : Why → Type 0
 IsOfBytes (Line Io) = ⊥
 IsOfBytes (Line Failed) = ⊥
 IsOfBytes Memory = ⊥
 IsOfBytes why = Unit {0}
 
--- a complete message at the front is read
+-- a complete message at the front of the bytes is read
 abbrev pub ReadsFront : Judge → Type 0
 ReadsFront judge = (lines : List Packet) (bytes rest : Bytes) → IsWhole judge lines → IsFront lines bytes rest
     → ReadsWhole judge (known_bytes bytes rest) lines
 
--- and nothing else is, and the bytes after it stay
+-- no other message than the one at the front of the bytes is read, and the bytes after it are left
 abbrev pub ReadsNoOther : Judge → Type 0
 ReadsNoOther judge = (lines others : List Packet) (bytes rest new : Bytes) → IsWhole judge lines
     → IsFront lines bytes rest → ReadsWhole judge (known_bytes bytes new) others → (others ≡ lines) × (new ≡ rest)
 
--- where reading is refused for a reason in the bytes, no complete message is at the front
+-- if reading is refused for a reason in the bytes, no complete message is at the front of the bytes
 abbrev pub RefusedIsNoMessage : Judge → Type 0
 RefusedIsNoMessage judge =
     (brings : List Packet → Packet → Bool) (front lines : List Packet) (bytes new rest : Bytes) (fault : MessageFault)
     → ReadsRefused judge brings front (known_bytes bytes new) fault → IsOfBytes fault.why → IsFront lines bytes rest
     → ¬ IsWhole judge lines
 
--- where the input has ended, no complete message is at the front
+-- if the input has ended, no complete message is at the front of the bytes
 abbrev pub EndedIsNoMessage : Judge → Type 0
 EndedIsNoMessage judge = (lines : List Packet) (bytes new rest : Bytes) → Reads (known_bytes bytes new) (Ok None)
     → IsFront lines bytes rest → ¬ IsWhole judge lines
 
--- bytes that are refused for a reason in them are refused with one fault, and leave one rest
+-- if bytes are refused for a reason in them, the fault and the bytes that are left are unique
 abbrev pub OneRefusal : Judge → Type 0
 OneRefusal judge =
     (brings : List Packet → Packet → Bool) (front others : List Packet) (bytes new after : Bytes)
@@ -57,28 +57,28 @@ OneRefusal judge =
     → ReadsRefused judge brings others (known_bytes bytes after) other → IsOfBytes fault.why → IsOfBytes other.why
     → (fault ≡ other) × (new ≡ after)
 
--- why a packet is refused for its own sake: no fault of reading it, no end of the input, not out of memory
+-- the reason is in the packet: no fault of the packet reader, no end of the input, no lack of memory
 abbrev pub IsOfPacket : Why → Type 0
 IsOfPacket (Line fault) = ⊥
 IsOfPacket Ended = ⊥
 IsOfPacket Memory = ⊥
 IsOfPacket why = Unit {0}
 
--- what a verdict refuses, it refuses for the packet's own sake
+-- a verdict that rejects a packet has a reason in the packet
 abbrev pub IsForPacket : Verdict → Type 0
 IsForPacket (Refused why) = IsOfPacket why
 IsForPacket verdict = Unit {0}
 
--- a judge has no other reasons
+-- a judge rejects packets only for reasons in the packet
 abbrev pub RefusesPackets : Judge → Type 0
 RefusesPackets judge = (front : List Packet) (packet : Packet) → IsForPacket (judge front packet)
 
--- the bytes begin with a message
+-- the bytes begin with a complete message
 abbrev pub BeginsWithMessage : Judge → Bytes → Type 0
 BeginsWithMessage judge bytes =
     (lines : List Packet) × (rest : Bytes) × IsWhole judge lines × IsFront lines bytes rest
 
--- the bytes are refused, for a reason in them
+-- the bytes are refused for a reason in them
 pub record IsRefused (judge : Judge) (brings : List Packet → Packet → Bool) (bytes : Bytes) : Type 0 where
   pub front : List Packet
   pub rest : Bytes
@@ -90,18 +90,18 @@ pub record IsRefused (judge : Judge) (brings : List Packet → Packet → Bool) 
 abbrev pub BeginsOrIsRefused : Judge → (List Packet → Packet → Bool) → Type 0
 BeginsOrIsRefused judge brings = (bytes : Bytes) → BeginsWithMessage judge bytes ⊎ IsRefused judge brings bytes
 
--- so it is where the grammar has endings and reasons of packets alone
+-- all bytes begin with a message or are refused, if open lists can be completed and all reasons are in the packets
 abbrev pub EveryInput : Judge → Type 0
 EveryInput judge = HasEndings judge → RefusesPackets judge → (brings : List Packet → Packet → Bool)
     → BeginsOrIsRefused judge brings
 
--- no spelling of a message begins another
+-- no encoding of a message is a proper prefix of another
 abbrev pub SpellingsPrefixFree : Judge → Type 0
 SpellingsPrefixFree judge = (lines others : List Packet) (bytes rest : Bytes) → IsWhole judge lines
     → IsWhole judge others → SpellsAll lines bytes → SpellsAll others (bytes ++ rest)
     → (others ≡ lines) × (rest ≡ [])
 
--- what holds of the bytes of every grammar
+-- the laws of every grammar over bytes
 pub record LawsOfBytes (judge : Judge) : Type 0 where
   pub front : ReadsFront judge
   pub no_other : ReadsNoOther judge

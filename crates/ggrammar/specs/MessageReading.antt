@@ -1,4 +1,4 @@
--- What reading a message takes from its source, and what it answers.
+-- The packets that reading a message consumes from its source, and the result.
 use Rattle.std.specs.Prelude.{◌≡◌, Bool, true, false, List, [], ◌∷◌, ◌++◌, length, Option, Some, None, Result}
 use Rattle.std.specs.Prelude.{IsTrue, Ok, Err}
 use Rattle.gpkt.specs.Packets.{Bytes, Packet}
@@ -12,37 +12,38 @@ use Rattle.ggrammar.specs.declared.fault.MessageFault.{MessageFault}
 use Rattle.ggrammar.specs.declared.message.Step.{Step}
 use Rattle.ggrammar.specs.declared.message.Step.TheVariants as step
 
--- these packets are read, a complete message
+-- these packets are read, and are a complete message
 pub record ReadsWhole (judge : Judge) (change : Change) (lines : List Packet) : Type 0 where
   pub whole : IsWhole judge lines
   pub bytes : ReadsPackets change lines
 
--- the packet goes on with the message, or ends it
+-- the verdict accepts the packet
 abbrev pub IsAccepted : Verdict → Type 0
 IsAccepted Open = Unit {0}
 IsAccepted Whole = Unit {0}
 IsAccepted (Refused why) = ⊥
 
--- Why a packet is refused that stands there: the judge says so; or the judge accepts it, and it is out of memory
--- for what it brings, if it brings something.
+-- A reason to reject a packet: the reason of the judge, or out of memory for the contents of a packet that the judge
+-- accepts.
 abbrev pub IsReason : Verdict → Bool → Why → Type 0
 IsReason verdict brings (Line fault) = ⊥
 IsReason verdict brings Ended = ⊥
 IsReason verdict brings Memory = IsAccepted verdict × IsTrue brings
 IsReason verdict brings why = verdict ≡ Refused why
 
--- the next packet is read, and refused for this reason
+-- the next packet is read, and rejected for this reason
 abbrev pub ReadsRefusedPacket : Judge → (List Packet → Packet → Bool) → List Packet → Change → Why → Type 0
 ReadsRefusedPacket judge brings front change why =
     (packet : Packet) × Reads change (Ok (Some packet)) × IsReason (judge front packet) (brings front packet) why
 
--- why the message is refused after these packets: no packet is spelt there; the input ends; or a packet is refused
+-- the possible reasons to reject the message after these packets: the packet reader fails, the input ends, or the next
+-- packet is rejected
 abbrev pub IsReasonAfter : Judge → (List Packet → Packet → Bool) → List Packet → Change → Why → Type 0
 IsReasonAfter judge brings front change (Line fault) = Reads change (Err fault)
 IsReasonAfter judge brings front change Ended = Reads change (Ok None)
 IsReasonAfter judge brings front change why = ReadsRefusedPacket judge brings front change why
 
--- the message is refused after these packets, which begin a message and hold no complete one
+-- the message is rejected after these packets, which begin a message and contain no complete one
 pub record ReadsRefused (judge : Judge) (brings : List Packet → Packet → Bool) (front : List Packet) (change : Change)
     (fault : MessageFault) : Type 0 where
   pub between : Option Bytes
@@ -52,44 +53,45 @@ pub record ReadsRefused (judge : Judge) (brings : List Packet → Packet → Boo
   pub before : ReadsPackets (record { old = change.old; new = between }) front
   pub reason : IsReasonAfter judge brings front (record { old = between; new = change.new }) fault.why
 
--- ---- what a message that is being read does with a packet
+-- ---- the effect of a packet on a message that is being read
 
 module _ {M : Type 0} (judge : Judge) (brings : List Packet → Packet → Bool)
     (holds left : M → List Packet → Type 0) where
-  -- it takes a packet after these as the judge says; where it refuses it, this is left of the packets before
+  -- The message accepts the packet after these packets as the judge says. If it rejects the packet, the predicate
+  -- `left` holds of the packets before.
   abbrev pub TakesPacket : List Packet → Packet → M → Result Step Why → Type 0
   TakesPacket front packet new (Ok step.Open) = (judge front packet ≡ Open) × holds new (front ++ packet ∷ [])
   TakesPacket front packet new (Ok step.Whole) = (judge front packet ≡ Whole) × holds new (front ++ packet ∷ [])
   TakesPacket front packet new (Err why) = IsReason (judge front packet) (brings front packet) why × left new front
 
-  -- a complete message was read, and it holds its packets
+  -- a complete message was read, and the value has the contents of its packets
   pub record HasTaken (change : Change) (message : M) : Type 0 where
     pub lines : List Packet
     pub read : ReadsWhole judge change lines
     pub held : holds message lines
 
-  -- it was refused, and this is left of it
+  -- the message was rejected after some packets, and `left` holds of them
   pub record HasRefused (change : Change) (message : M) (fault : MessageFault) : Type 0 where
     pub front : List Packet
     pub refused : ReadsRefused judge brings front change fault
     pub leaves : left message front
 
--- The fault is the device's exactly where the device is down now and the reader had not failed before, and that of a
--- failed reader exactly where it had. Reading a packet takes no memory.
+-- The fault is the device's exactly if the device has failed and the reader had not failed before. The fault is that of
+-- a failed reader exactly if the reader had failed before. Reading a packet takes no memory.
 abbrev pub IsReadFailure : Bool → Bool → Why → Type 0
 IsReadFailure failed down (Line Io) = (failed ≡ false) × (down ≡ true)
 IsReadFailure failed down (Line Failed) = failed ≡ true
 IsReadFailure failed down (Line PacketMemory) = ⊥
 IsReadFailure failed down why = (failed ≡ false) × (down ≡ false)
 
--- the reader has failed now exactly where the packet was not read
+-- the reader has failed exactly if the packet was not read
 abbrev pub IsFailedBy : Why → Bool → Type 0
 IsFailedBy (Line fault) failed = failed ≡ true
 IsFailedBy why failed = failed ≡ false
 
--- How a call leaves the reader that it reads a message with. After a message the reader goes on, and its device is
--- well. After a fault it has failed exactly where the packet was not read; the device is down exactly where the
--- fault is the device's; and a reader that had failed is refused at once, at packet 0.
+-- The state of the packet reader after reading a message. After a message, neither the reader nor its device has
+-- failed. After a fault, the reader has failed exactly if the packet was not read. The device has failed exactly if the
+-- fault is the device's. If the reader had failed before, the fault is at packet 0.
 abbrev pub LeavesReader : {S M : Type 0} → (S → Bool) → Reader S → Reader S → Result M MessageFault → Type 0
 LeavesReader is_down old new (Ok message) =
     (old.failed ≡ false) × (new.failed ≡ false) × (is_down new.source ≡ false)
@@ -97,15 +99,15 @@ LeavesReader is_down old new (Err fault) =
     IsReadFailure old.failed (is_down new.source) fault.why × IsFailedBy fault.why new.failed
     × (old.failed ≡ true → fault.frame ≡ 0)
 
--- ---- one packet, in the code of a kind
+-- ---- one packet, in the code of a kind of message
 
--- a packet with this verdict is taken, and then this holds; or it is refused
+-- the packet is accepted as the verdict says, and the predicate holds afterwards; or the packet is rejected
 abbrev pub TakesAs : Verdict → Bool → Type 0 → Result Step Why → Type 0
 TakesAs verdict brings taken (Ok step.Open) = (verdict ≡ Open) × taken
 TakesAs verdict brings taken (Ok step.Whole) = (verdict ≡ Whole) × taken
 TakesAs verdict brings taken (Err why) = IsReason verdict brings why
 
--- the same of a packet that ends no message
+-- a packet that does not end the message is accepted, and the predicate holds afterwards; or the packet is rejected
 abbrev pub AddsAs : Verdict → Bool → Type 0 → Result Unit Why → Type 0
 AddsAs verdict brings taken (Ok done) = (verdict ≡ Open) × taken
 AddsAs verdict brings taken (Err why) = IsReason verdict brings why

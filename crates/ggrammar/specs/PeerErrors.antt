@@ -1,4 +1,4 @@
--- A peer may report an error in the place of any packet (gitprotocol-pack(5), "error-line").
+-- Errors that a peer reports in place of a packet (gitprotocol-pack(5), "error-line").
 use Rattle.std.specs.Prelude.{codes, drop, length, if◌then◌else◌, nat_eq, Option, Some, None}
 use Rattle.std.specs.List.{starts_with}
 use Rattle.gpkt.specs.Packets.{Bytes}
@@ -6,11 +6,11 @@ use Rattle.ggrammar.specs.Faults.{kept_text}
 use Rattle.ggrammar.specs.Grammar.{Verdict, Refused}
 use Rattle.ggrammar.specs.declared.fault.Why.TheVariants.{RemoteErr}
 
--- what follows a word at the front of a text
+-- the rest of a text after a word at its front
 unfoldable pub after_word : Bytes → Bytes → Option Bytes
 after_word word text = if starts_with nat_eq text word then Some (drop (length word) text) else None
 
--- what the peer reports: the text after `ERR `
+-- the error that a payload reports: the text after `ERR `
 abbrev pub peer_error : Bytes → Option Bytes
 peer_error payload = after_word (codes "ERR ") payload
 
@@ -18,6 +18,6 @@ abbrev pub unless_error : Option Bytes → Verdict → Verdict
 unless_error (Some said) verdict = Refused (RemoteErr (kept_text said))
 unless_error None verdict = verdict
 
--- a payload is judged unless it reports an error
+-- the verdict on a payload, unless it reports an error
 abbrev pub judge_unless_error : (Bytes → Verdict) → Bytes → Verdict
 judge_unless_error table payload = unless_error (peer_error payload) (table payload)

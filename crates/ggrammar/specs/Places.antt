@@ -1,5 +1,5 @@
--- Where a packet stands in a message, and what packets give at their positions. A grammar says which position is the
--- next.
+-- The positions of packets in a message, and the values in the packets. The position of the next packet depends on the
+-- grammar.
 use Rattle.std.specs.Prelude.{List, [], ◌∷◌, ◌++◌}
 use Rattle.gpkt.specs.Packets.{Packet}
 
@@ -8,7 +8,7 @@ abbrev pub place_after : {Place : Type 0} → (Place → Packet → Place) → P
 place_after next place [] = place
 place_after next place (packet ∷ packets) = place_after next (next place packet) packets
 
--- what packets give, each at its position, in order
+-- the values in the packets, which depend on the position of each packet, in order
 abbrev pub collect : {Place X : Type 0} → (Place → Packet → Place) → (Place → Packet → List X) → Place
     → List Packet → List X
 collect next give place [] = []

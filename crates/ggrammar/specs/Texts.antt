@@ -1,14 +1,14 @@
--- The text packets of messages (gitprotocol-common(5), "pkt-line Format"): a text is written with a line feed after it,
--- and read with or without.
+-- The text packets of messages (gitprotocol-common(5), "pkt-line Format"). A text is written with a line feed after it,
+-- and read with or without one.
 use Rattle.std.specs.Prelude.{◌≡◌, ℕ, Bool, List, [], ◌∷◌, ◌++◌, Option, Some, None, nat_eq}
 use Rattle.std.specs.List.{filter_map}
 use Rattle.gpkt.specs.Packets.{Bytes, Packet, Data, line_feed, text as stripped}
 
--- whether a byte is a space, by which the words of a text are parted
+-- the byte is a space, which separates the words of a text
 abbrev pub is_space : ℕ → Bool
 is_space byte = nat_eq byte 32
 
--- the packet of a text that is written
+-- the packet that is written for a text
 abbrev pub text_packet : Bytes → Packet
 text_packet text = Data (text ++ line_feed ∷ [])
 
@@ -20,7 +20,7 @@ text_in _ = None
 abbrev pub texts_of : List Packet → List Bytes
 texts_of packets = filter_map text_in packets
 
--- texts come in the order of their packets
+-- the texts of two lists of packets are those of the first list, and then those of the second
 abbrev pub TextsOfMore : Type 0
 TextsOfMore = (packets more : List Packet) → texts_of (packets ++ more) ≡ texts_of packets ++ texts_of more
 

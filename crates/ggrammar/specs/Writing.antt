@@ -11,32 +11,32 @@ module _
     {W : Type 0} (contents_of passed_on_of : W → Option Bytes) (is_down : W → Bool)
     (loans_of : W → List ℕ)
   where
-    -- one call of a writer that was to write these packets, of which none is too long
+    -- the effect of one call that writes these packets, none of which is too long
     pub record WritesPackets (old new : Writer W) (result : Result Unit WriteFault) (lines : List Packet) : Type 0 where
       pub written : HasWritten contents_of passed_on_of is_down loans_of old new result (canonical_all lines)
       pub fits : IfErr result (λ fault. fault ≢ Payload)
 
-    -- Packets are being written, and these of them are to come: whoever writes what is to come, and more, has from the
-    -- start written all the packets, and more.
+    -- Some packets were written, and the packets in `coming` remain. A call that writes these, and perhaps more,
+    -- completes a write of all packets, and of the same additional packets.
     pub record IsWriting (start now : Writer W) (lines coming : List Packet) : Type 0 where
       pub joins : (more : List Packet) (new : Writer W) (result : Result Unit WriteFault)
           → WritesPackets now new result (coming ++ more) → WritesPackets start new result (lines ++ more)
 
-    -- one call that was to write a part of a message, which may have no packets
+    -- the effect of one call that writes a part of a message, which may have no packets
     abbrev pub WritesPart : Writer W → Writer W → Result Unit WriteFault → List Packet → Type 0
     WritesPart old new (Ok done) part = IsWriting old new part []
     WritesPart old new (Err fault) part = WritesPackets old new (Err fault) part
 
     -- ---- laws
 
-    -- one packet that is never too long
+    -- a call that never fails for a payload's length writes its packet
     abbrev pub WritesPacket : Type 0
     WritesPacket =
         (old new : Writer W) (result : Result Unit WriteFault) (line : Packet)
         → HasWritten contents_of passed_on_of is_down loans_of old new result (canonical line)
         → IfErr result (λ fault. fault ≢ Payload) → WritesPackets old new result (line ∷ [])
 
-    -- one packet that is not too long
+    -- a call writes its packet if the packet is not too long
     abbrev pub WritesFitting : Type 0
     WritesFitting =
         (old new : Writer W) (result : Result Unit WriteFault) (line : Packet)
@@ -44,29 +44,29 @@ module _
         → (IsErrOf result Payload ↔ ((old.failed ≡ false) × (max_payload < length (payload_of line)))) → Fits line
         → WritesPackets old new result (line ∷ [])
 
-    -- packets are a part
+    -- a call that writes packets also writes a part of a message
     abbrev pub PacketsArePart : Type 0
     PacketsArePart =
         (old new : Writer W) (result : Result Unit WriteFault) (lines : List Packet)
         → WritesPackets old new result lines → WritesPart old new result lines
 
-    -- before a packet is written all are to come
+    -- before the first packet is written, all packets remain
     abbrev pub StartsWriting : Type 0
     StartsWriting = (start : Writer W) (lines : List Packet) → IsWriting start start lines lines
 
-    -- packets that were written are to come no more
+    -- after some packets are written, the packets after them remain
     abbrev pub GoesOnWriting : Type 0
     GoesOnWriting =
         (start now next : Writer W) (lines coming front rest : List Packet) → IsWriting start now lines coming
         → coming ≡ front ++ rest → WritesPackets now next (Ok tt) front → IsWriting start next lines rest
 
-    -- nor is a part that was written
+    -- after a part is written, the packets after it remain
     abbrev pub GoesOnAfterPart : Type 0
     GoesOnAfterPart =
         (start now next : Writer W) (lines coming part rest : List Packet) → IsWriting start now lines coming
         → coming ≡ part ++ rest → WritesPart now next (Ok tt) part → IsWriting start next lines rest
 
-    -- where writing some of the packets failed, and that is answered, writing all of them did
+    -- if writing some of the packets fails, and this fault is returned, writing all of them has failed
     abbrev pub FailsWriting : Type 0
     FailsWriting =
         (start now new : Writer W) (lines coming front rest : List Packet) (fault : WriteFault)
@@ -74,7 +74,7 @@ module _
         → WritesPackets now new (Err fault) front → IsErrAnd result (λ other. other ≡ fault)
         → WritesPackets start new result lines
 
-    -- whoever writes what is to come has written all the packets
+    -- a call that writes the packets that remain completes the write of all packets
     abbrev pub EndsWriting : Type 0
     EndsWriting =
         (start now new : Writer W) (lines coming : List Packet) (result : Result Unit WriteFault)

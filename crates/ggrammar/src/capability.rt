@@ -9,12 +9,12 @@ ghost use Rattle.ggrammar.specs.CapabilityView.{capability_view};
 /// The maximum length of a capability's key, and of its value, in bytes.
 pub const MAX_CAPABILITY: usize = 1_000;
 
-/// A capability, borrowed from its text.
+/// A capability that borrows the bytes of its text.
 #[derive(Clone, Copy, Debug, PartialEq, Eq)]
 pub struct Capability<'a> {
     /// The text before the first `=`, or all of the text.
     pub key: &'a [u8],
-    /// The text after it, or `None` if there is no `=`.
+    /// The text after the first `=`, or `None` if there is no `=`.
     pub value: Option<&'a [u8]>,
 }
 
@@ -64,7 +64,7 @@ fn first_equals_sign(text: &[u8]) -> Option<usize>
     text.iter().position(|byte| *byte == b'=')
 }
 
-/// Whether the bytes are a key: 1 to 1,000 letters, digits, `-` and `_`.
+/// Returns whether the bytes are a key: 1 to 1,000 letters, digits, `-` and `_`.
 #[tactic(auto, unfolding(crate::specs::Capabilities::is_key))]
 pub fn is_key(key: &[u8]) -> bool
     ensures { result ≡ is_key key.now }
@@ -72,7 +72,7 @@ pub fn is_key(key: &[u8]) -> bool
     has_length(key) && are_key_bytes(key)
 }
 
-/// Whether the bytes are a value: 1 to 1,000 bytes from space to `~`.
+/// Returns whether the bytes are a value: 1 to 1,000 bytes from space to `~`.
 #[tactic(auto, unfolding(crate::specs::Capabilities::is_value))]
 pub fn is_value(value: &[u8]) -> bool
     ensures { result ≡ is_value value.now }
@@ -80,7 +80,7 @@ pub fn is_value(value: &[u8]) -> bool
     has_length(value) && are_printable(value)
 }
 
-/// Whether the bytes are a value without a space.
+/// Returns whether the bytes are a value without a space.
 #[tactic(auto, unfolding(crate::specs::Capabilities::is_word_value))]
 pub fn is_word_value(value: &[u8]) -> bool
     ensures { result ≡ is_word_value value.now }
@@ -100,7 +100,7 @@ fn is_key_byte(byte: u8) -> bool
     byte.is_ascii_alphanumeric() || byte == b'-' || byte == b'_'
 }
 
-/// Whether a byte is from space to `~`.
+/// Returns whether a byte is from space to `~`.
 pub fn is_printable(byte: u8) -> bool
     ensures { result ≡ is_printable byte }
 {
@@ -113,14 +113,14 @@ fn are_key_bytes(bytes: &[u8]) -> bool
     bytes.iter().all(|byte| is_key_byte(*byte))
 }
 
-/// Whether all the bytes are from space to `~`.
+/// Returns whether all the bytes are from space to `~`.
 pub fn are_printable(bytes: &[u8]) -> bool
     ensures { result ≡ list_all is_printable bytes.now }
 {
     bytes.iter().all(|byte| is_printable(*byte))
 }
 
-/// Whether all the bytes are from `!` to `~`.
+/// Returns whether all the bytes are from `!` to `~`.
 pub fn are_graphic(bytes: &[u8]) -> bool
     ensures { result ≡ list_all is_graphic bytes.now }
 {

@@ -1,3 +1,3 @@
-//! Other names for items of this library.
+//! Aliases for items of this library.
 
 pub use crate::fault::MessageFault as MsgFault;

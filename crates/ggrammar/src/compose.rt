@@ -1,4 +1,4 @@
-//! Texts of bounded length, composed of pieces. They do not allocate.
+//! Composing texts of bounded length without allocation.
 
 ghost use Rattle.std.specs.Prelude.{◌≡◌, ◌+◌, ◌≤◌, ◌++◌, length};
 ghost use Rattle.gname.specs.Formats.{max_id_text};

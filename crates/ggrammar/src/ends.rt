@@ -1,10 +1,10 @@
-//! How a reply ends.
+//! The end of a reply.
 
-/// How each reply ends (gitprotocol-v2(5), "Packet-Line Framing").
+/// The end of each reply (gitprotocol-v2(5), "Packet-Line Framing").
 #[derive(Clone, Copy, Debug, PartialEq, Eq)]
 pub enum Ends {
-    /// With its flush packet.
+    /// Each reply ends with its flush packet.
     Plain,
-    /// With a response-end after the flush, as on a stateless connection.
+    /// Each reply ends with a response-end after the flush, as on a stateless connection.
     Response,
 }

@@ -1,4 +1,4 @@
-//! Why a message is refused, and at which of its packets.
+//! The reason that a message is rejected, and the position of its packet.
 
 ghost use Rattle.std.specs.Prelude.{◌≡◌, ◌+◌, ◌≤◌, ◌++◌, length, Some};
 ghost use Rattle.ggrammar.specs.Faults.{why_row, row_of, line_phrase, kept_text, max_peer_text, message_fault_text};
@@ -12,10 +12,10 @@ use std::error::Error;
 use std::fmt;
 use std::marker::Model;
 
-/// The maximum number of bytes of a peer's error that are kept.
+/// The maximum number of bytes that are kept of a peer's error.
 pub const MAX_PEER_TEXT: usize = 256;
 
-/// The text of a peer's error: its first 256 bytes.
+/// The text of an error that a peer reports, of which the first 256 bytes are kept.
 #[derive(Drop)]
 pub struct PeerText {
     text: ArrayVec<u8, MAX_PEER_TEXT>,
@@ -31,8 +31,8 @@ impl Model for PeerText {
 
 impl PeerText {
     /// Stores the error that a peer reports, after `ERR ` in a packet or on the side band for fatal
-    /// errors. One line feed at its end is removed, and then all bytes after the first 256. It does
-    /// not allocate.
+    /// errors. Removes one line feed at the end, and then all bytes after the first 256. Allocates
+    /// nothing.
     pub fn new(said: &[u8]) -> PeerText
         ensures { result ≡ kept_text said.now }
     {
@@ -42,7 +42,7 @@ impl PeerText {
         PeerText { text: kept }
     }
 
-    /// Returns the bytes, at most 256.
+    /// Returns the bytes of the text, at most 256.
     pub fn as_bytes(&self) -> &[u8]
         ensures bytes { result.now ≡ self.now }
         ensures short { length result.now ≤ max_peer_text }
@@ -57,45 +57,46 @@ impl fmt::Debug for PeerText {
     }
 }
 
-/// Why a packet, or the end of the input, is not allowed at this position of the message.
+/// The reason that a packet, or the end of the input, is not allowed at this position of the
+/// message.
 #[derive(Debug, Drop)]
 pub enum Why {
-    /// 20 to 25: the packet was not read.
+    /// Faults 20 to 25: the packet could not be read.
     Line(PacketFault),
-    /// 29, 30: the payload has no side band.
+    /// Faults 29 and 30: the payload has no side band.
     Band(BandFault),
-    /// 41: a flush, delimiter or response-end that the grammar does not allow here, or any other
-    /// packet instead of a response-end.
+    /// Fault 41: a flush, delimiter or response-end that the grammar does not allow here, or any
+    /// other packet instead of a response-end.
     UnexpectedFrame,
-    /// 42: a text that matches no case of the grammar.
+    /// Fault 42: a text that matches no case of the grammar.
     BadText,
-    /// 43: a command that is not served.
+    /// Fault 43: a command that is not served.
     UnknownCommand,
-    /// 44: a capability that is not served.
+    /// Fault 44: a capability that is not served.
     UnknownCapability,
-    /// 45: an argument that the command does not have.
+    /// Fault 45: an argument that the command does not have.
     UnknownArgument,
-    /// 46: an object id was expected.
+    /// Fault 46: an object id was expected.
     BadId,
-    /// 47: a ref name, or a prefix of ref names, was expected.
+    /// Fault 47: a ref name, or a prefix of ref names, was expected.
     BadName,
-    /// 48: one more than the limit.
+    /// Fault 48: one more than the limit.
     Limit,
-    /// 49: the peer reported an error.
+    /// Fault 49: the peer reported an error.
     RemoteErr(PeerText),
-    /// 50: the peer gave up, on the side band for fatal errors.
+    /// Fault 50: the peer reported a fatal error on its side band.
     RemoteFatal(PeerText),
-    /// 51: a section, a packet of a section or an end is out of order in a reply to fetch.
+    /// Fault 51: a section, a packet of a section or an end is out of order in a reply to fetch.
     WrongSection,
-    /// 52: another object format.
+    /// Fault 52: another object format was expected.
     Format,
-    /// 53: out of memory for the contents of the packet.
+    /// Fault 53: out of memory for the contents of the packet.
     Memory,
-    /// 54: the input ends although a packet of the message was expected.
+    /// Fault 54: the input ends before the message does.
     Ended,
 }
 
-// The number and the name of a fault, and the text that is reported to the peer.
+// The number and the name of a fault, and its text for the peer.
 #[derive(Clone, Copy)]
 struct WhyRow {
     code: u32,
@@ -109,7 +110,7 @@ fn why_row(code: u32, name: &'static str, phrase: &'static str) -> WhyRow
     WhyRow { code, name, phrase }
 }
 
-// Returns the reason why no packet was read, as it is reported to a peer.
+// Returns the text for the peer of a fault of the packet reader.
 fn line_phrase(fault: &PacketFault) -> &'static str
     ensures { result.now ≡ line_phrase fault.now }
 {
@@ -136,8 +137,8 @@ impl Why {
         self.fault_row().name
     }
 
-    /// Returns the text that is reported to a peer, as in `ERR upload-pack: bad line`. The fault
-    /// also displays it.
+    /// Returns the text for the peer, such as `bad line` in `ERR upload-pack: bad line`. The
+    /// `Display` output of a fault contains this text.
     pub fn phrase(&self) -> &'static str
         ensures { result.now ≡ (why_row self.now).phrase }
     {
@@ -179,17 +180,18 @@ impl fmt::Display for Why {
 
 impl Error for Why {}
 
-/// A refused message: the position of the packet, and the reason.
+/// The fault of a rejected message: the position of the packet, and the reason.
 #[derive(Debug, Drop)]
 pub struct MessageFault {
-    /// The position of the packet in the message, from 0.
+    /// The position of the packet in the message, counted from 0.
     pub frame: u64,
-    /// Why the packet is refused.
+    /// The reason to reject the packet.
     pub why: Why,
 }
 
 impl MessageFault {
-    /// Returns the fault of a call that builds a value. No packet caused it, and its position is 0.
+    /// Returns the fault of a call that builds a value. No packet caused the fault, so its position
+    /// is 0.
     pub fn of_value(why: Why) -> MessageFault
         ensures { result ≡ record { frame = 0; why = why } }
     {

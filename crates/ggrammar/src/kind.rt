@@ -5,9 +5,9 @@ ghost use Rattle.gpkt.specs.Packets.{Packet};
 ghost use Rattle.ggrammar.specs.Grammar.{Judge};
 ghost use Rattle.ggrammar.specs.Kinds.{Meaning};
 
-/// A kind of message in its laws: a type without values, which is named in a call of a law.
+/// A kind of message, for its laws. It is a type without values, which the caller of a law names.
 pub trait MessageKind {
-    // The parameters of the grammar: the format of ids, how a reply ends.
+    // The parameters of the grammar, such as the format of ids and the end of a reply.
     ghost Given: { Type 0 };
 
     // The contents of a message.
@@ -17,10 +17,10 @@ pub trait MessageKind {
 
     ghost brings: { Given → List Packet → Packet → Bool };
 
-    // The contents of complete lists of packets.
+    // The meaning of complete lists of packets.
     ghost says: { Given → Meaning Said };
 
-    // The values that can be written, and their packets.
+    // The values that can be written, and the packets that are written for them.
     ghost is_value: { Given → Said → Type 0 };
 
     ghost is_canonical: { Given → Meaning Said };

@@ -1,4 +1,4 @@
-//! The laws of every grammar: functions without effect whose contracts are the laws.
+//! Laws of every grammar: functions without effect whose contracts state the laws.
 
 ghost use Rattle.std.specs.Prelude.{◌≡◌};
 ghost use Rattle.ggrammar.specs.Capabilities.{CapabilityIsItsText, max_capability};
@@ -19,24 +19,24 @@ use gpkt::laws::{
     refused_front, text_reads_back, writes_join,
 };
 
-/// The constants are the limits that the definitions use.
+/// The constants of this crate equal the limits in its definitions.
 pub fn limits_are_the_constants()
     ensures capability { MAX_CAPABILITY ≡ max_capability }
     ensures peer_text { MAX_PEER_TEXT ≡ max_peer_text }
 {}
 
-/// Open lists grow packet by packet. No message is a prefix of another. If each open list has an
-/// ending, it is a prefix of a message and contains no complete message. A refused packet is then
-/// the first that does not fit.
+/// A list of packets is open if the message goes on after each of them. No message is a prefix of
+/// another. If each open list can be completed, no prefix of an open list is a complete message. A
+/// rejected packet is then the first that does not fit.
 pub fn grammars_are_exact()
     ensures { (judge : Judge) → LawsOf judge }
 {}
 
 /// A complete message at the front of some bytes is read, and the bytes after it are left. If
-/// reading is refused for a reason in the bytes, there is no message at their front, and the fault
-/// and the rest are unique. After the end of the input there is no message either. If each open
-/// list has an ending, all bytes begin with a message or are refused. No spelling of a message is a
-/// prefix of another.
+/// reading is refused for a reason in the bytes, they begin with no message, and the fault and the
+/// remaining bytes are unique. After the end of the input there is no message. If each open list of
+/// packets can be completed, all bytes begin with a message or are refused. No encoding of a
+/// message is a prefix of another.
 pub fn messages_are_read()
     ensures { (judge : Judge) → LawsOfBytes judge }
 {
@@ -48,14 +48,14 @@ pub fn messages_are_read()
     every_front();
 }
 
-/// A text is an id of a format exactly when it spells the id, in either case of digits. A text is a
-/// capability exactly when it is the text of a well-formed one.
+/// A text is read as an id of a format exactly if it consists of the digits of the id, in either
+/// case. A text is read as a capability exactly if it is the text of a well-formed capability.
 pub fn texts_are_classified()
     ensures ids { IdIsSpelt }
     ensures capabilities { CapabilityIsItsText }
 {}
 
-/// The texts of packets are in the packets' order, and the packet of a text is read as that text.
+/// The texts of packets are in the packets' order. The packet of a text is read as that text.
 #[tactic(auto, using(crate::proofs::PlaceLemmas::texts_of_more, crate::proofs::PlaceLemmas::text_is_read))]
 pub fn texts_are_read()
     ensures more { TextsOfMore }
@@ -64,9 +64,9 @@ pub fn texts_are_read()
     text_reads_back();
 }
 
-/// Consecutive writes of packets are one write of all of them. If one fails, all of them fail. A
-/// writer starts with all its packets to write, continues after each call, and ends with its last
-/// one.
+/// Consecutive writes of packets are one write of all of them. If one write fails, the write of all
+/// of them fails. A writer starts with all packets of a message to write, goes on after each call,
+/// and ends with the last packet.
 pub fn writes_packets<W: Sink>()
     ensures line { WritesPacket W.contents W.passed_on W.is_down W.loans }
     ensures fitting { WritesFitting W.contents W.passed_on W.is_down W.loans }
@@ -81,8 +81,8 @@ pub fn writes_packets<W: Sink>()
     writes_join::<W>();
 }
 
-/// Suppose each complete list of a kind of message says one message. The message is read exactly
-/// when the bytes begin with it, and a written value of the kind reads back, whatever follows. The
+/// Suppose each complete list of packets of a kind means one message. Then a message is read
+/// exactly if the bytes begin with it, and a written value reads back, whatever bytes follow. The
 /// same holds if a message may be missing.
 pub fn kinds_are_read<K: MessageKind>()
     ensures exactly { (given : K.Given) → SaysWhole (K.judge given) (K.says given)

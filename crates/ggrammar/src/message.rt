@@ -24,17 +24,17 @@ pub trait Message {
     // The grammar's verdict on a packet after the packets before it.
     ghost judge: { Self → Judge };
 
-    // Whether a packet has contents to store, which needs memory.
+    // The packet has contents to store, which needs memory.
     ghost brings: { Self → List Packet → Packet → Bool };
 
-    // These are the packets so far.
+    // The message has exactly these packets so far.
     ghost holds: { Self → List Packet → Type 0 };
 
-    // This is left if the message was refused after these packets.
+    // The state of the message after it was rejected at these packets.
     ghost left: { Self → List Packet → Type 0 };
 
-    /// Takes the next packet. Fails if the grammar refuses the packet, or if out of memory for its
-    /// contents.
+    /// Accepts the next packet. Fails if the grammar rejects the packet, or if memory runs out for
+    /// its contents.
     fn accept_packet(&mut self, line: gpkt::Packet<'_>) -> Result<Step, Why>
         ensures judge { judge self.new ≡ judge self.old }
         ensures brings { brings self.new ≡ brings self.old }
@@ -43,9 +43,9 @@ pub trait Message {
             → TakesPacket (judge self.old) (brings self.old) holds left front
             (packet_of line.entry) self.new result };
 
-    /// Laws of the message. The call has no effect. If the next packet is missing, the packets so
-    /// far are left. Each prefix has an ending. The number of packets of an open message does not
-    /// overflow.
+    /// Laws of the message, for generic callers. The call has no effect. A message that stops after
+    /// some packets is left in the state for these packets. Each open list of packets can be
+    /// completed to a message. The number of packets of an open message does not overflow.
     fn laws()
         ensures left { (message : Self) (front : List Packet) → holds message front
             → left message front }
@@ -56,10 +56,10 @@ pub trait Message {
 
 /// Reads a message to its end, and nothing after it.
 ///
-/// The fault has the packet's position, from 0. A fault of the packet reader takes precedence, then
-/// the end of the input, then a refusal by the grammar. After a refusal the packet reader has
-/// failed exactly when the packet was not read. A reader that had failed before is refused at once,
-/// at packet 0.
+/// The fault has the packet's position, counted from 0. A fault of the packet reader takes
+/// precedence, then the end of the input, then a fault of the grammar. If the message is rejected,
+/// the packet reader has failed exactly if the packet was not read. If the reader had failed before
+/// the call, the call fails at once, at packet 0.
 pub fn read_message<S: Source, A: Allocator + Copy, M: Message>(
     reader: &mut PacketReader<S, A>,
     message: &mut M,

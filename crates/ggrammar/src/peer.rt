@@ -4,7 +4,7 @@ ghost use Rattle.std.specs.Prelude.{◌≡◌};
 ghost use Rattle.std.specs.Option.{option_copied};
 ghost use Rattle.ggrammar.specs.PeerErrors.{after_word, peer_error};
 
-/// Returns the text after a word at its front, or `None` if the text does not begin with the word.
+/// Returns the rest of a text after a word, or `None` if the text does not begin with the word.
 #[tactic(auto, unfolding(crate::specs::PeerErrors::after_word))]
 pub fn after_word<'a>(word: &[u8], text: &'a [u8]) -> Option<&'a [u8]>
     ensures { option_copied result ≡ after_word word.now text.now }
@@ -16,8 +16,8 @@ pub fn after_word<'a>(word: &[u8], text: &'a [u8]) -> Option<&'a [u8]>
     }
 }
 
-/// Returns the error that a peer reports in place of a packet: the payload after `ERR `. A line
-/// feed at its end is a part of it. Returns `None` if the payload reports no error.
+/// Returns the error that a peer reports in place of a packet: the payload after `ERR `, including
+/// a line feed at its end. Returns `None` if the payload reports no error.
 pub fn peer_error(payload: &[u8]) -> Option<&[u8]>
     ensures { option_copied result ≡ peer_error payload.now }
 {

@@ -1,5 +1,5 @@
--- The texts of a request's packets (gitprotocol-v2(5), "Command Request", "ls-refs", "fetch"): what each says, with
--- the value that it carries. A table each for commands, capabilities and the arguments of a command.
+-- The texts of a request's packets (gitprotocol-v2(5), "Command Request", "ls-refs", "fetch"): the kind of each text,
+-- and the value in it. There are tables for commands, for capabilities and for the arguments of each command.
 use Rattle.std.specs.Prelude.{Bool, [], ◌∷◌, codes, if◌then◌else◌, Option, Some, None}
 use Rattle.std.specs.Str.{bytes_eq}
 use Rattle.gpkt.specs.Packets.{Bytes}
@@ -15,18 +15,18 @@ use Rattle.grequest.specs.declared.flag.FetchFlag.{FetchFlag}
 use Rattle.grequest.specs.declared.flag.FetchFlag.TheVariants as fetch
 use Rattle.grequest.specs.Flags.{Table, flag_in}
 
--- the text is this word
+-- the text equals this word
 abbrev pub is_word : Bytes → Bytes → Bool
 is_word word text = bytes_eq text word
 
 -- ---- the command
 
--- the words of the commands
+-- the names of the commands
 abbrev pub command_name : Command → Bytes
 command_name LsRefs = codes "ls-refs"
 command_name Fetch = codes "fetch"
 
--- the command with a key
+-- the command that a key names
 abbrev pub command_of_key : Bytes → CommandForm
 command_of_key key =
     if is_word (command_name LsRefs) key then Known LsRefs
@@ -38,7 +38,7 @@ abbrev pub command_after : Option Bytes → CommandForm
 command_after None = BadCommand
 command_after (Some key) = command_of_key key
 
--- the first text: `command=` and a key
+-- the command in the first text of a request, which is `command=` and a key
 unfoldable pub command_form : Bytes → CommandForm
 command_form text = command_after (after_word (codes "command=") text)
 
@@ -49,7 +49,7 @@ pub data CapabilityForm : Type 0 where
   ObjectFormat : (value : Bytes) → CapabilityForm
   UnknownCapability BadCapability : CapabilityForm
 
--- `agent=` has a value without a space
+-- the agent capability, whose value must have no space
 abbrev pub agent_with : Option Bytes → CapabilityForm
 agent_with None = BadCapability
 agent_with (Some value) = if is_word_value value then Agent value else BadCapability
@@ -68,7 +68,7 @@ abbrev pub capability_with : Option Capability → CapabilityForm
 capability_with None = BadCapability
 capability_with (Some capability) = known_capability capability
 
--- a text of the capability list
+-- the capability in a text of the capability list
 unfoldable pub capability_form : Bytes → CapabilityForm
 capability_form text = capability_with (capability_of text)
 
@@ -82,7 +82,7 @@ ls_flags =
     ∷ (ls.Unborn, codes "unborn")
     ∷ []
 
--- the flags of fetch, in the order in which they are written, but that `done` follows the ids
+-- the flags of fetch, in the order in which they are written, except that `done` is written after the ids
 abbrev pub fetch_flags : Table FetchFlag
 fetch_flags =
     (fetch.ThinPack, codes "thin-pack")
@@ -107,7 +107,7 @@ abbrev pub ref_prefix_or_unknown : Option Bytes → LsArgument
 ref_prefix_or_unknown None = UnknownLsArgument
 ref_prefix_or_unknown (Some prefix) = RefPrefix prefix
 
--- an argument of ls-refs; `ref-prefix ` has that form whatever follows
+-- the kind of an argument of ls-refs; a text with `ref-prefix ` is a prefix, whatever follows
 unfoldable pub ls_argument : Bytes → LsArgument
 ls_argument text =
     ls_flag_or_else (flag_in ls_flags text) (ref_prefix_or_unknown (after_word (codes "ref-prefix ") text))
@@ -130,7 +130,7 @@ abbrev pub want_or_else : Option Bytes → FetchArgument → FetchArgument
 want_or_else None other = other
 want_or_else (Some id) other = Want id
 
--- an argument of fetch; `want ` and `have ` have that form whatever follows
+-- the kind of an argument of fetch; a text with `want ` or `have ` is such an argument, whatever follows
 unfoldable pub fetch_argument : Bytes → FetchArgument
 fetch_argument text =
     fetch_flag_or_else (flag_in fetch_flags text)

@@ -1,4 +1,4 @@
--- What a request asks for (gitprotocol-v2(5), "Command Request", "ls-refs", "fetch").
+-- The contents of requests (gitprotocol-v2(5), "Command Request", "ls-refs", "fetch").
 use Rattle.std.specs.Prelude.{ℕ, Bool, ◌==◌, ◌||◌, List, length, Option}
 use denote.Enum.Bare.{sameb}
 use denote.Enum.Declared.{tag_of}
@@ -14,14 +14,14 @@ use Rattle.grequest.specs.Arguments.{ls_flags, fetch_flags}
 
 -- ---- flags
 
--- `==` on flags
+-- equality of flags
 abbrev pub same_ls_flag : LsRefsFlag → LsRefsFlag → Bool
 same_ls_flag = sameb the_ls_flags
 
 abbrev pub same_fetch_flag : FetchFlag → FetchFlag → Bool
 same_fetch_flag = sameb the_fetch_flags
 
--- the number of a flag, as `as` gives it
+-- the discriminant of a flag
 abbrev pub ls_number : LsRefsFlag → ℕ
 ls_number = tag_of the_ls_flags
 
@@ -30,13 +30,13 @@ fetch_number = tag_of the_fetch_flags
 
 -- ---- requests
 
--- a request for ls-refs
+-- the contents of a request for ls-refs
 pub record LsRefsAsked : Type 0 where
   pub agent : Option Bytes
   pub flags : FlagsOf ls_flags
   pub prefixes : List Bytes
 
--- a request for fetch
+-- the contents of a request for fetch
 pub record FetchAsked : Type 0 where
   pub agent : Option Bytes
   pub wants : List Id
@@ -48,21 +48,21 @@ pub data Asked : Type 0 where
   Ls : (asked : LsRefsAsked) → Asked
   Fetches : (asked : FetchAsked) → Asked
 
--- a request has a flag
+-- the request has this flag
 abbrev pub ls_has : LsRefsAsked → LsRefsFlag → Bool
 ls_has asked flag = has_flag same_ls_flag ls_flags asked.flags flag
 
 abbrev pub fetch_has : FetchAsked → FetchFlag → Bool
 fetch_has asked flag = has_flag same_fetch_flag fetch_flags asked.flags flag
 
--- the request with a flag, or without it
+-- the request with this flag set or cleared
 abbrev pub ls_with : LsRefsAsked → LsRefsFlag → Bool → LsRefsAsked
 ls_with asked flag is_set = record asked { flags = with_flag same_ls_flag ls_flags asked.flags flag is_set }
 
 abbrev pub fetch_with : FetchAsked → FetchFlag → Bool → FetchAsked
 fetch_with asked flag is_set = record asked { flags = with_flag same_fetch_flag fetch_flags asked.flags flag is_set }
 
--- The reply is to have the pack at once: the client says that it is done, or names no have.
+-- the reply starts with the pack, since the request has `done` or no haves
 abbrev pub is_direct : FetchAsked → Bool
 is_direct asked = fetch_has asked Done || length asked.haves == 0
 

@@ -1,11 +1,11 @@
--- What a client may send, in the words of gitprotocol-v2(5):
+-- The requests that a client may send, as gitprotocol-v2(5) states them:
 --
 --   request = empty-request | command-request
 --   empty-request = flush-pkt
 --   command-request = command capability-list delim-pkt command-args flush-pkt
 --
--- The delimiter may be left out where there are no arguments. Each part is a list of payloads, and a payload's
--- text is the payload without one line feed at its end. The format is that of the repository's objects.
+-- The delimiter may be left out if there are no arguments. Each part is a list of payloads, and a payload's text is the
+-- payload without one line feed at its end. The format is that of the repository's objects.
 use Rattle.std.specs.Prelude.{◌≡◌, ◌≤◌, ◌⊎◌, List, [], ◌∷◌, ◌++◌, length, map, codes, All}
 use Rattle.gpkt.specs.Packets.{Bytes, Packet, Data, Flush, Delim, text}
 use Rattle.gname.specs.Names.{IsPrefix}
@@ -22,7 +22,7 @@ use Rattle.grequest.specs.Asked.{Asked, Empty, max_prefixes, max_wants, max_have
 use Rattle.grequest.specs.RequestLines.{agents, formats, prefixes, wants, haves, asked_by_command}
 use Rattle.std.specs.Option.{IsSome}
 
--- a client may say who it is, and must name the object format unless it is sha1
+-- a client may name its agent, and must name the object format unless it is sha1
 abbrev pub IsCapability : Format → CapabilityForm → Type 0
 IsCapability format (Agent value) = Unit {0}
 IsCapability format (ObjectFormat value) = value ≡ format_name format
@@ -32,13 +32,13 @@ abbrev pub NamesFormat : Format → List Bytes → Type 0
 NamesFormat Sha1 capabilities = length (formats capabilities) ≤ 1
 NamesFormat Sha256 capabilities = length (formats capabilities) ≡ 1
 
--- an argument of ls-refs
+-- a well-formed argument of ls-refs
 abbrev pub IsLsArgument : LsArgument → Type 0
 IsLsArgument (RefPrefix prefix) = IsPrefix prefix
 IsLsArgument UnknownLsArgument = ⊥
 IsLsArgument _ = Unit {0}
 
--- an argument of fetch
+-- a well-formed argument of fetch
 abbrev pub IsFetchArgument : Format → FetchArgument → Type 0
 IsFetchArgument format (Want id) = IsSome (id_of_text format id)
 IsFetchArgument format (Have id) = IsSome (id_of_text format id)
@@ -49,17 +49,17 @@ abbrev pub IsArgument : Format → Command → Bytes → Type 0
 IsArgument format LsRefs line = IsLsArgument (ls_argument line)
 IsArgument format Fetch line = IsFetchArgument format (fetch_argument line)
 
--- so many prefixes, wants and haves at most
+-- the numbers of prefixes, wants and haves are within their limits
 abbrev pub AreFew : Format → Command → List Bytes → Type 0
 AreFew format LsRefs arguments = length (prefixes arguments) ≤ max_prefixes
 AreFew format Fetch arguments =
     (length (wants format arguments) ≤ max_wants) × (length (haves format arguments) ≤ max_haves)
 
--- the arguments' section, which may be left out where there are none
+-- the packets of the arguments, with a delimiter that may be left out if there are no arguments
 abbrev pub IsSection : List Bytes → List Packet → Type 0
 IsSection arguments packets = (packets ≡ Delim ∷ map Data arguments) ⊎ ((arguments ≡ []) × (packets ≡ []))
 
--- the packets are a command with its capabilities and arguments, and ask this
+-- the packets are a command with its capabilities and arguments, and these are its contents
 pub record IsCommandRequest (format : Format) (lines : List Packet) (asked : Asked) : Type 0 where
   pub command : Command
   pub first : Bytes
@@ -77,6 +77,6 @@ pub record IsCommandRequest (format : Format) (lines : List Packet) (asked : Ask
   pub few_arguments : length arguments ≤ max_arguments
   pub asks : asked ≡ asked_by_command format command (map text capabilities) (map text arguments)
 
--- the packets are a request, and ask this
+-- the packets are a request with these contents
 abbrev pub IsRequest : Format → List Packet → Asked → Type 0
 IsRequest format lines asked = ((lines ≡ Flush ∷ []) × (asked ≡ Empty)) ⊎ IsCommandRequest format lines asked

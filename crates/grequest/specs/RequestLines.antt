@@ -1,5 +1,5 @@
--- What the packets of a request say: where each stands, and what all of a kind say together (gitprotocol-v2(5),
--- "Command Request").
+-- The contents of the packets of a request: the section of each packet, and the values of each kind of text
+-- (gitprotocol-v2(5), "Command Request").
 use Rattle.std.specs.Prelude.{false, Bool, List, [], ◌∷◌, Option, Some, None}
 use Rattle.std.specs.List.{filter_map, list_any}
 use Rattle.gname.specs.Ids.{Id}
@@ -19,19 +19,19 @@ use Rattle.grequest.specs.declared.flag.FetchFlag.{FetchFlag}
 use Rattle.grequest.specs.Flags.{FlagsOf, flags_where}
 use Rattle.grequest.specs.Asked.{LsRefsAsked, FetchAsked, Asked, Empty, Ls, Fetches, same_ls_flag, same_fetch_flag}
 
--- ---- where a packet stands
+-- ---- the section of a packet
 
 pub data RequestPlace : Type 0 where
   First : RequestPlace
   InCapabilities : (command : Command) → RequestPlace
   InArguments : (command : Command) → RequestPlace
 
--- the place after the first text
+-- the section after the first text
 abbrev pub place_of_command : CommandForm → RequestPlace
 place_of_command (Known command) = InCapabilities command
 place_of_command _ = First
 
--- the first text is the command, and a delimiter separates the capabilities from the arguments
+-- the section after a packet: the command opens the capabilities, and a delimiter opens the arguments
 abbrev pub next_place : RequestPlace → Packet → RequestPlace
 next_place First (Data payload) = place_of_command (command_form (text payload))
 next_place First _ = First
@@ -39,7 +39,7 @@ next_place (InCapabilities command) Delim = InArguments command
 next_place (InCapabilities command) _ = InCapabilities command
 next_place (InArguments command) packet = InArguments command
 
--- the place after these packets
+-- the section after these packets
 abbrev pub place_of : List Packet → RequestPlace
 place_of lines = place_after next_place First lines
 
@@ -59,7 +59,7 @@ argument_there place packet = []
 unfoldable pub argument_texts : List Packet → List Bytes
 argument_texts lines = collect next_place argument_there First lines
 
--- ---- what the texts say, each kind in order
+-- ---- the values in the texts, each kind in order
 
 abbrev pub agent_value : CapabilityForm → Option Bytes
 agent_value (Agent value) = Some value
@@ -106,14 +106,14 @@ abbrev pub is_fetch_flag : FetchFlag → FetchArgument → Bool
 is_fetch_flag flag (KnownFetchFlag other) = same_fetch_flag flag other
 is_fetch_flag flag _ = false
 
--- an argument of ls-refs, and one of fetch, is among the texts
+-- one of the texts is an argument that passes the test
 abbrev pub has_ls_argument : (LsArgument → Bool) → List Bytes → Bool
 has_ls_argument is_it texts = list_any (λ line. is_it (ls_argument line)) texts
 
 abbrev pub has_fetch_argument : (FetchArgument → Bool) → List Bytes → Bool
 has_fetch_argument is_it texts = list_any (λ line. is_it (fetch_argument line)) texts
 
--- the flags that are among the texts
+-- the set of the flags that are among the texts
 abbrev pub ls_flags_among : List Bytes → FlagsOf ls_flags
 ls_flags_among texts = flags_where ls_flags (λ flag. has_ls_argument (is_ls_flag flag) texts)
 
@@ -124,7 +124,7 @@ abbrev pub first_of : List Bytes → Option Bytes
 first_of [] = None
 first_of (x ∷ xs) = Some x
 
--- ---- what a request asks: by its command and texts, by the place it has come to, and by its packets
+-- ---- the contents of a request: from its command and texts, from its last section, and from its packets
 
 abbrev pub ls_refs_asked : List Bytes → List Bytes → LsRefsAsked
 ls_refs_asked capabilities arguments = record {

@@ -1,4 +1,5 @@
--- When a request is missing: the client has hung up, which ends a connection (gitprotocol-v2(5), "Command Request").
+-- The input that has no request: the client has hung up, which ends a connection (gitprotocol-v2(5), "Command
+-- Request").
 use Rattle.std.specs.Prelude.{◌≡◌, ◌↔◌, ◌<◌, [], Option, None, Result, Ok, IfErr}
 use Rattle.gname.specs.declared.formats.Format.{Format}
 use Rattle.gpkt.specs.Packets.{Bytes}
@@ -9,11 +10,11 @@ use Rattle.ggrammar.specs.declared.fault.MessageFault.{MessageFault}
 use Rattle.grequest.specs.Asked.{Asked}
 use Rattle.grequest.specs.Requests.{judge, brings, Says}
 
--- the fault comes of the bytes, and the end of the input is one only after the first packet
+-- the fault is caused by the bytes read, and the end of the input is a fault only after the first packet
 abbrev pub IsNotMissing : MessageFault → Type 0
 IsNotMissing fault = IsOfBytes fault.why × (fault.why ≡ Ended → 0 < fault.frame)
 
--- a request is missing exactly where the input is empty
+-- the reader returns no request exactly if the input is empty
 abbrev pub IsMissingWhereEmpty : Format → Type 0
 IsMissingWhereEmpty format =
     (bytes new : Bytes) (result : Result (Option Asked) MessageFault)

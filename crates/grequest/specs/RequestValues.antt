@@ -1,4 +1,4 @@
--- What a request says, wherever it lies in memory.
+-- The contents of a request value, wherever the value lies in memory.
 use Rattle.std.specs.Prelude.{◌≡◌, Option, Some, None, IfSome, Result, Ok, Err}
 use Rattle.gname.specs.declared.formats.Format.{Format}
 use Rattle.ggrammar.specs.declared.fault.MessageFault.{MessageFault}
@@ -11,17 +11,17 @@ asked_by_request request.Empty = Empty
 asked_by_request (request.Ls asked) = Ls asked
 asked_by_request (request.Fetch fetch) = Fetches fetch.asked
 
--- the format of the ids that a request may have
+-- the format of the ids of a request, if the request can have ids
 abbrev pub ids_format : {A : Type 0} → Request A → Option Format
 ids_format request.Empty = None
 ids_format (request.Ls asked) = None
 ids_format (request.Fetch fetch) = Some fetch.format
 
--- its ids are of this format
+-- the ids of the request have this format
 abbrev pub IsOfFormat : {A : Type 0} → Format → Request A → Type 0
 IsOfFormat format request = IfSome (ids_format request) (λ other. other ≡ format)
 
--- what was read asks, if there is a request
+-- the result of reading, with the contents of the request in place of the request
 abbrev pub asked_result : {A : Type 0} → Result (Option (Request A)) MessageFault → Result (Option Asked) MessageFault
 asked_result (Ok (Some request)) = Ok (Some (asked_by_request request))
 asked_result (Ok None) = Ok None

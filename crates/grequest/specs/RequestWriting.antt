@@ -1,5 +1,5 @@
--- The packets that are written of a request: each argument that is set, in one order (gitprotocol-v2(5), "Command
--- Request"). The manual leaves the order of arguments open; it is our own rule.
+-- The packets that are written for a request: each argument that is set, in a fixed order (gitprotocol-v2(5), "Command
+-- Request"). Git's manual leaves the order of arguments open; this order is our own.
 use Rattle.std.specs.Prelude.{◌≡◌, Bool, true, false, List, [], ◌∷◌, ◌++◌, map, codes, Option, Some, None}
 use Rattle.gpkt.specs.Packets.{Bytes, Packet, Flush, Delim}
 use Rattle.gname.specs.Ids.{Id, id_text}
@@ -21,7 +21,7 @@ abbrev pub agent_packets : Option Bytes → List Packet
 agent_packets None = []
 agent_packets (Some value) = text_packet (codes "agent=" ++ value) ∷ []
 
--- sha1 is assumed where no format is named
+-- the packet of the object format, or none for sha1, which is the default
 abbrev pub format_packets : Format → List Packet
 format_packets Sha1 = []
 format_packets Sha256 = text_packet (codes "object-format=" ++ format_name Sha256) ∷ []
@@ -30,7 +30,7 @@ abbrev pub flag_packets : Bytes → Bool → List Packet
 flag_packets word false = []
 flag_packets word true = text_packet word ∷ []
 
--- a packet for each flag of a table that is set, in its order
+-- a packet for each flag that is set, in the order of the table
 abbrev pub flags_packets : {F : Type 0} (table : Table F) → FlagsOf table → List Packet
 flags_packets [] flags = []
 flags_packets (row ∷ rows) flags = flag_packets row.1 flags.0 ++ flags_packets rows flags.1
@@ -38,7 +38,7 @@ flags_packets (row ∷ rows) flags = flag_packets row.1 flags.0 ++ flags_packets
 abbrev pub prefix_packet : Bytes → Packet
 prefix_packet prefix = text_packet (codes "ref-prefix " ++ prefix)
 
--- an id after a word
+-- a packet with a word and an id after it
 abbrev pub id_packet : Bytes → Id → Packet
 id_packet word id = text_packet (word ++ id_text id)
 
@@ -46,7 +46,7 @@ abbrev pub ls_argument_packets : LsRefsAsked → List Packet
 ls_argument_packets asked =
     flags_packets ls_flags asked.flags ++ map prefix_packet asked.prefixes
 
--- `done` comes after the ids
+-- the packets of the arguments of fetch, with `done` after the ids
 abbrev pub fetch_argument_packets : FetchAsked → List Packet
 fetch_argument_packets asked =
     flags_packets fetch_flags (fetch_with asked Done false).flags
@@ -54,17 +54,17 @@ fetch_argument_packets asked =
     ++ map (id_packet (codes "have ")) asked.haves
     ++ flag_packets (codes "done") (fetch_has asked Done)
 
--- a command, its capabilities, a delimiter, its arguments and a flush
+-- the packets of a command: its name, its capabilities, a delimiter, its arguments and a flush
 abbrev pub command_packets : Format → Command → Option Bytes → List Packet → List Packet
 command_packets format command agent arguments =
     command_packet command ∷ (agent_packets agent ++ format_packets format ++ Delim ∷ (arguments ++ Flush ∷ []))
 
--- the packets of a request, in the format of the repository's objects
+-- the packets of a request to a repository with this object format
 unfoldable pub canonical_request : Format → Asked → List Packet
 canonical_request format Empty = Flush ∷ []
 canonical_request format (Ls asked) = command_packets format LsRefs asked.agent (ls_argument_packets asked)
 canonical_request format (Fetches asked) = command_packets format Fetch asked.agent (fetch_argument_packets asked)
 
--- the packets are those that are written of it
+-- these are the packets that are written for the request
 abbrev pub IsCanonicalRequest : Format → List Packet → Asked → Type 0
 IsCanonicalRequest format lines asked = lines ≡ canonical_request format asked

@@ -1,5 +1,5 @@
--- A request's grammar (gitprotocol-v2(5), "Command Request") with its reasons: what is refused at each place, and why.
--- The packets before one count only by what is in `State`.
+-- The grammar of a request (gitprotocol-v2(5), "Command Request"): the packets that are rejected in each section, with
+-- the reasons. Only `State` is kept of the packets before the current one.
 use Rattle.std.specs.Prelude.{◌≡◌, ℕ, Bool, true, false, ◌&&◌, List, [], length, if◌then◌else◌, nat_lt, ◌==◌, Option}
 use Rattle.std.specs.Prelude.{None, is_none, is_some}
 use Rattle.gname.specs.Ids.{Id}
@@ -23,7 +23,7 @@ use Rattle.grequest.specs.Asked.{Asked, Empty, Ls, Fetches, max_prefixes, max_wa
 use Rattle.grequest.specs.RequestLines.{RequestPlace, First, InCapabilities, InArguments, place_of, capability_texts}
 use Rattle.grequest.specs.RequestLines.{argument_texts, formats, asked_by_lines}
 
--- what the packets so far come to
+-- the state of reading after some packets
 pub record State : Type 0 where
   pub place : RequestPlace
   pub format_lines : ℕ
@@ -62,7 +62,7 @@ judge_command (Known command) = Open
 judge_command UnknownCommand = Refused why.UnknownCommand
 judge_command BadCommand = Refused why.BadText
 
--- a capability comes once
+-- a capability must not be repeated
 abbrev pub once : Bool → Verdict → Verdict
 once is_first verdict = if is_first then verdict else Refused why.BadText
 
@@ -73,22 +73,22 @@ judge_capability format state (ObjectFormat value) =
 judge_capability format state UnknownCapability = Refused why.UnknownCapability
 judge_capability format state BadCapability = Refused why.BadText
 
--- one argument more may come after so many
+-- the request has room for another argument after this many
 abbrev pub has_room : ℕ → Bool
 has_room arguments = nat_lt arguments max_arguments
 
--- a well-formed argument of which only so many are taken, after these
+-- the verdict on a well-formed argument, after this many arguments and these values of its kind
 abbrev pub of_few : ℕ → List (List ℕ) → ℕ → Verdict
 of_few arguments before limit = if_room (has_room arguments && nat_lt (length before) limit)
 
--- an argument of ls-refs after so many, and after these prefixes
+-- the verdict on an argument of ls-refs, after this many arguments and these prefixes
 abbrev pub judge_ls_argument : ℕ → List Bytes → LsArgument → Verdict
 judge_ls_argument arguments prefixes (RefPrefix prefix) =
     if is_none (prefix_fault prefix) then of_few arguments prefixes max_prefixes else Refused why.BadName
 judge_ls_argument arguments prefixes UnknownLsArgument = Refused why.UnknownArgument
 judge_ls_argument arguments prefixes _ = if_room (has_room arguments)
 
--- an argument of fetch after so many, and after these wants and haves
+-- the verdict on an argument of fetch, after this many arguments and these wants and haves
 abbrev pub judge_fetch_argument : Format → ℕ → List Id → List Id → FetchArgument → Verdict
 judge_fetch_argument format arguments wants haves (Want id) =
     if is_some (id_of_text format id) then of_few arguments wants max_wants else Refused why.BadId
@@ -108,12 +108,12 @@ judge_text format First state line = judge_command (command_form line)
 judge_text format (InCapabilities command) state line = judge_capability format state (capability_form line)
 judge_text format (InArguments command) state line = judge_argument format command state line
 
--- the packet that ends the capabilities comes after the object format, which only sha1 may leave out
+-- the verdict, except that the capabilities must not end before the object format, unless it is sha1
 abbrev pub unless_unnamed : Format → State → Verdict → Verdict
 unless_unnamed Sha1 state verdict = verdict
 unless_unnamed Sha256 state verdict = if state.format_lines == 0 then Refused why.Format else verdict
 
--- a flush ends the request; a lone one is the empty request
+-- the verdict on a flush, which ends the request; a lone flush is the empty request
 abbrev pub judge_flush : Format → RequestPlace → State → Verdict
 judge_flush format (InCapabilities command) state = unless_unnamed format state Whole
 judge_flush format _ state = Whole
@@ -132,7 +132,7 @@ judge_at format state ResponseEnd = Refused why.UnexpectedFrame
 abbrev pub judge : Format → List Packet → Packet → Verdict
 judge format lines packet = judge_at format (state_of format lines) packet
 
--- ---- what brings something to keep
+-- ---- packets whose contents are kept
 
 abbrev pub capability_brings : CapabilityForm → Bool
 capability_brings (Agent value) = true
@@ -153,14 +153,14 @@ text_brings (InCapabilities command) line = capability_brings (capability_form l
 text_brings (InArguments LsRefs) line = ls_argument_brings (ls_argument line)
 text_brings (InArguments Fetch) line = fetch_argument_brings (fetch_argument line)
 
--- an agent, a prefix, a want or a have is kept
+-- the packet's contents are kept: an agent, a prefix, a want or a have
 abbrev pub brings : List Packet → Packet → Bool
 brings lines (Data payload) = text_brings (place_of lines) (text payload)
 brings lines _ = false
 
--- ---- what complete lists say
+-- ---- the meaning of complete lists
 
--- the packets are a request, and ask this
+-- the packets are a request with these contents
 pub record Says (format : Format) (lines : List Packet) (asked : Asked) : Type 0 where
   pub whole : IsWhole (judge format) lines
   pub asks : asked ≡ asked_by_lines format lines

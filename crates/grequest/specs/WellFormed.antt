@@ -22,7 +22,7 @@ pub record IsFetchAsked (format : Format) (asked : FetchAsked) : Type 0 where
   pub few_wants : length asked.wants ≤ max_wants
   pub few_haves : length asked.haves ≤ max_haves
 
--- what a request can ask of a repository with this format
+-- well-formed contents of a request to a repository with this object format
 abbrev pub IsAsked : Format → Asked → Type 0
 IsAsked format Empty = Unit {0}
 IsAsked format (Ls asked) = IsLsRefsAsked asked

@@ -29,7 +29,7 @@ impl Command {
 #[derive(Clone, Copy, Debug, PartialEq, Eq)]
 pub(crate) enum CommandForm {
     Known(Command),
-    /// `command=` and another key.
+    /// `command=` with the key of no known command.
     Unknown,
     Bad,
 }

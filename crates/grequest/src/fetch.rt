@@ -34,7 +34,7 @@ pub const MAX_WANTS: usize = 1_024;
 /// The maximum number of haves of a request.
 pub const MAX_HAVES: usize = 4_096;
 
-/// A request for fetch (gitprotocol-v2(5), "fetch"), whose ids have one format.
+/// A request for fetch (gitprotocol-v2(5), "fetch"), whose ids all have one format.
 #[derive(Debug, Drop)]
 pub struct FetchRequest<A: Allocator + Copy = Global> {
     format: Format,
@@ -73,7 +73,7 @@ impl<A: Allocator + Copy> Model for FetchRequest<A> {
 }
 
 impl<A: Allocator + Copy> FetchRequest<A> {
-    /// Returns a request for ids of this format without wants. It does not allocate yet.
+    /// Returns a request without wants, for ids of this format. The request does not allocate yet.
     pub fn new(alloc: A, format: Format) -> FetchRequest<A>
         ensures { result ≡ record { format = format; asked = no_fetch } }
     {
@@ -93,14 +93,14 @@ impl<A: Allocator + Copy> FetchRequest<A> {
         self.format
     }
 
-    /// A law: the properties of each request for fetch.
+    /// A law: the invariant of a request for fetch.
     pub fn laws(&self)
         ensures { IsFetchAsked self.now.format self.now.asked }
     {
         let _ = &self.flags;
     }
 
-    /// Returns the client's name for itself, if it gave one: 1 to 1,000 bytes from `!` to `~`.
+    /// Returns the agent that the client sent, if any: 1 to 1,000 bytes from `!` to `~`.
     pub fn agent(&self) -> Option<&[u8]>
         ensures agent { option_copied result ≡ self.now.asked.agent }
         ensures well_formed { IsFetchAsked self.now.format self.now.asked }
@@ -108,7 +108,8 @@ impl<A: Allocator + Copy> FetchRequest<A> {
         self.agent.as_ref().map(|value| value.as_slice())
     }
 
-    /// Returns the wants, the ids that the client asks for, in their order: at most 1,024.
+    /// Returns the wants, the ids that the client asks for, in their order. A request has at most
+    /// 1,024 wants.
     pub fn wants(&self) -> &[Oid]
         ensures wants { result.now ≡ self.now.asked.wants }
         ensures well_formed { IsFetchAsked self.now.format self.now.asked }
@@ -116,7 +117,8 @@ impl<A: Allocator + Copy> FetchRequest<A> {
         self.wants.as_slice()
     }
 
-    /// Returns the haves, the ids that the client offers, in their order: at most 4,096.
+    /// Returns the haves, the ids that the client offers, in their order. A request has at most
+    /// 4,096 haves.
     pub fn haves(&self) -> &[Oid]
         ensures haves { result.now ≡ self.now.asked.haves }
         ensures well_formed { IsFetchAsked self.now.format self.now.asked }
@@ -124,14 +126,14 @@ impl<A: Allocator + Copy> FetchRequest<A> {
         self.haves.as_slice()
     }
 
-    /// Whether the request has a flag.
+    /// Returns whether the request has a flag.
     pub fn has(&self, flag: FetchFlag) -> bool
         ensures { result ≡ fetch_has self.now.asked flag }
     {
         self.flags[flag.number()]
     }
 
-    /// Returns the flags that are written before the ids, each at its number.
+    /// Returns the flags that are written before the ids, each at the index of its number.
     pub(crate) fn early_flags(&self) -> [bool; MAX_FLAGS]
         ensures { flags_at fetch_number fetch_flags result
             ≡ (fetch_with self.now.asked Done false).flags }
@@ -141,15 +143,15 @@ impl<A: Allocator + Copy> FetchRequest<A> {
         flags
     }
 
-    /// Whether the reply starts with the pack, without acknowledgments: the client is done, or has
-    /// no haves (gitprotocol-v2(5), "fetch": `done`).
+    /// Returns whether the reply starts with the pack, without acknowledgments: the request has
+    /// `done` or no haves (gitprotocol-v2(5), "fetch").
     pub fn is_direct(&self) -> bool
         ensures { result ≡ is_direct self.now.asked }
     {
         self.has(FetchFlag::Done) || self.haves.is_empty()
     }
 
-    /// Returns the same request in another allocator. Fails only if out of memory.
+    /// Returns a copy of the request in another allocator. Fails only if out of memory.
     pub fn copy_in<B: Allocator + Copy>(&self, alloc: B) -> Result<FetchRequest<B>, AllocError>
         ensures { IfOk result (λ copy. copy ≡ self.now) }
     {
@@ -165,8 +167,8 @@ impl<A: Allocator + Copy> FetchRequest<A> {
         })
     }
 
-    /// Whether both requests ask the same: the same client name, the same wants and haves in the
-    /// same order, and the same flags. Requests without ids may ask the same in different formats.
+    /// Returns whether both requests have the same agent, the same wants and haves in the same
+    /// order, and the same flags. The formats of requests without ids may differ.
     #[tactic(auto, using(crate::proofs::AskedLemmas::same_asked, crate::proofs::AskedLemmas::same_parts))]
     pub fn asks_as<B: Allocator + Copy>(&self, other: &FetchRequest<B>) -> bool
         ensures { IsTrue result ↔ (self.now.asked ≡ other.now.asked) }
@@ -176,14 +178,14 @@ impl<A: Allocator + Copy> FetchRequest<A> {
             && self.has_flags_of(other)
     }
 
-    // Whether the wants and the haves are the same, in the same order.
+    // Returns whether both requests have the same wants and haves, in the same order.
     fn has_ids_of<B: Allocator + Copy>(&self, other: &FetchRequest<B>) -> bool
         ensures { IsTrue result ↔ HaveSameIds self.now.asked other.now.asked }
     {
         are_same_ids(self.wants(), other.wants()) && are_same_ids(self.haves(), other.haves())
     }
 
-    // Whether the flags are the same.
+    // Returns whether both requests have the same flags.
     fn has_flags_of<B: Allocator + Copy>(&self, other: &FetchRequest<B>) -> bool
         ensures { IsTrue result ↔ (self.now.asked.flags ≡ other.now.asked.flags) }
     {
@@ -197,10 +199,10 @@ impl<A: Allocator + Copy> FetchRequest<A> {
         self.flags[flag.number()] = is_set;
     }
 
-    /// Sets the client's name for itself, and replaces the previous one.
+    /// Sets the agent, the client's name for itself, and replaces the previous one.
     ///
-    /// Fails with `BadText` if the name does not have 1 to 1,000 bytes from `!` to `~`, and with
-    /// `Memory` if out of memory. Both are at packet 0, and the request is unchanged.
+    /// Fails with `BadText` if the agent does not consist of 1 to 1,000 bytes from `!` to `~`, and
+    /// with `Memory` if out of memory. The fault is at packet 0, and the request is unchanged.
     pub fn set_agent(&mut self, agent: &[u8]) -> Result<(), MessageFault>
         ensures { Builds (is_word_value agent.now) true self.old self.new
             (record self.old { asked = record self.old.asked { agent = Some agent.now } }) result }
@@ -214,10 +216,11 @@ impl<A: Allocator + Copy> FetchRequest<A> {
         }
     }
 
-    /// Adds a want after the others.
+    /// Appends a want.
     ///
-    /// Fails with `BadText` if the id has another format than the request, with `Limit` if there
-    /// are 1,024 wants, and with `Memory`. All are at packet 0, and the request is unchanged.
+    /// Fails with `BadText` if the id has another format than the request. Otherwise fails with
+    /// `Limit` if there are already 1,024 wants, or with `Memory`. The fault is at packet 0, and
+    /// the request is unchanged.
     pub fn push_want(&mut self, id: Oid) -> Result<(), MessageFault>
         ensures { Builds (has_format self.old.format id)
             (nat_lt (length self.old.asked.wants) max_wants)
@@ -231,10 +234,11 @@ impl<A: Allocator + Copy> FetchRequest<A> {
         Ok(())
     }
 
-    /// Adds a have after the others.
+    /// Appends a have.
     ///
-    /// Fails with `BadText` if the id has another format than the request, with `Limit` if there
-    /// are 4,096 haves, and with `Memory`. All are at packet 0, and the request is unchanged.
+    /// Fails with `BadText` if the id has another format than the request. Otherwise fails with
+    /// `Limit` if there are already 4,096 haves, or with `Memory`. The fault is at packet 0, and
+    /// the request is unchanged.
     pub fn push_have(&mut self, id: Oid) -> Result<(), MessageFault>
         ensures { Builds (has_format self.old.format id)
             (nat_lt (length self.old.asked.haves) max_haves)
@@ -248,7 +252,7 @@ impl<A: Allocator + Copy> FetchRequest<A> {
         Ok(())
     }
 
-    // Stores the client's name for itself.
+    // Stores the agent, the client's name for itself.
     pub(crate) fn keep_agent(&mut self, agent: &[u8]) -> Result<(), AllocError>
         requires { is_word_value agent.now ≡ true }
         ensures ok { OnOk result (self.new
@@ -260,7 +264,7 @@ impl<A: Allocator + Copy> FetchRequest<A> {
         Ok(())
     }
 
-    // Takes an argument that follows `arguments` others.
+    // Adds an argument that follows `arguments` other arguments.
     pub(crate) fn take_argument(&mut self, arguments: u32, text: &[u8]) -> Result<(), Why>
         ensures adds { AddsAs (judge_fetch_argument self.old.format arguments self.old.asked.wants
             self.old.asked.haves (fetch_argument text.now))
@@ -319,7 +323,7 @@ impl<A: Allocator + Copy> FetchRequest<A> {
     }
 }
 
-// Adds an id after the others if there is room for it.
+// Appends an id if there is room for it.
 fn keep_id<A: Allocator + Copy>(
     format: Format,
     ids: &mut Vec<Oid, A>,
@@ -344,7 +348,7 @@ fn keep_id<A: Allocator + Copy>(
     }
 }
 
-// Whether an id has the format.
+// Returns whether an id has the format.
 fn is_of(format: Format, id: &Oid) -> bool
     ensures same { result ≡ has_format format id.now }
     ensures of_format { IsTrue result → IsIdOf format id.now }
@@ -352,7 +356,7 @@ fn is_of(format: Format, id: &Oid) -> bool
     id.as_bytes().len() == format.id_length()
 }
 
-// Returns the id of the format that a text spells.
+// Returns the id of this format that a text encodes.
 fn id_in(format: Format, text: &[u8]) -> Option<Oid>
     ensures id { result ≡ id_of_text format text.now }
     ensures same { IfSome result (λ id. has_format format id ≡ true) }

@@ -4,7 +4,7 @@ ghost use Rattle.std.specs.Prelude.{◌≡◌, ◌<◌, ◌↔◌, ℕ, IsTrue};
 ghost use Rattle.grequest.specs.Flags.{flag_in, flags_at};
 ghost use Rattle.grequest.specs.steps.Flags.{table_in};
 
-/// A flag of ls-refs, with Git's name for it (gitprotocol-v2(5), "ls-refs").
+/// A flag of ls-refs, named as in Git (gitprotocol-v2(5), "ls-refs").
 #[derive(Clone, Copy, Debug, PartialEq, Eq)]
 pub enum LsRefsFlag {
     Peel,
@@ -12,7 +12,7 @@ pub enum LsRefsFlag {
     Unborn,
 }
 
-/// A flag of fetch, with Git's name for it (gitprotocol-v2(5), "fetch").
+/// A flag of fetch, named as in Git (gitprotocol-v2(5), "fetch").
 #[derive(Clone, Copy, Debug, PartialEq, Eq)]
 pub enum FetchFlag {
     ThinPack,
@@ -45,7 +45,7 @@ pub(crate) const MAX_FLAGS: usize = 32;
 pub(crate) trait Flag: Copy {
     ghost number: { Self → ℕ };
 
-    /// Returns its number among the flags of its command.
+    /// Returns the number of the flag among the flags of its command.
     fn number(self) -> usize
         ensures number { result ≡ number self }
         ensures few { result < MAX_FLAGS };
@@ -71,7 +71,7 @@ impl Flag for FetchFlag {
     }
 }
 
-/// Returns the flag of a table with a text.
+/// Returns the flag that has this text in the table.
 pub(crate) fn flag_in<F: Copy>(table: &[(F, &str)], text: &[u8]) -> Option<F>
     ensures { result ≡ flag_in (table_in table.now) text.now }
 {
@@ -83,7 +83,7 @@ pub(crate) fn flag_in<F: Copy>(table: &[(F, &str)], text: &[u8]) -> Option<F>
     None
 }
 
-/// Whether the same flags of a table are set.
+/// Returns whether both arrays set the same flags of the table.
 pub(crate) fn are_same_flags<F: Flag>(
     table: &[(F, &str)],
     ones: &[bool; MAX_FLAGS],

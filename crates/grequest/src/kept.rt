@@ -1,11 +1,11 @@
-//! Reasons why something is not added to a request.
+//! Reasons why a value can't be added to a request.
 
 ghost use Rattle.std.specs.Prelude.{◌≡◌};
 ghost use Rattle.grequest.specs.steps.Building.{build_fault, why_not_kept};
 
 use ggrammar::{MessageFault, Why};
 
-/// Why something is not added to a request: the first of these reasons.
+/// The reason that a value can't be added to a request. The first applicable one is reported.
 #[derive(Clone, Copy, Debug, PartialEq, Eq)]
 pub(crate) enum NotKept {
     WrongForm,
@@ -14,8 +14,8 @@ pub(crate) enum NotKept {
 }
 
 impl NotKept {
-    /// Returns the reason in the grammar's terms. The grammar has a separate reason for each wrong
-    /// form.
+    /// Returns the reason in the grammar's terms. `wrong_form` is the grammar's reason for a wrong
+    /// form, which depends on the value.
     pub(crate) fn why(self, wrong_form: Why) -> Why
         ensures { result ≡ why_not_kept wrong_form self }
     {
@@ -30,7 +30,7 @@ impl NotKept {
 impl From<NotKept> for MessageFault {
     ghost from_gives = { λ reason fault. fault ≡ build_fault reason };
 
-    /// Returns the fault of a call that builds a request.
+    /// Converts the reason to the fault of a call that builds a request.
     fn from(reason: NotKept) -> MessageFault {
         MessageFault::of_value(reason.why(Why::BadText))
     }

@@ -1,4 +1,4 @@
-//! The laws of the grammar of requests: functions without effect whose contracts are the laws.
+//! Laws of the grammar of requests: functions without effect whose contracts state the laws.
 
 ghost use Rattle.std.specs.Prelude.{◌≡◌};
 ghost use Rattle.gname.specs.declared.formats.Format.{Format};
@@ -18,14 +18,14 @@ use ggrammar::laws::{grammars_are_exact, kinds_are_read, messages_are_read};
 use gname::laws::{ids_have_one_format, ids_have_texts, prefixes_are_clean};
 use gpkt::laws::has_four_bytes;
 
-/// The constants are the limits that the definitions use.
+/// The constants of this crate equal the limits in its definitions.
 pub fn limits_are_the_constants()
     ensures prefixes { MAX_PREFIXES ≡ max_prefixes }
     ensures wants { MAX_WANTS ≡ max_wants }
     ensures haves { MAX_HAVES ≡ max_haves }
 {}
 
-/// The lists of packets that are read as a request are those of the manual, and they ask the same
+/// The lists of packets that are read as a request are those of Git's manual, and mean the same
 /// (gitprotocol-v2(5), "Command Request", "ls-refs" and "fetch").
 pub fn manual()
     ensures { (format : Format) → AsInManual (Says format) (IsRequest format) }
@@ -33,13 +33,14 @@ pub fn manual()
     grammars_are_exact();
 }
 
-/// A request asks one thing, and each complete list of packets asks something.
+/// A request has one meaning, and each complete list of packets has a meaning.
 pub fn one_meaning()
     ensures one { (format : Format) → OneMeaning (Says format) }
     ensures whole { (format : Format) → SaysWhole (judge format) (Says format) }
 {}
 
-/// No request is a prefix of another, as packets or as bytes, so its end is known without the rest.
+/// No request is a prefix of another, as packets or as bytes. So the end of a request is known
+/// without the bytes after it.
 pub fn prefix_free()
     ensures packets { (format : Format) → IsPrefixFree (judge format) }
     ensures spellings { (format : Format) → SpellingsPrefixFree (judge format) }
@@ -48,7 +49,7 @@ pub fn prefix_free()
     messages_are_read();
 }
 
-/// Each prefix of a request has an ending, and a refused packet is the first that does not fit.
+/// Each prefix of a request can be completed, and a rejected packet is the first that does not fit.
 pub fn endings()
     ensures each { (format : Format) → HasEndings (judge format) }
     ensures first { (format : Format) → RefusesFirstMisfits (judge format) }
@@ -56,8 +57,8 @@ pub fn endings()
     grammars_are_exact();
 }
 
-/// A packet is refused only for a reason in the packet. All bytes begin with a request, or are
-/// refused for a reason in the bytes.
+/// A packet is rejected only for a reason in the packet. All bytes begin with a request, or are
+/// rejected for a reason in the bytes.
 pub fn every_input()
     ensures packets { (format : Format) → RefusesPackets (judge format) }
     ensures bytes { (format : Format) → BeginsOrIsRefused (judge format) brings }
@@ -66,7 +67,7 @@ pub fn every_input()
     messages_are_read();
 }
 
-/// A request is written as packets that ask it, and each payload fits a packet.
+/// The packets written for a request mean this request, and each payload fits a packet.
 pub fn canonical_says()
     ensures { (format : Format)
         → CanonicalSays (Says format) (IsAsked format) (IsCanonicalRequest format) }
@@ -77,8 +78,8 @@ pub fn canonical_says()
     prefixes_are_clean();
 }
 
-/// A request is read exactly when the bytes begin with packets that ask it. These are read, and
-/// nothing after them. It is missing exactly when there are no bytes.
+/// A request is read exactly if the bytes begin with packets of this meaning. Only these packets
+/// are read. `None` is returned exactly if there are no bytes.
 pub fn reads_exactly()
     ensures request { (format : Format) → ReadsExactlyIfAny (judge format) brings (Says format) }
     ensures missing { (format : Format) → IsMissingWhereEmpty format }
@@ -89,7 +90,7 @@ pub fn reads_exactly()
     kinds_are_read::<Requests>();
 }
 
-/// A written request reads back, whatever follows.
+/// A written request reads back as the same request, whatever bytes follow.
 pub fn reads_back()
     ensures { (format : Format)
         → ReadsBackIfAny (judge format) brings (Says format) (IsAsked format)

@@ -60,7 +60,7 @@ impl<A: Allocator + Copy> Model for LsRefsRequest<A> {
 }
 
 impl<A: Allocator + Copy> LsRefsRequest<A> {
-    /// Returns a request that asks only for every ref. It does not allocate yet.
+    /// Returns a request for every ref, without flags. The request does not allocate yet.
     pub fn new(alloc: A) -> LsRefsRequest<A>
         ensures { result ≡ no_ls_refs }
     {
@@ -71,14 +71,14 @@ impl<A: Allocator + Copy> LsRefsRequest<A> {
         }
     }
 
-    /// A law: the properties of each request for ls-refs.
+    /// A law: the invariant of a request for ls-refs.
     pub fn laws(&self)
         ensures { IsLsRefsAsked self.now }
     {
         let _ = &self.flags;
     }
 
-    /// Returns the client's name for itself, if it gave one: 1 to 1,000 bytes from `!` to `~`.
+    /// Returns the agent that the client sent, if any: 1 to 1,000 bytes from `!` to `~`.
     pub fn agent(&self) -> Option<&[u8]>
         ensures agent { option_copied result ≡ self.now.agent }
         ensures well_formed { IsLsRefsAsked self.now }
@@ -86,21 +86,21 @@ impl<A: Allocator + Copy> LsRefsRequest<A> {
         self.agent.as_ref().map(|value| value.as_slice())
     }
 
-    /// Whether the request has a flag.
+    /// Returns whether the request has a flag.
     pub fn has(&self, flag: LsRefsFlag) -> bool
         ensures { result ≡ ls_has self.now flag }
     {
         self.flags[flag.number()]
     }
 
-    /// Returns the flags that are set, each at its number.
+    /// Returns the flags that are set, each at the index of its number.
     pub(crate) fn flags(&self) -> &[bool; MAX_FLAGS]
         ensures { flags_at ls_number ls_flags result.now ≡ self.now.flags }
     {
         &self.flags
     }
 
-    /// Returns the prefixes that the names may have, at most 64 in their order. Without a prefix,
+    /// Returns the prefixes of the requested names, at most 64, in their order. Without a prefix,
     /// the request asks for every name.
     pub fn prefixes(&self) -> &[Prefix<A>]
         ensures prefixes { result.now ≡ self.now.prefixes }
@@ -109,7 +109,7 @@ impl<A: Allocator + Copy> LsRefsRequest<A> {
         self.prefixes.as_slice()
     }
 
-    /// Returns the same request in another allocator. Fails only if out of memory.
+    /// Returns a copy of the request in another allocator. Fails only if out of memory.
     pub fn copy_in<B: Allocator + Copy>(&self, alloc: B) -> Result<LsRefsRequest<B>, AllocError>
         ensures { IfOk result (λ copy. copy ≡ self.now) }
     {
@@ -122,8 +122,8 @@ impl<A: Allocator + Copy> LsRefsRequest<A> {
         })
     }
 
-    /// Whether both requests ask the same: the same client name, the same flags, and the same
-    /// prefixes in the same order.
+    /// Returns whether both requests have the same agent, the same flags, and the same prefixes in
+    /// the same order.
     pub fn asks_as<B: Allocator + Copy>(&self, other: &LsRefsRequest<B>) -> bool
         ensures { IsTrue result ↔ (self.now ≡ other.now) }
     {
@@ -132,7 +132,7 @@ impl<A: Allocator + Copy> LsRefsRequest<A> {
             && are_same_prefixes(self.prefixes(), other.prefixes())
     }
 
-    // Whether the flags are the same.
+    // Returns whether both requests have the same flags.
     fn has_flags_of<B: Allocator + Copy>(&self, other: &LsRefsRequest<B>) -> bool
         ensures { IsTrue result ↔ (self.now.flags ≡ other.now.flags) }
     {
@@ -146,10 +146,10 @@ impl<A: Allocator + Copy> LsRefsRequest<A> {
         self.flags[flag.number()] = is_set;
     }
 
-    /// Sets the client's name for itself, and replaces the previous one.
+    /// Sets the agent, the client's name for itself, and replaces the previous one.
     ///
-    /// Fails with `BadText` if the name does not have 1 to 1,000 bytes from `!` to `~`, and with
-    /// `Memory` if out of memory. Both are at packet 0, and the request is unchanged.
+    /// Fails with `BadText` if the agent does not consist of 1 to 1,000 bytes from `!` to `~`, and
+    /// with `Memory` if out of memory. The fault is at packet 0, and the request is unchanged.
     pub fn set_agent(&mut self, agent: &[u8]) -> Result<(), MessageFault>
         ensures { Builds (is_word_value agent.now) true self.old self.new
             (record self.old { agent = Some agent.now }) result }
@@ -163,10 +163,11 @@ impl<A: Allocator + Copy> LsRefsRequest<A> {
         }
     }
 
-    /// Also asks for the names that begin with a prefix. It is added after the other prefixes.
+    /// Appends a prefix, so that the request also asks for the names that begin with it.
     ///
-    /// Fails with `BadText` if the text is not a prefix of names, with `Limit` if there are 64
-    /// prefixes, and with `Memory`. All are at packet 0, and the request is unchanged.
+    /// Fails with `BadText` if the text is not a prefix of names. Otherwise fails with `Limit` if
+    /// there are already 64 prefixes, or with `Memory`. The fault is at packet 0, and the request
+    /// is unchanged.
     pub fn push_prefix(&mut self, prefix: &[u8]) -> Result<(), MessageFault>
         ensures { Builds (is_none (prefix_fault prefix.now))
             (nat_lt (length self.old.prefixes) max_prefixes)
@@ -178,7 +179,7 @@ impl<A: Allocator + Copy> LsRefsRequest<A> {
         Ok(())
     }
 
-    // Stores the client's name for itself.
+    // Stores the agent, the client's name for itself.
     pub(crate) fn keep_agent(&mut self, agent: &[u8]) -> Result<(), AllocError>
         requires { is_word_value agent.now ≡ true }
         ensures ok { OnOk result (self.new ≡ record self.old { agent = Some agent.now }) }
@@ -189,7 +190,7 @@ impl<A: Allocator + Copy> LsRefsRequest<A> {
         Ok(())
     }
 
-    // Adds a prefix if there is room for it.
+    // Appends a prefix if there is room for it.
     fn keep_prefix(&mut self, has_room: bool, prefix: &[u8]) -> Result<(), NotKept>
         requires { has_room ≡ true → length self.old.prefixes < max_prefixes }
         ensures { KeepsAs (is_none (prefix_fault prefix.now)) has_room
@@ -209,7 +210,7 @@ impl<A: Allocator + Copy> LsRefsRequest<A> {
         }
     }
 
-    // Takes an argument that follows `arguments` others.
+    // Adds an argument that follows `arguments` other arguments.
     pub(crate) fn take_argument(&mut self, arguments: u32, text: &[u8]) -> Result<(), Why>
         ensures adds { AddsAs (judge_ls_argument arguments self.old.prefixes
             (ls_argument text.now)) (ls_argument_brings (ls_argument text.now))

@@ -6,7 +6,7 @@ ghost use Rattle.std.specs.Option.{option_copied, option_map};
 use gname::{Oid, Prefix};
 use std::alloc::{AllocError, Allocator};
 
-/// Returns the same client name in another allocator. Fails only if out of memory.
+/// Returns a copy of the agent in another allocator. Fails only if out of memory.
 pub(crate) fn copy_agent<A: Allocator + Copy>(
     alloc: A,
     agent: Option<&[u8]>,
@@ -23,7 +23,7 @@ pub(crate) fn copy_agent<A: Allocator + Copy>(
     }
 }
 
-/// Returns the same prefixes in another allocator. Fails only if out of memory.
+/// Returns a copy of the prefixes in another allocator. Fails only if out of memory.
 pub(crate) fn copy_prefixes<A: Allocator + Copy, B: Allocator + Copy>(
     alloc: B,
     prefixes: &[Prefix<A>],
@@ -37,7 +37,7 @@ pub(crate) fn copy_prefixes<A: Allocator + Copy, B: Allocator + Copy>(
     Ok(copies)
 }
 
-// Returns a copy of a prefix. A prefix has no fault, so a copy fails only if out of memory.
+// Returns a copy of a prefix. A prefix is well-formed, so a copy fails only if out of memory.
 fn copy_prefix<A: Allocator + Copy, B: Allocator + Copy>(
     alloc: B,
     prefix: &Prefix<A>,
@@ -50,7 +50,7 @@ fn copy_prefix<A: Allocator + Copy, B: Allocator + Copy>(
     }
 }
 
-/// Whether two clients have the same name, or both have none.
+/// Returns whether both agents are the same, or both are missing.
 pub(crate) fn is_same_agent(one: Option<&[u8]>, other: Option<&[u8]>) -> bool
     ensures { IsTrue result ↔ (option_copied one.entry ≡ option_copied other.entry) }
 {
@@ -61,14 +61,14 @@ pub(crate) fn is_same_agent(one: Option<&[u8]>, other: Option<&[u8]>) -> bool
     }
 }
 
-/// Whether these are the same ids in the same order.
+/// Returns whether both lists have the same ids in the same order.
 pub(crate) fn are_same_ids(ones: &[Oid], others: &[Oid]) -> bool
     ensures { IsTrue result ↔ (ones.now ≡ others.now) }
 {
     ones == others
 }
 
-/// Whether these are the same prefixes in the same order.
+/// Returns whether both lists have the same prefixes in the same order.
 pub(crate) fn are_same_prefixes<A: Allocator + Copy, B: Allocator + Copy>(
     ones: &[Prefix<A>],
     others: &[Prefix<B>],

@@ -30,17 +30,17 @@ pub fn read_request<S: Source, A: Allocator + Copy, B: Allocator + Copy>(
     read_request_in(reader, Format::Sha1, alloc)
 }
 
-/// Reads a request to its end, and nothing after it (gitprotocol-v2(5), "Command Request"). The
-/// format is that of the repository's objects. Returns `None` if the input ends before the first
-/// packet. After a request the reader has not failed, and the next one can be read.
+/// Reads a request to its end, and nothing after it (gitprotocol-v2(5), "Command Request").
+/// `format` is the format of the repository's objects. Returns `None` if the input ends before the
+/// first packet. After a request the reader has not failed, and the next request can be read.
 ///
-/// The fault has the reason, and the position of the first packet that does not fit, counted from
-/// 0. A fault of the packet reader ([`Why::Line`]) takes precedence. Next is the end of the input
-/// ([`Why::Ended`], only after the first packet), and then a refusal by the grammar.
+/// A fault has the reason, and the position of the first packet that does not fit, counted from
+/// zero. A fault of the packet reader ([`Why::Line`]) takes precedence. Next is the end of the
+/// input after the first packet ([`Why::Ended`]), and then a fault of the grammar. The fault
 /// [`Why::Memory`] is reported only at an agent, a prefix, a want or a have. All packets that were
-/// read, even a refused one, are consumed from the source. The packet reader has then failed
-/// exactly if it refused the packet itself. A reader that had failed before is refused at once, at
-/// packet 0.
+/// read, even a rejected packet, are consumed from the source. The packet reader has then failed
+/// exactly if it rejected the packet itself. If the reader had failed before the call, the call
+/// fails at once, at packet 0.
 pub fn read_request_in<S: Source, A: Allocator + Copy, B: Allocator + Copy>(
     reader: &mut PacketReader<S, A>,
     format: Format,
@@ -61,7 +61,7 @@ pub fn read_request_in<S: Source, A: Allocator + Copy, B: Allocator + Copy>(
     }
 }
 
-// Whether the input ended before the first packet.
+// Returns whether the input ended before the first packet.
 fn is_missing(fault: &MessageFault) -> bool
     ensures { IsTrue result ↔ ((fault.now.frame ≡ 0) × (fault.now.why ≡ Why.Ended)) }
 {

@@ -60,7 +60,7 @@ impl<A: Allocator + Copy> Model for RequestReader<A> {
 impl<A: Allocator + Copy> RequestReader<A> {
     ghost use Rattle.grequest.specs.RequestValues.{asked_by_request, IsOfFormat};
 
-    /// Returns a request without packets.
+    /// Returns the state before the first packet of a request.
     #[tactic(auto, unfolding(crate::specs::RequestLines::capability_texts, crate::specs::RequestLines::argument_texts))]
     pub fn new(alloc: A, format: Format) -> RequestReader<A>
         ensures { result ≡ record { format = format; state = state_of format [] } }
@@ -75,7 +75,7 @@ impl<A: Allocator + Copy> RequestReader<A> {
         }
     }
 
-    /// Returns what the packets asked, after the last one was taken.
+    /// Returns the request, after its last packet was accepted.
     pub fn finish(self) -> Request<A>
         ensures asked { asked_by_request result ≡ self.state.asked }
         ensures format { IsOfFormat self.format result }
@@ -100,7 +100,7 @@ impl<A: Allocator + Copy> RequestReader<A> {
         }
     }
 
-    // Takes the flush that ends a request.
+    // Accepts the flush that ends a request.
     fn take_flush(&mut self) -> Result<Step, Why>
         ensures takes { TakesAs (judge_flush self.old.format self.old.state.place self.old.state)
             false (self.new.state ≡ self.old.state) result }
@@ -114,7 +114,7 @@ impl<A: Allocator + Copy> RequestReader<A> {
         }
     }
 
-    // Takes the delimiter between the capabilities and the arguments.
+    // Accepts the delimiter between the capabilities and the arguments.
     fn take_delim(&mut self) -> Result<Step, Why>
         ensures takes { TakesAs (judge_delim self.old.format self.old.state.place self.old.state)
             false (self.new.state ≡ with_delim self.old.state.place self.old.state) result }
@@ -132,7 +132,7 @@ impl<A: Allocator + Copy> RequestReader<A> {
         }
     }
 
-    // Whether the object format must be named and was not.
+    // Returns whether the request must name the object format and has not named it.
     fn is_unnamed(&self) -> bool
         ensures { (verdict : Verdict)
             → unless_unnamed self.now.format self.now.state verdict

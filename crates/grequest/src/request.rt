@@ -11,11 +11,11 @@ use std::alloc::{AllocError, Allocator, Global};
 /// A request (gitprotocol-v2(5), "Command Request").
 #[derive(Debug, Drop)]
 pub enum Request<A: Allocator + Copy = Global> {
-    /// No command: only a flush, which ends the conversation.
+    /// The empty request, a lone flush that ends the conversation.
     Empty,
-    /// Asks for refs.
+    /// A request for refs.
     Ls(LsRefsRequest<A>),
-    /// Asks for objects.
+    /// A request for objects.
     Fetch(FetchRequest<A>),
 }
 
@@ -27,7 +27,7 @@ impl<A: Allocator + Copy> Request<A> {
     ghost use Rattle.grequest.specs.RequestValues.{IsOfFormat, asked_by_request, ids_format};
     ghost use Rattle.grequest.specs.WellFormed.{IsAsked};
 
-    /// A law: the properties of each request whose ids have one format.
+    /// A law: the invariant of a request whose ids have one format.
     pub fn laws(&self)
         ensures { (format : Format) → IsOfFormat format self.now
             → IsAsked format (asked_by_request self.now) }
@@ -39,7 +39,7 @@ impl<A: Allocator + Copy> Request<A> {
         }
     }
 
-    /// Returns the client's name for itself, if it gave one.
+    /// Returns the agent that the client sent, if any.
     pub(crate) fn agent(&self) -> Option<&[u8]>
         ensures { option_copied result ≡ agent_of (asked_by_request self.now) }
     {
@@ -50,7 +50,7 @@ impl<A: Allocator + Copy> Request<A> {
         }
     }
 
-    /// Returns the same request in another allocator. Fails only if out of memory.
+    /// Returns a copy of the request in another allocator. Fails only if out of memory.
     pub fn copy_in<B: Allocator + Copy>(&self, alloc: B) -> Result<Request<B>, AllocError>
         ensures asked { IfOk result (λ copy. asked_by_request copy ≡ asked_by_request self.now) }
         ensures format { IfOk result (λ copy. ids_format copy ≡ ids_format self.now) }
@@ -68,8 +68,8 @@ impl<A: Allocator + Copy> Request<A> {
         }
     }
 
-    /// Whether both requests ask the same. The format of a request for fetch without ids does not
-    /// matter.
+    /// Returns whether both requests have the same contents. The formats of requests for fetch
+    /// without ids may differ.
     pub fn asks_as<B: Allocator + Copy>(&self, other: &Request<B>) -> bool
         ensures { IsTrue result ↔ (asked_by_request self.now ≡ asked_by_request other.now) }
     {
@@ -81,7 +81,7 @@ impl<A: Allocator + Copy> Request<A> {
         }
     }
 
-    // Stores the client's name for itself.
+    // Stores the agent, the client's name for itself.
     pub(crate) fn keep_agent(&mut self, agent: &[u8]) -> Result<(), AllocError>
         requires { is_word_value agent.now ≡ true }
         ensures ok { OnOk result (asked_by_request self.new

@@ -25,12 +25,12 @@ use gname::{Format, MAX_ID_TEXT, Oid, Prefix};
 use gpkt::{PacketWriter, Sink, WriteFault};
 use std::alloc::Allocator;
 
-/// Writes exactly a request, in its one order of packets (gitprotocol-v2(5), "Command Request").
-/// The format is that of the repository's objects. For a request with ids the caller passes the
-/// format of these ids.
+/// Writes a request as its canonical list of packets (gitprotocol-v2(5), "Command Request").
+/// `format` is the format of the repository's objects. For a request with ids, the caller passes
+/// the format of these ids.
 ///
-/// It does not allocate. Fails with `Io` if the sink fails, and a prefix of the request was then
-/// written. Fails with `Failed` if the writer had failed before. A request meets the conditions of
+/// Allocates nothing. Fails with `Io` if the sink fails, after writing a prefix of the request.
+/// Fails with `Failed` if the writer failed before the call. A request meets the conditions of
 /// [`reads_back`](crate::laws::reads_back), so a written request reads back.
 pub fn write_request<A: Allocator + Copy, W: Sink>(
     request: &Request<A>,
@@ -86,7 +86,7 @@ fn write_fetch<A: Allocator + Copy, W: Sink>(
     writer.flush_pkt()
 }
 
-// Writes a request up to its arguments.
+// Writes the packets of a request before its arguments.
 fn write_head<W: Sink>(
     command: Command,
     agent: Option<&[u8]>,
@@ -185,7 +185,7 @@ fn write_prefixes<A: Allocator + Copy, W: Sink>(
     Ok(())
 }
 
-// Writes a packet for each id, after a word.
+// Writes a packet with a word and an id for each id.
 fn write_ids<W: Sink>(
     word: &[u8],
     ids: &[Oid],
@@ -213,7 +213,7 @@ fn write_id<W: Sink>(word: &[u8], id: &Oid, writer: &mut PacketWriter<W>) -> Res
     write_text(word, &text[..len], writer)
 }
 
-// Writes a text packet of a word and the text after it.
+// Writes a packet with a word and the text after it.
 fn write_text<W: Sink>(
     word: &[u8],
     rest: &[u8],

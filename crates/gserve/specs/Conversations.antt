@@ -1,5 +1,5 @@
--- A served connection: what is written for the bytes that are read (gitprotocol-v2(5), "Capability Advertisement"
--- and "Command Request").
+-- A served connection: the bytes that the server reads and the replies that it writes (gitprotocol-v2(5), "Capability
+-- Advertisement" and "Command Request").
 use Rattle.std.specs.Prelude.{◌≡◌, ◌<◌, ◌⊎◌, ℕ, List, ◌++◌, length, Option, flat_map}
 use Rattle.gname.specs.declared.formats.Format.{Format}
 use Rattle.gpkt.specs.Sending.{Input, Output, IsUnread, IsUp, Passes, SendsAndFails, SendsSome, rest_of}
@@ -17,15 +17,15 @@ use Rattle.gserve.specs.Refusals.{err_packets}
 use Rattle.gserve.specs.declared.connection.End.{End}
 use Rattle.gserve.specs.declared.connection.End.TheVariants as end
 
--- the most requests of a connection; then nothing more is read
+-- the most requests of a connection, after which the server reads nothing more
 abbrev pub max_requests : ℕ
 max_requests = 4294967295
 
--- what a server of a format advertises
+-- the packets of the advertisement of a server with this object format
 unfoldable pub advert_packets : Format → List Packet
 advert_packets format = canonical_advert (advertisement format)
 
--- what is written for some turns: the advertisement, and the replies
+-- the advertisement, followed by the replies of these turns
 unfoldable pub talk : Format → Ends → List Turn → List Packet
 talk format ends turns = advert_packets format ++ flat_map (λ turn. reply_packets ends turn.answer) turns
 
@@ -34,19 +34,19 @@ talk_bytes format ends turns = canonical_all (talk format ends turns)
 
 -- ---- before the first request
 
--- it is out of memory at the start, and nothing is read
+-- memory ran out at the start, and nothing is read
 abbrev pub CannotBegin : Input → ServeFault → Type 0
 CannotBegin input serve.Memory = IsUnread input
 CannotBegin input fault = LacksBuffer input fault
 
--- what is due then: the advertisement, or the packet of a refusal in its place
+-- the first message of a connection: the advertisement, or an error packet in its place
 pub data IsDueFirst (format : Format) (input : Input) : List Packet → Type 0 where
   advert : IsUnread input → IsDueFirst format input (advert_packets format)
   refusal : (fault : ServeFault) → CannotBegin input fault → IsDueFirst format input (err_packets fault)
 
 -- ---- the requests
 
--- so many requests are read, each of which is answered, and then this holds of the rest of the input
+-- the server reads and answers this many requests, and the predicate holds of the rest of the input
 pub record Converses {A : Type 0} (server : Server A) (packs : Packs A) (input : Input) (requests : ℕ)
     (turns : List Turn) (Last : Input → Type 0) : Type 0 where
   pub between : Option Bytes
@@ -54,7 +54,7 @@ pub record Converses {A : Type 0} (server : Server A) (packs : Packs A) (input :
   pub count : requests ≡ length turns
   pub last : Last (rest_of input between)
 
--- the input ends; or as many requests were answered as may be, and nothing more is read
+-- the input ends, or the most requests were answered and nothing more is read
 abbrev pub HasEnded : ℕ → Input → Type 0
 HasEnded requests rest =
     ((requests < max_requests) × ReadsEnd rest)
@@ -63,9 +63,8 @@ HasEnded requests rest =
 -- ---- the whole
 
 module _ {A : Type 0} (server : Server A) (packs : Packs A) (fails : PackFails A) (ends : Ends) where
-  -- What was read and written on a connection, how many requests were answered, and how it ended. One more was read
-  -- only where there may be one more. All that was due is written and passed on. Or the sink failed: a beginning of it
-  -- stands, and each reply that counts was passed on.
+  -- The input, the output, the number of answered requests and the end of a connection. All replies are written and
+  -- flushed. If the sink failed, a prefix of the next message is written, and each counted reply is flushed.
   abbrev pub Serves : Input → Output → ℕ → End → Type 0
   Serves input output requests end.Closed =
       (turns : List Turn) × (requests < max_requests)

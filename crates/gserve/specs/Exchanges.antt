@@ -1,4 +1,4 @@
--- One request: what is read, and what is written for it (gitprotocol-v2(5), "Command Request").
+-- One request and its reply: the packets that are read and written (gitprotocol-v2(5), "Command Request").
 use Rattle.std.specs.Prelude.{◌≡◌, ◌≢◌, ◌⊎◌, false, List, [], All, Ok, None, flat_map}
 use Rattle.gname.specs.declared.formats.Format.{Format}
 use Rattle.gpkt.specs.Sending.{Input, Output, IsUnread, IsUp, IsUnwritten, Passes, SendsSome}
@@ -32,14 +32,14 @@ pub record Turn : Type 0 where
   pub asked : Asked
   pub answer : Reply
 
--- the packets that are written of an answer
+-- the packets of an answer; the answer to the empty request has none
 abbrev pub reply_packets : Ends → Reply → List Packet
 reply_packets ends Nothing = []
 reply_packets ends (Ls reply) = ls_packets ends reply
 reply_packets ends (Fetch reply) = fetch_packets ends reply
 
 module _ {A : Type 0} (server : Server A) (packs : Packs A) where
-  -- the packets of the request ask something, and this is the server's answer
+  -- the packets encode a request that is not empty, and the answer is the server's
   pub record IsTurn (turn : Turn) : Type 0 where
     pub says : Says server.graph.format turn.request turn.asked
     pub asks : turn.asked ≢ Empty
@@ -50,7 +50,7 @@ module _ {A : Type 0} (server : Server A) (packs : Packs A) where
     pub lines : ReadsPackets read (flat_map (λ turn. turn.request) turns)
     pub each : All IsTurn turns
 
-  -- so is one, and the source is well
+  -- the request of this turn is read, and the source has not failed
   pub record ReadsTurn (input : Input) (turn : Turn) : Type 0 where
     pub lines : ReadsPackets input.read turn.request
     pub is_turn : IsTurn turn
@@ -58,36 +58,36 @@ module _ {A : Type 0} (server : Server A) (packs : Packs A) where
 
 -- ---- no request
 
--- the lone flush is read, with which a client ends the conversation
+-- the server reads a lone flush packet, with which a client ends the conversation
 pub record ReadsEmpty (format : Format) (input : Input) : Type 0 where
   pub packets : List Packet
   pub lines : ReadsPackets input.read packets
   pub says : Says format packets Empty
   pub up : IsUp input
 
--- the input ends before a request
+-- the input ends before a request, and the source has not failed
 pub record ReadsEnd (input : Input) : Type 0 where
   pub ended : Reads input.read (Ok None)
   pub up : IsUp input
 
 -- ---- a request that is refused
 
--- It is refused as it is read: at the first packet that does not fit. The fault is the source's exactly where that is
--- down, and the end of the input is a fault only after the first packet.
+-- The request is refused at the first packet that does not fit. The fault is the source's exactly if the source has
+-- failed. The end of the input is a fault only after the first packet.
 pub record RefusesToRead (format : Format) (input : Input) (cause : MessageFault) : Type 0 where
   pub front : List Packet
   pub refused : ReadsRefused (judge format) brings front input.read cause
   pub source : IsReadFailure false input.is_down cause.why
   pub begun : cause.why ≡ EndedEarly → cause.frame ≢ 0
 
--- Why a request that was read is refused: as fetch refuses it. The packets of refs are written as they stand in the
--- server, which takes no memory: a request for refs is always answered.
+-- The possible faults of a request after it is read, which are those of fetch. A request for refs is always answered,
+-- since its reply takes no memory.
 abbrev pub Declines : {A : Type 0} → Server A → PackFails A → Asked → ServeFault → Type 0
 Declines server fails (Fetches asked) fault = FetchRefuses server fails asked fault
 Declines server fails _ fault = ⊥
 
 module _ {A : Type 0} (server : Server A) (fails : PackFails A) where
-  -- it is read, and is not answered
+  -- the request is read, but the server refuses to answer it
   pub record RefusesToAnswer (input : Input) (fault : ServeFault) : Type 0 where
     pub packets : List Packet
     pub asked : Asked
@@ -96,7 +96,7 @@ module _ {A : Type 0} (server : Server A) (fails : PackFails A) where
     pub declines : Declines server fails asked fault
     pub up : IsUp input
 
-  -- why there is no answer
+  -- the possible faults of a request, while it is read or answered
   abbrev pub IsRefused : Input → ServeFault → Type 0
   IsRefused input (serve.Request cause) = RefusesToRead server.graph.format input cause
   IsRefused input fault = RefusesToAnswer input fault
@@ -104,13 +104,13 @@ module _ {A : Type 0} (server : Server A) (fails : PackFails A) where
 -- ---- one request
 
 module _ {A : Type 0} (server : Server A) (packs : Packs A) (fails : PackFails A) (ends : Ends) where
-  -- what is due for a request: its reply, or the packet of a refusal
+  -- the packets to write for a request: its reply, or the error packet of a refusal
   pub data IsDue (input : Input) : List Packet → Type 0 where
     reply : (turn : Turn) → ReadsTurn server packs input turn → IsDue input (reply_packets ends turn.answer)
     refusal : (fault : ServeFault) → IsRefused server fails input fault → IsDue input (err_packets fault)
 
-  -- What was read, and what was written for it. What was due is passed on; or a beginning of it stands, and what was
-  -- passed on before stays so.
+  -- The input, the output and the end of an exchange. The reply or the error packet is written and flushed. If the sink
+  -- fails, a prefix is written, and bytes that were flushed before stay flushed.
   abbrev pub Exchanges : Input → Output → ExchangeEnd → Type 0
   Exchanges input output end.Answered =
       (turn : Turn) × ReadsTurn server packs input turn
@@ -124,12 +124,12 @@ module _ {A : Type 0} (server : Server A) (packs : Packs A) (fails : PackFails A
 
 -- ---- one request of a source that is read for the first time
 
--- it is out of memory for the buffer of a reader, and nothing is read
+-- memory ran out for the buffer of the reader, and nothing is read
 abbrev pub LacksBuffer : Input → ServeFault → Type 0
 LacksBuffer input (serve.Reader NoBuffer) = IsUnread input
 LacksBuffer input _ = ⊥
 
--- there is none, and the refusal is written, or a beginning of it stands
+-- memory ran out for the reader; the error packet is written, or a prefix of it
 abbrev pub RefusesAtOnce : Input → Output → ExchangeEnd → Type 0
 RefusesAtOnce input output (end.Refused fault) =
     LacksBuffer input fault × Passes output (canonical_all (err_packets fault))
@@ -137,7 +137,7 @@ RefusesAtOnce input output end.WriteFailed = (fault : ServeFault) × LacksBuffer
     × SendsSome output (canonical_all (err_packets fault)) × KeepsPassed output.passed_on
 RefusesAtOnce input output _ = ⊥
 
--- one request is read and answered, or it is out of memory at the start
+-- one request is read and answered, or memory runs out at the start
 abbrev pub ServesOne : {A : Type 0} → Server A → Packs A → PackFails A → Ends → Input → Output → ExchangeEnd → Type 0
 ServesOne server packs fails ends input output ended =
     Exchanges server packs fails ends input output ended ⊎ RefusesAtOnce input output ended

@@ -1,4 +1,4 @@
--- A served connection of the `git://` transport, from its first line on (gitprotocol-pack(5), "Git Transport").
+-- A served connection of the `git://` transport, with its first line (gitprotocol-pack(5), "Git Transport").
 use Rattle.std.specs.Prelude.{◌≡◌, ◌≢◌, false, List, [], ◌∷◌, ◌++◌, codes, Option, Result, Ok, Err}
 use Rattle.gpkt.specs.Devices.{KeepsPassed}
 use Rattle.gpkt.specs.PacketReading.{ReadsPackets}
@@ -24,26 +24,26 @@ use Rattle.gserve.specs.declared.git_transport.GitEnd.TheVariants as git
 
 -- ---- the first line
 
--- it is read, and nothing after it
+-- the first line is read, and nothing after it
 pub record ReadsHello (input : Input) (hello : Hello) : Type 0 where
   pub packets : List Packet
   pub lines : ReadsPackets input.read packets
   pub says : Says packets hello
   pub up : IsUp input
 
--- it is refused as it is read; the fault is the source's exactly where that is down
+-- the first line is refused while it is read; the fault is the source's exactly if the source has failed
 pub record RefusesHello (input : Input) (cause : MessageFault) : Type 0 where
   pub front : List Packet
   pub refused : ReadsRefused judge brings front input.read cause
   pub source : IsReadFailure false input.is_down cause.why
 
--- what hearing it answers
+-- the result of reading the first line
 abbrev pub Hears : Input → Result Hello ServeFault → Type 0
 Hears input (Ok hello) = ReadsHello input hello
 Hears input (Err (serve.Request cause)) = RefusesHello input cause
 Hears input (Err fault) = LacksBuffer input fault
 
--- the client asks for this path, or for another
+-- the client asks for this path
 abbrev pub AsksFor : Bytes → Input → Type 0
 AsksFor path input = (hello : Hello) × ReadsHello input hello × (hello.path ≡ path)
 
@@ -52,22 +52,22 @@ AsksForAnother path input = (hello : Hello) × ReadsHello input hello × (hello.
 
 -- ---- a packet instead of the advertisement
 
--- the packet of an error
+-- the packet that reports an error to the client
 abbrev pub error_packets : Bytes → List Packet
 error_packets text = text_packet (codes "ERR " ++ text) ∷ []
 
--- what a client reads that asks for another path
+-- the packet that the server sends to a client that asks for another path
 abbrev pub elsewhere_packets : List Packet
 elsewhere_packets = error_packets (codes "upload-pack: no such repository")
 
--- what is due where the repository is not served: the client asks for another path, or its first line is refused
+-- the packet in place of the advertisement: the client asks for another path, or its first line is refused
 pub data IsDueInstead (path : Bytes) (input : Input) : List Packet → Type 0 where
   elsewhere : AsksForAnother path input → IsDueInstead path input elsewhere_packets
   refusal : (fault : ServeFault) → Hears input (Err fault) → IsDueInstead path input (err_packets fault)
 
 -- ---- the whole
 
--- the input up to a point, with the source well there
+-- the input up to a point at which the source has not failed
 abbrev pub head_of : Input → Option Bytes → Input
 head_of input between = record {
   read = record { old = input.read.old; new = between };
@@ -75,7 +75,7 @@ head_of input between = record {
   is_down = false;
 }
 
--- the input from there on
+-- the input from this point on
 abbrev pub tail_of : Input → Option Bytes → Input
 tail_of input between = record {
   read = record { old = between; new = input.read.new };
@@ -84,7 +84,7 @@ tail_of input between = record {
 }
 
 module _ {A : Type 0} (server : Server A) (packs : Packs A) (fails : PackFails A) (path : Bytes) (ends : Ends) where
-  -- What was read and written on a connection, and how it ended.
+  -- the input, the output and the end of a connection
   abbrev pub ServesGit : Input → Output → GitEnd → Type 0
   ServesGit input output (git.Served served) =
       (between : Option Bytes) × AsksFor path (head_of input between)
@@ -96,7 +96,7 @@ module _ {A : Type 0} (server : Server A) (packs : Packs A) (fails : PackFails A
       (due : List Packet) × IsDueInstead path input due × SendsSome output (canonical_all due)
       × KeepsPassed output.passed_on
 
--- What the packer answered last. It is asked only where the path is served.
+-- the last result of the packer, which is asked only if the client asks for the served path
 abbrev pub ReportsGitPacking : GitEnd → Packing → Type 0
 ReportsGitPacking (git.Served served) answered = ReportsLastPacking served.end answered
 ReportsGitPacking _ answered = answered ≡ Unasked

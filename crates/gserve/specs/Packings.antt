@@ -1,5 +1,5 @@
--- What the packer answered last, by how an exchange or a connection ended. A fault of its own is the one that is
--- reported, and where another is reported it was not asked for that request. Where the sink failed nothing is said.
+-- The last result of the packer at the end of an exchange or a connection. If the packer fails, its fault is reported.
+-- If another fault is reported, the packer was not asked for that request. If the sink fails, the result is left open.
 use Rattle.std.specs.Prelude.{◌≡◌, ⊤, false}
 use Rattle.ganswer.specs.OnePack.{has_failed, packing_of_fault}
 use Rattle.ganswer.specs.declared.one_pack.Packing.TheVariants.{Unasked}

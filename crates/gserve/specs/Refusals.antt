@@ -1,4 +1,4 @@
--- What a client reads of a refusal (gitprotocol-pack(5), "error-line").
+-- The error packet that reports a refusal to the client (gitprotocol-pack(5), "error-line").
 use Rattle.std.specs.Prelude.{ℕ, List, [], ◌∷◌, ◌++◌, codes}
 use Rattle.gname.specs.Ids.{id_text}
 use Rattle.gpkt.specs.Packets.{Bytes, Packet}
@@ -11,7 +11,7 @@ use Rattle.ganswer.specs.declared.fault.ServeFault.TheVariants as serve
 abbrev pub max_err_text : ℕ
 max_err_text = 128
 
--- a want that is not held is named by its id
+-- the end of a refusal's text: the id of a want that is not held
 abbrev pub detail_of : ServeFault → Bytes
 detail_of (serve.NotOurs id) = codes " " ++ id_text id
 detail_of _ = []
@@ -20,6 +20,6 @@ detail_of _ = []
 unfoldable pub err_text : ServeFault → Bytes
 err_text fault = codes "upload-pack: " ++ (serve_fault_row fault).phrase ++ detail_of fault
 
--- its packet
+-- the error packet of a refusal
 unfoldable pub err_packets : ServeFault → List Packet
 err_packets fault = text_packet (codes "ERR " ++ err_text fault) ∷ []

@@ -1,4 +1,4 @@
--- Writing a reply of a server, apart from a connection (gitprotocol-v2(5), "Command Request").
+-- Writing a reply of a server without a connection (gitprotocol-v2(5), "Command Request").
 use Rattle.std.specs.Prelude.{◌≡◌, ℕ, Bool, List, Option, Result, Ok}
 use Rattle.gpkt.specs.PacketWriting.{Writer}
 use Rattle.gpkt.specs.declared.fault.WriteFault.{WriteFault}
@@ -12,8 +12,8 @@ module _
     {W : Type 0} (contents_of passed_on_of : W → Option Bytes) (is_down : W → Bool)
     (loans_of : W → List ℕ)
   where
-    -- One call that was to write the packets of a reply. For a lone flush there are none, and the writer stays as it
-    -- is.
+    -- The effect of one call that writes the packets of a reply. The reply to a lone flush packet has no packets, and
+    -- the call does not change the writer.
     abbrev pub WritesReply : Ends → Reply → Writer W → Writer W → Result (Unit {0}) WriteFault → Type 0
     WritesReply ends Nothing old new result = (result ≡ Ok tt) × (new ≡ old)
     WritesReply ends reply old new result =

@@ -1,5 +1,5 @@
--- A conversation over bytes: what a server writes to a client that sends these bytes, and how it ends. No device plays
--- a part (gitprotocol-v2(5), "Capability Advertisement" and "Command Request").
+-- A conversation over bytes: the bytes that a client sends, the bytes that the server writes, and the end. No device is
+-- involved (gitprotocol-v2(5), "Capability Advertisement" and "Command Request").
 use Rattle.std.specs.Prelude.{◌≡◌, ℕ, ◌<◌, ◌⊎◌, ⊤, false, List, [], ◌++◌, length}
 use Rattle.gpkt.specs.Packets.{Bytes, Packet, canonical_all}
 use Rattle.gpkt.specs.Sending.{Input}
@@ -16,18 +16,18 @@ use Rattle.gserve.specs.Refusals.{err_packets}
 use Rattle.gserve.specs.declared.connection.End.{End}
 use Rattle.gserve.specs.declared.connection.End.TheVariants as end
 
--- a source that does not fail: it gives the front of these bytes, and the rest is still to come
+-- a source that does not fail: these bytes are read from it, up to the rest
 abbrev pub input_of_bytes : Bytes → Bytes → Input
 input_of_bytes bytes rest = record { read = known_bytes bytes rest; was_down = false; is_down = false }
 
--- what is written last: the packet of a refusal
+-- the last packets of a conversation: the error packet, if it ends with a refusal
 abbrev pub last_packets : End → List Packet
 last_packets (end.Refused fault) = err_packets fault
 last_packets _ = []
 
 module _ {A : Type 0} (server : Server A) (fails : PackFails A) where
-  -- Why no more requests are answered after so many, where these bytes are left: a lone flush is next; there are no
-  -- bytes, or there may be no more requests; or the next is refused.
+  -- The end after this many requests, with these bytes left. A lone flush packet is next, no bytes are left, the most
+  -- requests were answered, or the next request is refused.
   abbrev pub Stops : ℕ → Bytes → End → Type 0
   Stops requests left end.Closed =
       (requests < max_requests) × (rest : Bytes) × ReadsEmpty server.graph.format (input_of_bytes left rest)
@@ -36,15 +36,15 @@ module _ {A : Type 0} (server : Server A) (fails : PackFails A) where
       (requests < max_requests) × (rest : Bytes) × IsRefused server fails (input_of_bytes left rest) fault
   Stops requests left end.WriteFailed = ⊥
 
--- it is out of memory at the start, and the packet that reports so is all that is written
+-- memory ran out at the start, and only the error packet is written
 abbrev pub HoldsNone : Bytes → Bytes → End → Type 0
 HoldsNone bytes written (end.Refused fault) =
     CannotBegin (input_of_bytes bytes bytes) fault × (written ≡ canonical_all (err_packets fault))
 HoldsNone bytes written _ = ⊥
 
 module _ {A : Type 0} (server : Server A) (packs : Packs A) (fails : PackFails A) (ends : Ends) where
-  -- These turns are held: the bytes begin with their requests, and what is left stops them. The advertisement is
-  -- written, their replies, and the packet of a refusal where one ends it.
+  -- The bytes begin with the requests of these turns, and the bytes that are left end the conversation. The output is
+  -- the advertisement, the replies, and the error packet of a refusal, if any.
   pub record HoldsTurns (bytes written : Bytes) (ended : End) : Type 0 where
     pub turns : List Turn
     pub left : Bytes
@@ -52,13 +52,13 @@ module _ {A : Type 0} (server : Server A) (packs : Packs A) (fails : PackFails A
     pub stops : Stops server fails (length turns) left ended
     pub all : written ≡ talk_bytes server.graph.format ends turns ++ canonical_all (last_packets ended)
 
-  -- the conversation with a client that sends these bytes: what is written, and how it ends
+  -- a conversation with a client that sends these bytes: the output and the end
   abbrev pub Talks : Bytes → Bytes → End → Type 0
   Talks bytes written ended = HoldsTurns bytes written ended ⊎ HoldsNone bytes written ended
 
 -- ---- the server's own faults
 
--- it is out of memory, or the packer fails: nothing that the client sent is to blame
+-- memory ran out or the packer failed, so the fault is not caused by the client
 abbrev pub IsOwnFault : ServeFault → Type 0
 IsOwnFault (serve.Reader cause) = ⊤
 IsOwnFault (serve.Request cause) = cause.why ≡ why.Memory
@@ -67,7 +67,7 @@ IsOwnFault (serve.NotOurs id) = ⊥
 IsOwnFault (serve.Pack cause) = ⊤
 IsOwnFault serve.Memory = ⊤
 
--- the conversation ends by one
+-- the conversation ends with a fault of the server's own
 abbrev pub EndsByOwnFault : End → Type 0
 EndsByOwnFault (end.Refused fault) = IsOwnFault fault
 EndsByOwnFault _ = ⊥

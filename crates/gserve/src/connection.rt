@@ -1,4 +1,4 @@
-//! A connection, from the advertisement to its end.
+//! Serving a connection, from the advertisement to its end.
 
 ghost use Rattle.std.specs.Prelude.{◌≡◌, false, OnOk};
 ghost use Rattle.gpkt.specs.Packets.{canonical_all};
@@ -17,42 +17,43 @@ use gpkt::laws::{canonical_spells, reads_join};
 use gpkt::{PacketBuffer, PacketReader, PacketWriter, Sink, Source};
 use std::alloc::Allocator;
 
-/// The maximum number of requests of a connection. After them nothing more is read, as at the end
-/// of the input.
+/// The maximum number of requests of a connection. After so many requests the server reads nothing
+/// more.
 pub const MAX_REQUESTS: u32 = u32::MAX;
 
 /// How a connection ended.
 #[derive(Debug, Drop)]
 pub enum End {
-    /// The client ended it, with a lone flush packet.
+    /// The client ended the connection with a lone flush packet.
     Closed,
     /// The input ended before a request, or there were [`MAX_REQUESTS`] requests.
     Ended,
     /// A request was refused. The error packet for it was written last, and flushed.
     Refused(ServeFault),
-    /// 27: the sink failed. A prefix of the next message was written.
+    /// The sink failed. A prefix of the next message was written.
     WriteFailed,
 }
 
-/// A connection that was served.
+/// The number of replies on a connection, and its end.
 #[derive(Debug, Drop)]
 pub struct Served {
     /// The number of replies written and flushed.
     pub requests: u32,
-    /// How it ended.
+    /// How the connection ended.
     pub end: End,
 }
 
 /// Serves one connection: writes the advertisement, and then reads requests one by one and replies
-/// to each (gitprotocol-v2(5), "Capability Advertisement", "Command Request"). It flushes after the
-/// advertisement, after each reply and after an error packet. The server is unchanged.
+/// to each (gitprotocol-v2(5), "Capability Advertisement", "Command Request"). The call flushes
+/// after the advertisement, after each reply and after an error packet. The server is unchanged.
 ///
-/// The connection ends if the client ends it, if the input ends before a request, at the first
-/// refusal, whose packet is written last, or if the sink fails. If it is out of memory at the
-/// start, only the packet that reports this is written, and nothing is read.
+/// The connection ends if the client ends it, if the input ends before a request, if a request is
+/// refused, or if the sink fails. An error packet for the refused request is written last. If
+/// memory runs out at the start, the server only writes the error packet that reports this, and
+/// reads nothing.
 ///
-/// A fault of the packer is reported as the packer returned it, and ends the connection. Each
-/// request asks the packer at most once. Any other fault, such as out of memory, is reported only
+/// A fault of the packer is reported as the packer returned it, and ends the connection. The packer
+/// is asked at most once for each request. Any other fault, such as out of memory, is reported only
 /// if the last request did not ask the packer.
 pub fn serve<S: Source, W: Sink, A: Allocator + Copy, K: Packer<A>>(
     server: &Server<A>,
@@ -76,7 +77,7 @@ pub fn serve<S: Source, W: Sink, A: Allocator + Copy, K: Packer<A>>(
     served
 }
 
-// Serves one connection to a writer.
+// Serves one connection, with a writer over the sink.
 fn serve_to<S: Source, W: Sink, A: Allocator + Copy, K: Packer<A>>(
     server: &Server<A>,
     packer: &mut OnePack<'_, K>,
@@ -108,7 +109,7 @@ fn serve_to<S: Source, W: Sink, A: Allocator + Copy, K: Packer<A>>(
     served
 }
 
-// Advertises, and replies to all requests.
+// Writes the advertisement, and replies to all requests.
 fn converse<S: Source, W: Sink, A: Allocator + Copy, K: Packer<A>>(
     server: &Server<A>,
     packer: &mut OnePack<'_, K>,
@@ -134,8 +135,8 @@ fn converse<S: Source, W: Sink, A: Allocator + Copy, K: Packer<A>>(
     }
 }
 
-// Replies to one request after the other. The connection began at another state of the sink, and
-// flushed the advertisement from there.
+// Replies to one request after the other. The caller has already written and flushed the
+// advertisement.
 fn answer_each<S: Source, W: Sink, A: Allocator + Copy, K: Packer<A>>(
     server: &Server<A>,
     packer: &mut OnePack<'_, K>,
@@ -173,7 +174,7 @@ fn answer_each<S: Source, W: Sink, A: Allocator + Copy, K: Packer<A>>(
     }
 }
 
-// Returns how a connection ends after an exchange, or `None` if it goes on.
+// Returns how a connection ends after an exchange, or `None` if the connection goes on.
 fn end_after(exchange: ExchangeEnd) -> Option<End>
     ensures { result ≡ end_after exchange }
 {
@@ -186,7 +187,7 @@ fn end_after(exchange: ExchangeEnd) -> Option<End>
     }
 }
 
-// Makes and sends the advertisement, or the error packet in its place.
+// Writes and flushes the advertisement, or an error packet if memory runs out for it.
 fn advertise<W: Sink, A: Allocator + Copy>(
     server: &Server<A>,
     writer: &mut PacketWriter<W>,
@@ -207,7 +208,7 @@ fn advertise<W: Sink, A: Allocator + Copy>(
     }
 }
 
-// Reports out of memory at the start.
+// Writes the error packet for a connection that runs out of memory at its start.
 fn refuse_first<W: Sink>(fault: ServeFault, writer: &mut PacketWriter<W>) -> End
     requires { writer.old.failed ≡ false }
     ensures refused { RefusesFirst fault (output_of W.contents W.passed_on W.is_down

@@ -1,4 +1,4 @@
-//! An error packet (gitprotocol-pack(5), "error-line"), written and flushed.
+//! Writing and flushing an error packet (gitprotocol-pack(5), "error-line").
 
 ghost use Rattle.std.specs.Prelude.{◌≡◌, ◌≤◌, false, length};
 ghost use Rattle.gpkt.specs.Sending.{output_of};
@@ -11,7 +11,7 @@ use ggrammar::laws::writes_packets;
 use gpkt::laws::writes_join;
 use gpkt::{PacketWriter, Sink, WriteFault};
 
-/// Writes an error packet with a text of at most 128 bytes, and flushes it.
+/// Writes an error packet with a text of at most 128 bytes, and flushes the sink.
 pub(crate) fn send_error<W: Sink>(text: &[u8], sink: &mut W) -> Result<(), WriteFault>
     requires { length text.now ≤ max_err_text }
     ensures sent { PassesPackets (output_of W.contents W.passed_on W.is_down sink.old sink.new)

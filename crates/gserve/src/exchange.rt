@@ -21,24 +21,24 @@ use std::alloc::Allocator;
 pub enum ExchangeEnd {
     /// The reply was written and flushed.
     Answered,
-    /// The request was a lone flush packet; nothing was written.
+    /// The request was a lone flush packet. Nothing was written.
     Closed,
-    /// The input ended before the request; nothing was written.
+    /// The input ended before the request. Nothing was written.
     Ended,
-    /// The request was refused. The packet that reports this was written and flushed.
+    /// The request was refused. The error packet for it was written and flushed.
     Refused(ServeFault),
-    /// 27: the sink failed. A prefix of the reply was written.
+    /// The sink failed. A prefix of the reply was written.
     WriteFailed,
 }
 
 /// Reads one request and writes the reply to it, without an advertisement before it
-/// (gitprotocol-v2(5), "Command Request"). Nothing after the request's last packet is read. If it
-/// is out of memory for the reader's buffer, nothing is read, and this is reported. The reply to a
-/// request for refs takes no memory once the request is read. A fault of the packer is reported as
-/// the packer returned it. Any other fault, such as out of memory, is reported only if the packer
-/// was not asked.
+/// (gitprotocol-v2(5), "Command Request"). Nothing after the request's last packet is read. If
+/// memory runs out for the reader's buffer, nothing is read, and the error packet reports this. The
+/// reply to a request for refs takes no memory once the request is read. A fault of the packer is
+/// reported as the packer returned it. Any other fault, such as out of memory, is reported only if
+/// the packer was not asked.
 ///
-/// The source has not failed if the request got a reply, or if there was no request.
+/// If the request got a reply, or if there was no request, the source has not failed.
 pub fn serve_one<S: Source, W: Sink, A: Allocator + Copy, K: Packer<A>>(
     server: &Server<A>,
     packer: &mut OnePack<'_, K>,
@@ -62,7 +62,7 @@ pub fn serve_one<S: Source, W: Sink, A: Allocator + Copy, K: Packer<A>>(
     ended
 }
 
-// Replies to one request, to a writer.
+// Reads one request and replies to it, with a writer for the reply.
 fn serve_one_to<S: Source, W: Sink, A: Allocator + Copy, K: Packer<A>>(
     server: &Server<A>,
     packer: &mut OnePack<'_, K>,
@@ -91,8 +91,8 @@ fn serve_one_to<S: Source, W: Sink, A: Allocator + Copy, K: Packer<A>>(
     ended
 }
 
-/// Reads one request and writes the reply to it. After a reply both the reader and the writer go
-/// on.
+/// Reads one request and writes the reply to it. After a reply, neither the reader nor the writer
+/// has failed.
 pub(crate) fn exchange<S: Source, W: Sink, A: Allocator + Copy, K: Packer<A>>(
     server: &Server<A>,
     packer: &mut OnePack<'_, K>,
@@ -142,7 +142,7 @@ fn reply<W: Sink, A: Allocator + Copy, K: Packer<A>>(
 {
     match request {
         Request::Empty => ExchangeEnd::Closed,
-        // The server lends the names of its refs, so that this reply takes no memory.
+        // This reply borrows the ref names of the server, so it allocates nothing.
         Request::Ls(asked) => end_of(send_ls_answer(server, asked, ends, writer)),
         Request::Fetch(asked) => match server.answer_fetch(asked, packer) {
             Ok(reply) => end_of(send_fetch_reply(&reply, ends, writer)),
@@ -160,7 +160,7 @@ fn end_of(sent: Result<(), WriteFault>) -> ExchangeEnd
     }
 }
 
-/// Reports a refusal.
+/// Writes and flushes the error packet of a refusal.
 pub(crate) fn refuse<W: Sink>(fault: ServeFault, writer: &mut PacketWriter<W>) -> ExchangeEnd
     requires { writer.old.failed ≡ false }
     ensures refused { ReportsRefusal fault (output_of W.contents W.passed_on W.is_down

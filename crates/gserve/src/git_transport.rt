@@ -1,4 +1,4 @@
-//! A served connection of the `git://` transport, starting at its first line.
+//! Serving a connection of the `git://` transport, starting at its first line.
 
 ghost use Rattle.std.specs.Prelude.{◌≡◌, ◌↔◌, IsTrue};
 ghost use Rattle.gpkt.specs.Sending.{input_of, output_of};
@@ -20,9 +20,9 @@ use std::alloc::Allocator;
 /// A repository served at a path, as git-daemon(1) exports one.
 #[derive(Clone, Copy)]
 pub struct Export<'a, A: Allocator + Copy> {
-    /// The repository.
+    /// The repository to serve.
     pub server: &'a Server<A>,
-    /// The path that a client has to ask for, byte for byte.
+    /// The path that a client must ask for, byte for byte.
     pub path: &'a [u8],
     /// How each reply ends.
     pub ends: Ends,
@@ -31,27 +31,28 @@ pub struct Export<'a, A: Allocator + Copy> {
 /// How a `git://` connection ended.
 #[derive(Debug, Drop)]
 pub enum GitEnd {
-    /// The client asked for the served path: the number of replies, and how the connection ended.
+    /// The client asked for the served path, and the connection ended in this state.
     Served(Served),
-    /// The client asked for another path. Only the packet that says so was written, and it was
+    /// The client asked for another path. Only the error packet that reports this was written and
     /// flushed.
     Elsewhere,
-    /// The first line was refused, or could not be read, out of memory. Only the packet that
-    /// reports this was written, and it was flushed.
+    /// The first line was refused, or memory ran out while reading it. Only the error packet that
+    /// reports this was written and flushed.
     Refused(ServeFault),
-    /// 27: the sink failed at one of these packets. A prefix of it was written.
+    /// The sink failed at the error packet. A prefix of the packet was written.
     WriteFailed,
 }
 
 /// Serves one connection (gitprotocol-pack(5), "Git Transport"). Reads the client's first line, and
-/// continues as [`serve`] if it asks for the served path. Compares the path byte by byte, and
+/// continues as [`serve`] if the line asks for the served path. Compares the path byte by byte, and
 /// ignores the host.
 ///
 /// If the line asks for another path or is refused, an `ERR` packet replaces the advertisement, and
-/// nothing after the line is read. If it is out of memory before the line, nothing is read, and the
-/// packet says so.
+/// nothing after the line is read. If memory runs out before the line, nothing is read, and the
+/// `ERR` packet reports out of memory.
 ///
-/// The packer is asked only if the path is served. Its fault is reported as [`serve`] reports it.
+/// The packer is asked only if the client asks for the served path. Its fault is reported as
+/// [`serve`] reports it.
 pub fn serve_git<S: Source, W: Sink, A: Allocator + Copy, K: Packer<A>>(
     export: &Export<'_, A>,
     packer: &mut OnePack<'_, K>,
@@ -86,9 +87,10 @@ pub fn serve_git<S: Source, W: Sink, A: Allocator + Copy, K: Packer<A>>(
 /// Reads the first line of a connection (gitprotocol-pack(5), "Git Transport"), and nothing after
 /// it.
 ///
-/// Fails with 28 if out of memory for the reader's buffer; nothing is read then. Fails with 20 to
-/// 25 if the packet is refused, 54 if the input ends before it, 41 or 42 if it has another form,
-/// and 53 if out of memory to keep it.
+/// Fails with fault 28 if memory runs out for the reader's buffer, and reads nothing then. Fails
+/// with fault 20 to 25 if the packet is refused, and with `Ended` (54) if the input ends before it.
+/// Fails with `UnexpectedFrame` (41) or `BadText` (42) if it is no first line, and with `Memory`
+/// (53) if memory runs out to keep it.
 pub fn hear<S: Source, A: Allocator + Copy>(
     source: &mut S,
     alloc: A,
@@ -109,14 +111,14 @@ pub fn hear<S: Source, A: Allocator + Copy>(
     }
 }
 
-// Whether the first line asks for the path.
+// Returns whether the first line asks for the path.
 fn asks_for<A: Allocator + Copy>(path: &[u8], hello: &Hello<A>) -> bool
     ensures { IsTrue result ↔ (hello.now.path ≡ path.now) }
 {
     hello.path() == path
 }
 
-// Reports to the client that its repository is not served.
+// Writes the error packet for a client that asks for another path.
 fn send_away<W: Sink>(sink: &mut W) -> Result<(), WriteFault>
     ensures sent { PassesPackets (output_of W.contents W.passed_on W.is_down sink.old sink.new)
         result elsewhere_packets }
@@ -125,7 +127,7 @@ fn send_away<W: Sink>(sink: &mut W) -> Result<(), WriteFault>
     send_error(b"upload-pack: no such repository", sink)
 }
 
-// Reports that the first line was refused. Allocates nothing.
+// Writes the error packet for a first line that was refused. Allocates nothing.
 fn report<W: Sink>(fault: &ServeFault, sink: &mut W) -> Result<(), WriteFault>
     ensures sent { PassesPackets (output_of W.contents W.passed_on W.is_down sink.old sink.new)
         result (err_packets fault.now) }

@@ -1,5 +1,5 @@
-//! Writing and flushing a reply, the advertisement, and the error packet. After each call the
-//! writer has not failed, or its sink is down.
+//! Writing and flushing a reply, the advertisement, and the error packet. A writer fails in these
+//! calls only if its sink fails.
 
 ghost use Rattle.std.specs.Prelude.{◌≡◌, false, OnOk};
 ghost use Rattle.gpkt.specs.Sending.{output_of};
@@ -22,7 +22,7 @@ use gpkt::{PacketWriter, Sink, WriteFault};
 use grequest::LsRefsRequest;
 use std::alloc::Allocator;
 
-/// Writes the reply to a request for refs, and flushes it. Allocates nothing.
+/// Writes the reply to a request for refs, and flushes the writer. Allocates nothing.
 pub(crate) fn send_ls_answer<W: Sink, A: Allocator + Copy>(
     server: &Server<A>,
     asked: &LsRefsRequest<A>,
@@ -43,7 +43,7 @@ pub(crate) fn send_ls_answer<W: Sink, A: Allocator + Copy>(
     writer.push()
 }
 
-/// Writes a reply to a fetch, and flushes it.
+/// Writes a reply to a fetch, and flushes the writer.
 pub(crate) fn send_fetch_reply<W: Sink, A: Allocator + Copy>(
     reply: &FetchReply<A>,
     ends: Ends,
@@ -61,7 +61,7 @@ pub(crate) fn send_fetch_reply<W: Sink, A: Allocator + Copy>(
     writer.push()
 }
 
-/// Writes an advertisement, and flushes it.
+/// Writes an advertisement, and flushes the writer.
 pub(crate) fn send_advert<W: Sink, A: Allocator + Copy>(
     advert: &Advert<A>,
     writer: &mut PacketWriter<W>,
@@ -78,7 +78,7 @@ pub(crate) fn send_advert<W: Sink, A: Allocator + Copy>(
     writer.push()
 }
 
-/// Writes the error packet, and flushes it.
+/// Writes the error packet of a refusal, and flushes the writer.
 pub(crate) fn send_refusal<W: Sink>(
     fault: &ServeFault,
     writer: &mut PacketWriter<W>,

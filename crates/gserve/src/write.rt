@@ -1,4 +1,4 @@
-//! Writing a reply apart from a connection, to keep it and deliver it later.
+//! Writing a reply without a connection, to keep it and send it later.
 
 ghost use Rattle.ganswer.specs.Answers.{reply_of};
 ghost use Rattle.gserve.specs.Replies.{WritesReply};
@@ -10,11 +10,11 @@ use glsreply::write_ls_reply;
 use gpkt::{PacketWriter, Sink, WriteFault};
 use std::alloc::Allocator;
 
-/// Writes a reply in its one list of packets, without flushing it. Allocates nothing. For the reply
-/// to a lone flush packet it writes nothing.
+/// Writes a reply as its canonical list of packets, without flushing the writer. Allocates nothing.
+/// The reply to a lone flush packet has no packets.
 ///
-/// Fails with `Io` if the sink fails, after a prefix of the reply was written. Fails with `Failed`
-/// if the writer had failed before. Never fails with `Payload`.
+/// Fails with `Io` if the sink fails, after writing a prefix of the reply. Fails with `Failed` if
+/// the writer failed before the call. Never fails with `Payload`.
 pub fn write_reply<W: Sink, A: Allocator + Copy>(
     reply: &Reply<A>,
     ends: Ends,

@@ -1,4 +1,4 @@
--- The steps by which a server is made, and by which fetch and ls-refs are answered.
+-- The steps of making a server, and of answering fetch and ls-refs.
 use Rattle.std.specs.Prelude.{◌≡◌, ◌≢◌, ◌<◌, ⊤, ℕ, List, [], All, Result, Ok, Err, ◌∷◌, ◌++◌, Option, Some, None, length, slice_get}
 use Rattle.gname.specs.Ids.{Id}
 use Rattle.gname.specs.Names.{Name}
@@ -25,21 +25,21 @@ use Rattle.glsreply.specs.declared.lent.LentLine.{LentLine}
 
 -- ---- making a server
 
--- at this position is the first ref that stands at an id which is not held
+-- the first ref whose id the graph does not hold is at this index
 abbrev pub DanglesAt : {A : Type 0} → List (Entry A) → RefList → ℕ → Type 0
 DanglesAt g refs place =
     (place < length refs) × ((ref : Name × Id) → slice_get refs place ≡ Some ref → IsFirstDangling g refs ref.0)
 
 -- ---- answering a fetch
 
--- what looking at the wants answers
+-- the result of checking that the server holds all wants
 abbrev pub ChecksWants : {A : Type 0} → Server A → List Id → Result (Unit {0}) ServeFault → Type 0
 ChecksWants server wants (Ok _) = (wants ≢ []) × All (Holds server.graph.entries) wants
 ChecksWants server wants (Err serve.NoWants) = wants ≡ []
 ChecksWants server wants (Err (serve.NotOurs id)) = IsFirstAbsent server.graph.entries wants id
 ChecksWants server wants (Err _) = ⊥
 
--- what packing the objects to send answers
+-- the result of packing the objects to send
 abbrev pub PacksFor : {A : Type 0} → Server A → Packs A → PackFails A → FetchAsked → Result Bytes ServeFault → Type 0
 PacksFor server packs fails asked (Ok pack) = SendsPack server packs asked pack
 PacksFor server packs fails asked (Err (serve.Pack cause)) = FailsToPack server fails asked cause
@@ -48,14 +48,14 @@ PacksFor server packs fails asked (Err _) = ⊥
 
 -- ---- asking a packer once
 
--- what is noted of its answer
+-- the packer's result, without the bytes of the pack
 abbrev pub packing_of : {X : Type 0} → Result X PackFault → Packing
 packing_of (Ok pack) = packing.Packed
 packing_of (Err fault) = packing.Failed fault
 
 -- ---- the table of faults
 
--- a row, wherever its texts lie in memory
+-- a row of the table, with its texts as bytes
 abbrev pub row_view : ServeRow → WhyRow
 row_view row = record { code = row.code; name = row.name.now; phrase = row.phrase.now }
 
@@ -65,13 +65,13 @@ abbrev pub line_list : {A : Type 0} → Option (LentLine A) → List RefLine
 line_list None = []
 line_list (Some line) = lent_view line ∷ []
 
--- the reply shows these of the refs so far
+-- an unfinished reply that lists the requested refs among these
 pub record IsAnswering {A : Type 0} (server : Server A) (asked : LsRefsAsked) (front : RefList)
     (reply : LsReply) : Type 0 where
   pub lines : ShowsLines server asked front reply.lines
   pub unborn : reply.unborn ≡ unborn_of server asked
 
--- and the next ref is this one
+-- an unfinished reply to which the line of this ref is added next
 pub record IsNextRef {A : Type 0} (server : Server A) (asked : LsRefsAsked) (ref : Name × Id)
     (reply : LsReply) : Type 0 where
   pub front : RefList

@@ -6,11 +6,11 @@ use Rattle.gfetchreply.specs.FetchReplies.{FetchReply}
 use Rattle.gfetchreply.specs.FetchReplies as reply
 use Rattle.gfetchreply.specs.FetchHeads.{FetchHead, Acks, Pack, Ready}
 
--- the head, by whether the reply is direct, whether `ready` came, and the acknowledged ids
+-- the head of a reply that is direct or not, with or without `ready`, and with these acknowledged ids
 abbrev pub head_by : Bool → Bool → List Id → FetchHead
 head_by direct ready ids = if direct then Pack else if ready then Ready ids else Acks ids
 
--- the reply of a head and its pack
+-- the reply with this head and this pack
 abbrev pub reply_with : FetchHead → Bytes → FetchReply
 reply_with (Acks ids) pack = reply.Acks ids
 reply_with (Ready ids) pack = reply.Ready ids pack

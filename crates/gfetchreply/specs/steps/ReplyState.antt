@@ -1,4 +1,4 @@
--- The steps of reading a reply: what is kept of the packets so far, and what a packet adds to it.
+-- The steps of reading a reply: the values that are kept of the packets so far, and the change with each packet.
 use Rattle.std.specs.Prelude.{◌≡◌, ℕ, ◌+◌, Bool, true, false, List, [], ◌∷◌, ◌++◌, length}
 use Rattle.std.specs.Prelude.{Option, Some, None, Result, Ok, Err}
 use Rattle.gname.specs.Ids.{Id}
@@ -20,8 +20,8 @@ use Rattle.gfetchreply.specs.declared.sections.Point as coded
 use Rattle.gfetchreply.specs.declared.sections.Point.TheVariants as place
 use Rattle.gfetchreply.specs.declared.sections.Sections.{Sections}
 
--- where the next packet stands, the acknowledged ids, whether `ready` came, and how many packets and bytes of the
--- pack came
+-- the position of the next packet, the acknowledged ids, whether `ready` was read, and the numbers of packets and bytes
+-- of the pack
 pub record Kept : Type 0 where
   pub place : Point
   pub acks : Acks
@@ -29,7 +29,7 @@ pub record Kept : Type 0 where
   pub band_count : ℕ
   pub byte_count : ℕ
 
--- what is kept of these packets
+-- the values that are kept after these packets
 abbrev pub kept_of : Format → Bool → List Packet → Kept
 kept_of format direct packets = record {
   place = place_of direct packets;
@@ -48,7 +48,7 @@ first_kept format direct = record {
   byte_count = 0;
 }
 
--- what it counts for
+-- the state of the grammar for these values
 abbrev pub state_kept : Kept → State
 state_kept kept = record {
   place = kept.place;
@@ -57,7 +57,7 @@ state_kept kept = record {
   byte_count = kept.byte_count;
 }
 
--- ---- what a packet adds
+-- ---- the change with a packet
 
 abbrev pub id_list : Option Id → List Id
 id_list None = []
@@ -73,7 +73,7 @@ with_text Acking kept (Ack id) = record kept {
 with_text BeforePack kept Packfile = record kept { place = InPack }
 with_text place kept form = kept
 
--- so many bytes of the pack in a packet more
+-- the values after another packet with this many bytes of the pack
 abbrev pub with_band : Kept → ℕ → Kept
 with_band kept more = record kept { band_count = kept.band_count + 1; byte_count = kept.byte_count + more }
 
@@ -86,7 +86,7 @@ abbrev pub with_packet : Kept → Packet → Kept
 with_packet kept (Data payload) = with_payload kept.place kept payload
 with_packet kept packet = record kept { place = next_place kept.place packet }
 
--- what the next packet brings of the pack
+-- the data of the pack in the next packet
 abbrev pub data_at : Point → Bytes → Bytes
 data_at InPack payload = data_in (band_form payload)
 data_at place payload = []
@@ -95,12 +95,12 @@ abbrev pub data_there : Point → Packet → Bytes
 data_there place (Data payload) = data_at place payload
 data_there place _ = []
 
--- whether it brings something that takes memory
+-- the packet needs memory
 abbrev pub brings_there : Bool → Point → Packet → Bool
 brings_there refuses place (Data payload) = payload_brings refuses place payload
 brings_there refuses place _ = false
 
--- ---- what is kept, without where it lies in memory
+-- ---- values that are kept, wherever they lie in memory
 
 abbrev pub place_in : coded.Point → Point
 place_in place.Start = Start
@@ -123,8 +123,8 @@ kept_in sections = record {
 abbrev pub state_in : {A : Type 0} → Sections A → State
 state_in sections = state_kept (kept_in sections)
 
--- The packet is taken as the verdict says, and then this holds; where it is refused, for a reason of the verdict or
--- out of memory for what it brings, that holds.
+-- The packet is accepted as the verdict says, and the first predicate holds. Or it is refused for a reason of the
+-- verdict or out of memory, and the second predicate holds.
 abbrev pub TakesOr : Verdict → Bool → Type 0 → Type 0 → Result Step Why → Type 0
 TakesOr verdict brings taken left (Ok step.Open) = (verdict ≡ Open) × taken
 TakesOr verdict brings taken left (Ok step.Whole) = (verdict ≡ Whole) × taken
@@ -137,22 +137,22 @@ verdict_of step.Whole = Whole
 -- ---- the sink
 
 module _ {S : Type 0} (taken : S → Bytes → Type 0) where
-  -- the sink takes these bytes more
+  -- the sink accepts these bytes after its previous bytes
   abbrev pub TakesMore : S → S → Bytes → Type 0
   TakesMore old new more = (before : Bytes) → taken old before → taken new (before ++ more)
 
-  -- it takes none
+  -- the sink accepts no bytes
   abbrev pub TakesNone : S → S → Type 0
   TakesNone old new = (before : Bytes) → taken old before → taken new before
 
-  -- a packet is taken as the verdict says: then this is kept, and the sink takes these bytes more
+  -- a packet is accepted as the verdict says; then these values are kept, and the sink accepts these bytes
   abbrev pub TakesBoth : Verdict → Bool → Kept → Kept → Bytes → S → S → Result Step Why → Type 0
   TakesBoth verdict brings wanted kept more old new result =
       TakesOr verdict brings ((kept ≡ wanted) × TakesMore old new more) (TakesNone old new) result
 
 module _ {S : Type 0} (taken : S → Bytes → Type 0) (same : S → S → Type 0) where
-  -- this is what is held of the packets so far, which are read as was asked: what is kept; the pack's data in the
-  -- sink, after all that it had before; and the sink is in its place, and still what it was
+  -- The state after the packets so far: the kept values; the sink with the pack's data after its previous bytes. The
+  -- sink is still the same one, and at the same place.
   pub record Holds (had : Bytes → Type 0) (starts : S → Type 0) (seat : ℕ) (asked reading : Reading) (kept : Kept)
       (sink : S) (name : ℕ) (packets : List Packet) : Type 0 where
     pub kind : reading ≡ asked
@@ -161,7 +161,7 @@ module _ {S : Type 0} (taken : S → Bytes → Type 0) (same : S → S → Type 
     pub is_same : (start : S) → starts start → same start sink
     pub in_place : name ≡ seat
 
-  -- and this is left of them
+  -- the state after a refusal at these packets: the sink has their data, and is still the same one
   pub record Leaves (had : Bytes → Type 0) (starts : S → Type 0) (seat : ℕ) (asked reading : Reading) (sink : S)
       (name : ℕ) (packets : List Packet) : Type 0 where
     pub kind : reading ≡ asked

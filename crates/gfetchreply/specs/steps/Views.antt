@@ -1,4 +1,4 @@
--- The steps of reading a reply, without where bytes lie in memory: forms, parameters and values.
+-- The steps of reading a reply: forms, parameters and values, wherever their bytes lie in memory.
 use Rattle.std.specs.Prelude.{Bool, false, Result, Ok, Err}
 use Rattle.gname.specs.declared.formats.Format.{Format}
 use Rattle.ggrammar.specs.declared.ends.Ends.TheVariants.{Plain}
@@ -23,15 +23,15 @@ form_in lent.Packfile = Packfile
 form_in (lent.Ack id) = Ack id.now
 form_in lent.Other = OtherForm
 
--- the format that the head's ids have is that of the reply's
+-- the ids of the head have the same format as those of the reply
 abbrev pub KeepsFormat : {A : Type 0} → FetchHead A → FetchReply A → Type 0
 KeepsFormat head reply = (format : Format) → IsHeadOf format head → IsReplyOf format reply
 
--- how a reply is read, with the format of the ids that are kept
+-- the parameters of reading, with the format of the ids that are kept
 abbrev pub reading_with : {A : Type 0} → FetchReading → Sections A → Reading
 reading_with reading sections = record (reading_in reading) { format = sections.acks.format }
 
--- the head of what was read, once it is
+-- the head of the reply after reading, or the fault
 abbrev pub head_after : {A : Type 0} → Bool → Sections A → Result Unit MessageFault → Result head.FetchHead MessageFault
 head_after direct sections (Ok done) = Ok (head_steps.head_by direct sections.ready sections.acks.ids)
 head_after direct sections (Err fault) = Err fault

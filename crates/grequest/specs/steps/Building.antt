@@ -1,5 +1,5 @@
--- The steps of building a request, and of comparing two: what is kept of something that is added, and which parts are
--- the same.
+-- The steps of building a request and of comparing two requests: the result of adding a value, and the parts that must
+-- be equal.
 use Rattle.std.specs.Prelude.{◌≡◌, Bool, true, false, Result, Ok, Err}
 use Rattle.ggrammar.specs.declared.fault.MessageFault.{MessageFault}
 use Rattle.ggrammar.specs.declared.fault.Why.{Why}
@@ -12,7 +12,7 @@ use Rattle.grequest.specs.Asked.{FetchAsked}
 abbrev pub HaveSameIds : FetchAsked → FetchAsked → Type 0
 HaveSameIds one other = (one.wants ≡ other.wants) × (one.haves ≡ other.haves)
 
--- what is kept of something: it is added; or nothing changes, for the first of these reasons
+-- the result of adding a value: the value is added, or nothing changes and the first applicable reason is returned
 abbrev pub KeepsAs : {V : Type 0} → Bool → Bool → V → V → V → Result Unit NotKept → Type 0
 KeepsAs well_formed has_room old new built (Ok done) = (well_formed ≡ true) × (has_room ≡ true) × (new ≡ built)
 KeepsAs well_formed has_room old new built (Err not_kept.WrongForm) = (well_formed ≡ false) × (new ≡ old)
@@ -21,7 +21,7 @@ KeepsAs well_formed has_room old new built (Err not_kept.NoRoom) =
 KeepsAs well_formed has_room old new built (Err not_kept.NoMemory) =
     (well_formed ≡ true) × (has_room ≡ true) × (new ≡ old)
 
--- the reason as the grammar has it, with its own for the wrong form
+-- the reason in the grammar's terms, with the given reason for a wrong form
 abbrev pub why_not_kept : Why → NotKept → Why
 why_not_kept wrong_form not_kept.WrongForm = wrong_form
 why_not_kept wrong_form not_kept.NoRoom = why.Limit

@@ -1,5 +1,5 @@
--- The steps of reading a request: what a packet that is taken adds to what the packets before it come to, where a
--- request stands that has one of its sections open, what is kept of the packets so far, and what is answered.
+-- The steps of reading a request: the state after each accepted packet, the sections, the parts that are kept, and the
+-- results.
 use Rattle.std.specs.Prelude.{◌+◌, true, [], ◌∷◌, ◌++◌, Some, ◌≡◌, ℕ, Bool, false, List}
 use Rattle.std.specs.Option.{option_to_list}
 use Rattle.gpkt.specs.Packets.{Bytes, Packet, Data, Delim, text}
@@ -78,9 +78,9 @@ with_packet format state (Data payload) = with_text format state.place state (te
 with_packet format state Delim = with_delim state.place state
 with_packet format state _ = state
 
--- ---- places
+-- ---- sections of a request
 
--- a request without a command is at its first packet
+-- the section of a request; a request without a command is at its first packet
 abbrev pub place_in : Section → Asked → RequestPlace
 place_in section Empty = First
 place_in Capabilities (Ls asked) = InCapabilities LsRefs
@@ -88,18 +88,18 @@ place_in Capabilities (Fetches asked) = InCapabilities Fetch
 place_in Arguments (Ls asked) = InArguments LsRefs
 place_in Arguments (Fetches asked) = InArguments Fetch
 
--- ---- what is kept
+-- ---- the parts that are kept
 
--- a request of a repository with this format, as far as it was read
+-- a request to a repository with this object format, as far as it was read
 pub record RequestSoFar : Type 0 where
   pub format : Format
   pub state : State
 
--- these are the packets that were read
+-- the state of reading is the one after these packets
 abbrev pub HoldsPackets : RequestSoFar → List Packet → Type 0
 HoldsPackets reading lines = reading.state ≡ state_of reading.format lines
 
--- nothing is left of a request that is refused
+-- a request that is refused has no further condition
 abbrev pub LeavesNothing : RequestSoFar → List Packet → Type 0
 LeavesNothing reading front = Unit {0}
 
@@ -107,12 +107,12 @@ abbrev pub one : Bool → ℕ
 one true = 1
 one false = 0
 
--- an agent has no space
+-- the value of an agent has no space
 abbrev pub CarriesWord : CapabilityForm → Type 0
 CarriesWord (Agent value) = is_word_value value ≡ true
 CarriesWord _ = Unit {0}
 
--- a packet at this place brings something to keep
+-- the contents of a packet in this section are kept
 abbrev pub packet_brings : RequestPlace → Packet → Bool
 packet_brings place (Data payload) = text_brings place (text payload)
 packet_brings place _ = false
