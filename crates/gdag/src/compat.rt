@@ -8,7 +8,7 @@ use gname::Oid;
 use std::alloc::Allocator;
 
 impl<A: Allocator + Copy> Graph<A> {
-    /// [`Graph::position`] by another name.
+    /// An alias of [`Graph::position`].
     pub fn number(&self, id: &Oid) -> Option<usize>
         ensures { result ≡ position_of self.now.entries id.now }
     {
