@@ -7,7 +7,7 @@ pub use crate::marks::{ConnectedMarks as FullMarks, mark_connected as mark_full}
 use std::alloc::Allocator;
 
 impl<A: Allocator + Copy> ConnectedMarks<A> {
-    /// [`ConnectedMarks::is_marked`] by another name.
+    /// An alias of [`ConnectedMarks::is_marked`].
     pub fn marked(&self, position: usize) -> bool
         ensures { result ≡ slice_index_or self.now position false }
     {
