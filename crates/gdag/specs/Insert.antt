@@ -11,8 +11,8 @@ use Rattle.gobject.specs.declared.node.Entry.{Entry}
 use Rattle.gobject.specs.Objects.{node_at, entry_of, IsShaped, IsTagShaped, max_parents}
 use Rattle.gdag.specs.Graphs.{History, IsNode, HasIdsOf, HasParent, max_nodes}
 
--- a valid entry is inserted: it is appended if its id is new and there is room, and nothing changes if the graph
--- already contains its id with the same node
+-- a valid entry is inserted: a new entry is appended if there is room, and an entry that the graph already contains
+-- changes nothing
 pub record ComesIn {A : Type 0} (format : Format) (old : List (Entry A)) (entry : Entry A)
     (new : List (Entry A)) : Type 0 where
   pub ids : HasIdsOf format entry
@@ -38,8 +38,8 @@ pub record IsFit {A : Type 0} (format : Format) (entry : Entry A) : Type 0 where
   pub ids : HasIdsOf format entry
   pub shaped : IsShaped entry.node
 
--- the reason to refuse an entry, in this order: an id of another format, a malformed node, a conflicting node under its
--- id, a full graph, or out of memory
+-- the reason to refuse an entry, checked in this order: `OtherFormat`, a malformed node, `Conflict`, `TooMany`,
+-- `Memory`
 abbrev pub IsCause : {A : Type 0} → Format → List (Entry A) → Entry A → GraphFault → Type 0
 IsCause format g entry (OtherFormat id) = (id ≡ entry.id) × ¬ (HasIdsOf format entry)
 IsCause format g entry TooManyParents = HasIdsOf format entry × IsMisshapen entry.node TooManyParents

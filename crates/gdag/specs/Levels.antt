@@ -63,7 +63,7 @@ pub record AreLevels {A : Type 0} (g : List (Entry A)) (tips ids : List Id) : Ty
   pub joined : ids ≡ levels_below g tips count
   pub last : level g tips count ≡ []
 
--- ---- what a level is
+-- ---- the distance of an id from the tips
 
 -- a path of k steps leads from some tip to the id, each step from an id in the graph to a parent
 abbrev pub Steps : {A : Type 0} → List (Entry A) → List Id → ℕ → Id → Type 0
@@ -75,8 +75,8 @@ pub record IsAtDistance {A : Type 0} (g : List (Entry A)) (tips : List Id) (k : 
   pub path : Steps g tips k a
   pub least : (j : ℕ) → j < k → ¬ (Steps g tips j a)
 
--- level k has exactly the ids at distance k; no id occurs twice, in one level or in two; the levels have at most as
--- many ids as there are tips and parents in the graph; after some level all levels are empty
+-- Level k has exactly the ids at distance k. No id occurs twice, in one level or in two. The levels have at most as
+-- many ids as there are tips and parents in the graph. After some level all levels are empty.
 pub record AreDistances {A : Type 0} (g : List (Entry A)) (tips : List Id) : Type 0 where
   pub exact : (k : ℕ) (a : Id) → Contains (level g tips k) a ↔ IsAtDistance g tips k a
   pub once : (k : ℕ) → IsDistinct bytes_eq (levels_below g tips k)

@@ -24,10 +24,10 @@ pub record IsOffer {A : Type 0} (g : List (Entry A)) (tips commons sent : List I
   pub chosen : Selects (MayBeOffered g commons sent) ids choice
   pub first : list ≡ take n choice
 
--- ---- what an offer is
+-- ---- the properties of an offer
 
--- the offer is unique: it has at most n ids, each once, that may be offered and that a tip reaches; if it has fewer
--- than n, it has all such ids
+-- The offer is unique. Its ids are at most n distinct ids that may be offered and that a tip reaches. An offer of fewer
+-- than n ids has all such ids.
 pub record IsExact {A : Type 0} (g : List (Entry A)) (tips commons sent : List Id) (n : ℕ) : Type 0 where
   pub one : (xs ys : List Id) → IsOffer g tips commons sent n xs → IsOffer g tips commons sent n ys → xs ≡ ys
   pub few : (xs : List Id) → IsOffer g tips commons sent n xs → length xs ≤ n

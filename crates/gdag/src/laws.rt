@@ -63,8 +63,7 @@ pub fn growing_keeps<A: Allocator + Copy>()
     ensures { GrowingKeeps A }
 {}
 
-/// Growth is transitive: a graph that grew from a second, which grew from a third, grew from the
-/// third.
+/// Growth is transitive: if `f` grows to `g`, and `g` grows to `h`, then `f` grows to `h`.
 #[tactic(auto, using(crate::proofs::Growing::grows_on))]
 pub fn growing_goes_on<A: Allocator + Copy>()
     ensures { GrowingGoesOn A }
@@ -94,8 +93,8 @@ pub fn keeping_reaches<A: Allocator + Copy>()
     ensures { KeepingReaches A }
 {}
 
-/// Two graphs that agree still agree after entries are inserted into the second, if the first graph
-/// does not map an entry's id to a different node.
+/// Two graphs that agree still agree after entries that agree with the first graph are inserted
+/// into the second.
 #[tactic(auto, using(crate::proofs::Sharing::agree_inserted))]
 pub fn agreeing_stays<A: Allocator + Copy>()
     ensures { AgreeingStays A }
@@ -182,7 +181,7 @@ pub fn counts_stay<A: Allocator + Copy>()
 {}
 
 /// Level k has exactly the ids at distance k, which is the least number of steps to a parent from a
-/// tip. No id is in two levels or twice in one. The number of ids in all levels is at most the
+/// tip. No id occurs twice, in one level or in two. The number of ids in all levels is at most the
 /// number of tips and parents, so only finitely many levels have ids.
 pub fn levels_are_distances<A: Allocator + Copy>()
     ensures { LevelsAreDistances A }

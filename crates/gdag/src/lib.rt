@@ -30,13 +30,13 @@
 //! reserve nothing. Formatting a fault may return an error (`fmt::Error`) without need. Formatting
 //! with options, such as a width, may write a different text.
 //!
-//! There are no tests here. The program `conformance` loads, fetches and walks histories, and makes
-//! each allocation fail in turn.
+//! This crate has no tests of its own. The program `conformance` loads, fetches and walks
+//! histories, and makes each allocation fail in turn.
 //!
 //! # Stands on
 //!
-//! `gname` for ids, `gobject` for nodes and entries, and `indexmap` for the map from ids to nodes
-//! and the set of distinct ids.
+//! The crate uses `gname` for ids, `gobject` for nodes and entries, and `indexmap` for the map from
+//! ids to nodes and the set of distinct ids.
 #![tactic(auto)]
 
 mod closed;

@@ -58,8 +58,8 @@ abbrev pub TakesMemory : (A : Type 0) → Order → List ℕ → List (List ℕ)
 TakesMemory A order text lines =
     (line : List ℕ) × GoesOn text lines line × BeginsText A order (lines ++ line ∷ []) × IsKeptLine A line
 
--- the reason to refuse a text: all lines before the given number are valid, and the line with that number is wrong or
--- missing; out of memory is reported only at a valid line
+-- The reason to refuse a text. All lines before the reported line are valid, and the reported line is wrong or missing.
+-- Out of memory is reported only at a valid line.
 abbrev pub StopsAt : (A : Type 0) → Order → List ℕ → LoadFault → Type 0
 StopsAt A order text Memory = (lines : List (List ℕ)) × TakesMemory A order text lines
 StopsAt A order text (Text number) =

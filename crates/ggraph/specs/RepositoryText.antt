@@ -45,7 +45,7 @@ lines_of g refs head =
 abbrev pub repository_text : {A : Type 0} → History A → RefList → Head A → List ℕ
 repository_text g refs head = text_of (lines_of g refs head)
 
--- ---- what may stand in a text
+-- ---- valid contents of a text
 
 -- a valid HEAD: detached at an id of the format, symbolic with a target below `refs/`, or missing
 abbrev pub IsHead : {A : Type 0} → Format → Head A → Type 0

@@ -26,13 +26,13 @@
 //! amount of time, and more memory than it needs. Formatting a fault may return an error
 //! (`fmt::Error`) without need.
 //!
-//! There are no tests here. The program `conformance` loads and saves texts up to the maximum size.
-//! It also runs programs on such texts, and makes each allocation fail in turn.
+//! This crate has no tests of its own. The program `conformance` loads and saves texts up to the
+//! maximum size. It also runs programs on such texts, and makes each allocation fail in turn.
 //!
 //! # Stands on
 //!
-//! `gobject`, `gdag` and `grefs` for the contents of a repository, `gname` for ids and names,
-//! `memchr` for the ends of lines, `gwalk` for the missing ancestors of refs.
+//! The crate uses `gobject`, `gdag` and `grefs` for the contents of a repository, `gname` for ids
+//! and names, `memchr` for the ends of lines, `gwalk` for the missing ancestors of refs.
 #![tactic(auto)]
 
 mod connected_refs;

@@ -22,7 +22,7 @@ max_advertised = 64
 abbrev pub version : Bytes
 version = codes "version 2"
 
--- ---- in the manual's words
+-- ---- the advertisement in the words of the manual
 
 -- the packets are an advertisement of these capabilities
 pub record IsAdvert (packets : List Packet) (capabilities : List Capability) : Type 0 where
@@ -33,7 +33,7 @@ pub record IsAdvert (packets : List Packet) (capabilities : List Capability) : T
   pub each : map (λ payload. capability_of (text payload)) payloads ≡ map (λ capability. Some capability) capabilities
   pub few : length capabilities ≤ max_advertised
 
--- ---- the table
+-- ---- the grammar
 
 abbrev pub capabilities_in : List Bytes → List Capability
 capabilities_in [] = []
@@ -74,7 +74,7 @@ pub record Says (packets : List Packet) (capabilities : List Capability) : Type 
   pub whole : IsWhole judge packets
   pub says : capabilities ≡ capabilities_of packets
 
--- ---- what is written
+-- ---- writing
 
 -- valid contents of an advertisement: well-formed capabilities, at most 64
 pub record AreCapabilities (capabilities : List Capability) : Type 0 where
@@ -91,7 +91,7 @@ canonical_advert capabilities = text_packet version ∷ (map capability_packet c
 abbrev pub IsCanonical : List Packet → List Capability → Type 0
 IsCanonical packets capabilities = packets ≡ canonical_advert capabilities
 
--- ---- what can be added
+-- ---- capabilities that can be added
 
 abbrev pub is_value_or_none : Option Bytes → Bool
 is_value_or_none None = true

@@ -50,7 +50,7 @@ abbrev pub MakesHello : Hello → Result Hello MessageFault → Type 0
 MakesHello wanted (Ok hello) = (hello ≡ wanted) × IsHello hello
 MakesHello wanted (Err fault) = (fault.frame ≡ 0) × IsBuildReason (is_hello wanted) true fault.why
 
--- ---- what is written
+-- ---- writing
 
 abbrev pub nul : Bytes
 nul = 0 ∷ []
@@ -73,7 +73,7 @@ pub record Says (packets : List Packet) (hello : Hello) : Type 0 where
   pub form : IsHello hello
   pub line : IsCanonical packets hello
 
--- ---- the table
+-- ---- the grammar
 
 abbrev pub is_nul : ℕ → Bool
 is_nul byte = nat_eq byte 0

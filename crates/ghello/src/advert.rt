@@ -345,10 +345,10 @@ fn is_value_or_none(value: Option<&[u8]>) -> bool
 /// The fault states the position of the refused packet, counted from 0. A fault of the packet
 /// reader takes precedence, then the end of the input, then an error that the peer reports.
 /// Otherwise the fault is `UnexpectedFrame` for a delimiter, a response-end, or a flush at position
-/// 0. It is `BadText` for a first line other than `version 2`, and for any later line that is not a
-/// capability. It is `Limit` for a 65th capability, and `Memory` only if a capability could not be
-/// stored. The packet reader is unusable after a refusal exactly if the packet reader itself
-/// refused the packet.
+/// 0. The fault is `BadText` for a first line other than `version 2`, and for any later line that
+///    is not a capability. The fault is `Limit` for a 65th capability, and `Memory` only if a
+///    capability could not be stored. The packet reader is unusable after a refusal exactly if the
+///    packet reader itself refused the packet.
 pub fn read_advert<S: Source, A: Allocator + Copy, B: Allocator + Copy>(
     reader: &mut PacketReader<S, B>,
     alloc: A,

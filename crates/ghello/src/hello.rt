@@ -127,10 +127,10 @@ pub fn is_host(host: &[u8]) -> bool
 /// Reads the first line of a connection exactly to its end.
 ///
 /// The fault is at packet 0. A fault of the packet reader takes precedence, then the end of the
-/// input. Otherwise the fault is `UnexpectedFrame` for a flush, a delimiter or a response-end. It
-/// is `BadText` for a malformed payload, even for one that reports an error, and `Memory` only if a
-/// hello could not be stored. The packet reader is unusable after a refusal exactly if the packet
-/// reader itself refused the packet.
+/// input. Otherwise the fault is `UnexpectedFrame` for a flush, a delimiter or a response-end. The
+/// fault is `BadText` for a malformed payload, even for one that reports an error, and `Memory`
+/// only if a hello could not be stored. The packet reader is unusable after a refusal exactly if
+/// the packet reader itself refused the packet.
 pub fn read_hello<S: Source, A: Allocator + Copy, B: Allocator + Copy>(
     reader: &mut PacketReader<S, B>,
     alloc: A,

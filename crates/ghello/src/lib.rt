@@ -1,6 +1,6 @@
-//! The opening of a connection. A client sends the first line of a `git://` connection
+//! The first messages of a connection. A client sends the first line of a `git://` connection
 //! (gitprotocol-pack(5), "Git Transport"), and a server an advertisement (gitprotocol-v2(5),
-//! "Capability Advertisement"). Each has a value, a reader and a writer.
+//! "Capability Advertisement"). Each of the two messages has a value type, a reader and a writer.
 //!
 //! # Proved
 //!
@@ -38,8 +38,8 @@
 //!
 //! # Stands on
 //!
-//! `ggrammar` for reading by a grammar and for capabilities, `gpkt` for packets, `gname` for the
-//! names of object formats, `arrayvec` for texts of bounded length.
+//! The crate uses `ggrammar` for reading by a grammar and for capabilities, `gpkt` for packets,
+//! `gname` for the names of object formats, `arrayvec` for texts of bounded length.
 #![tactic(auto)]
 
 mod advert;

@@ -1,4 +1,4 @@
--- What a server may send as the reply to ls-refs, in the words of gitprotocol-v2(5), "ls-refs":
+-- The replies to ls-refs that a server may send, in the words of gitprotocol-v2(5), "ls-refs":
 --
 --   output = *ref flush-pkt
 --   obj-id-or-unborn = (obj-id | "unborn")

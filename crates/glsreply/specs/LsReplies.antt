@@ -25,7 +25,7 @@ pub record LsReply : Type 0 where
   pub unborn : Option Name
   pub lines : List RefLine
 
--- ---- what the packets so far say
+-- ---- the value of the packets so far
 
 abbrev pub is_flush : Packet → Bool
 is_flush Flush = true
@@ -58,7 +58,7 @@ reply_of format packets = record {
   lines = ref_lines format (texts_of packets);
 }
 
--- ---- the table
+-- ---- the grammar
 
 abbrev pub judge_line : Result RefLine Why → Verdict
 judge_line (Ok line) = Open
@@ -102,7 +102,7 @@ pub record Says (format : Format) (ends : Ends) (packets : List Packet) (reply :
   pub whole : IsWhole (judge format ends) packets
   pub says : reply ≡ reply_of format packets
 
--- ---- what is written
+-- ---- writing
 
 abbrev pub unborn_packets : Option Name → List Packet
 unborn_packets None = []

@@ -93,7 +93,7 @@ line_of_parts format (first ∷ parts) = line_with_id format (id_of_text format 
 unfoldable pub line_of : Format → Bytes → Result RefLine Why
 line_of format text = line_of_parts format (parts_of text)
 
--- ---- HEAD on a branch that is not there yet
+-- ---- an unborn HEAD
 
 abbrev pub unborn_target : Option Bytes → Result Name Why
 unborn_target None = Err BadText

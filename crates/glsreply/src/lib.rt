@@ -42,8 +42,8 @@
 //!
 //! # Stands on
 //!
-//! `ggrammar` for reading and writing of messages, `gpkt` for packets, `gname` for ids and names,
-//! `arrayvec` for the text of a line.
+//! The crate uses `ggrammar` for reading and writing of messages, `gpkt` for packets, `gname` for
+//! ids and names, `arrayvec` for the text of a line.
 #![tactic(auto)]
 
 pub mod laws;

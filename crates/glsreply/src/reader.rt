@@ -68,7 +68,7 @@ pub fn read_ls_reply_in<S: Source, A: Allocator + Copy, B: Allocator + Copy>(
     }
 }
 
-/// A reply that is being read.
+/// The state of reading a reply.
 #[derive(Drop)]
 pub(crate) struct LsReplyReader<A: Allocator + Copy> {
     alloc: A,

@@ -22,8 +22,8 @@ use gname::laws::ids_have_one_format;
 use gpkt::{PacketWriter, Sink, WriteFault};
 use std::alloc::Allocator;
 
-/// Writes a reply: the line of an unborn `HEAD` if there is one, a line for each ref, a flush, and
-/// a response-end if `ends` has one (gitprotocol-v2(5), "ls-refs"). It does not allocate.
+/// Writes a reply: an unborn `HEAD` if there is one, each ref, a flush, and a response-end if
+/// `ends` has one (gitprotocol-v2(5), "ls-refs"). It does not allocate.
 ///
 /// Fails with `Io` if the sink fails, after it may have written a prefix of the reply. Fails with
 /// `Failed` if the writer had failed before. Never fails with `Payload`. The reply meets the
@@ -69,7 +69,7 @@ pub fn write_unborn<A: Allocator + Copy, W: Sink>(
     }
 }
 
-// Writes a line for each ref, and the end of the reply.
+// Writes the lines of the refs and the end of the reply.
 fn write_refs<A: Allocator + Copy, W: Sink>(
     lines: &[RefLine<A>],
     ends: Ends,

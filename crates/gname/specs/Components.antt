@@ -12,8 +12,8 @@ ComesBefore front = (front ≡ []) ⊎ ((more : List ℕ) × (front ≡ more ++ 
 abbrev pub ComesBehind : List ℕ → Type 0
 ComesBehind back = (back ≡ []) ⊎ ((more : List ℕ) × (back ≡ codes "/" ++ more))
 
--- the part is the component of the text that begins at position `place`: it has no slash, and extends from the start of
--- the text or a slash to the next slash or the end
+-- the component of the text that begins at position `place`: the bytes from the start of the text or a slash to the
+-- next slash or the end
 pub record IsComponent (text : List ℕ) (place : ℕ) (part : List ℕ) : Type 0 where
   pub front : List ℕ
   pub back : List ℕ

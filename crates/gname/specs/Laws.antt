@@ -40,8 +40,8 @@ TextsHaveOneReading = (format : Format) (text : List ℕ) →
 abbrev pub IdsHaveOneFormat : Type 0
 IdsHaveOneFormat = (format : Format) (id : Id) → IsIdOf format id → IsId id × (format_of id ≡ format)
 
--- a ref name is not empty, is within the limit, and has no forbidden bytes; it is HEAD or begins with refs/; it is also
--- a valid prefix
+-- A ref name is not empty, is within the limit, and has no forbidden bytes. A ref name is HEAD or begins with refs/. A
+-- ref name is also a valid prefix.
 pub record NameFacts (text : List ℕ) : Type 0 where
   pub some : 0 < length text
   pub within : length text ≤ max_name

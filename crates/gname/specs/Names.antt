@@ -23,7 +23,7 @@ abbrev pub first_fault : List Rule → Rule
 first_fault [] text = None
 first_fault (rule ∷ rules) text = option_or (rule text) (first_fault rules text)
 
--- ---- places in a text
+-- ---- positions in a text
 
 -- the first of `more` positions from `at` on that passes the test
 unfoldable pub first_place_from : (ℕ → Bool) → ℕ → ℕ → Option ℕ

@@ -9,15 +9,15 @@
 //!   to a vector. [`Oid::from_bytes`] accepts exactly 20 or 32 bytes. An id has only one
 //!   [`Format`].
 //! - [`RefName::new`], [`RefName::check`] and [`Prefix::new`] accept exactly the names and prefixes
-//!   that the rules of git-check-ref-format(1) allow. For any other text they report the first
-//!   fault in a fixed order, with its first position. Out of memory is reported only for a
+//!   that the rules of git-check-ref-format(1) allow. For any other text these functions report the
+//!   first fault in a fixed order, with its first position. Out of memory is reported only for a
 //!   well-formed text, and never by `check`, which does not allocate. [`RefName::head`] returns the
 //!   name `HEAD`. [`RefName::copy_in`] returns a copy of the name, unless it is out of memory.
 //! - One of the rules applies to the components of a text, which are its parts between slashes
 //!   ([`laws::components_are_parts`]).
 //! - Ids, names and prefixes are equal exactly if their bytes are equal. Names are ordered by their
-//!   bytes, and ids by their formats and then by their bytes. Both orders are total. Equal values
-//!   have equal hashes, so ids and names may be keys of a map.
+//!   bytes, and ids by their formats and then by their bytes. The orders of names and of ids are
+//!   total. Equal values have equal hashes, so ids and names may be keys of a map.
 //! - A name or a prefix has at most [`MAX_NAME`] bytes, and no control character or space.
 //!   [`MAX_NAME`], [`MAX_ID_TEXT`] and [`MAX_PACK`] equal the limits of the specs.
 //! - Each fault has the number, the name and the text of its row in the table
@@ -42,7 +42,7 @@
 //!
 //! # Stands on
 //!
-//! `hex` for the faults of digits that can't be read, `memchr` for searches in a name.
+//! The crate uses `hex` for the faults of malformed digits, `memchr` for searches in a name.
 #![tactic(auto)]
 
 mod digits;

@@ -10,7 +10,7 @@ use Rattle.gobject.specs.declared.plain_pack.feed.PlainFeed.{PlainFeed}
 abbrev pub IsPart : List ℕ → Type 0
 IsPart text = (at : ℕ) → (slice_index text at ≢ 32) × (slice_index text at ≢ 10)
 
--- ---- what was read
+-- ---- the bytes that were read
 
 -- the complete lines before the line of the next part
 abbrev pub AreLines : {A : Type 0} → Next A → List (Entry A) → List (List ℕ) → Type 0
@@ -33,7 +33,7 @@ pub record HasRead {A : Type 0} (next : Next A) (list : List (Entry A)) (bytes :
   pub lines : AreLines next list front
   pub opens : IsOpening next opening
 
--- ---- what was fed
+-- ---- the bytes that were fed
 
 -- the bytes that were fed: the bytes that were read, and then those of an unfinished part
 pub record Fed {A : Type 0} (feed : PlainFeed A) (bytes : List ℕ) : Type 0 where

@@ -23,7 +23,7 @@ abbrev pub text_of : List (List ℕ) → List ℕ
 text_of [] = []
 text_of (first ∷ lines) = line first ++ text_of lines
 
--- ---- what is written
+-- ---- writing
 
 -- the first line of a plain pack
 abbrev pub header : List ℕ
@@ -64,7 +64,7 @@ PackRefuses text pack_faults.Memory = length text ≤ max_pack
 PackRefuses text pack_faults.TooLarge = max_pack < length text
 PackRefuses text pack_faults.Other = ⊥
 
--- ---- what is read: the same, with the digits of ids in either case
+-- ---- reading, with the digits of ids in either case
 
 -- the text has the digits of each id after a space, in either case
 abbrev pub IsIdsText : List ℕ → List Id → Type 0
@@ -95,7 +95,7 @@ pub record IsPack {A : Type 0} (bytes : List ℕ) (list : List (Entry A)) : Type
   pub whole : bytes ≡ text_of lines
   pub are : ArePackLines lines list
 
--- ---- the first line that is wrong
+-- ---- the first wrong line
 
 -- a text without line feeds
 abbrev pub IsInLine : List ℕ → Type 0

@@ -30,13 +30,13 @@
 //! may return an error (`fmt::Error`) without need. Formatting with options, such as a width, may
 //! write a different text.
 //!
-//! There are no tests here. The program `conformance` reads and writes packs, whole and in pieces,
-//! and makes each allocation fail in turn.
+//! This crate has no tests of its own. The program `conformance` reads and writes packs, whole and
+//! in pieces, and makes each allocation fail in turn.
 //!
 //! # Stands on
 //!
-//! `gname` for ids, `memchr` for the ends of parts, `arrayvec` for a part that is cut, `itoa` for
-//! the count in a pack. The proofs use `hex`.
+//! The crate uses `gname` for ids, `memchr` for the ends of parts, `arrayvec` for a part that is
+//! split between pieces, `itoa` for the count in a pack. The proofs use `hex`.
 #![tactic(auto)]
 
 mod fault;

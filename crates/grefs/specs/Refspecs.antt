@@ -69,7 +69,7 @@ Reads P (Err Memory) = (spec : Refspec) × P spec
 abbrev pub OneReading : Type 0
 OneReading = (text : List ℕ) (a b : Refspec) → IsSpec text a → IsSpec text b → a ≡ b
 
--- ---- what a refspec does with the names of refs
+-- ---- the mapping of ref names
 
 -- whether the source matches a name: the source is that name, or the source of a pattern is a proper prefix of it
 abbrev pub matches : Refspec → Name → Bool

@@ -31,7 +31,7 @@
 //!
 //! # Stands on
 //!
-//! `gname` for names and ids.
+//! The crate uses `gname` for names and ids.
 #![tactic(auto)]
 
 mod fault;

@@ -36,8 +36,8 @@ AreReached g ids marks =
     (a : Id) (position : ℕ) → position_of g a ≡ Some position
     → (slice_index_or marks position false ≡ true) ↔ SomeReaches g ids a
 
--- the state after some batches were offered: the walk from the tips has nothing more to offer among the visited ids;
--- the ids that were sent and those that common ids reach are marked
+-- The state after some batches were offered. The walk from the tips has nothing more to offer among the visited ids.
+-- The sent ids and the ids that common ids reach are marked.
 pub record AreOffers {A : Type 0} (g : List (Entry A)) (tips commons sent : List Id) (offers : Offers A) : Type 0 where
   pub front : List Id
   pub back : List Id

@@ -1,4 +1,4 @@
-//! Other names for items of this library.
+//! Aliases of items of this crate.
 
 ghost use Rattle.std.specs.Prelude.{◌≡◌, slice_index_or, false};
 

@@ -21,11 +21,11 @@
 //! - If each object was inserted after its parents, `reaches`, `ready` and `send_list` make one
 //!   pass down or up the insertion order. The pass down ends when no object below is wanted without
 //!   being known to be common.
-//! - [`haves`] returns the offer: the first `n` ids of the graph, level by level from the tips,
-//!   that were not sent and that no common id reaches. [`Offers`] returns successive offers by one
-//!   walk that is resumed. No id is offered twice.
-//! - `Memory` is the only fault. No call panics, overflows or reads out of bounds, and every call
-//!   returns.
+//! - [`haves`] returns the offer: the first `n` unsent ids of the graph, level by level from the
+//!   tips, that no common id reaches. [`Offers`] returns successive offers by one walk that is
+//!   resumed. No id is offered twice.
+//! - `Memory` is the only fault of these calls. No call panics, overflows or reads out of bounds,
+//!   and every call returns.
 //!
 //! # What the contracts do not rule out
 //!
@@ -35,13 +35,13 @@
 //! meets. No contract says that `ready` stops at a common id, or that `haves` stops when it has `n`
 //! ids.
 //!
-//! There are no tests here. The program `conformance` makes each call on sample histories. One
-//! sample history has too many paths to walk one by one.
+//! This crate has no tests of its own. The program `conformance` makes each call on sample
+//! histories. One sample history has too many paths to walk one by one.
 //!
 //! # Stands on
 //!
-//! `gdag` for graphs, `gobject` for their objects, `gname` for ids, `grefs` for the refs whose tags
-//! are sent.
+//! The crate uses `gdag` for graphs, `gobject` for their objects, `gname` for ids, `grefs` for the
+//! refs whose tags are sent.
 #![tactic(auto)]
 
 mod ancestry;

@@ -13,7 +13,7 @@ use gdag::Graph;
 use gname::Oid;
 use std::alloc::{AllocError, Allocator};
 
-/// The state of a walk. Each id of the graph is visited once.
+/// The state of a walk. A walk visits each id of the graph at most once.
 #[derive(Drop)]
 pub struct Walk<A: Allocator + Copy> {
     /// Marks at the positions of the ids of the graph that the walk has met.

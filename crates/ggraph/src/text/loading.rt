@@ -23,7 +23,7 @@ const SAMPLE: usize = 65_536;
 // LF.
 const SHORTEST_NODE: usize = 43;
 
-/// Reads the text of a repository. Its first line names the format of its ids.
+/// Reads the text of a repository. The first line names the format of all ids.
 ///
 /// Fails with `Text` at the first line that is malformed or exceeds a limit, or if the text ends
 /// early. Under `Order::ParentsFirst`, fails with `ParentLater` at the first line with a parent

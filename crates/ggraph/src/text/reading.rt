@@ -22,19 +22,19 @@ use std::alloc::Allocator;
 /// The stage of reading: the kinds of lines that are allowed next.
 #[derive(Clone, Copy, Debug, PartialEq, Eq)]
 pub(crate) enum TextStage {
-    /// The first line.
+    /// The first line, which names the object format.
     First,
     /// The line of a node, of a ref or of HEAD.
     Nodes,
     /// The line of a ref or of HEAD.
     Refs,
-    /// The last line.
+    /// The last line, `end`.
     Last,
     /// No further line.
     Done,
 }
 
-/// The contents of the lines so far.
+/// The contents of the lines read so far.
 #[derive(Drop)]
 pub(crate) struct Reading<A: Allocator + Copy> {
     pub stage: TextStage,

@@ -70,7 +70,7 @@ fn other_ref<A: Allocator + Copy>(format: Format, refs: &[(RefName<A>, Oid)]) ->
     None
 }
 
-// Returns the id of HEAD, if it does not have the format.
+// Returns the id of a detached HEAD if that id does not have the format.
 fn other_head<A: Allocator + Copy>(format: Format, head: &Head<A>) -> Option<Oid>
     ensures { MatchOption result (All (IsIdOf format) (head_ids head.now))
         (IsFirstOther format (head_ids head.now)) }

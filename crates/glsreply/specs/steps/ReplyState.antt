@@ -33,7 +33,7 @@ state_in reader = record {
 abbrev pub KeepsKind : {A : Type 0} → LsReplyReader A → LsReplyReader A → Type 0
 KeepsKind old new = (new.format ≡ old.format) × (new.ends ≡ old.ends)
 
--- ---- what a packet adds
+-- ---- the effect of a packet
 
 abbrev pub with_line : State → Result RefLine Why → State
 with_line state (Ok line) = record {
@@ -67,7 +67,7 @@ with_packet format state (Data payload) = with_text format state (text payload)
 with_packet format state Flush = with_flush state
 with_packet format state packet = state
 
--- ---- what the reader holds
+-- ---- the state of the reader
 
 -- a text is the line of a ref or of an unborn HEAD
 abbrev pub IsLineText : Format → Bytes → Type 0

@@ -34,7 +34,7 @@ format_of_digits n = if n == id_text_length Sha256 then Sha256 else Sha1
 abbrev pub NoId : List ℕ → Type 0
 NoId text = (id : Id) → IsIdText text id → ⊥
 
--- ---- what may come, and what comes after it
+-- ---- the parts that are allowed next, and the state after each
 
 -- the entry with one more parent
 abbrev pub with_parent : {A : Type 0} → Entry A → Id → Entry A
@@ -72,7 +72,7 @@ IsKept (next_is.Id kind) part LineFeed = (id : Id) × IsIdText part id
 IsKept (next_is.Parent entry) part end = (id : Id) × IsIdText part id
 IsKept _ part end = ⊥
 
--- ---- what was read
+-- ---- the bytes that were read
 
 -- the number of the line, counted from 1, that has the next part after `n` entries
 abbrev pub line_number : {A : Type 0} → Next A → ℕ → ℕ
@@ -98,7 +98,7 @@ Finishes {A} lines result part =
     (λ fault. (before : List ℕ) → IsPart part → HasRead lines.next lines.entries.items before →
     IndexRefuses A (before ++ part) fault)
 
--- ---- what was fed
+-- ---- the bytes that were fed
 
 -- the outcome of feeding a piece: the piece is added to the bytes fed before, or the bytes are refused whatever bytes
 -- follow

@@ -1,4 +1,4 @@
-//! Marks by position, and the positions of some ids.
+//! Helpers for marks by position, and for the positions of ids.
 
 ghost use Rattle.std.specs.Prelude.{◌≡◌, ◌≤◌, ◌<◌, ℕ, IfErr, IfOk, false, length, replicate, slice_set, true};
 ghost use Rattle.gwalk.specs.steps.Passes.{IsInOrder, IsPositionOf, MarksAll, is_marked};
